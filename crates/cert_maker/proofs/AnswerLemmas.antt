@@ -24,7 +24,7 @@ owners_pass : (catalog : CatalogOf Expr) (plan : PlanOf) (number : ℕ) (row : L
     → TakesWhatPasses catalog plan → number < length catalog.tables → (first : ℕ) (subscriptions : List Subscription)
     →
     owners_from first (table_shares plan number first subscriptions) row
-        ≡ filter (λ subscriber. passes catalog subscriber number row) (numbers_from first subscriptions)
+    ≡ filter (λ subscriber. passes catalog subscriber number row) (numbers_from first subscriptions)
 owners_pass catalog plan number row own within first [] = refl
 owners_pass catalog plan number row own within first (subscription ∷ subscriptions) =
     let rest = owners_pass catalog plan number row own within (first + 1) subscriptions in
@@ -35,17 +35,33 @@ pub right_answer : (catalog : CatalogOf Expr) (plan : PlanOf) (number : ℕ) (ta
     → slice_get catalog.tables number ≡ Some table
     → IsRight table (table_shares plan number 0 catalog.subscriptions) made → IsAnswer catalog plan number made
 right_answer catalog plan number table (Cert cert) there right =
-    record { cert = record
-    { table = table; there = there; limits = right.cert.limits; accepted =
-    λ test tells any. accepted_anyhow test 0 any table (table_shares plan number 0 catalog.subscriptions)
-    (tree_view cert) (right.cert.accepted test tells) }; counter = tt }
+    record {
+      cert = record {
+        table = table;
+        there = there;
+        limits = right.cert.limits;
+        accepted =
+            λ test tells any. accepted_anyhow test 0 any table (table_shares plan number 0 catalog.subscriptions)
+            (tree_view cert) (right.cert.accepted test tells);
+      };
+      counter = tt;
+    }
 right_answer catalog plan number table (Counter row owners) there right =
     let passing : plan ≡ plan_of catalog → owners.items ≡ owners_of catalog number row = λ own. right.counter.all
-        ∙ owners_pass catalog plan number row (takes_what_passes catalog plan own)
-        (slice_get_within catalog.tables number table there) 0 catalog.subscriptions in
-    record { cert = tt; counter =
-        record { table = table; there = there; valid = right.counter.valid; passing = passing; not_one =
-        right.counter.not_one } }
+    ∙ owners_pass catalog plan number row (takes_what_passes catalog plan own)
+    (slice_get_within catalog.tables number table there) 0 catalog.subscriptions in
+    record {
+      cert = tt;
+      counter =
+          record {
+            table = table;
+            there = there;
+            valid = right.counter.valid;
+            passing = passing;
+            not_one =
+                right.counter.not_one;
+          };
+    }
 right_answer catalog plan number table Unknown there right = record { cert = tt; counter = tt }
 right_answer catalog plan number table TooLarge there right = record { cert = tt; counter = tt }
 right_answer catalog plan number table OutOfMemory there right = record { cert = tt; counter = tt }

@@ -41,8 +41,8 @@ owner_none : (number : ℕ) (subject : Subject) (path : Path) (node owner : ℕ)
 owner_none number subject path node owner None h = absurd cc
 owner_none number subject path node owner (Some share) h =
     if_none (must_take share path) (others_refusal subject path node owner)
-        (others_refusal (renumbered number subject) path node owner) (NotOwner subject.table node)
-        (NotOwner number node)
+    (others_refusal (renumbered number subject) path node owner) (NotOwner subject.table node)
+    (NotOwner number node)
     (second_none number subject node (second_owner owner 0 subject.shares path)) h
 
 empty_none : (is_empty : Test) (number : ℕ) (subject : Subject) (path : Path) (node : ℕ) (found : Option Term)
@@ -59,7 +59,7 @@ never_null_none : (number : ℕ) (subject : Subject) (path : Path) (node : ℕ) 
 never_null_none number subject path node None h = absurd cc
 never_null_none number subject path node (Some atom) h =
     if_none (is_never_null subject.columns atom path) None None (MayBeNull subject.table node) (MayBeNull number node)
-        (λ e. e) h
+    (λ e. e) h
 
 three_none : (a b c d e f : Option CheckError) → (a ≡ None → d ≡ None) → (b ≡ None → e ≡ None) → (c ≡ None → f ≡ None)
     → first_of a (first_of b c) ≡ None → first_of d (first_of e f) ≡ None
@@ -79,7 +79,7 @@ split_none : (number : ℕ) (subject : Subject) (path : Path) (node : ℕ) (foun
 split_none number subject path node None a b c d e f one two three h = absurd cc
 split_none number subject path node (Some atom) a b c d e f one two three h =
     three_none (a (path ++ (atom, True) ∷ [])) (b (path ++ (atom, False) ∷ [])) (c (path ++ (atom, Null) ∷ []))
-        (d (path ++ (atom, True) ∷ [])) (e (path ++ (atom, False) ∷ [])) (f (path ++ (atom, Null) ∷ []))
+    (d (path ++ (atom, True) ∷ [])) (e (path ++ (atom, False) ∷ [])) (f (path ++ (atom, Null) ∷ []))
     (one (path ++ (atom, True) ∷ [])) (two (path ++ (atom, False) ∷ [])) (three (path ++ (atom, Null) ∷ [])) h
 
 none_renumbered : (is_empty : Test) (number : ℕ) (subject : Subject) (tree : Tree) (path : Path) (node : ℕ)
@@ -93,11 +93,11 @@ none_renumbered is_empty number subject (Split index if_true if_false if_null) p
     (λ longer. refusal is_empty (renumbered number subject) if_true longer (later node 1))
     (λ longer. refusal is_empty (renumbered number subject) if_false longer (later (later node 1) (nodes if_true)))
     (λ longer. refusal is_empty (renumbered number subject) if_null longer
-        (later (later (later node 1) (nodes if_true)) (nodes if_false)))
+    (later (later (later node 1) (nodes if_true)) (nodes if_false)))
     (λ longer. none_renumbered is_empty number subject if_true longer (later node 1))
     (λ longer. none_renumbered is_empty number subject if_false longer (later (later node 1) (nodes if_true)))
     (λ longer. none_renumbered is_empty number subject if_null longer
-        (later (later (later node 1) (nodes if_true)) (nodes if_false)))
+    (later (later (later node 1) (nodes if_true)) (nodes if_false)))
     h
 none_renumbered is_empty number subject (Owner subscriber) path node h =
     owner_none number subject path node subscriber (slice_get subject.shares subscriber) h
@@ -110,4 +110,4 @@ pub accepted_anyhow : (test : Test) (one other : ℕ) (table : Table) (shares : 
     → first_refusal test one table shares tree ≡ None → first_refusal test other table shares tree ≡ None
 accepted_anyhow test one other table shares tree h =
     none_renumbered test other
-        (numbered_subject one table.columns shares (numbered_atoms shares) (numbered_terms shares)) tree [] 0 h
+    (numbered_subject one table.columns shares (numbered_atoms shares) (numbered_terms shares)) tree [] 0 h

@@ -24,11 +24,11 @@ pub command_is : (tokens : List Token) (start slot name logical place : Token) �
     → logical ≡ get_or tokens 3 logical → place ≡ get_or tokens 4 place
     → has_keywords start slot logical ≡ true
     → command_in tokens ≡ command_with (name_in name) (position_in place)
-        (options_in (take (length tokens - 5) (drop 5 tokens)))
+    (options_in (take (length tokens - 5) (drop 5 tokens)))
 command_is tokens start slot name logical place long e0 e1 e2 e3 e4 keywords =
     ap command_in (five tokens start slot name logical place long e0 e1 e2 e3 e4)
     ∙ ap (λ b. if b then command_with (name_in name) (position_in place) (options_in (drop 5 tokens)) else None)
-        keywords
+    keywords
     ∙ ap (λ rest. command_with (name_in name) (position_in place) (options_in rest))
     (sym (take_all (length tokens - 5) (drop 5 tokens) (omega (arith, length-drop 5 tokens))))
 

@@ -16,7 +16,7 @@ pub cut_after : (text : List ℕ) (n : ℕ) → IsUtf8 text → EndsAscii text n
 cut_after text n utf8 ends =
     let there : n - 1 + 1 ≡ n = omega (arith, ends.some) in
     subst (IsCharBoundary text) there
-        (IsCharBoundary-after_ascii text (n - 1) utf8 (omega (arith, ends.some, ends.within)) ends.last)
+    (IsCharBoundary-after_ascii text (n - 1) utf8 (omega (arith, ends.some, ends.within)) ends.last)
 
 pub after_first : (text : List ℕ) → IsUtf8 text → 0 < length text → slice_index text 0 < 128 → IsCharBoundary text 1
 after_first text utf8 some ascii = cut_after text 1 utf8 (record { some = omega arith; within = some; last = ascii })
@@ -91,8 +91,12 @@ whole_quoted : (quote : ℕ) (text : List ℕ) (n : ℕ) → quote < 128 → End
 whole_quoted quote text n small ends =
     let there : 1 + n - 1 ≡ 1 + (n - 1) = omega (arith, ends.some) in
     let last : get_or text (1 + (n - 1)) 0 ≡ quote = sym (get_or-drop 1 text (n - 1) 0) ∙ ends.last in
-    record { some = omega arith; within = omega (arith, ends.within, ends.some, length-drop 1 text); last =
-        rw there (omega (arith, last)) }
+    record {
+      some = omega arith;
+      within = omega (arith, ends.within, ends.some, length-drop 1 text);
+      last =
+          rw there (omega (arith, last));
+    }
 
 name_ends : (text : List ℕ) (x : Option QuotedText) → QuoteEnds 34 (drop 1 text) x → IsPiece text (name_piece x)
 name_ends text None ends = tt
@@ -127,7 +131,7 @@ place_ends_ascii : (text : List ℕ) (n m k : ℕ) → k ≡ n + 1 + m → 0 < l
 place_ends_ascii text n m k k_is slash low =
     let back : k - 1 ≡ n + (1 + (m - 1)) = omega (arith, low.some) in
     let last : get_or text (n + (1 + (m - 1))) 0 ≡ get_or (drop 1 (drop n text)) (m - 1) 0 =
-        sym (get_or-drop 1 (drop n text) (m - 1) 0 ∙ get_or-drop n text (1 + (m - 1)) 0) in
+    sym (get_or-drop 1 (drop n text) (m - 1) 0 ∙ get_or-drop n text (1 + (m - 1)) 0) in
     record {
       some = omega arith;
       within = omega (arith, low.within, low.some, length-drop 1 (drop n text), length-drop n text);
@@ -149,9 +153,9 @@ run_piece text some e =
     let m_some : 0 < m = omega (arith, some_digits (take m after) v is, m_is) in
     let low = run_ends_ascii after m_some in
     let slash_there : 0 < length rest =
-        by_length (length rest) (λ none. absurd (no_slash rest none slash)) (λ more. more) in
+    by_length (length rest) (λ none. absurd (no_slash rest none slash)) (λ more. more) in
     place_ends_ascii text n m (length (take n text) + 1 + length (take m after)) (omega (arith, n_is, m_is))
-        slash_there low))
+    slash_there low))
     (λ other. chosen (is_letter (slice_index (take n text) 0)) _ _ (IsPiece text)
     (λ letter. subst (EndsAscii text) (sym n_is) (run_ends_ascii text n_some))
     (λ other. tt))
@@ -173,9 +177,9 @@ unfolding front
 front_piece text some =
     let b = slice_index text 0 in
     chosen (is_ascii_whitespace b) _ _ (IsPiece text)
-        (λ e. record { some = omega arith; within = some; last = blank_is_ascii b e })
+    (λ e. record { some = omega arith; within = some; last = blank_is_ascii b e })
     (λ _. chosen (b == 34) _ _ (IsPiece text)
-        (λ e. name_ends text (quoted 34 (drop 1 text)) (quote_ends 34 (drop 1 text)))
+    (λ e. name_ends text (quoted 34 (drop 1 text)) (quote_ends 34 (drop 1 text)))
     (λ _. chosen (b == 39) _ _ (IsPiece text)
-        (λ e. value_ends text (quoted 39 (drop 1 text)) (quote_ends 39 (drop 1 text)))
+    (λ e. value_ends text (quoted 39 (drop 1 text)) (quote_ends 39 (drop 1 text)))
     (λ _. chosen (is_word_byte b) _ _ (IsPiece text) (λ e. run_piece text some e) (λ _. mark_ends text some))))

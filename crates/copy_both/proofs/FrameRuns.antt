@@ -51,11 +51,13 @@ headed_status : (head : Option ℕ) (body : List ℕ) (status : Status) → head
     → (head ≡ Some 114) × (status_in body ≡ Some status)
 headed_status None body status is = absurd cc
 headed_status (Some byte) body status is = by_test (byte == 114)
-    (λ yes. (ap Some (eqb-true byte 114 yes),
-        data_status body (status_in body) status
-        (sym (ap (λ b. if b then status_event body else Err (fault.Unexpected byte)) yes) ∙ is)))
+    (λ yes. (
+      ap Some (eqb-true byte 114 yes),
+      data_status body (status_in body) status
+          (sym (ap (λ b. if b then status_event body else Err (fault.Unexpected byte)) yes) ∙ is),
+    ))
     (λ no. absurd (let wrong : Err (fault.Unexpected byte) ≡ Ok (event.Status status) =
-        sym (ap (λ b. if b then status_event body else Err (fault.Unexpected byte)) no) ∙ is in cc))
+    sym (ap (λ b. if b then status_event body else Err (fault.Unexpected byte)) no) ∙ is in cc))
 
 -- what is at the end of the tests
 abbrev other_event : ℕ → Bool → Result Event LinkFault
@@ -70,11 +72,11 @@ pub status_event_is : (frame : Frame) (status : Status) → event_of frame.kind 
 status_event_is frame status is = by_test (frame.kind == 100)
     (λ yes.
     let data_is : data_event frame.body ≡ Ok (event.Status status) =
-        sym (ap (λ b. if b then data_event frame.body else other_event frame.kind (is_end frame.kind)) yes) ∙ is in
+    sym (ap (λ b. if b then data_event frame.body else other_event frame.kind (is_end frame.kind)) yes) ∙ is in
     let both = headed_status (slice_get frame.body 0) frame.body status data_is in
     record { data_is = eqb-true frame.kind 100 yes; head = both.0; read = both.1 })
     (λ no. absurd (other_status frame.kind (is_end frame.kind) status
-        (sym (ap (λ b. if b then data_event frame.body else other_event frame.kind (is_end frame.kind)) no) ∙ is)))
+    (sym (ap (λ b. if b then data_event frame.body else other_event frame.kind (is_end frame.kind)) no) ∙ is)))
 
 read_end : (found : Option Status) (kind : ℕ) → read_event found ≡ Ok (event.End kind) → ⊥
 read_end None kind is = cc
@@ -84,9 +86,9 @@ headed_end : (head : Option ℕ) (body : List ℕ) (kind : ℕ) → headed_event
 headed_end None body kind is = cc
 headed_end (Some byte) body kind is = by_test (byte == 114)
     (λ yes. read_end (status_in body) kind
-        (sym (ap (λ b. if b then status_event body else Err (fault.Unexpected byte)) yes) ∙ is))
+    (sym (ap (λ b. if b then status_event body else Err (fault.Unexpected byte)) yes) ∙ is))
     (λ no. let wrong : Err (fault.Unexpected byte) ≡ Ok (event.End kind) =
-        sym (ap (λ b. if b then status_event body else Err (fault.Unexpected byte)) no) ∙ is in cc)
+    sym (ap (λ b. if b then status_event body else Err (fault.Unexpected byte)) no) ∙ is in cc)
 
 other_end : (of : ℕ) (ends : Bool) (kind : ℕ) → other_event of ends ≡ Ok (event.End kind) → (of ≡ kind) × (ends ≡ true)
 other_end of true kind is = (cc, refl)
@@ -96,10 +98,10 @@ pub end_event_is : (frame : Frame) (kind : ℕ) → event_of frame.kind frame.bo
     → (frame.kind ≡ kind) × (is_end kind ≡ true)
 end_event_is frame kind is = by_test (frame.kind == 100)
     (λ yes. absurd (headed_end (slice_get frame.body 0) frame.body kind
-        (sym (ap (λ b. if b then data_event frame.body else other_event frame.kind (is_end frame.kind)) yes) ∙ is)))
+    (sym (ap (λ b. if b then data_event frame.body else other_event frame.kind (is_end frame.kind)) yes) ∙ is)))
     (λ no.
     let both = other_end frame.kind (is_end frame.kind) kind
-        (sym (ap (λ b. if b then data_event frame.body else other_event frame.kind (is_end frame.kind)) no) ∙ is) in
+    (sym (ap (λ b. if b then data_event frame.body else other_event frame.kind (is_end frame.kind)) no) ∙ is) in
     (both.0, sym (ap is_end both.0) ∙ both.1))
 
 -- the faults that an event has
@@ -129,7 +131,7 @@ headed_fails (Some byte) body =
 event_fails : (frame : Frame) → FailsSo (event_of frame.kind frame.body)
 event_fails frame =
     fails_if (frame.kind == 100) (data_event frame.body) (other_event frame.kind (is_end frame.kind))
-        (headed_fails (slice_get frame.body 0) frame.body)
+    (headed_fails (slice_get frame.body 0) frame.body)
     (fails_if (is_end frame.kind) (Ok (event.End frame.kind)) (Err (fault.Unexpected frame.kind)) tt tt)
 
 pub event_fault : (frame : Frame) (f : LinkFault) → event_of frame.kind frame.body ≡ Err f → IsEventFault f
@@ -180,11 +182,22 @@ later_more reach before frames last (GoesOn going) = GoesOn going
 later_more reach before frames last (Faulty f bad is) =
     Faulty f (record { frame = bad.frame; among = among_more before bad.frame frames bad.among; fails = bad.fails }) is
 later_more reach before frames last (Ahead says is) =
-    Ahead (record { frame = says.frame; among = among_more before says.frame frames says.among; status =
-        says.status; is_status = says.is_status; ahead = says.ahead }) is
+    Ahead (record {
+      frame = says.frame;
+      among = among_more before says.frame frames says.among;
+      status =
+          says.status;
+      is_status = says.is_status;
+      ahead = says.ahead;
+    }) is
 later_more reach before frames last (Ended kind ends none is) =
-    Ended kind (record { frame = ends.frame; among = among_more before ends.frame frames ends.among; kind_is =
-        ends.kind_is; ends = ends.ends }) none is
+    Ended kind (record {
+      frame = ends.frame;
+      among = among_more before ends.frame frames ends.among;
+      kind_is =
+          ends.kind_is;
+      ends = ends.ends;
+    }) none is
 
 module _ (served : Served) (slot : ℕ) (frame : Frame) (frames : List Frame) (h : HearingOf) (going : is_over h ≡ false)
     (runs : (next : HearingOf) → next.started ≡ h.started → is_over next ≡ false → next.sent ≡ h.sent
@@ -203,20 +216,20 @@ module _ (served : Served) (slot : ℕ) (frame : Frame) (frames : List Frame) (h
   }) (ap (λ (x : HearingOf). x.fault) (over_stays served (with_fault fault.StatusAhead h) frames refl))
   by_ahead status is_status false is =
       later_more reach (frame ∷ []) frames (frames_heard served (confirmed_by false slot status h) frames)
-          (runs (confirmed_by false slot status h) refl going refl)
+      (runs (confirmed_by false slot status h) refl going refl)
 
   by_event : (e : Result Event LinkFault) → event_of frame.kind frame.body ≡ e
       → Later reach (frame ∷ frames) (frames_heard served (event_heard served slot e h) frames)
   by_event (Err f) is =
       Faulty f (record { frame = frame; among = here frame frames; fails = is })
-          (ap (λ (x : HearingOf). x.fault) (over_stays served (with_fault f h) frames refl))
+      (ap (λ (x : HearingOf). x.fault) (over_stays served (with_fault f h) frames refl))
   by_event (Ok (event.End kind)) is =
       let stays : frames_heard served (ended_by kind h) frames ≡ ended_by kind h =
-          over_stays served (ended_by kind h) frames (over_by_end h.fault kind) in
+      over_stays served (ended_by kind h) frames (over_by_end h.fault kind) in
       let its = end_event_is frame kind is in
       Ended kind (record { frame = frame; among = here frame frames; kind_is = its.0; ends = its.1 })
       (ap (λ (x : HearingOf). x.fault) stays ∙ fault_over h.fault h.heard.ended going)
-          (ap (λ (x : HearingOf). x.heard.ended) stays)
+      (ap (λ (x : HearingOf). x.heard.ended) stays)
   by_event (Ok (event.Status status)) is =
       by_ahead status (status_event_is frame status is) (nat_lt reach status.flushed) refl
 
@@ -228,12 +241,12 @@ later_runs served slot start [] h is going = GoesOn going
 later_runs served slot start (frame ∷ frames) h is going =
     let step : frame_heard served h frame ≡ event_heard served slot (event_of frame.kind frame.body) h =
     ap (λ over. unless_over over h (next_heard served frame h.started h)) going
-        ∙ ap (λ (s : Option (ℕ × ℕ)). next_heard served frame s h) is in
+    ∙ ap (λ (s : Option (ℕ × ℕ)). next_heard served frame s h) is in
     subst (λ (next : HearingOf). Later (min h.sent (end_after served.commits)) (frame ∷ frames)
-        (frames_heard served next frames)) (sym step)
+    (frames_heard served next frames)) (sym step)
     (by_event served slot frame frames h going
     (λ next same still sent. subst
-        (λ (n : ℕ). Later (min n (end_after served.commits)) frames (frames_heard served next frames)) sent
+    (λ (n : ℕ). Later (min n (end_after served.commits)) frames (frames_heard served next frames)) sent
     (later_runs served slot start frames next (same ∙ is) still))
     (event_of frame.kind frame.body) refl)
 
@@ -257,8 +270,11 @@ begun_unless (Some f) s confirmed position slot start name is = absurd cc
 begun_unless None s confirmed position slot start name is =
     let same : s ≡ slot = cc in
     let from : max position confirmed ≡ start = cc in
-    record { asks = ap (λ n. Stream n position) same; reached =
-        subst (λ n. position ≤ n) from (le-max_left position confirmed) }
+    record {
+      asks = ap (λ n. Stream n position) same;
+      reached =
+          subst (λ n. position ≤ n) from (le-max_left position confirmed);
+    }
 
 begun_by : (served : Served) (slots : List Slot) (asked : StartAnswerOf) (slot start : ℕ)
     → begin_by served slots asked ≡ Begins slot start → (position : ℕ) × IsBegun slot start position asked
@@ -278,15 +294,20 @@ unfolding asked_of
 query_of served kind body slot position is = by_test (kind == 81)
     (λ yes. eqb-true kind 81 yes)
     (λ no. absurd (other_query kind body slot position
-        (sym (ap (λ b. if b then asked_in (offer_in served) (text_in body) else Refused ExpectedQuery) no) ∙ is)))
+    (sym (ap (λ b. if b then asked_in (offer_in served) (text_in body) else Refused ExpectedQuery) no) ∙ is)))
 
 asks_of : (served : Served) (slots : List Slot) (kind : ℕ) (body : List ℕ) (slot start : ℕ)
     → begin_of served slots kind body ≡ Begins slot start → Asks served kind body slot start
 unfolding begin_of
 asks_of served slots kind body slot start is =
     let found = begun_by served slots (asked_of (offer_in served) kind body) slot start is in
-    record { query = query_of served kind body slot found.0 found.1.asks; position = found.0; asks =
-        found.1.asks; reached = found.1.reached }
+    record {
+      query = query_of served kind body slot found.0 found.1.asks;
+      position = found.0;
+      asks =
+          found.1.asks;
+      reached = found.1.reached;
+    }
 
 -- what comes of all frames
 pub data Comes (checked : CheckedOf) (frames : List Frame) (reach : ℕ) (last : HearingOf) : Type 0 where
@@ -320,15 +341,25 @@ from_later checked first others frames reach last slot start are asks is later =
     by_later : Later reach others last → Comes checked frames reach last
     by_later (GoesOn going) = Comes_on going (subst (IsStartedBy checked frames) (sym is) asks)
     by_later (Faulty f bad fails) =
-        Comes_bad f (record { frame = bad.frame; later = later_in bad.frame first others frames are bad.among; fails =
-            bad.fails }) fails
+        Comes_bad f (record {
+          frame = bad.frame;
+          later = later_in bad.frame first others frames are bad.among;
+          fails =
+              bad.fails;
+        }) fails
     by_later (Ahead says fails) =
-        Comes_ahead (record { frame = says.frame; later =
-            later_in says.frame first others frames are says.among; status = says.status; is_status =
-            says.is_status; ahead = says.ahead }) fails
+        Comes_ahead (record {
+          frame = says.frame;
+          later =
+              later_in says.frame first others frames are says.among;
+          status = says.status;
+          is_status =
+              says.is_status;
+          ahead = says.ahead;
+        }) fails
     by_later (Ended kind ends none so) =
         Comes_ended kind (Ends ends.frame (later_in ends.frame first others frames are ends.among) ends.kind_is
-            ends.ends) none so
+        ends.ends) none so
 
 -- ---- all frames
 
@@ -336,8 +367,11 @@ asks_more : (checked : CheckedOf) (frames more : List Frame) (slot start : ℕ) 
     → AsksFor checked (frames ++ more) slot start
 asks_more checked frames more slot start asks = record {
   frame = asks.frame;
-  first = record { others = asks.first.others ++ more; frames_are =
-      ap (λ (x : List Frame). x ++ more) asks.first.frames_are };
+  first = record {
+    others = asks.first.others ++ more;
+    frames_are =
+        ap (λ (x : List Frame). x ++ more) asks.first.frames_are;
+  };
   query = asks.query;
   commits = asks.commits;
   position = asks.position;
@@ -367,7 +401,7 @@ first_begins served frame frames h none going other (Begins slot start) is =
     let last : HearingOf = frames_heard served next frames in
     let still : last.started ≡ Some (slot, start) = frames_started served next frames (slot, start) refl in
     let its : Asks served frame.kind frame.body slot start =
-        asks_of served h.slots frame.kind frame.body slot start is in
+    asks_of served h.slots frame.kind frame.body slot start is in
     let asks : AsksFor served.checked (frame ∷ frames) slot start = record {
       frame = frame;
       first = is_first frame frames;
@@ -378,9 +412,9 @@ first_begins served frame frames h none going other (Begins slot start) is =
       reached = its.reached;
     } in
     subst (λ (s : Option (ℕ × ℕ)). Ran served.checked (frame ∷ frames)
-        (min (sent_then None h.sent s) (end_after served.commits)) last) (sym still)
+    (min (sent_then None h.sent s) (end_after served.commits)) last) (sym still)
     (from_later served.checked frame frames (frame ∷ frames) (min (first_sent start) (end_after served.commits)) last
-        slot start refl asks still
+    slot start refl asks still
     (later_runs served slot start frames next refl going))
 first_begins served frame frames h none going other (Refuses refusal) is =
     let next : HearingOf = begun (Refuses refusal) h in
@@ -405,14 +439,14 @@ first_ends : (served : Served) (frame : Frame) (frames : List Frame) (h : Hearin
     → RanFrom served (frame ∷ frames) None h.sent (frames_heard served (ended_by 88 h) frames)
 first_ends served frame frames h none going is =
     let stays : frames_heard served (ended_by 88 h) frames ≡ ended_by 88 h =
-        over_stays served (ended_by 88 h) frames (over_by_end h.fault 88) in
+    over_stays served (ended_by 88 h) frames (over_by_end h.fault 88) in
     record {
       asks = subst (AsksIfStarted served.checked (frame ∷ frames))
           (sym (ap (λ (x : HearingOf). x.started) stays ∙ none)) tt;
       comes =
           Comes_ended 88 (Terminates frame (is_first frame frames) is refl)
           (ap (λ (x : HearingOf). x.fault) stays ∙ fault_over h.fault h.heard.ended going)
-              (ap (λ (x : HearingOf). x.heard.ended) stays);
+          (ap (λ (x : HearingOf). x.heard.ended) stays);
     }
 
 first_runs : (served : Served) (frames : List Frame) (h : HearingOf) → h.started ≡ None → is_over h ≡ false
@@ -426,15 +460,15 @@ first_runs served (frame ∷ frames) h none going =
     let begins : BeginOf = begin_of served h.slots frame.kind frame.body in
     let step : frame_heard served h frame ≡ (if frame.kind == 88 then ended_by 88 h else begun begins h) =
     ap (λ over. unless_over over h (next_heard served frame h.started h)) going
-        ∙ ap (λ (s : Option (ℕ × ℕ)). next_heard served frame s h) none in
+    ∙ ap (λ (s : Option (ℕ × ℕ)). next_heard served frame s h) none in
     let Goal : HearingOf → Type 0 =
-        λ next. RanFrom served (frame ∷ frames) None h.sent (frames_heard served next frames) in
+    λ next. RanFrom served (frame ∷ frames) None h.sent (frames_heard served next frames) in
     subst Goal (sym step)
     (by_test (frame.kind == 88)
     (λ yes. subst Goal (sym (ap (λ b. if b then ended_by 88 h else begun begins h) yes))
-        (first_ends served frame frames h none going (eqb-true frame.kind 88 yes)))
+    (first_ends served frame frames h none going (eqb-true frame.kind 88 yes)))
     (λ no. subst Goal (sym (ap (λ b. if b then ended_by 88 h else begun begins h) no))
-        (first_begins served frame frames h none going no begins refl)))
+    (first_begins served frame frames h none going no begins refl)))
 
 runs_by : (served : Served) (before frames : List Frame) (h : HearingOf) → is_over h ≡ false → (was : Option (ℕ × ℕ))
     → h.started ≡ was
@@ -442,21 +476,21 @@ runs_by : (served : Served) (before frames : List Frame) (h : HearingOf) → is_
     → RanFrom served (before ++ frames) was h.sent (frames_heard served h frames)
 runs_by served before frames h going None is none =
     subst (λ (x : List Frame). RanFrom served (x ++ frames) None h.sent (frames_heard served h frames)) (sym none)
-        (first_runs served frames h is going)
+    (first_runs served frames h is going)
 runs_by served before frames h going (Some started) is asks =
     let last : HearingOf = frames_heard served h frames in
     from_later served.checked asks.frame (asks.first.others ++ frames) (before ++ frames)
-        (min h.sent (end_after served.commits)) last started.0 started.1
+    (min h.sent (end_after served.commits)) last started.0 started.1
     (ap (λ (x : List Frame). x ++ frames) asks.first.frames_are)
-        (asks_more served.checked before frames started.0 started.1 asks)
+    (asks_more served.checked before frames started.0 started.1 asks)
     (frames_started served h frames started is)
     (later_more (min h.sent (end_after served.commits)) asks.first.others frames last
-        (later_runs served started.0 started.1 frames h is going))
+    (later_runs served started.0 started.1 frames h is going))
 
 -- what comes of frames that are heard after others
 pub runs_on : (served : Served) (before frames : List Frame) (h : HearingOf) → is_over h ≡ false
     → IsStartedBy served.checked before h.started
     → Ran served.checked (before ++ frames)
-        (min (sent_then h.started h.sent (frames_heard served h frames).started) (end_after served.commits))
-        (frames_heard served h frames)
+    (min (sent_then h.started h.sent (frames_heard served h frames).started) (end_after served.commits))
+    (frames_heard served h frames)
 runs_on served before frames h going started = runs_by served before frames h going h.started refl started

@@ -54,7 +54,7 @@ closed_with front body length_bytes start at =
     let long : length first ≡ start + 1 = omega (arith, length-append front (100 ∷ []), at) in
     ap (λ (x : List ℕ). put_mid (start + 1) 4 x length_bytes) (sym (append_assoc front (100 ∷ []) rest))
     ∙ ap (λ (x : List ℕ). x ++ (length_bytes ++ drop 4 (drop (start + 1) (first ++ rest))))
-        (take_at first rest (start + 1) long)
+    (take_at first rest (start + 1) long)
     ∙ ap (λ (x : List ℕ). first ++ (length_bytes ++ drop 4 x)) (drop_at first rest (start + 1) long)
     ∙ append_assoc front (100 ∷ []) (length_bytes ++ body)
 
@@ -63,8 +63,8 @@ pub written_back : (items shown copied front body : List ℕ) (len start count :
     → count ≡ 4 → length front ≡ start
     → items ≡ front ++ 100 ∷ 0 ∷ 0 ∷ 0 ∷ 0 ∷ body → copied ≡ to_be_bytes w32 (length body + 4)
     → take len (put_mid (start + 1) count shown copied
-        ++ drop (length (put_mid (start + 1) count shown copied)) items) ≡ front ++ 100
-        ∷ (to_be_bytes w32 (length body + 4) ++ body)
+    ++ drop (length (put_mid (start + 1) count shown copied)) items) ≡ front ++ 100
+    ∷ (to_be_bytes w32 (length body + 4) ++ body)
 written_back items shown copied front body len start count long show four at is wrote =
     let bytes : List ℕ = to_be_bytes w32 (length body + 4) in
     let closed : List ℕ = front ++ 100 ∷ (bytes ++ body) in
@@ -72,8 +72,12 @@ written_back items shown copied front body len start count long show four at is 
     ap (λ (n : ℕ). put_mid (start + 1) n shown copied) four ∙ ap (λ (x : List ℕ). put_mid (start + 1) 4 shown x) wrote
     ∙ ap (λ (x : List ℕ). put_mid (start + 1) 4 x bytes) (show ∙ is) ∙ closed_with front body bytes start at in
     let same : length items ≡ length closed =
-    omega (arith, ap length is, length-append front (100 ∷ 0 ∷ 0 ∷ 0 ∷ 0 ∷ body),
-        length-append front (100 ∷ (bytes ++ body))) in
+    omega (
+      arith,
+      ap length is,
+      length-append front (100 ∷ 0 ∷ 0 ∷ 0 ∷ 0 ∷ body),
+      length-append front (100 ∷ (bytes ++ body)),
+    ) in
     ap (λ (x : List ℕ). take len (x ++ drop (length x) items)) mid
     ∙ ap (λ (x : List ℕ). take len (closed ++ x)) (drop_all (length closed) items (omega (arith, same)))
     ∙ ap (take len) (append-nil closed) ∙ take_all len closed (omega (arith, same, long))
@@ -85,17 +89,26 @@ frame_room old written head message is =
     let start = int64 head.start in
     let end = int64 head.end in
     let clock = int64 head.clock in
-    omega (arith, ap length is, length-append old (100 ∷ 0 ∷ 0 ∷ 0 ∷ 0 ∷ xlog_data_body head message),
-        length-append start (end ++ (clock ++ message)), length-append end (clock ++ message),
-        length-append clock message)
+    omega (
+      arith,
+      ap length is,
+      length-append old (100 ∷ 0 ∷ 0 ∷ 0 ∷ 0 ∷ xlog_data_body head message),
+      length-append start (end ++ (clock ++ message)),
+      length-append end (clock ++ message),
+      length-append clock message,
+    )
 
 -- there is room in a frame for the length of its message
 pub frame_short : (old opened written : List ℕ) (start : ℕ) (head : XLogData) (message : List ℕ) → start ≡ length old
     → opened ≡ old ++ opening head → written ≡ opened ++ message
     → length message ≤ 13108011 → length written < start + 2147483648
 frame_short old opened written start head message at begins wrote short =
-    omega (arith, at, short,
-        frame_room old written head message (opened_with old opened written head message begins wrote))
+    omega (
+      arith,
+      at,
+      short,
+      frame_room old written head message (opened_with old opened written head message begins wrote),
+    )
 
 -- a frame that was opened, has its message and is closed was added
 pub frame_added : (old new : Frames) (opened written : List ℕ) (start : ℕ) (message : Msg) → new.head ≡ old.head
@@ -166,7 +179,7 @@ all_framed old new (message ∷ messages) took =
       appended = others.appended ∙ ap (λ (x : List ℕ). x ++ frames_with next.head messages) one.appended
           ∙ append_assoc old.bytes.items (spelled (Carries old.head message)) (frames_with next.head messages)
           ∙ ap (λ (head : XLogData). old.bytes.items
-              ++ (spelled (Carries old.head message) ++ frames_with head messages)) one.head
+          ++ (spelled (Carries old.head message) ++ frames_with head messages)) one.head
           ∙ ap (λ (x : List ℕ). old.bytes.items ++ x) (sym (frames_cons old.head message messages));
       texts = All-cons HasTexts message messages one.texts others.texts;
     }
@@ -175,8 +188,11 @@ all_framed old new (message ∷ messages) took =
 pub some_bytes : (head : XLogData) (message : Msg) (messages : List Msg)
     → 0 < length (frames_with head (message ∷ messages))
 some_bytes head message messages =
-    omega (arith, ap length (frames_cons head message messages),
-        length-append (spelled (Carries head message)) (frames_with head messages))
+    omega (
+      arith,
+      ap length (frames_cons head message messages),
+      length-append (spelled (Carries head message)) (frames_with head messages),
+    )
 
 -- ---- the frames of a commit
 
@@ -187,9 +203,13 @@ pub none_framed : (commit : CommitOf) (begin told : Frames) (said : List Msg) �
 none_framed commit begin told [] took same = refl
 none_framed commit begin told (message ∷ messages) took same =
     let all = all_framed begin told (message ∷ messages) took in
-    absurd (omega (arith, same, ap length all.appended,
-        length-append begin.bytes.items (frames_with begin.head (message ∷ messages)),
-        some_bytes begin.head message messages))
+    absurd (omega (
+      arith,
+      same,
+      ap length all.appended,
+      length-append begin.bytes.items (frames_with begin.head (message ∷ messages)),
+      some_bytes begin.head message messages,
+    ))
 
 -- else all its messages are in frames
 pub commit_framed : (commit : CommitOf) (new begin told ended : Frames) (said : List Msg)
@@ -200,9 +220,12 @@ pub commit_framed : (commit : CommitOf) (new begin told ended : Frames) (said : 
 commit_framed commit new begin told ended [] one took more last =
     absurd (more (ap (λ (frames : Frames). length frames.bytes.items) took))
 commit_framed commit new begin told ended (message ∷ messages) one took more last =
-    all_framed new ended (begin_of commit ∷ (message ∷ messages) ++ commit_of commit ∷ [])
-    (begin, one, takes_both AddsFrame begin told ended (message ∷ messages) (commit_of commit ∷ []) took
-        (ended, last, refl))
+    all_framed new ended (begin_of commit ∷ (message ∷ messages) ++ commit_of commit ∷ []) (
+      begin,
+      one,
+      takes_both AddsFrame begin told ended (message ∷ messages) (commit_of commit ∷ []) took
+          (ended, last, refl),
+    )
 
 -- ---- what becomes of a commit
 

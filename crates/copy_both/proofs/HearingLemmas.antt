@@ -10,7 +10,7 @@ unfolding frames_heard
 over_stays served h [] over = refl
 over_stays served h (frame ∷ frames) over =
     ap (λ b. frames_heard served (unless_over b h (next_heard served frame h.started h)) frames) over
-        ∙ over_stays served h frames over
+    ∙ over_stays served h frames over
 
 heard_append : (served : Served) (h : HearingOf) (xs ys : List Frame)
     → frames_heard served h (xs ++ ys) ≡ frames_heard served (frames_heard served h xs) ys

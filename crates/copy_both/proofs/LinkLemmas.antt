@@ -130,7 +130,7 @@ all_is_part old new before after inbox piece sent leaves =
       subst (λ (some : List Frame). Leaves old new before after (frames_heard served start some))
           (sym (take-length frames))
           (leaves_then (fault_in inbox.limit (inbox.bytes ++ piece)) old new before after
-              (frames_heard served start frames) leaves),
+          (frames_heard served start frames) leaves),
     )
 
 -- ---- hear
@@ -186,7 +186,7 @@ module _ (P : Option (ℕ × ℕ) → HeardOf → Type 0) (old new : Ear) (befor
       subst At same
       (subst (λ (k : HeardOf). P (ear_heard old before piece sent).started k) exact
       (subst (λ (s : Option (ℕ × ℕ)). P s heard)
-          (is ∙ started_in (ear_phase old) old new before after piece sent (heard_told heard) answer left) so))
+      (is ∙ started_in (ear_phase old) old new before after piece sent (heard_told heard) answer left) so))
 
 -- an ear that has ended hears nothing
 pub ended_answers : (p : Phase) (h : HearingOf) → (p ≡ phase.Closed) ⊎ (p ≡ phase.Lost)
@@ -252,7 +252,7 @@ unsaid phase.Open old mid new before after piece sent heard answer left closes =
   leaves =
       all_is_part old.session new.session before after old.frames piece sent
       (leaves_closed old mid new before after (piece_heard old.session before old.frames piece sent) left.leaves
-          closes);
+      closes);
   phase_is = closes.phase_is ∙ ap phase_closed left.phase_is ∙ closed_by heard.ended;
   holds = tt;
 }

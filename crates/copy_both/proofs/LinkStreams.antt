@@ -24,7 +24,7 @@ speaks_more : (telling : Telling CommitOf) (log : List CommitOf) (start : Start)
     (passed output : List ℕ) (place : Place) (clock n : ℕ)
     → Speaks telling log start moves passed output place
     → Speaks telling log start (moves ++ replicate n (Keep clock false)) passed
-        (output ++ concat (replicate n (keep_bytes place clock false))) place
+    (output ++ concat (replicate n (keep_bytes place clock false))) place
 speaks_more telling log start moves passed output place clock zero speaks =
     subst (λ (m : List Move). Speaks telling log start m passed (output ++ []) place) (sym (append-nil moves))
     (subst (λ (o : List ℕ). Speaks telling log start moves passed o place) (sym (append-nil output)) speaks)
@@ -32,7 +32,7 @@ speaks_more telling log start moves passed output place clock (suc n) speaks =
     let keep : Move = Keep clock false in
     let said : List ℕ = keep_bytes place clock false in
     let on : Speaks telling log start ((moves ++ keep ∷ []) ++ replicate n keep) passed
-        ((output ++ said) ++ concat (replicate n said)) place =
+    ((output ++ said) ++ concat (replicate n said)) place =
     speaks_more telling log start (moves ++ keep ∷ []) passed (output ++ said) place clock n
     (keeps telling log start moves passed output place clock false speaks) in
     subst (λ (m : List Move). Speaks telling log start m passed (output ++ (said ++ concat (replicate n said))) place)
@@ -59,7 +59,7 @@ record IsOpened (old : Link) (h : HearingOf) (clock : ℕ) (run : Run) (place : 
   checked_is : link_checked old ≡ run.checked
   said : link_output old ++ concat (frames_said (link_checked old) (link_stage old) h clock)
       ≡ output ++ (concat (replicate h.heard.replies (keep_bytes place clock false))
-          ++ closing (voices.Started place) h.heard.ended)
+      ++ closing (voices.Started place) h.heard.ended)
   stage_is : stage_said (link_checked old) (link_stage old) h ≡ ended_stage h.heard.ended (voices.Started place)
 
 opened_on : (old : Link) (run : Run) (place : Place) (h : HearingOf) (clock : ℕ) → IsStreaming old run place
@@ -78,7 +78,7 @@ opened_first : (old : Link) (log : List CommitOf) (h : HearingOf) (clock : ℕ) 
     → link_stage old ≡ voices.NotStarted
     → link_output old ≡ [] → h.started ≡ Some started
     → IsOpened old h clock (first_run (link_checked old) log started)
-        (first_place (started_at (link_checked old) started))
+    (first_place (started_at (link_checked old) started))
 opened_first old log h clock started waits silent is =
     let checked : CheckedOf = link_checked old in
     let start : Start = started_at checked started in
@@ -93,7 +93,7 @@ opened_first old log h clock started waits silent is =
           ∙ ap (λ (s : Option (ℕ × ℕ)). concat (frames_by checked voices.NotStarted s h.heard clock)) is
           ∙ ap (λ (x : List ℕ). copy_both_response ++ x)
           (concat_last (replicate h.heard.replies (keep_bytes place clock false))
-              (closing (voices.Started place) h.heard.ended));
+          (closing (voices.Started place) h.heard.ended));
       stage_is =
           ap (λ (s : StageOf). stage_by checked s h.started h.heard) waits
           ∙ ap (λ (s : Option (ℕ × ℕ)). stage_by checked voices.NotStarted s h.heard) is;
@@ -112,7 +112,7 @@ more_said : (old : Link) (run : Run) (place : Place) (h : HearingOf) (clock : �
     (o.output ++ concat (replicate h.heard.replies (keep_bytes place clock false))) place
 more_said old run place h clock o =
     speaks_more (telling_of run.checked) run.log run.start run.moves run.passed o.output place clock h.heard.replies
-        o.speaks
+    o.speaks
 
 pub hears : LinkHears
 hears old new run place h heard clock goes none says =
@@ -127,7 +127,7 @@ hears old new run place h heard clock goes none says =
       stage_is = says.stage_is ∙ o.stage_is ∙ ap (λ (e : Option ℕ). ended_stage e (voices.Started place)) none;
       says =
           subst (λ (x : List ℕ). Speaks (telling_of run.checked) run.log run.start (run.moves ++ replied h clock)
-              run.passed x place) (sym output_is)
+          run.passed x place) (sym output_is)
           (more_said old run place h clock o);
     }
 
@@ -150,7 +150,7 @@ ends old new run place h heard clock kind goes some says =
       bytes =
           ap (λ (x : List ℕ). run.passed ++ x) says.output ∙ said_last old run place h clock o
           ∙ ap (λ (e : Option ℕ). stream_of (with_moves run (replied h clock)) ++ closing (voices.Started place) e)
-              some;
+          some;
     }
 
 pub breaks : LinkBreaks
@@ -182,12 +182,12 @@ takes_by : (found : Option CommitOf) (run : Run) (output : List ℕ) (place : Pl
     → Speaks (telling_of run.checked) run.log run.start run.moves run.passed output place
     → Speaks (telling_of run.checked) run.log run.start (run.moves ++ took found clock) run.passed
     (output ++ flat_map spelled (take_items (telling_of run.checked) place found clock))
-        (taken_place (telling_of run.checked) place found)
+    (taken_place (telling_of run.checked) place found)
 takes_by None run output place clock is speaks =
     subst (λ (m : List Move). Speaks (telling_of run.checked) run.log run.start m run.passed (output ++ []) place)
-        (sym (append-nil run.moves))
+    (sym (append-nil run.moves))
     (subst (λ (o : List ℕ). Speaks (telling_of run.checked) run.log run.start run.moves run.passed o place)
-        (sym (append-nil output)) speaks)
+    (sym (append-nil output)) speaks)
 takes_by (Some commit) run output place clock is speaks =
     takes (telling_of run.checked) run.log run.start run.moves run.passed output place commit clock speaks is
 
@@ -195,11 +195,11 @@ pub takes_on : LinkTakes
 takes_on old new run place clock streams says =
     let telling : Telling CommitOf = telling_of run.checked in
     let output_is : link_output new
-        ≡ link_output old ++ flat_map spelled (move_items telling run.log place (Take clock)) =
+    ≡ link_output old ++ flat_map spelled (move_items telling run.log place (Take clock)) =
     says.voice.output
     ∙ ap (λ (s : StageOf). link_output old ++ next_bytes (link_checked old) s run.log clock) streams.stage_is
     ∙ ap (λ (k : CheckedOf). link_output old ++ flat_map spelled (move_items (telling_of k) run.log place (Take clock)))
-        streams.checked_is in
+    streams.checked_is in
     record {
       checked_is = says.voice.checked ∙ streams.checked_is;
       stage_is =
@@ -209,7 +209,7 @@ takes_on old new run place clock streams says =
       says =
           subst (λ (o : List ℕ).
           Speaks telling run.log run.start (run.moves ++ took (slice_get run.log place.done) clock) run.passed o
-              (moved telling run.log place (Take clock)))
+          (moved telling run.log place (Take clock)))
           (sym output_is) (takes_by (slice_get run.log place.done) run (link_output old) place clock refl streams.says);
     }
 
@@ -223,7 +223,7 @@ keeps_on old new run place clock want streams says =
       stage_is = says.voice.stage_is ∙ streams.stage_is;
       says =
           subst (λ (o : List ℕ). Speaks telling run.log run.start (run.moves ++ Keep clock want ∷ []) run.passed o
-              place) (sym output_is)
+          place) (sym output_is)
           (keeps telling run.log run.start run.moves run.passed (link_output old) place clock want streams.says);
     }
 
@@ -235,7 +235,7 @@ passes_on old new run place count streams says =
       stage_is = says.voice.stage_is ∙ streams.stage_is;
       says =
           subst (λ (o : List ℕ). Speaks telling run.log run.start run.moves
-              (run.passed ++ take count (link_output old)) o place) (sym says.voice.output)
+          (run.passed ++ take count (link_output old)) o place) (sym says.voice.output)
           (passes telling run.log run.start run.moves run.passed (link_output old) place count streams.says);
     }
 

@@ -25,7 +25,7 @@ none_first p (x ∷ xs) far =
     by_test (p x)
     (λ e. let short : length (x ∷ xs) ≤ 0 = rw e at far in absurd (omega arith))
     (λ e. let later : length (x ∷ xs) ≤ 1 + position_or_len p xs = rw e at far in
-        rw e (ap (onto_first x) (none_first p xs (omega arith))))
+    rw e (ap (onto_first x) (none_first p xs (omega arith))))
 
 position_is : {X : Type 0} (p : X → Bool) (xs : List X) (n : ℕ) → position p xs ≡ Some n → (position_or_len p xs ≡ n)
     × (n < length xs)
@@ -47,7 +47,7 @@ no_comma tokens e = none_first is_comma tokens (no_position is_comma tokens e)
 
 pub at_comma : (tokens : List Token) (n : ℕ) → position is_comma tokens ≡ Some n
     → (n < length tokens)
-        × (slice_split is_comma tokens ≡ take n tokens ∷ slice_split is_comma (drop 1 (drop n tokens)))
+    × (slice_split is_comma tokens ≡ take n tokens ∷ slice_split is_comma (drop 1 (drop n tokens)))
 at_comma tokens n e =
     let (same, less) = position_is is_comma tokens n e in
     let split = slice_split_first is_comma tokens Comma (omega arith) in

@@ -106,12 +106,12 @@ pub rests : (served : Served) (start now : HearingOf) (first held : Inbox) → I
     → has_frame (cut held.limit held.bytes) ≡ false → held ≡ resting first
 rests served start now first held listens none =
     let bytes_are : held.bytes ≡ rest_of (cut first.limit first.bytes) = sym (rest_left held.limit held.bytes none)
-        ∙ listens.rest in
+    ∙ listens.rest in
     ap (λ (bytes : List ℕ). record { limit = held.limit; bytes = bytes; fault = held.fault }) bytes_are
     ∙ ap (λ (limit : ℕ). record { limit = limit; bytes = rest_of (cut first.limit first.bytes); fault = held.fault })
-        listens.limit
+    listens.limit
     ∙ ap (λ (fault : Option FrameFault). record
-        { limit = first.limit; bytes = rest_of (cut first.limit first.bytes); fault = fault }) listens.fault
+    { limit = first.limit; bytes = rest_of (cut first.limit first.bytes); fault = fault }) listens.fault
 
 -- an end came
 pub heard_over : (served : Served) (start now : HearingOf) (first held : Inbox)
@@ -119,7 +119,7 @@ pub heard_over : (served : Served) (start now : HearingOf) (first held : Inbox)
     → is_over now ≡ true → now ≡ frames_heard served start (held_frames first)
 heard_over served start now first held listens over =
     sym (all_heard served start now (held_frames first) (held_frames held) listens.some
-        ∙ over_stays served now (held_frames held) over)
+    ∙ over_stays served now (held_frames held) over)
 
 -- memory was refused
 pub heard_part : (served : Served) (start now : HearingOf) (first held : Inbox)
@@ -172,7 +172,7 @@ pub no_more_rests : (served : Served) (start now : HearingOf) (first held : Inbo
     → ((frame : Frame) → found ≡ Some frame → ⊥) → Gives held found next → next ≡ resting first
 no_more_rests served start now first held found next listens never gives =
     (gives_none held found next never gives).0
-        ∙ rests served start now first held listens (gives_none held found next never gives).1
+    ∙ rests served start now first held listens (gives_none held found next never gives).1
 
 gives_some : (found : Option Frame) (frame : Frame) (old new : Inbox) → found ≡ Some frame → Gives old found new
     → GivesFrame old frame new
@@ -226,7 +226,7 @@ pub nothing_heard : (session : Session) (book : Book) (inbox : Inbox) (piece : L
 nothing_heard session book inbox piece sent =
     let start : HearingOf = hearing_view session (silence sent) book in
     let none : start ≡ frames_heard (served_by session book) start [] =
-        sym (heard_none (served_by session book) start) in
+    sym (heard_none (served_by session book) start) in
     let same : ChangesSlots book book (book_slots book) =
     record { checked = refl; limit = refl; rows = λ table number value. refl; log = refl; slots_are = refl } in (
       0,

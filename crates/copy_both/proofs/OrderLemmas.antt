@@ -25,11 +25,11 @@ from_here xs i x within is = drop_more xs i x within ∙ ap (λ y. y ∷ drop (i
 
 pub options_step : (xs : List StartOption) (i : ℕ) (x : StartOption) → i < length xs → x ≡ get_or xs i x
     → options_refusal (take i xs) (drop i xs)
-        ≡ or_else (option_refusal (take i xs) x) (options_refusal (take (i + 1) xs) (drop (i + 1) xs))
+    ≡ or_else (option_refusal (take i xs) x) (options_refusal (take (i + 1) xs) (drop (i + 1) xs))
 options_step xs i x within is =
     ap (options_refusal (take i xs)) (from_here xs i x within is)
     ∙ ap (λ earlier. or_else (option_refusal (take i xs) x) (options_refusal earlier (drop (i + 1) xs)))
-        (ap (λ y. take i xs ++ y ∷ []) is ∙ sym (take_more xs i x within))
+    (ap (λ y. take i xs ++ y ∷ []) is ∙ sym (take_more xs i x within))
 
 pub options_end : (earlier xs : List StartOption) (i : ℕ) → length xs ≤ i → options_refusal earlier (drop i xs) ≡ None
 options_end earlier xs i end = ap (options_refusal earlier) (drop_all i xs end)

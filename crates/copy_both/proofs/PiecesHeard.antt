@@ -129,8 +129,8 @@ module _ (checked : CheckedOf) (bytes : List ℕ) (reach : ℕ) (last : HearingO
   err_on None g is going some = absurd (some_is last.fault g some (fault_over last.fault last.heard.ended going))
   err_on (Some f) g is going some =
       subst (HasFault checked bytes reach)
-          (same_fault (then_fault (Some f) last).fault (link_fault f) g (length_fault f last going) some)
-          (by_length f is)
+      (same_fault (then_fault (Some f) last).fault (link_fault f) g (length_fault f last going) some)
+      (by_length f is)
 
   err_comes : (f : Option FrameFault) (g : LinkFault) → fault_in 65536 bytes ≡ f
       → Comes checked (frames_in bytes) reach last → (then_fault f last).fault ≡ Some g
@@ -138,16 +138,16 @@ module _ (checked : CheckedOf) (bytes : List ℕ) (reach : ℕ) (last : HearingO
   err_comes f g is (Comes_on going started) some = err_on f g is going some
   err_comes f g is (Comes_bad other bad fails) some =
       subst (HasFault checked bytes reach)
-          (same_fault (then_fault f last).fault other g (fault_stays f last other fails) some)
+      (same_fault (then_fault f last).fault other g (fault_stays f last other fails) some)
       (by_frame other (event_fault bad.frame other bad.fails) bad)
   err_comes f g is (Comes_refused state refused fails) some =
       subst (HasFault checked bytes reach)
-          (same_fault (then_fault f last).fault (fault.BadStart state) g
-          (fault_stays f last (fault.BadStart state) fails) some) refused
+      (same_fault (then_fault f last).fault (fault.BadStart state) g
+      (fault_stays f last (fault.BadStart state) fails) some) refused
   err_comes f g is (Comes_ahead says fails) some =
       subst (HasFault checked bytes reach)
-          (same_fault (then_fault f last).fault fault.StatusAhead g (fault_stays f last fault.StatusAhead fails) some)
-          says
+      (same_fault (then_fault f last).fault fault.StatusAhead g (fault_stays f last fault.StatusAhead fails) some)
+      says
   err_comes f g is (Comes_ended kind ends none so) some =
       absurd (some_is last.fault g (sym (ap (λ (x : HearingOf). x.fault) (end_stays f last kind none so)) ∙ some) none)
 
@@ -261,13 +261,13 @@ module _ (bytes piece : List ℕ) (old new : Ear) (before after : Book) (sent : 
   err_memory (count, leaves) =
       let some : List Frame = take count (frames_of whole) in
       let part : Ran (ear_checked old) (frames_in bytes ++ some) (reached (frames_heard served start some).started)
-          (frames_heard served start some) =
+      (frames_heard served start some) =
       runs_on served (frames_in bytes) some start refl has.started in
       let left : List Frame = drop count (frames_of whole) in
       let split : (frames_in bytes ++ some) ++ left ≡ frames_in all =
       append_assoc (frames_in bytes) some left
-          ∙ ap (λ (x : List Frame). frames_in bytes ++ x) (take-append-drop count (frames_of whole))
-          ∙ sym all_frames in
+      ∙ ap (λ (x : List Frame). frames_in bytes ++ x) (take-append-drop count (frames_of whole))
+      ∙ sym all_frames in
       record {
         stays = λ s so. leaves.started ∙ frames_started served start some s so;
         asks =
@@ -283,10 +283,10 @@ module _ (bytes piece : List ℕ) (old new : Ear) (before after : Book) (sent : 
       → HearsPiece old new before after piece sent result → HasHeardOn (ear_checked old) all old new before sent result
   by_result (Ok heard) is left =
       by_whole (left.leaves.started ∙ total_started) (Ok heard)
-          (ok_tells heard (left.leaves.started ∙ total_started) is)
+      (ok_tells heard (left.leaves.started ∙ total_started) is)
       (ok_explained heard left
-          (ok_comes (ear_checked old) (frames_in all) (reached last.started) last (fault_of whole) heard ran.comes
-          is))
+      (ok_comes (ear_checked old) (frames_in all) (reached last.started) last (fault_of whole) heard ran.comes
+      is))
   by_result (Err fault.OutOfMemory) is left = err_memory left.leaves
   by_result (Err fault.FrameTooLong) is left = err_whole fault.FrameTooLong left.leaves is
   by_result (Err fault.BadLength) is left = err_whole fault.BadLength left.leaves is
@@ -298,11 +298,11 @@ module _ (bytes piece : List ℕ) (old new : Ear) (before after : Book) (sent : 
 pub pieces_are_heard : PiecesAreHeard
 pieces_are_heard checked bytes piece old new before after sent result has answer left =
     let Goal : CheckedOf → Type 0 = λ k. HasHeard k bytes old
-        → HasHeardOn k (bytes ++ piece) old new before sent result in
+    → HasHeardOn k (bytes ++ piece) old new before sent result in
     let own : Goal (ear_checked old) = λ known.
     by_result bytes piece old new before after sent known result
     (subst (λ p. Answers (λ heard. heard) told_fault (answer_in p (ear_heard old before piece sent)) result)
-        known.phase_is answer)
+    known.phase_is answer)
     (subst (λ p. HearLeaves p old new before after piece sent result) known.phase_is left) in
     subst Goal has.checked_is own has
 

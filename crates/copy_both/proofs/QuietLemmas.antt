@@ -64,7 +64,7 @@ quiet_frames served h [] none = refl
 quiet_frames served h (frame ∷ frames) none =
     quiet_frames served (frame_heard served h frame) frames none
     ∙ quiet_frame served h frame
-        (before_by (frame_heard served h frame).fault served (frame_heard served h frame) frames refl none)
+    (before_by (frame_heard served h frame).fault served (frame_heard served h frame) frames refl none)
 
 pub quiet_after : (served : Served) (start now : HearingOf) (frames : List Frame)
     → now ≡ frames_heard served start frames → now.fault ≡ None → now.response ≡ start.response

@@ -66,8 +66,10 @@ unfolding quoted
 no_quote_left quote [] lacks = refl
 no_quote_left quote (b ∷ []) lacks = rw (first_lacks quote b [] lacks) refl
 no_quote_left quote (b ∷ c ∷ bytes) lacks =
-    rw (first_lacks quote b (c ∷ bytes) lacks,
-    no_quote_left quote (c ∷ bytes) (later_lacks quote b (c ∷ bytes) lacks)) refl
+    rw (
+      first_lacks quote b (c ∷ bytes) lacks,
+      no_quote_left quote (c ∷ bytes) (later_lacks quote b (c ∷ bytes) lacks),
+    ) refl
 
 last_quote : (quote : ℕ) (after : List ℕ) → get_or after 0 0 ≢ quote → quoted quote (quote ∷ after) ≡ found_as [] 1
 unfolding quoted
@@ -92,12 +94,12 @@ closes quote part after meant n lacks other =
 -- a part up to two quotes
 pub goes_on : (quote : ℕ) (part after meant : List ℕ) (n : ℕ) → 0 < quote → Lacks quote part → get_or after 0 0 ≡ quote
     → after_read meant n (quoted quote (part ++ (quote ∷ after)))
-        ≡ after_read (meant ++ part ++ (quote ∷ [])) (n + length part + 2) (quoted quote (drop 1 after))
+    ≡ after_read (meant ++ part ++ (quote ∷ [])) (n + length part + 2) (quoted quote (drop 1 after))
 goes_on quote part after meant n some lacks again =
     ap (after_read meant n) (to_quote quote part after lacks)
     ∙ both_read meant part n (length part) (quoted quote (quote ∷ after))
     ∙ ap (after_read (meant ++ part) (n + length part))
-        (two_quotes quote after some again ∙ quote_read quote (quoted quote (drop 1 after)))
+    (two_quotes quote after some again ∙ quote_read quote (quoted quote (drop 1 after)))
     ∙ both_read (meant ++ part) (quote ∷ []) (n + length part) 2 (quoted quote (drop 1 after))
 
 -- ---- the loop
@@ -128,16 +130,16 @@ pub text_goes_on : (quote : ℕ) (text rest part after left meant result : List 
     → rest ≡ part ++ (quote ∷ after) → Lacks quote part → 0 < quote → get_or after 0 0 ≡ quote → left ≡ drop 1 after
     → result ≡ meant ++ part ++ (quote ∷ [])
     → (after_read result (length text - length left) (quoted quote left) ≡ quoted quote text)
-        × (length left ≤ length text)
+    × (length left ≤ length text)
 text_goes_on quote text rest part after left meant result so_far fewer e lacks some again left_is is =
     let shorter = (lengths text rest part after quote fewer e).1 in
     let one : length left ≡ length after - 1 = ap length left_is ∙ length-drop 1 after in
     let some_after : 0 < length after = nonempty after quote some again in
     let n : length text - length rest + length part + 2 ≡ length text - length left =
-        omega (arith, (lengths text rest part after quote fewer e).0) in (
+    omega (arith, (lengths text rest part after quote fewer e).0) in (
       ap (λ read. after_read read (length text - length left) (quoted quote left)) is
           ∙ ap (λ rest. after_read (meant ++ part ++ (quote ∷ [])) (length text - length left) (quoted quote rest))
-              left_is
+          left_is
           ∙ ap (λ k. after_read (meant ++ part ++ (quote ∷ [])) k (quoted quote (drop 1 after))) (sym n)
           ∙ sym (goes_on quote part after meant (length text - length rest) some lacks again)
           ∙ ap (λ left. after_read meant (length text - length rest) (quoted quote left)) (sym e)

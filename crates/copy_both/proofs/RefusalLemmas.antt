@@ -8,7 +8,7 @@ severities = 83 ∷ 69 ∷ 82 ∷ 82 ∷ 79 ∷ 82 ∷ 0 ∷ 86 ∷ 69 ∷ 82 �
 
 pub fields_are : (code before name after : List ℕ)
     → severities ++ (code ++ ((0 ∷ 77 ∷ []) ++ (before ++ (name ++ (after ++ (0 ∷ 0 ∷ []))))))
-        ≡ error_fields code (before ++ name ++ after)
+    ≡ error_fields code (before ++ name ++ after)
 fields_are code before name after = simp append_assoc
 
 pub length-fields : (code text : List ℕ) → length code ≡ 5 → length (error_fields code text) ≡ 24 + length text
@@ -16,5 +16,5 @@ length-fields code text five = simp length-append (omega arith)
 
 pub joined_9 : (out a b c d e f g h i : List ℕ)
     → out ++ a ++ b ++ c ++ d ++ e ++ f ++ g ++ h ++ i ≡ out
-        ++ (a ++ (b ++ (c ++ (d ++ (e ++ (f ++ (g ++ (h ++ i))))))))
+    ++ (a ++ (b ++ (c ++ (d ++ (e ++ (f ++ (g ++ (h ++ i))))))))
 joined_9 out a b c d e f g h i = simp append_assoc

@@ -73,12 +73,12 @@ refused_then : (served : Served) (h next : HearingOf) (frames : List Frame) (sta
     → Refused state h (frames_heard served next frames)
 refused_then served h next frames state None none quiet own later is =
     subst (λ (before : List ℕ). IsResponse state before (frames_heard served next frames).response) (quiet none)
-        (later none is)
+    (later none is)
 refused_then served h next frames state (Some f) some quiet own later is =
     let stays : frames_heard served next frames ≡ next =
     over_stays served next frames (ap (λ (x : Option LinkFault). is_over_by x next.heard.ended) some) in
     subst (λ (last : HearingOf). IsResponse state h.response last.response) (sym stays)
-        (own (sym (ap (λ (x : HearingOf). x.fault) stays) ∙ is))
+    (own (sym (ap (λ (x : HearingOf). x.fault) stays) ∙ is))
 
 frames_refused : (served : Served) (frames : List Frame) (h : HearingOf) (state : SqlState) → h.fault ≡ None
     → Refused state h (frames_heard served h frames)
@@ -86,7 +86,7 @@ unfolding frames_heard
 frames_refused served [] h state good is = absurd (not_refused h.fault state good is)
 frames_refused served (frame ∷ frames) h state good is =
     refused_then served h (frame_heard served h frame) frames state (frame_heard served h frame).fault refl
-        (quiet_frame served h frame)
+    (quiet_frame served h frame)
     (frame_refused h state good served frame) (frames_refused served frames (frame_heard served h frame) state) is
 
 -- what the frames of a piece leave

@@ -15,7 +15,7 @@ concat_one xs = append-nil xs
 concat_more : (n : ℕ) (k : List ℕ) → concat (replicate (n + 1) k) ≡ concat (replicate n k) ++ k
 concat_more n k =
     ap concat (sym (replicate_more n k)) ∙ concat-append (replicate n k) (k ∷ [])
-        ∙ ap (λ (x : List ℕ). concat (replicate n k) ++ x) (concat_one k)
+    ∙ ap (λ (x : List ℕ). concat (replicate n k) ++ x) (concat_one k)
 
 -- ---- keepalives
 
@@ -71,7 +71,7 @@ joined first opening closing between =
 
 pub all_said : (first opened replied last : Voice) (started : Option (ℕ × ℕ)) (heard : HeardOf) (clock : ℕ)
     → Says first opened (opening (voice_stage first) started)
-        (begun_stage (voice_checked first) (voice_stage first) started)
+    (begun_stage (voice_checked first) (voice_stage first) started)
     → Says opened replied (concat (replies (voice_stage opened) heard.replies clock)) (voice_stage opened)
     → Says replied last (closing (voice_stage replied) heard.ended) (ended_stage heard.ended (voice_stage replied))
     → Says first last (concat (frames_by (voice_checked first) (voice_stage first) started heard clock))
@@ -87,11 +87,11 @@ all_said first opened replied last started heard clock opens answers ends =
           ∙ ap (λ (s : StageOf). voice_output replied ++ closing s heard.ended) after
           ∙ ap (λ (x : List ℕ). x ++ closing begun heard.ended) answers.output
           ∙ ap (λ (s : StageOf). (voice_output opened ++ concat (replies s heard.replies clock))
-              ++ closing begun heard.ended) opens.stage_is
+          ++ closing begun heard.ended) opens.stage_is
           ∙ ap (λ (x : List ℕ). (x ++ concat (replies begun heard.replies clock)) ++ closing begun heard.ended)
-              opens.output
+          opens.output
           ∙ joined (voice_output first) (opening (voice_stage first) started) (closing begun heard.ended)
-              (replies begun heard.replies clock);
+          (replies begun heard.replies clock);
     }
 
 pub not_opened : (first opened : Voice) (frames : List (List ℕ)) → Closes first opened → SaysFirst first opened frames
@@ -99,13 +99,17 @@ not_opened first opened frames closes = record {
   said = [];
   others = frames;
   all = refl;
-  says = record { checked = closes.checked; stage_is = closes.stage_is; output = closes.output
-      ∙ sym (append-nil (voice_output first)) };
+  says = record {
+    checked = closes.checked;
+    stage_is = closes.stage_is;
+    output = closes.output
+        ∙ sym (append-nil (voice_output first));
+  };
 }
 
 pub not_replied : (first opened replied : Voice) (started : Option (ℕ × ℕ)) (heard : HeardOf) (clock : ℕ)
     → Says first opened (opening (voice_stage first) started)
-        (begun_stage (voice_checked first) (voice_stage first) started)
+    (begun_stage (voice_checked first) (voice_stage first) started)
     → SaysFirst opened replied (replies (voice_stage opened) heard.replies clock)
     → SaysFirst first replied (frames_by (voice_checked first) (voice_stage first) started heard clock)
 not_replied first opened replied started heard clock opens some =
@@ -130,7 +134,7 @@ not_replied first opened replied started heard clock opens some =
 
 pub not_ended : (first opened replied last : Voice) (started : Option (ℕ × ℕ)) (heard : HeardOf) (clock : ℕ)
     → Says first opened (opening (voice_stage first) started)
-        (begun_stage (voice_checked first) (voice_stage first) started)
+    (begun_stage (voice_checked first) (voice_stage first) started)
     → Says opened replied (concat (replies (voice_stage opened) heard.replies clock)) (voice_stage opened)
     → Closes replied last
     → SaysFirst first last (frames_by (voice_checked first) (voice_stage first) started heard clock)

@@ -35,7 +35,7 @@ numbered setting tables found one other same = ap (λ number. option_map (entry_
 entry_there : (setting : Setting) (tables : Tables) (number : ℕ) (transactions : List Transaction) (place : ℕ)
     → slice_get (entries_from setting tables number transactions) place
     ≡ option_map (entry_of setting (fold (left_by setting) tables (take place transactions)) (number + place))
-        (slice_get transactions place)
+    (slice_get transactions place)
 unfolding entry_of
 entry_there setting tables number [] place = refl
 entry_there setting tables number (transaction ∷ transactions) zero =
@@ -43,7 +43,7 @@ entry_there setting tables number (transaction ∷ transactions) zero =
 entry_there setting tables number (transaction ∷ transactions) (suc place) =
     entry_there setting (left_by setting tables transaction) (number + 1) transactions place
     ∙ numbered setting (fold (left_by setting) (left_by setting tables transaction) (take place transactions))
-        (slice_get transactions place) (number + 1 + place) (number + suc place)
+    (slice_get transactions place) (number + 1 + place) (number + suc place)
     (at_later number place)
 
 first_is : (one other : Transaction) → Some one ≡ Some other → one ≡ other
@@ -83,16 +83,16 @@ module _ (checked : CheckedOf) (covered : Covered (setting_in checked)) (transac
   entry_after done =
       entry_there (setting_in checked) no_rows 1 transactions done
       ∙ numbered (setting_in checked) (after (setting_in checked) (take done transactions))
-          (slice_get transactions done) (1 + done) (done + 1) (omega arith)
+      (slice_get transactions done) (1 + done) (done + 1) (omega arith)
 
   tells : (at : Reached) (told : List Bool) (transaction : Transaction)
       → AreNamed checked.catalog.tables told at.named → slice_get transactions at.done ≡ Some transaction
       → TellsTransaction checked subscriber told at.named (entry at.done transaction)
-          (seen_next checked transactions subscriber at.done transaction)
+      (seen_next checked transactions subscriber at.done transaction)
   unfolding entry_of
   tells at told transaction named there =
       commits_tell_transactions checked covered subscriber told at.named named (entry at.done transaction)
-          (after (setting_in checked) (take at.done transactions)) 1 transaction.commands
+      (after (setting_in checked) (take at.done transactions)) 1 transaction.commands
       (accepted_there (setting_in checked) no_rows transactions at.done transaction accepted there).no_fault refl
 
   -- the flags after the next transaction
@@ -103,7 +103,7 @@ module _ (checked : CheckedOf) (covered : Covered (setting_in checked)) (transac
   items_next : (at : Reached) (told : List Bool) (found : Option Transaction) (clock : ℕ)
       → AreNamed checked.catalog.tables told at.named → slice_get transactions at.done ≡ found
       → take_items (telling_of checked) (place_by at told) (option_map (entry at.done) found) clock
-          ≡ next_told checked transactions subscriber at found clock
+      ≡ next_told checked transactions subscriber at found clock
   unfolding entry_of
   items_next at told None clock named there = refl
   items_next at told (Some transaction) clock named there =
@@ -119,32 +119,32 @@ module _ (checked : CheckedOf) (covered : Covered (setting_in checked)) (transac
   named_next : (at : Reached) (told : List Bool) (found : Option Transaction)
       → AreNamed checked.catalog.tables told at.named → slice_get transactions at.done ≡ found
       → AreNamed checked.catalog.tables (told_next told at found)
-          (reached_next checked transactions subscriber at found).named
+      (reached_next checked transactions subscriber at found).named
   unfolding told_next
   named_next at told None named there = named
   named_next at told (Some transaction) named there = (tells at told transaction named there).named_after
 
   moves_as : (at : Reached) (told : List Bool) → AreNamed checked.catalog.tables told at.named → (moves : List Move)
       → all_items (telling_of checked) log (place_by at told) moves
-          ≡ moves_told checked transactions subscriber at moves
+      ≡ moves_told checked transactions subscriber at moves
   moves_as at told named [] = refl
   moves_as at told named (Take clock ∷ moves) =
       let found = slice_get transactions at.done in
       let next = reached_next checked transactions subscriber at found in
       ap (λ (one : Option CommitOf). take_items (telling_of checked) (place_by at told) one clock
-          ++ all_items (telling_of checked) log (taken_place (telling_of checked) (place_by at told) one) moves)
+      ++ all_items (telling_of checked) log (taken_place (telling_of checked) (place_by at told) one) moves)
       (entry_after at.done)
       ∙ ap (λ (place : Place). take_items (telling_of checked) (place_by at told) (option_map (entry at.done) found)
-          clock ++ all_items (telling_of checked) log place moves)
+      clock ++ all_items (telling_of checked) log place moves)
       (place_next at told found)
       ∙ ap (λ (items : List Item). items
-          ++ all_items (telling_of checked) log (place_by next (told_next told at found)) moves)
-          (items_next at told found clock named refl)
+      ++ all_items (telling_of checked) log (place_by next (told_next told at found)) moves)
+      (items_next at told found clock named refl)
       ∙ ap (λ (items : List Item). next_told checked transactions subscriber at found clock ++ items)
-          (moves_as next (told_next told at found) (named_next at told found named refl) moves)
+      (moves_as next (told_next told at found) (named_next at told found named refl) moves)
   moves_as at told named (Keep clock want ∷ moves) =
       ap (λ (items : List Item). move_told checked transactions subscriber at (Keep clock want) ++ items)
-          (moves_as at told named moves)
+      (moves_as at told named moves)
 
 -- ---- the law
 

@@ -78,7 +78,7 @@ version_value : (text : List ℕ) → HasShortValue (version text)
 version_value text =
     let one : Bool = bytes_eq (without_zeros text) (codes "1") in
     chosen (length text == 0 || nat_lt 10 (length text) || not (list_all is_ascii_digit text)) Wrong
-        (if one then Version else Unsupported) HasShortValue tt
+    (if one then Version else Unsupported) HasShortValue tt
     (chosen one Version Unsupported HasShortValue tt tt)
 
 off_value : (text : List ℕ) → HasShortValue (off text)
@@ -88,7 +88,7 @@ given_value : (name text : List ℕ) → HasShortValue (given name text)
 given_value name text =
     chosen (bytes_eq name (codes "proto_version")) (version text) _ HasShortValue (version_value text)
     (chosen (bytes_eq name (codes "publication_names")) (publications text) _ HasShortValue
-        (publications_value (tokens_of text))
+    (publications_value (tokens_of text))
     (chosen (is_left_out name) (off text) Wrong HasShortValue (off_value text) tt))
 
 value_is_short : (name : List ℕ) (text : Option (List ℕ)) → HasShortValue (option_value name text)
@@ -125,7 +125,7 @@ listed_are_short : (place : Option ℕ) (tokens : List Token) → Holds AreShort
 listed_are_short None tokens = tt
 listed_are_short (Some n) tokens =
     chosen (ends (drop (n + 1) tokens)) _ None (Holds AreShortOptions)
-        (all_options (slice_split is_comma (take n tokens))) tt
+    (all_options (slice_split is_comma (take n tokens))) tt
 
 none_are_short : (tokens : List Token) → Holds AreShortOptions (no_options tokens)
 none_are_short tokens = chosen (ends tokens) (Some []) None (Holds AreShortOptions) tt tt
@@ -145,7 +145,7 @@ command_in_short : (tokens : List Token) → Holds IsShortCommand (command_in to
 command_in_short (start ∷ slot ∷ name ∷ logical ∷ place ∷ options) =
     chosen (has_keywords start slot logical) _ None (Holds IsShortCommand)
     (command_with_short (name_in name) (position_in place) (options_in options) (token_is_short name)
-        (options_are_short options)) tt
+    (options_are_short options)) tt
 command_in_short _ = tt
 
 with_tokens_short : (tokens : Option (List Token)) → Holds IsShortCommand (command_with_tokens tokens)
@@ -200,9 +200,9 @@ option_short : (earlier : List StartOption) (option : StartOption) → IsShortOp
     → AllShort (option_refusal earlier option)
 option_short earlier option short =
     or_else_short (refused (is_wrong option.value || list_any (is_named option.name) earlier)
-        (WrongOption option.name)) _
+    (WrongOption option.name)) _
     (refused_short _ (WrongOption option.name) short.name)
-        (refused_short (is_unsupported option.value) (UnsupportedOption option.name) short.name)
+    (refused_short (is_unsupported option.value) (UnsupportedOption option.name) short.name)
 
 options_short : (earlier options : List StartOption) → AreShortOptions options
     → AllShort (options_refusal earlier options)
@@ -214,9 +214,9 @@ options_short earlier (option ∷ later) short =
 missing_short : (options : List StartOption) → AllShort (missing_refusal options)
 missing_short options =
     or_else_short (refused _ (MissingOption (codes "proto_version")))
-        (refused _ (MissingOption (codes "publication_names")))
+    (refused _ (MissingOption (codes "publication_names")))
     (refused_short _ (MissingOption (codes "proto_version")) (omega arith))
-        (refused_short _ (MissingOption (codes "publication_names")) (omega arith))
+    (refused_short _ (MissingOption (codes "publication_names")) (omega arith))
 
 names_of_short : (value : OptionValue) → HasShortValue value → AreShort (names_of value)
 names_of_short Wrong short = tt
@@ -229,7 +229,7 @@ given_short : (options : List StartOption) → AreShortOptions options → AreSh
 given_short [] short = tt
 given_short (option ∷ options) short =
     chosen (has_publications option.value) (names_of option.value) (names_given options) AreShort
-        (names_of_short option.value short.0.value) (given_short options short.1)
+    (names_of_short option.value short.0.value) (given_short options short.1)
 
 unknown_short : (known names : List (List ℕ)) → AreShort names → AllShort (unknown_refusal known names)
 unknown_short known [] short = tt
@@ -243,9 +243,9 @@ slot_short offer command slot taken short =
     or_else_short (options_refusal [] command.options) _ (options_short [] command.options short.options)
     (or_else_short (missing_refusal command.options) _ (missing_short command.options)
     (or_else_short (unknown_refusal offer.publications (names_given command.options)) _
-        (unknown_short offer.publications (names_given command.options) (given_short command.options short.options))
+    (unknown_short offer.publications (names_given command.options) (given_short command.options short.options))
     (or_else_short (refused (not (same_publications offer.publications (names_given command.options) taken))
-        (OtherPublications command.slot)) _ (refused_short _ (OtherPublications command.slot) short.slot)
+    (OtherPublications command.slot)) _ (refused_short _ (OtherPublications command.slot) short.slot)
     (or_else_short (refused (nat_lt offer.log_end command.position) Ahead) _ (refused_short _ Ahead tt)
     (refused_short (is_taken offer.in_use slot) (InUse command.slot) short.slot)))))
 

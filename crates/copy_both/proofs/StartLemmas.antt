@@ -42,16 +42,16 @@ pub offer_is : (catalog : Catalog) (served : Served) (publications : List Public
     → offer (map (λ (p : Publication). p.name) publications) subscriptions end ≡ offer_in served
 offer_is catalog served publications subscriptions end of_publications of_subscriptions of_end shown =
     let names : map (λ (p : Publication). p.name) publications
-        ≡ map (λ (p : PublicationOf Expr). p.name) served.checked.catalog.publications =
+    ≡ map (λ (p : PublicationOf Expr). p.name) served.checked.catalog.publications =
     ap (map (λ (p : Publication). p.name)) of_publications ∙ names_same catalog.publications.items
     ∙ ap (λ (k : CatalogOf Expr). map (λ (p : PublicationOf Expr). p.name) k.publications) shown in
     let takers : subscriptions ≡ served.checked.catalog.subscriptions = of_subscriptions
-        ∙ ap (λ (k : CatalogOf Expr). k.subscriptions) shown in
+    ∙ ap (λ (k : CatalogOf Expr). k.subscriptions) shown in
     ap (λ (x : List (List ℕ)). offer x subscriptions end) names
     ∙ ap (λ (x : List Subscription). offer
-        (map (λ (p : PublicationOf Expr). p.name) served.checked.catalog.publications) x end) takers
+    (map (λ (p : PublicationOf Expr). p.name) served.checked.catalog.publications) x end) takers
     ∙ ap (λ (x : ℕ). offer (map (λ (p : PublicationOf Expr). p.name) served.checked.catalog.publications)
-        served.checked.catalog.subscriptions x) of_end
+    served.checked.catalog.subscriptions x) of_end
 
 -- ---- a start by what was asked for
 
@@ -86,13 +86,13 @@ begins_by : (served : Served) (slots : List Slot) (kind : ℕ) (body : List ℕ)
     → code.Stream slot position ≡ told (asked_of (offer_in served) kind body)
     → start_fault slots (end_after served.commits) slot position ≡ fault
     → begin_of served slots kind body
-        ≡ unless_fault fault slot (max position (confirmed_at slots slot))
-        (slot_name served.checked.catalog.subscriptions slot)
+    ≡ unless_fault fault slot (max position (confirmed_at slots slot))
+    (slot_name served.checked.catalog.subscriptions slot)
 unfolding begin_of
 begins_by served slots kind body slot position fault is found =
     ap (begin_by served slots) (stream_of (asked_of (offer_in served) kind body) slot position is)
     ∙ ap (λ (f : Option StartError). unless_fault f slot (max position (confirmed_at slots slot))
-        (slot_name served.checked.catalog.subscriptions slot)) found
+    (slot_name served.checked.catalog.subscriptions slot)) found
 
 pub sent_stream : (asked : StartAnswerOf) (slot position : ℕ) (old : List ℕ) → code.Stream slot position ≡ told asked
     → sent_after old asked ≡ old
@@ -123,7 +123,7 @@ pub refused_start : (served : Served) (slots after : List Slot) (kind : ℕ) (bo
 refused_start served slots after kind body slot position error state old middle new is faulty stay sent state_is wrote =
     let refusal : RefusalOf = book_refusal (slot_name served.checked.catalog.subscriptions slot) error in
     let refuses : begin_of served slots kind body ≡ h.Refuses refusal =
-        begins_by served slots kind body slot position (Some error) is faulty in
+    begins_by served slots kind body slot position (Some error) is faulty in
     record {
       fault_is = ap refusal_fault refuses ∙ ap (λ s. Some (fault.BadStart s)) (sym state_is);
       slots = stay;
@@ -141,7 +141,7 @@ name_is_short (subscription ∷ subscriptions) zero all =
     (All-head IsPlainName subscription.name (map (λ (s : Subscription). s.name) subscriptions) all).short
 name_is_short (subscription ∷ subscriptions) (suc slot) all =
     name_is_short subscriptions slot
-        (All-tail IsPlainName subscription.name (map (λ (s : Subscription). s.name) subscriptions) all)
+    (All-tail IsPlainName subscription.name (map (λ (s : Subscription). s.name) subscriptions) all)
 
 pub book_is_sent : (subscriptions : List Subscription) (slot : ℕ) (error : StartError)
     → All IsPlainName (map (λ (s : Subscription). s.name) subscriptions)

@@ -40,7 +40,7 @@ frame_told : (served : Served) (h : HearingOf) (frame : Frame) (s : ℕ × ℕ) 
 frame_told served h frame s is =
     over_told (is_over h) h (next_heard served frame h.started h)
     (ap (λ (o : Option (ℕ × ℕ)). (next_heard served frame o h).heard.started) is
-        ∙ event_told served s.0 (event_of frame.kind frame.body) h)
+    ∙ event_told served s.0 (event_of frame.kind frame.body) h)
 
 frames_told : (served : Served) (frames : List Frame) (h : HearingOf) (s : ℕ × ℕ) → h.started ≡ Some s
     → (frames_heard served h frames).heard.started ≡ h.heard.started
@@ -48,7 +48,7 @@ unfolding frames_heard
 frames_told served [] h s is = refl
 frames_told served (frame ∷ frames) h s is =
     frames_told served frames (frame_heard served h frame) s (frame_started served h frame s is)
-        ∙ frame_told served h frame s is
+    ∙ frame_told served h frame s is
 
 -- ---- the first frame
 
@@ -64,7 +64,7 @@ begun_told : (served : Served) (frames : List Frame) (h : HearingOf) → h.start
 begun_told served frames h none silent (Begins slot start) =
     let next : HearingOf = begun (Begins slot start) h in
     frames_told served frames next (slot, start) refl
-        ∙ sym (ap (start_told None) (frames_started served next frames (slot, start) refl))
+    ∙ sym (ap (start_told None) (frames_started served next frames (slot, start) refl))
 begun_told served frames h none silent (Refuses refusal) =
     let next : HearingOf = begun (Refuses refusal) h in
     subst Told (sym (over_stays served next frames refl)) (none_told next none silent)
@@ -73,7 +73,7 @@ ended_told : (served : Served) (frames : List Frame) (h : HearingOf) → h.start
     → Told (frames_heard served (ended_by 88 h) frames)
 ended_told served frames h none silent =
     subst Told (sym (over_stays served (ended_by 88 h) frames (over_by_end h.fault 88)))
-        (none_told (ended_by 88 h) none silent)
+    (none_told (ended_by 88 h) none silent)
 
 first_told : (served : Served) (frames : List Frame) (h : HearingOf) → h.started ≡ None → h.heard.started ≡ None
     → is_over h ≡ false → Told (frames_heard served h frames)
@@ -83,14 +83,14 @@ first_told served (frame ∷ frames) h none silent going =
     let begins : BeginOf = begin_of served h.slots frame.kind frame.body in
     let step : frame_heard served h frame ≡ (if frame.kind == 88 then ended_by 88 h else begun begins h) =
     ap (λ over. unless_over over h (next_heard served frame h.started h)) going
-        ∙ ap (λ (s : Option (ℕ × ℕ)). next_heard served frame s h) none in
+    ∙ ap (λ (s : Option (ℕ × ℕ)). next_heard served frame s h) none in
     let Goal : HearingOf → Type 0 = λ next. Told (frames_heard served next frames) in
     subst Goal (sym step)
     (by_test (frame.kind == 88)
     (λ yes. subst Goal (sym (ap (λ b. if b then ended_by 88 h else begun begins h) yes))
-        (ended_told served frames h none silent))
+    (ended_told served frames h none silent))
     (λ no. subst Goal (sym (ap (λ b. if b then ended_by 88 h else begun begins h) no))
-        (begun_told served frames h none silent begins)))
+    (begun_told served frames h none silent begins)))
 
 -- ---- all frames
 
@@ -107,6 +107,6 @@ fault_told (Some f) h = over_told (is_over h) h (with_fault (link_fault f) h) re
 pub all_told : (served : Served) (frames : List Frame) (h : HearingOf) (f : Option FrameFault) → is_over h ≡ false
     → h.heard.started ≡ None
     → (then_fault f (frames_heard served h frames)).heard.started
-        ≡ start_told h.started (frames_heard served h frames).started
+    ≡ start_told h.started (frames_heard served h frames).started
 all_told served frames h f going silent = fault_told f (frames_heard served h frames)
     ∙ told_by served frames h going silent h.started refl

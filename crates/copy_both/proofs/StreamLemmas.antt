@@ -17,11 +17,11 @@ moved_append telling log place (first ∷ moves) move =
 
 pub items_append : {C : Type 0} (telling : Telling C) (log : List C) (place : Place) (moves : List Move) (move : Move)
     → all_items telling log place (moves ++ move ∷ []) ≡ all_items telling log place moves
-        ++ move_items telling log (all_moved telling log place moves) move
+    ++ move_items telling log (all_moved telling log place moves) move
 items_append telling log place [] move = append-nil (move_items telling log place move)
 items_append telling log place (first ∷ moves) move =
     ap (λ later. move_items telling log place first ++ later)
-        (items_append telling log (moved telling log place first) moves move)
+    (items_append telling log (moved telling log place first) moves move)
     ∙ sym (append_assoc (move_items telling log place first) _ _)
 
 pub there_append : {C : Type 0} (telling : Telling C) (log : List C) (place : Place) (moves : List Move) (move : Move)
@@ -36,7 +36,7 @@ speaks_on : {C : Type 0} (telling : Telling C) (log : List C) (start : Start) (m
     (passed output : List ℕ) (place : Place) (move : Move)
     → Speaks telling log start moves passed output place → IsThere log place move
     → Speaks telling log start (moves ++ move ∷ []) passed
-        (output ++ flat_map spelled (move_items telling log place move)) (moved telling log place move)
+    (output ++ flat_map spelled (move_items telling log place move)) (moved telling log place move)
 speaks_on telling log start moves passed output place move speaks here =
     let first : Place = first_place start in
     let more : List Item = move_items telling log place move in
@@ -46,8 +46,8 @@ speaks_on telling log start moves passed output place move speaks here =
           ∙ ap (λ bytes. bytes ++ flat_map spelled more) speaks.bytes
           ∙ sym (flat_map-append spelled (Response ∷ all_items telling log first moves) more)
           ∙ ap (λ items. flat_map spelled (Response ∷ items))
-              (ap (λ at. all_items telling log first moves ++ move_items telling log at move) speaks.at
-              ∙ sym (items_append telling log first moves move));
+          (ap (λ at. all_items telling log first moves ++ move_items telling log at move) speaks.at
+          ∙ sym (items_append telling log first moves move));
       at = ap (λ at. moved telling log at move) speaks.at ∙ sym (moved_append telling log first moves move);
       there = there_append telling log first moves move speaks.there
           (let P : Place → Type 0 = λ at. IsThere log at move in subst P speaks.at here);
@@ -59,14 +59,14 @@ starts telling log start = record { bytes = sym (append-nil copy_both_response);
 pub takes : {C : Type 0} (telling : Telling C) → Takes telling
 takes telling log start moves passed output place commit clock speaks got =
     let on = speaks_on telling log start moves passed output place (Take clock) speaks
-        (slice_get_within log place.done commit got) in
+    (slice_get_within log place.done commit got) in
     rw got at on
 
 pub keeps : {C : Type 0} (telling : Telling C) → Keeps telling
 keeps telling log start moves passed output place clock want speaks =
     subst (λ bytes. Speaks telling log start (moves ++ Keep clock want ∷ []) passed (output ++ bytes) place)
-        (append-nil (keep_bytes place clock want))
-        (speaks_on telling log start moves passed output place (Keep clock want) speaks tt)
+    (append-nil (keep_bytes place clock want))
+    (speaks_on telling log start moves passed output place (Keep clock want) speaks tt)
 
 pub passes : {C : Type 0} (telling : Telling C) → Passes telling
 passes telling log start moves passed output place n speaks = record {
@@ -89,7 +89,7 @@ pub all_moved_longer : {C : Type 0} (telling : Telling C) (log more : List C) (p
 all_moved_longer telling log more place [] there = refl
 all_moved_longer telling log more place (Take clock ∷ moves) there =
     ap (λ got. all_moved telling (log ++ more) (taken_place telling place got) moves)
-        (got_longer log more place.done there.0)
+    (got_longer log more place.done there.0)
     ∙ all_moved_longer telling log more (moved telling log place (Take clock)) moves there.1
 all_moved_longer telling log more place (Keep clock want ∷ moves) there =
     all_moved_longer telling log more place moves there.1
@@ -100,9 +100,9 @@ pub items_longer : {C : Type 0} (telling : Telling C) (log more : List C) (place
 items_longer telling log more place [] there = refl
 items_longer telling log more place (Take clock ∷ moves) there =
     ap (λ got. take_items telling place got clock ++ all_items telling (log ++ more) (taken_place telling place got)
-        moves) (got_longer log more place.done there.0)
+    moves) (got_longer log more place.done there.0)
     ∙ ap (λ later. move_items telling log place (Take clock) ++ later)
-        (items_longer telling log more (moved telling log place (Take clock)) moves there.1)
+    (items_longer telling log more (moved telling log place (Take clock)) moves there.1)
 items_longer telling log more place (Keep clock want ∷ moves) there =
     ap (λ later. keep_item place clock want ∷ later) (items_longer telling log more place moves there.1)
 

@@ -64,7 +64,7 @@ voice_starts old new slot position waits silent says = record {
       let start : Start = started_at (voice_checked old) (slot, position) in
       subst (λ (o : List ℕ). Speaks (telling_of (voice_checked old)) log start [] [] o (first_place start))
       (sym (says.output ∙ ap (λ (o : List ℕ). o ++ copy_both_response) silent))
-          (starts (telling_of (voice_checked old)) log start);
+      (starts (telling_of (voice_checked old)) log start);
 }
 
 pub voice_takes : VoiceTakes
@@ -76,7 +76,7 @@ voice_takes old new told commit clock telling number says =
     ∙ ap (λ (k : CheckedOf). voices.Started (place_after (telling_of k) place commit)) telling.checked_is in
     let output_is : voice_output new ≡ voice_output old ++ take_bytes telling_is place commit clock =
     says.output ∙ ap (λ (s : StageOf). voice_output old ++ entry_bytes (voice_checked old) s commit clock)
-        telling.stage_is
+    telling.stage_is
     ∙ ap (λ (k : CheckedOf). voice_output old ++ take_bytes (telling_of k) place commit clock) telling.checked_is in
     record {
       checked_is = says.checked ∙ telling.checked_is;
@@ -87,9 +87,9 @@ voice_takes old new told commit clock telling number says =
       takes = takes_more told.moves clock ∙ ap suc telling.takes ∙ sym (length-push told.taken commit);
       speaks = λ log are.
           let found : slice_get log place.done ≡ Some commit = ap (slice_get log) telling.done
-              ∙ last_one log (first_of told) told.taken commit are in
+          ∙ last_one log (first_of told) told.taken commit are in
           subst (λ (o : List ℕ). Speaks telling_is log told.start (told.moves ++ Take clock ∷ []) told.passed o
-              (place_after telling_is place commit)) (sym output_is)
+          (place_after telling_is place commit)) (sym output_is)
           (takes telling_is log told.start told.moves told.passed (voice_output old) place commit clock
           (telling.speaks log (first_ones log (first_of told) told.taken commit are)) found);
     }
@@ -108,9 +108,9 @@ voice_keeps old new told clock want telling says =
       takes = takes_kept told.moves clock want ∙ telling.takes;
       speaks = λ log are.
           subst (λ (o : List ℕ). Speaks (telling_of told.checked) log told.start (told.moves ++ Keep clock want ∷ [])
-              told.passed o place) (sym output_is)
+          told.passed o place) (sym output_is)
           (keeps (telling_of told.checked) log told.start told.moves told.passed (voice_output old) place clock want
-              (telling.speaks log are));
+          (telling.speaks log are));
     }
 
 pub voice_passes_on : VoicePassesOn
@@ -123,10 +123,10 @@ voice_passes_on old new told count telling passed = record {
   takes = telling.takes;
   speaks = λ log are.
       subst (λ (o : List ℕ). Speaks (telling_of told.checked) log told.start told.moves
-          (told.passed ++ take count (voice_output old)) o telling.place)
+      (told.passed ++ take count (voice_output old)) o telling.place)
       (sym passed.output)
       (passes (telling_of told.checked) log told.start told.moves told.passed (voice_output old) telling.place count
-          (telling.speaks log are));
+      (telling.speaks log are));
 }
 
 -- ---- the end
@@ -150,7 +150,7 @@ voice_stops old new told telling closes = record {
   bytes = λ log are.
       ap (λ (x : List ℕ). told.passed ++ x) closes.output ∙ (telling.speaks log are).bytes
       ∙ sym (append-nil (stream (telling_of told.checked) log told.start.slot told.start.tables told.start.position
-          told.moves));
+      told.moves));
 }
 
 pub rest_passes_on : RestPassesOn

@@ -49,13 +49,13 @@ command_with None position options = None
 abbrev pub has_keywords : Token → Token → Token → Bool
 has_keywords start slot logical =
     is_keyword (codes "start_replication") start && is_keyword (codes "slot") slot
-        && is_keyword (codes "logical") logical
+    && is_keyword (codes "logical") logical
 
 -- the command that these tokens are
 abbrev pub command_in : List Token → Option StartCommand
 command_in (start ∷ slot ∷ name ∷ logical ∷ place ∷ options) =
     if has_keywords start slot logical then
-        command_with (name_in name) (position_in place) (options_in options) else None
+    command_with (name_in name) (position_in place) (options_in options) else None
 command_in _ = None
 
 abbrev pub command_with_tokens : Option (List Token) → Option StartCommand

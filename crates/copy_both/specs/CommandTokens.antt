@@ -25,7 +25,7 @@ longer n byte (Some found) = Some (record { meant = byte ∷ found.meant; length
 unfoldable pub quoted : ℕ → List ℕ → Option QuotedText
 quoted quote (b ∷ c ∷ bytes) =
     if b == quote then (if c == quote then
-        longer 2 quote (quoted quote bytes) else Some (record { meant = []; length = 1 }))
+    longer 2 quote (quoted quote bytes) else Some (record { meant = []; length = 1 }))
     else longer 1 b (quoted quote (c ∷ bytes))
 quoted quote (b ∷ []) = if b == quote then Some (record { meant = []; length = 1 }) else None
 quoted quote [] = None
@@ -51,7 +51,7 @@ is_word_byte b = is_ascii_alphanumeric b || b == 95 || b == 36
 abbrev pub hexadecimal : List ℕ → Option ℕ
 hexadecimal digits =
     if length digits == 0 || nat_lt 8 (length digits) || not (list_all is_ascii_hexdigit digits) then
-        None else Some (digits_value 16 digits)
+    None else Some (digits_value 16 digits)
 
 -- the place of these high and low 32 bits, written in `n` bytes
 abbrev pub place_piece : ℕ → Option ℕ → Option ℕ → Piece

@@ -74,7 +74,7 @@ abbrev pub begin_by : Served → List Slot → StartAnswerOf → BeginOf
 begin_by served slots (Refused refusal) = Refuses refusal
 begin_by served slots (Stream slot position) =
     unless_fault (start_fault slots (end_after served.commits) slot position) slot
-        (max position (confirmed_at slots slot))
+    (max position (confirmed_at slots slot))
     (slot_name served.checked.catalog.subscriptions slot)
 
 unfoldable pub begin_of : Served → List Slot → ℕ → List ℕ → BeginOf

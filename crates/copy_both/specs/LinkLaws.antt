@@ -101,9 +101,9 @@ took (Some commit) clock = Take clock ∷ []
 abbrev pub LinkTakes : Type 0
 LinkTakes = (old new : Link) (run : Run) (place : Place) (clock : ℕ) → IsStreaming old run place
     → LinkSays old new (next_bytes (link_checked old) (link_stage old) run.log clock)
-        (next_stage (link_checked old) (link_stage old) run.log clock)
+    (next_stage (link_checked old) (link_stage old) run.log clock)
     → IsStreaming new (with_moves run (took (slice_get run.log place.done) clock))
-        (moved (telling_of run.checked) run.log place (Take clock))
+    (moved (telling_of run.checked) run.log place (Take clock))
 
 abbrev pub LinkKeeps : Type 0
 LinkKeeps = (old new : Link) (run : Run) (place : Place) (clock : ℕ) (want : Bool) → IsStreaming old run place

@@ -49,7 +49,7 @@ piece_heard session book inbox piece sent =
 abbrev pub part_heard : ℕ → Session → Book → Inbox → List ℕ → ℕ → HearingOf
 part_heard count session book inbox piece sent =
     frames_heard (served_by session book) (hearing_view session (silence sent) book)
-        (take count (held_frames (fed inbox piece)))
+    (take count (held_frames (fed inbox piece)))
 
 -- what was agreed and the book are as what was heard says
 pub record Leaves (old new : Session) (before after : Book) (h : HearingOf) : Type 0 where

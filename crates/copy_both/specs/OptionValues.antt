@@ -35,7 +35,7 @@ publications text = publications_in (tokens_of text)
 abbrev pub is_left_out : List ℕ → Bool
 is_left_out name =
     bytes_eq name (codes "binary") || bytes_eq name (codes "messages") || bytes_eq name (codes "streaming")
-        || bytes_eq name (codes "two_phase")
+    || bytes_eq name (codes "two_phase")
 
 abbrev pub is_off : List ℕ → Bool
 is_off text = bytes_eq text (codes "false") || bytes_eq text (codes "off") || bytes_eq text (codes "0")

@@ -36,8 +36,8 @@ abbrev pub next_told : CheckedOf → List Transaction → ℕ → Reached → Op
 next_told checked transactions subscriber at None clock = []
 next_told checked transactions subscriber at (Some transaction) clock =
     map (Carries (head_of (at.done + 1) clock))
-        (transaction_told checked at.named (at.done + 1) transaction.time
-        (seen_next checked transactions subscriber at.done transaction))
+    (transaction_told checked at.named (at.done + 1) transaction.time
+    (seen_next checked transactions subscriber at.done transaction))
 
 abbrev pub reached_next : CheckedOf → List Transaction → ℕ → Reached → Option Transaction → Reached
 reached_next checked transactions subscriber at None = at
@@ -63,7 +63,7 @@ abbrev pub moves_told : CheckedOf → List Transaction → ℕ → Reached → L
 moves_told checked transactions subscriber at [] = []
 moves_told checked transactions subscriber at (move ∷ moves) =
     move_told checked transactions subscriber at move
-        ++ moves_told checked transactions subscriber (reached_by checked transactions subscriber at move) moves
+    ++ moves_told checked transactions subscriber (reached_by checked transactions subscriber at move) moves
 
 -- the bytes of a connection of the subscriber of this number that starts at this position and makes these moves
 abbrev pub stream_told : CheckedOf → List Transaction → ℕ → ℕ → List Move → List ℕ
@@ -78,5 +78,5 @@ StreamsTellTransactions = (checked : CheckedOf) → Covered (setting_in checked)
     → (transactions : List Transaction) → AreAccepted (setting_in checked) no_rows transactions
     → (subscriber position : ℕ) (moves : List Move)
     → stream (telling_of checked) (entries_from (setting_in checked) no_rows 1 transactions) subscriber
-        (length checked.catalog.tables) position moves
+    (length checked.catalog.tables) position moves
     ≡ stream_told checked transactions subscriber position moves

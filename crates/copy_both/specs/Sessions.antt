@@ -101,10 +101,10 @@ pub record TakesSlot (expected : BeginOf) (before after : List Slot) (old new : 
 
 -- the start is refused by this fault, and its response is added
 pub record IsRefused (expected : BeginOf) (before after : List Slot) (old new : List ℕ) (fault : LinkFault) : Type 0
-    where
-  pub fault_is : refusal_fault expected ≡ Some fault
-  pub slots : after ≡ before
-  pub response : new ≡ response_after old expected
+  where
+    pub fault_is : refusal_fault expected ≡ Some fault
+    pub slots : after ≡ before
+    pub response : new ≡ response_after old expected
 
 pub record StaysSo (before after : List Slot) (old new : List ℕ) : Type 0 where
   pub slots : after ≡ before

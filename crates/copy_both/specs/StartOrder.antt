@@ -24,8 +24,13 @@ pub record OfferOf : Type 0 where
 
 abbrev pub offer_view : Offer → OfferOf
 offer_view offer =
-    record { publications = map (λ p. p.name) offer.publications.now; subscriptions =
-        offer.subscriptions.now; log_end = offer.log_end; in_use = offer.in_use.now }
+    record {
+      publications = map (λ p. p.name) offer.publications.now;
+      subscriptions =
+          offer.subscriptions.now;
+      log_end = offer.log_end;
+      in_use = offer.in_use.now;
+    }
 
 -- the first refusal, or the next ones
 abbrev pub or_else : Option RefusalOf → Option RefusalOf → Option RefusalOf
@@ -86,9 +91,9 @@ options_refusal earlier (option ∷ later) =
 abbrev pub missing_refusal : List StartOption → Option RefusalOf
 missing_refusal options =
     or_else (refused (not (list_any (λ option. is_version option.value) options))
-        (MissingOption (codes "proto_version")))
+    (MissingOption (codes "proto_version")))
     (refused (not (list_any (λ option. has_publications option.value) options))
-        (MissingOption (codes "publication_names")))
+    (MissingOption (codes "publication_names")))
 
 -- ---- publications
 
@@ -135,7 +140,7 @@ slot_refusal offer command slot taken =
     (or_else (missing_refusal command.options)
     (or_else (unknown_refusal offer.publications (names_in command.options))
     (or_else (refused (not (same_publications offer.publications (names_in command.options) taken))
-        (OtherPublications command.slot))
+    (OtherPublications command.slot))
     (or_else (refused (nat_lt offer.log_end command.position) Ahead)
     (refused (is_taken offer.in_use slot) (InUse command.slot))))))
 

@@ -39,7 +39,7 @@ Takes {C = C} telling =
     (clock : ℕ)
     → Speaks telling log start moves passed output place → slice_get log place.done ≡ Some commit
     → Speaks telling log start (moves ++ Take clock ∷ []) passed (output ++ take_bytes telling place commit clock)
-        (place_after telling place commit)
+    (place_after telling place commit)
 
 abbrev pub Keeps : {C : Type 0} → Telling C → Type 0
 Keeps {C = C} telling =

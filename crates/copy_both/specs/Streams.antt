@@ -55,8 +55,13 @@ count_before position = (position - 1) / 64
 -- where a connection is that starts at this position and has told of none of the tables
 abbrev pub place_at : ℕ → ℕ → ℕ → Place
 place_at slot tables position =
-    record { slot = slot; done = count_before position; told = replicate tables false; sent = if position == 0 then
-        64 else position }
+    record {
+      slot = slot;
+      done = count_before position;
+      told = replicate tables false;
+      sent = if position == 0 then
+          64 else position;
+    }
 
 -- ---- a commit is taken
 
@@ -75,8 +80,13 @@ take_bytes telling place commit clock = flat_map spelled (take_items telling pla
 
 abbrev pub place_after : {C : Type 0} → Telling C → Place → C → Place
 place_after telling place commit =
-    record { slot = place.slot; done = place.done + 1; told = telling.told_after place.slot place.told commit; sent =
-        end_of (telling.number commit) }
+    record {
+      slot = place.slot;
+      done = place.done + 1;
+      told = telling.told_after place.slot place.told commit;
+      sent =
+          end_of (telling.number commit);
+    }
 
 -- ---- a keepalive carries the sent position
 

@@ -61,23 +61,28 @@ pub record HasTold (voice : Voice) (told : Told) (last : List ℕ) : Type 0 wher
   pub takes : takes_in told.moves ≡ length told.taken
   pub bytes : (log : List CommitOf) → AreAt log (first_of told) told.taken
       → told.passed ++ voice_output voice
-          ≡ stream (telling_of told.checked) log told.start.slot told.start.tables told.start.position told.moves
-          ++ last
+      ≡ stream (telling_of told.checked) log told.start.slot told.start.tables told.start.position told.moves
+      ++ last
 
 -- ---- laws: what each call does
 
 abbrev pub VoiceStarts : Type 0
 VoiceStarts = (old new : Voice) (slot position : ℕ) → voice_stage old ≡ voices.NotStarted → voice_output old ≡ []
     → Says old new copy_both_response (first_stage (voice_checked old) slot position)
-    → IsTelling new (record
-        { checked = voice_checked old; start = started_at (voice_checked old) (slot, position); taken = []; moves =
-        []; passed = [] })
+    → IsTelling new (record {
+      checked = voice_checked old;
+      start = started_at (voice_checked old) (slot, position);
+      taken = [];
+      moves =
+          [];
+      passed = [];
+    })
 
 abbrev pub VoiceTakes : Type 0
 VoiceTakes = (old new : Voice) (told : Told) (commit : CommitOf) (clock : ℕ) → IsTelling old told
     → commit.number ≡ suc (first_of told + length told.taken)
     → Says old new (entry_bytes (voice_checked old) (voice_stage old) commit clock)
-        (entry_stage (voice_checked old) (voice_stage old) commit)
+    (entry_stage (voice_checked old) (voice_stage old) commit)
     → IsTelling new (record told { taken = told.taken ++ commit ∷ []; moves = told.moves ++ Take clock ∷ [] })
 
 abbrev pub VoiceKeeps : Type 0

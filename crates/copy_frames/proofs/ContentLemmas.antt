@@ -27,22 +27,22 @@ pub keepalive_is_read : KeepaliveIsRead
 unfolding keepalive
 keepalive_is_read k position clock =
     ap (λ n. Some (keepalive n (number_at 9 (keepalive_body k)) (flag_at 17 (keepalive_body k))))
-        (from_be_bytes-to_be_bytes_8 k.position position)
+    (from_be_bytes-to_be_bytes_8 k.position position)
     ∙ ap (λ n. Some (keepalive k.position n (flag_at 17 (keepalive_body k))))
-        (from_be_bytes-to_be_bytes_8 k.clock clock)
+    (from_be_bytes-to_be_bytes_8 k.clock clock)
     ∙ ap (λ b. Some (keepalive k.position k.clock b)) (flag_is k.wants_reply)
 
 pub status_is_read : StatusIsRead
 unfolding status
 status_is_read s written flushed applied clock =
     ap (λ n. Some (status n (number_at 9 (status_body s)) (number_at 17 (status_body s))
-        (number_at 25 (status_body s)) (flag_at 33 (status_body s)))) (from_be_bytes-to_be_bytes_8 s.written written)
+    (number_at 25 (status_body s)) (flag_at 33 (status_body s)))) (from_be_bytes-to_be_bytes_8 s.written written)
     ∙ ap (λ n. Some (status s.written n (number_at 17 (status_body s)) (number_at 25 (status_body s))
-        (flag_at 33 (status_body s)))) (from_be_bytes-to_be_bytes_8 s.flushed flushed)
+    (flag_at 33 (status_body s)))) (from_be_bytes-to_be_bytes_8 s.flushed flushed)
     ∙ ap (λ n. Some (status s.written s.flushed n (number_at 25 (status_body s)) (flag_at 33 (status_body s))))
-        (from_be_bytes-to_be_bytes_8 s.applied applied)
+    (from_be_bytes-to_be_bytes_8 s.applied applied)
     ∙ ap (λ n. Some (status s.written s.flushed s.applied n (flag_at 33 (status_body s))))
-        (from_be_bytes-to_be_bytes_8 s.clock clock)
+    (from_be_bytes-to_be_bytes_8 s.clock clock)
     ∙ ap (λ b. Some (status s.written s.flushed s.applied s.clock b)) (flag_is s.wants_reply)
 
 long_enough : (n : ℕ) → nat_le 25 (25 + n) ≡ true
@@ -53,10 +53,10 @@ unfolding head
 data_is_read h message start end clock =
     let body : List ℕ = xlog_data_body h message in
     let long : nat_le 25 (length (xlog_data_body h message)) ≡ true = ap (nat_le 25) (omega arith)
-        ∙ long_enough (length message) in
+    ∙ long_enough (length message) in
     ap (λ b. if b then Some (head (number_at 1 body) (number_at 9 body) (number_at 17 body), message) else None) long
     ∙ ap (λ n. Some (head n (number_at 9 body) (number_at 17 body), message))
-        (from_be_bytes-to_be_bytes_8 h.start start)
+    (from_be_bytes-to_be_bytes_8 h.start start)
     ∙ ap (λ n. Some (head h.start n (number_at 17 body), message)) (from_be_bytes-to_be_bytes_8 h.end end)
     ∙ ap (λ n. Some (head h.start h.end n, message)) (from_be_bytes-to_be_bytes_8 h.clock clock)
 

@@ -30,14 +30,14 @@ enough limit (suc a) zero [] below above = rw (nothing_is_part limit) refl
 enough limit (suc a) zero (byte ∷ bytes) below above = absurd (omega arith)
 enough limit (suc a) (suc b) bytes below above =
     elim (front limit bytes) as
-        (λ f. front limit bytes ≡ f → cut_after f bytes (cut_some limit a) ≡ cut_after f bytes (cut_some limit b)) [
+    (λ f. front limit bytes ≡ f → cut_after f bytes (cut_some limit a) ≡ cut_after f bytes (cut_some limit b)) [
       | Part ↦ (λ e. refl)
       | Faulty fault ↦ (λ e. refl)
       | Whole size ↦ (λ e.
           let w : IsWhole limit bytes size = whole_front limit bytes size e in
           ap (Then (frame_of size bytes))
-              (enough limit a b (drop size bytes) (omega (arith, length-drop size bytes, w.least))
-              (omega (arith, length-drop size bytes, w.least))))
+          (enough limit a b (drop size bytes) (omega (arith, length-drop size bytes, w.least))
+          (omega (arith, length-drop size bytes, w.least))))
     ] refl
 
 pub cut_by_front : (limit : ℕ) (bytes : List ℕ) → cut limit bytes ≡ cut_after (front limit bytes) bytes (cut limit)
@@ -46,15 +46,15 @@ cut_by_front limit [] = rw (nothing_is_part limit) refl
 cut_by_front limit (byte ∷ bytes) =
     let all : List ℕ = byte ∷ bytes in
     elim (front limit (byte ∷ bytes)) as
-        (λ f. front limit (byte ∷ bytes) ≡ f
-        → cut_after f (byte ∷ bytes) (cut_some limit (length bytes)) ≡ cut_after f (byte ∷ bytes) (cut limit)) [
+    (λ f. front limit (byte ∷ bytes) ≡ f
+    → cut_after f (byte ∷ bytes) (cut_some limit (length bytes)) ≡ cut_after f (byte ∷ bytes) (cut limit)) [
       | Part ↦ (λ e. refl)
       | Faulty fault ↦ (λ e. refl)
       | Whole size ↦ (λ e.
           let w : IsWhole limit (byte ∷ bytes) size = whole_front limit (byte ∷ bytes) size e in
           ap (Then (frame_of size (byte ∷ bytes)))
-              (enough limit (length bytes) (length (drop size (byte ∷ bytes))) (drop size (byte ∷ bytes))
-              (omega (arith, length-drop size (byte ∷ bytes), w.least)) (omega arith)))
+          (enough limit (length bytes) (length (drop size (byte ∷ bytes))) (drop size (byte ∷ bytes))
+          (omega (arith, length-drop size (byte ∷ bytes), w.least)) (omega arith)))
     ] refl
 
 pub cut_whole : (limit : ℕ) (bytes : List ℕ) (size : ℕ) → IsWhole limit bytes size
@@ -70,7 +70,7 @@ frame_of-more : (limit : ℕ) (bytes : List ℕ) (size : ℕ) (more : List ℕ) 
 unfolding frame
 frame_of-more limit bytes size more w =
     ap (λ kind. frame kind (drop 5 (take size (bytes ++ more))))
-        (get_or_append_left bytes more 0 0 (omega (arith, w.least, w.within)))
+    (get_or_append_left bytes more 0 0 (omega (arith, w.least, w.within)))
     ∙ ap (λ front. frame (slice_index bytes 0) (drop 5 front)) (take-append-le size bytes more w.within)
 
 pub cut_whole_more : (limit : ℕ) (bytes : List ℕ) (size : ℕ) → IsWhole limit bytes size → (more : List ℕ)
@@ -149,7 +149,7 @@ reaches_rest limit bytes size whole here reached = elim (cases_lt whole size) [
         let place : size + (whole - size) ≡ whole = omega arith in
         sym (ap fault_of (here.cuts later)) ∙ reached.same later
         ∙ ap (λ rest. fault_in limit (rest ++ later))
-            (ap (λ n. drop n bytes) (sym place) ∙ sym (drop-drop (whole - size) size bytes));
+        (ap (λ n. drop n bytes) (sym place) ∙ sym (drop-drop (whole - size) size bytes));
   }
 ]
 
@@ -164,7 +164,7 @@ spelled_some limit (suc n) bytes small =
       | Whole size ↦ (λ e.
           let w : IsWhole limit bytes size = whole_front limit bytes size e in
           ap (λ rest. framed (frame_of size bytes) ++ rest)
-              (spelled_some limit n (drop size bytes) (λ i. rw (get_or-drop size bytes i 0) (small (size + i))))
+          (spelled_some limit n (drop size bytes) (λ i. rw (get_or-drop size bytes i 0) (small (size + i))))
           ∙ sym (spelled_whole limit bytes size small w))
     ] refl
 
@@ -179,7 +179,7 @@ spelled_are_cut limit (frame ∷ frames) rest allowed =
     ap (cut limit) (append_assoc (framed frame) (flat_map framed frames) rest)
     ∙ cut_whole limit (framed frame ++ later) (length frame.body + 5) (framed_whole limit frame later allowed.0)
     ∙ ap (λ first. Then first (cut limit (drop (length frame.body + 5) (framed frame ++ later))))
-        (frame_of-framed frame later)
+    (frame_of-framed frame later)
     ∙ ap (λ bytes. Then frame (cut limit bytes)) (drop-framed frame later)
     ∙ ap (Then frame) (spelled_are_cut limit frames rest allowed.1)
 
@@ -191,9 +191,10 @@ whole_some limit (suc n) bytes few =
       | Part ↦ (λ e. e)
       | Faulty fault ↦ (λ e. e)
       | Whole size ↦ (λ e.
-          let w : IsWhole limit bytes size = whole_front limit bytes size e in
-          (allowed_whole limit bytes size w,
-              whole_some limit n (drop size bytes) (omega (arith, length-drop size bytes, w.least))))
+          let w : IsWhole limit bytes size = whole_front limit bytes size e in (
+            allowed_whole limit bytes size w,
+            whole_some limit n (drop size bytes) (omega (arith, length-drop size bytes, w.least)),
+          ))
     ] refl
 
 pub cuts_are_whole : CutsAreWhole
@@ -204,8 +205,8 @@ cuts_are_whole limit bytes = whole_some limit (length bytes) bytes (omega arith)
 
 length_faults : (small signed long part : Bool) (size : ℕ)
     → cond small (Faulty BadLength)
-        (cond signed (cond long (Faulty FrameTooLong) (cond part Part (Whole size))) (Faulty BadLength))
-        ≡ Faulty OutOfMemory → ⊥
+    (cond signed (cond long (Faulty FrameTooLong) (cond part Part (Whole size))) (Faulty BadLength))
+    ≡ Faulty OutOfMemory → ⊥
 length_faults true signed long part size h = cc
 length_faults false false long part size h = cc
 length_faults false true true part size h = cc
@@ -220,8 +221,8 @@ front_faults : (limit : ℕ) (bytes : List ℕ) → front limit bytes ≡ Faulty
 unfolding front
 front_faults limit bytes h =
     elim (nat_lt (length bytes) 5) as
-        (λ b. cond b Part (sized limit (from_be_bytes w32 (take 4 (drop 1 bytes))) (length bytes))
-        ≡ Faulty OutOfMemory → ⊥) [
+    (λ b. cond b Part (sized limit (from_be_bytes w32 (take 4 (drop 1 bytes))) (length bytes))
+    ≡ Faulty OutOfMemory → ⊥) [
       | true ↦ (λ h. cc)
       | false ↦ (λ h. number_faults limit (from_be_bytes w32 (take 4 (drop 1 bytes))) (length bytes) h)
     ] h
@@ -230,7 +231,7 @@ some_faults : (limit n : ℕ) (bytes : List ℕ) → fault_of (cut_some limit n 
 some_faults limit zero bytes h = cc
 some_faults limit (suc n) bytes h =
     elim (front limit bytes) as
-        (λ f. front limit bytes ≡ f → fault_of (cut_after f bytes (cut_some limit n)) ≡ Some OutOfMemory → ⊥) [
+    (λ f. front limit bytes ≡ f → fault_of (cut_after f bytes (cut_some limit n)) ≡ Some OutOfMemory → ⊥) [
       | Part ↦ (λ e h. cc)
       | Faulty fault ↦ (λ e h. let same : fault ≡ OutOfMemory = cc in front_faults limit bytes (e ∙ ap Faulty same))
       | Whole size ↦ (λ e h. some_faults limit n (drop size bytes) h)

@@ -28,7 +28,7 @@ pub record Passes (small signed long part : Bool) (size n : ℕ) : Type 0 where
 
 passes : (small signed long part : Bool) (size n : ℕ)
     → cond small (Faulty BadLength)
-        (cond signed (cond long (Faulty FrameTooLong) (cond part Part (Whole size))) (Faulty BadLength)) ≡ Whole n
+    (cond signed (cond long (Faulty FrameTooLong) (cond part Part (Whole size))) (Faulty BadLength)) ≡ Whole n
     → Passes small signed long part size n
 passes true signed long part size n h = absurd cc
 passes false false long part size n h = absurd cc
@@ -42,12 +42,12 @@ unfolding front
 whole_front limit bytes size h =
     let number : ℕ = from_be_bytes w32 (take 4 (drop 1 bytes)) in
     elim (nat_lt (length bytes) 5) as
-        (λ b. cond b Part (sized limit (from_be_bytes w32 (take 4 (drop 1 bytes))) (length bytes)) ≡ Whole size
-        → IsWhole limit bytes size) [
+    (λ b. cond b Part (sized limit (from_be_bytes w32 (take 4 (drop 1 bytes))) (length bytes)) ≡ Whole size
+    → IsWhole limit bytes size) [
       | true ↦ (λ h. absurd cc)
       | false ↦ (λ h.
           let p : Passes (nat_lt number 4) (nat_lt number (2 ^ 31)) (nat_lt limit number)
-              (nat_lt (length bytes) (number + 1)) (number + 1) size = passes _ _ _ _ _ _ h in
+          (nat_lt (length bytes) (number + 1)) (number + 1) size = passes _ _ _ _ _ _ h in
           let a : 4 ≤ number = ltb-false _ _ p.not_small in
           let b : number < 2 ^ 31 = ltb-true _ _ p.is_signed in
           let c : number ≤ limit = ltb-false _ _ p.not_long in
@@ -65,9 +65,14 @@ unfolding front
 front_whole limit bytes size w =
     let number : ℕ = from_be_bytes w32 (take 4 (drop 1 bytes)) in
     let e : number + 1 ≡ size = w.number in
-    rw (false_lt (length bytes) 5 (omega arith), false_lt number 4 (omega arith),
-        lt-ltb number (2 ^ 31) (omega arith), false_lt limit number (omega arith),
-        false_lt (length bytes) (number + 1) (omega arith), e) refl
+    rw (
+      false_lt (length bytes) 5 (omega arith),
+      false_lt number 4 (omega arith),
+      lt-ltb number (2 ^ 31) (omega arith),
+      false_lt limit number (omega arith),
+      false_lt (length bytes) (number + 1) (omega arith),
+      e,
+    ) refl
 
 pub whole_more : (limit : ℕ) (bytes : List ℕ) (size : ℕ) (more : List ℕ) → IsWhole limit bytes size
     → IsWhole limit (bytes ++ more) size
@@ -75,7 +80,7 @@ whole_more limit bytes size more w =
     let five : 5 ≤ length bytes = omega arith in
     let same : take 4 (drop 1 (bytes ++ more)) ≡ take 4 (drop 1 bytes) =
     ap (take 4) (drop-append-le 1 bytes more (omega arith))
-        ∙ take-append-le 4 (drop 1 bytes) more (omega (arith, length-drop 1 bytes)) in
+    ∙ take-append-le 4 (drop 1 bytes) more (omega (arith, length-drop 1 bytes)) in
     record {
       least = w.least;
       within = omega (arith, length-append bytes more);
@@ -110,12 +115,12 @@ pub spelled_whole : (limit : ℕ) (bytes : List ℕ) (size : ℕ) → ((i : ℕ)
 spelled_whole limit bytes size small w =
     let digits : to_be_bytes w32 (length (drop 5 (take size bytes)) + 4) ≡ take 4 (drop 1 bytes) =
     be_bytes_4 (take 4 (drop 1 bytes)) _
-        (omega (arith, length-take-le 4 (drop 1 bytes) (omega (arith, length-drop 1 bytes, w.least, w.within))))
+    (omega (arith, length-take-le 4 (drop 1 bytes) (omega (arith, length-drop 1 bytes, w.least, w.within))))
     (byte_within bytes small) (number_is limit bytes size w) in
     let front : framed (frame_of size bytes) ≡ take size bytes =
     ap (λ number. slice_index bytes 0 ∷ (number ++ drop 5 (take size bytes))) digits
     ∙ ap (λ head. head ++ drop 5 (take size bytes))
-        (head_is bytes (omega (arith, w.least, w.within)) ∙ sym (take-take 5 size bytes w.least))
+    (head_is bytes (omega (arith, w.least, w.within)) ∙ sym (take-take 5 size bytes w.least))
     ∙ take-append-drop 5 (take size bytes) in
     sym (take-append-drop size bytes) ∙ ap (λ xs. xs ++ drop size bytes) (sym front)
 
@@ -145,9 +150,9 @@ framed_whole limit frame rest allowed =
 pub frame_of-framed : (frame : Frame) (rest : List ℕ) → frame_of (length frame.body + 5) (framed frame ++ rest) ≡ frame
 frame_of-framed frame rest =
     let five : length (framed frame) ≡ length frame.body + 5 =
-        omega (arith, length-append (to_be_bytes w32 (length frame.body + 4)) frame.body) in
+    omega (arith, length-append (to_be_bytes w32 (length frame.body + 4)) frame.body) in
     let front : take (length frame.body + 5) (framed frame ++ rest) ≡ framed frame =
-        take_at (framed frame) rest _ five in
+    take_at (framed frame) rest _ five in
     ap (λ bytes. record { kind = frame.kind; body = drop 5 bytes }) front
 
 pub drop-framed : (frame : Frame) (rest : List ℕ) → drop (length frame.body + 5) (framed frame ++ rest) ≡ rest

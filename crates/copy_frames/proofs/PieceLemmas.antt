@@ -33,7 +33,7 @@ module _ (limit : ℕ) where
   front_more bytes more (Whole size) is later good =
       let whole : IsWhole limit bytes size = whole_front limit bytes size is in
       let all : cut limit bytes ≡ Then (frame_of size bytes) (cut limit (drop size bytes)) =
-          cut_with bytes (Whole size) is in
+      cut_with bytes (Whole size) is in
       cut_whole_more limit bytes size whole more
       ∙ ap (Then (frame_of size bytes)) (later size whole (sym (ap fault_of all) ∙ good))
       ∙ sym (ap (with_more limit more) all)

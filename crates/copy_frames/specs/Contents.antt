@@ -39,7 +39,7 @@ keepalive_body keepalive =
 abbrev pub status_body : Status → List ℕ
 status_body status =
     114 ∷ (int64 status.written
-        ++ (int64 status.flushed ++ (int64 status.applied ++ (int64 status.clock ++ (flag status.wants_reply ∷ [])))))
+    ++ (int64 status.flushed ++ (int64 status.applied ++ (int64 status.clock ++ (flag status.wants_reply ∷ [])))))
 
 -- ---- what is read of it: the byte that says what it is was looked at before
 
@@ -54,18 +54,24 @@ flag_at place bytes = not (slice_index bytes place == 0)
 abbrev pub xlog_data_in : List ℕ → Option (XLogData × List ℕ)
 xlog_data_in body =
     if nat_le 25 (length body) then
-        Some (record { start = number_at 1 body; end = number_at 9 body; clock = number_at 17 body }, drop 25 body)
-        else None
+    Some (record { start = number_at 1 body; end = number_at 9 body; clock = number_at 17 body }, drop 25 body)
+    else None
 
 abbrev pub keepalive_in : List ℕ → Option Keepalive
 keepalive_in body =
     if length body == 18 then
-        Some (record { position = number_at 1 body; clock = number_at 9 body; wants_reply = flag_at 17 body })
-        else None
+    Some (record { position = number_at 1 body; clock = number_at 9 body; wants_reply = flag_at 17 body })
+    else None
 
 abbrev pub status_in : List ℕ → Option Status
 status_in body =
     if length body == 34 then
-    Some (record { written = number_at 1 body; flushed = number_at 9 body; applied = number_at 17 body; clock =
-        number_at 25 body; wants_reply = flag_at 33 body })
+    Some (record {
+      written = number_at 1 body;
+      flushed = number_at 9 body;
+      applied = number_at 17 body;
+      clock =
+          number_at 25 body;
+      wants_reply = flag_at 33 body;
+    })
     else None

@@ -23,8 +23,8 @@ abbrev pub sized : ℕ → ℕ → ℕ → Front
 sized limit size there =
     if nat_lt size 4 then Faulty BadLength else
     if nat_lt size (2 ^ 31) then
-        (if nat_lt limit size then Faulty FrameTooLong else if nat_lt there (size + 1) then
-        Part else Whole (size + 1)) else
+    (if nat_lt limit size then Faulty FrameTooLong else if nat_lt there (size + 1) then
+    Part else Whole (size + 1)) else
     Faulty BadLength
 
 -- what is at the front of some bytes, where the length of a frame is at most `limit`

@@ -27,11 +27,7 @@ pub fn pieces_make_frames()
 {}
 
 /// A law, and no code, of what is carried in CopyData: what is spelled is read.
-#[tactic(auto, using(
-    crate::proofs::ContentLemmas::data_is_read,
-    crate::proofs::ContentLemmas::keepalive_is_read,
-    crate::proofs::ContentLemmas::status_is_read
-))]
+#[tactic(auto, using(crate::proofs::ContentLemmas::data_is_read, crate::proofs::ContentLemmas::keepalive_is_read, crate::proofs::ContentLemmas::status_is_read))]
 pub fn bodies_are_read_as_spelled()
     ensures data { XLogDataIsRead }
     ensures keepalive { KeepaliveIsRead }

@@ -30,7 +30,7 @@ map-with_item view same xs x = by_test (list_any (same (view x)) (map view xs))
 
 pub atom_added : {A : _} (atoms : List (Bor (Atom A))) (atom : Bor (Atom A))
     → atoms_view (with_item (λ one other. same_atom (atom_view one.now) (atom_view other.now)) atoms atom)
-        ≡ with_item same_atom (atoms_view atoms) (atom_view atom.now)
+    ≡ with_item same_atom (atoms_view atoms) (atom_view atom.now)
 atom_added atoms atom = map-with_item (λ a. atom_view a.now) same_atom atoms atom
 
 -- a loop that went to the end of a list went over all of it
@@ -59,35 +59,35 @@ has_added same self ys y = by_test (list_any (same y) ys)
 
 module _ {X Y : Type 0} (same : X → X → Bool) (alike : Y → Y → Bool) (part : X → Y)
     (self : (y : Y) → alike y y ≡ true) (respects : (one other : X) → same one other ≡ true → part one ≡ part other)
-        where
-  has_part : (ys : List Y) (xs : List X) (x : X) → list_any (same x) xs ≡ true
-      → list_any (alike (part x)) (fold (with_item alike) ys (map part xs)) ≡ true
-  has_part ys [] x h = absurd cc
-  has_part ys (y ∷ xs) x h = by_test (same x y)
-      (λ here. subst (λ z. list_any (alike z) (fold (with_item alike) (with_item alike ys (part y)) (map part xs))
-          ≡ true) (sym (respects x y here))
-      (any_of_all (alike (part y)) alike (with_item alike ys (part y)) (map part xs)
-          (has_added alike self ys (part y))))
-      (λ later. let rest : list_any (same x) xs ≡ true = rw later at h in
-          has_part (with_item alike ys (part y)) xs x rest)
+  where
+    has_part : (ys : List Y) (xs : List X) (x : X) → list_any (same x) xs ≡ true
+        → list_any (alike (part x)) (fold (with_item alike) ys (map part xs)) ≡ true
+    has_part ys [] x h = absurd cc
+    has_part ys (y ∷ xs) x h = by_test (same x y)
+        (λ here. subst (λ z. list_any (alike z) (fold (with_item alike) (with_item alike ys (part y)) (map part xs))
+        ≡ true) (sym (respects x y here))
+        (any_of_all (alike (part y)) alike (with_item alike ys (part y)) (map part xs)
+        (has_added alike self ys (part y))))
+        (λ later. let rest : list_any (same x) xs ≡ true = rw later at h in
+        has_part (with_item alike ys (part y)) xs x rest)
 
-  part_added : (ys : List Y) (xs : List X) (x : X)
-      → fold (with_item alike) ys (map part (with_item same xs x))
-      ≡ with_item alike (fold (with_item alike) ys (map part xs)) (part x)
-  part_added ys xs x = by_test (list_any (same x) xs)
-      (λ found. let there = has_part ys xs x found in rw (found, there) refl)
-      (λ new. rw new (ap (fold (with_item alike) ys) (map-append part xs (x ∷ []))
-          ∙ fold-append (with_item alike) ys (map part xs) (part x ∷ [])))
+    part_added : (ys : List Y) (xs : List X) (x : X)
+        → fold (with_item alike) ys (map part (with_item same xs x))
+        ≡ with_item alike (fold (with_item alike) ys (map part xs)) (part x)
+    part_added ys xs x = by_test (list_any (same x) xs)
+        (λ found. let there = has_part ys xs x found in rw (found, there) refl)
+        (λ new. rw new (ap (fold (with_item alike) ys) (map-append part xs (x ∷ []))
+        ∙ fold-append (with_item alike) ys (map part xs) (part x ∷ [])))
 
-  parts_added : (ys : List Y) (xs more : List X)
-      → fold (with_item alike) ys (map part (fold (with_item same) xs more))
-      ≡ fold (with_item alike) (fold (with_item alike) ys (map part xs)) (map part more)
-  parts_added ys xs [] = refl
-  parts_added ys xs (x ∷ more) = parts_added ys (with_item same xs x) more
-      ∙ ap (λ zs. fold (with_item alike) zs (map part more)) (part_added ys xs x)
+    parts_added : (ys : List Y) (xs more : List X)
+        → fold (with_item alike) ys (map part (fold (with_item same) xs more))
+        ≡ fold (with_item alike) (fold (with_item alike) ys (map part xs)) (map part more)
+    parts_added ys xs [] = refl
+    parts_added ys xs (x ∷ more) = parts_added ys (with_item same xs x) more
+        ∙ ap (λ zs. fold (with_item alike) zs (map part more)) (part_added ys xs x)
 
-  parts_of_distinct : (xs : List X) → distinct alike (map part (distinct same xs)) ≡ distinct alike (map part xs)
-  parts_of_distinct xs = parts_added [] [] xs
+    parts_of_distinct : (xs : List X) → distinct alike (map part (distinct same xs)) ≡ distinct alike (map part xs)
+    parts_of_distinct xs = parts_added [] [] xs
 
 -- what holds of each item holds of each of the list that has them once
 all_with : {Y : Type 0} (P : Y → Type 0) (has : Bool) (ys : List Y) (y : Y) → All P ys → P y
@@ -100,14 +100,14 @@ all_fold : {Y : Type 0} (P : Y → Type 0) (same : Y → Y → Bool) (ys more : 
 all_fold P same ys [] h m = h
 all_fold P same ys (y ∷ more) h m =
     all_fold P same (with_item same ys y) more (all_with P (list_any (same y) ys) ys y h (All-head P y more m))
-        (All-tail P y more m)
+    (All-tail P y more m)
 
 -- a column that a filter names is among the first so many, if all are
 pub distinct_within : (count : ℕ) (filter : Expr) (column : ℕ) → NamesWithin count filter
     → Contains (distinct_columns filter) column → column < count
 distinct_within count filter column h there =
     let all = all_fold (λ named. named < count) nat_eq [] (columns_in (atoms_in filter))
-        (All-nil (λ named. named < count)) h in
+    (All-nil (λ named. named < count)) h in
     subst (λ named. named < count) there.2 (all there.0 column there.1)
 
 pub terms_of_atoms : (filter : Expr) → distinct same_term (map term_of (distinct_atoms filter)) ≡ distinct_terms filter

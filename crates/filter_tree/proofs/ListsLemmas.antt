@@ -33,7 +33,7 @@ agrees_with_item : (one other : List Datum) (columns : List ℕ) (column : ℕ)
     → AgreesOn columns one other × (value_at one column ≡ value_at other column)
 agrees_with_item one other columns column h = by_test (list_any (nat_eq column) columns)
     (λ found. let kept : AgreesOn columns one other = rw found at h in
-        (kept, agrees_on one other column columns kept found))
+    (kept, agrees_on one other column columns kept found))
     (λ new. let added : AgreesOn (columns ++ column ∷ []) one other = rw new at h in
     let both = agrees_append one other columns (column ∷ []) added in
     (both.0, both.1.0))

@@ -39,7 +39,7 @@ position-found p [] ys h = absurd cc
 position-found p (x ∷ xs) ys h = by_test (p x)
     (λ here. rw here refl)
     (λ later. let rest : list_any p xs ≡ true = rw later at h in
-        rw later (ap (λ n. 1 + n) (position-found p xs ys rest)))
+    rw later (ap (λ n. 1 + n) (position-found p xs ys rest)))
 
 position-after : {X : Type 0} (p : X → Bool) (xs ys : List X) → list_any p xs ≡ false
     → position_or_len p (xs ++ ys) ≡ length xs + position_or_len p ys
@@ -47,14 +47,14 @@ position-after p [] ys h = omega arith
 position-after p (x ∷ xs) ys h = by_test (p x)
     (λ here. absurd (let found : true ≡ false = rw here at h in cc))
     (λ later. let rest : list_any p xs ≡ false = rw later at h in let past = position-after p xs ys rest in
-        rw later (omega (arith, past)))
+    rw later (omega (arith, past)))
 
 position-within : {X : Type 0} (p : X → Bool) (xs : List X) → list_any p xs ≡ true → position_or_len p xs < length xs
 position-within p [] h = absurd cc
 position-within p (x ∷ xs) h = by_test (p x)
     (λ here. rw here (omega arith))
     (λ later. let rest : list_any p xs ≡ true = rw later at h in let within = position-within p xs rest in
-        rw later (omega arith))
+    rw later (omega arith))
 
 position-last : {X : Type 0} (p : X → Bool) (x : X) → p x ≡ true → position_or_len p (x ∷ []) ≡ 0
 position-last p x h = rw h refl
@@ -67,7 +67,7 @@ position-missing p [] h = refl
 position-missing p (x ∷ xs) h = by_test (p x)
     (λ here. absurd (let found : true ≡ false = rw here at h in cc))
     (λ later. let rest : list_any p xs ≡ false = rw later at h in let past = position-missing p xs rest in
-        rw later (omega (arith, past)))
+    rw later (omega (arith, past)))
 
 -- ---- one more item
 
@@ -91,7 +91,7 @@ module _ {X : Type 0} (same : X → X → Bool) (laws : IsEquivalence same) wher
       there ∙ sym (list_any-append (same x) items (z ∷ []) ∙ rw there refl))
       (λ other. sym (list_any-append (same x) items (z ∷ []) ∙ rw other (or_false (list_any (same x) items))))))
       (λ new. rw new (list_any-append (same x) once (z ∷ []) ∙ ap (λ b. b || list_any (same x) (z ∷ [])) (held x)
-          ∙ sym (list_any-append (same x) items (z ∷ []))))
+      ∙ sym (list_any-append (same x) items (z ∷ []))))
 
   -- an item that the list lacks stands before no other but where it is added
   ordered_at_new : (once items : List X) (z x y : X) → ((w : X) → list_any (same w) once ≡ list_any (same w) items)
@@ -124,9 +124,9 @@ module _ {X : Type 0} (same : X → X → Bool) (laws : IsEquivalence same) wher
       let first = position-past (same x) z different in
       by_test (same y z)
       (λ also. let other = position-last (same y) z also in let none : ⊥ =
-          omega (arith, at_x, at_y, first, other, before) in absurd none)
+      omega (arith, at_x, at_y, first, other, before) in absurd none)
       (λ also. let other = position-past (same y) z also in let none : ⊥ =
-          omega (arith, at_x, at_y, first, other, before) in absurd none)))
+      omega (arith, at_x, at_y, first, other, before) in absurd none)))
 
   -- an item that the list has stays before what comes later
   ordered_at_old : (once items : List X) (z x y : X) → HasEachOnce same once items → list_any (same x) items ≡ true
@@ -138,7 +138,7 @@ module _ {X : Type 0} (same : X → X → Bool) (laws : IsEquivalence same) wher
       let at_x = position-found (same x) items (z ∷ []) found in
       let at_y = position-found (same y) items (z ∷ []) also in
       let earlier : position_or_len (same x) items < position_or_len (same y) items =
-          omega (arith, at_x, at_y, before) in
+      omega (arith, at_x, at_y, before) in
       rw old (has.ordered x y earlier))
       (λ missing.
       let within = position-within (same x) once (has.held x ∙ found) in

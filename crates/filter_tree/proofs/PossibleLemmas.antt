@@ -51,12 +51,12 @@ two_has : (f : Tri → Tri → Tri) (left right : Mask) (a b : Tri) → member l
     → member (lift_two f left right) (f a b) ≡ true
 two_has f left right a b h k =
     let inner : (member left a && (member right b && same_tri (f a b) (f a b))) ≡ true =
-        rw (h, k, same_tri_self (f a b)) refl in
+    rw (h, k, same_tri_self (f a b)) refl in
     let outer = any_of_three (λ y. member left a && (member right y && same_tri (f a y) (f a b))) b inner in
     member_where (λ t. list_any
-        (λ x. list_any (λ y. member left x && (member right y && same_tri (f x y) t)) all_three) all_three) (f a b)
+    (λ x. list_any (λ y. member left x && (member right y && same_tri (f x y) t)) all_three) all_three) (f a b)
     ∙ any_of_three (λ x. list_any (λ y. member left x && (member right y && same_tri (f x y) (f a b))) all_three) a
-        outer
+    outer
 
 -- any truth value but null
 abbrev not_null : Mask
@@ -108,10 +108,10 @@ possible_holds (Not part) path row h =
     one_has not_of (possible_of part path) (meaning part row) (possible_holds part path row h)
 possible_holds (And left right) path row h =
     two_has and_of (possible_of left path) (possible_of right path) (meaning left row) (meaning right row)
-        (possible_holds left path row h) (possible_holds right path row h)
+    (possible_holds left path row h) (possible_holds right path row h)
 possible_holds (Or left right) path row h =
     two_has or_of (possible_of left path) (possible_of right path) (meaning left row) (meaning right row)
-        (possible_holds left path row h) (possible_holds right path row h)
+    (possible_holds left path row h) (possible_holds right path row h)
 possible_holds (Is test part) path row h =
     one_has (is_of test) (possible_of part path) (meaning part row) (possible_holds part path row h)
 

@@ -156,7 +156,7 @@ same_from_is : (row : List Datum) (column : ℕ) (values : List Datum) → colum
 same_from_is row column [] h same = let past : length row ≤ column = omega arith in sym (drop_of_length-le row past)
 same_from_is row column (value ∷ values) h same =
     let both : (same_datum value (value_at row column) ≡ true) × (same_from (column + 1) values row ≡ true) =
-        both_true _ _ same in
+    both_true _ _ same in
     let inside : column < length row = omega arith in
     let width : column + 1 + length values ≡ length row = omega arith in
     let here : value ≡ value_at row column = same_datum_is _ _ both.0 in
@@ -174,7 +174,7 @@ same_from_self row column (value ∷ values) h e =
     let here : value ≡ value_at row column = cc in
     let later : values ≡ drop (column + 1) row = cc in
     let same : same_datum value (value_at row column) ≡ true =
-        subst (λ v. same_datum value v ≡ true) here (same_datum_self value) in
+    subst (λ v. same_datum value v ≡ true) here (same_datum_self value) in
     let rest = same_from_self row (column + 1) values width later in
     rw (same, rest) refl
 

@@ -147,7 +147,7 @@ columns_fit row number (column ∷ columns) h (suc k) =
     let both : (fault ≡ None) × (columns_fault (number + 1) columns row ≡ None) = first_of_none _ _ h in
     let e : number + 1 + k ≡ number + suc k = omega arith in
     subst (λ i. IfSome (slice_get columns k) (λ column. Fits column (value_at row i))) e
-        (columns_fit row (number + 1) columns both.1 k)
+    (columns_fit row (number + 1) columns both.1 k)
 
 fit_columns : (row : List Datum) (number : ℕ) (columns : List Column)
     → ((k : ℕ) → IfSome (slice_get columns k) (λ column. Fits column (value_at row (number + k))))
@@ -174,7 +174,7 @@ valid_from_no_fault columns row h =
       wide = eqb-true _ _ both.0;
       fits = λ k. let e : 0 + k ≡ k = omega arith in
           subst (λ i. IfSome (slice_get columns k) (λ column. Fits column (value_at row i))) e
-              (columns_fit row 0 columns both.1 k);
+          (columns_fit row 0 columns both.1 k);
     }
 
 pub no_fault_from_valid : (columns : List Column) (row : List Datum) → IsValid columns row

@@ -37,4 +37,4 @@ lift_one f mask = mask_where (λ t. list_any (λ a. member mask a && same_tri (f
 abbrev pub lift_two : (Tri → Tri → Tri) → Mask → Mask → Mask
 lift_two f left right =
     mask_where (λ t. list_any (λ a. list_any (λ b. member left a && (member right b && same_tri (f a b) t)) all_three)
-        all_three)
+    all_three)

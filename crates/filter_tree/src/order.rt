@@ -118,12 +118,7 @@ impl<A: Allocator> Ord for Row<A> {
 /// A law, and no code, of the order of rows. It is total (`total`), so that an ordered map may have rows as its keys.
 /// What it ties is equal (`equal`), and it ties exactly the same rows (`ties`). Two values are in the order that
 /// PostgreSQL gives those of a column (`values`).
-#[tactic(auto, using(
-    crate::proofs::OrderLemmas::row_total,
-    crate::proofs::OrderLemmas::row_tie,
-    crate::proofs::OrderLemmas::ties_same_rows,
-    crate::proofs::OrderLemmas::orders_values
-))]
+#[tactic(auto, using(crate::proofs::OrderLemmas::row_total, crate::proofs::OrderLemmas::row_tie, crate::proofs::OrderLemmas::ties_same_rows, crate::proofs::OrderLemmas::orders_values))]
 pub fn rows_are_ordered()
     ensures total { IsTotalOrder row_cmp }
     ensures equal { IsAntisymmetric row_cmp }

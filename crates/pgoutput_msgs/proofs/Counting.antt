@@ -23,8 +23,8 @@ one_more : {A : Type 0} (rule : Rule A) (n : ℕ) (front : List A) (bytes after 
 unfolding many
 one_more {A = A} rule n front bytes after a read =
     ap (λ (outcome : Outcome A). with_front front
-        (and_then outcome (λ x. mapped (λ others. x ∷ others) (many rule n)))) read
-        ∙ regroup front a (many rule n after)
+    (and_then outcome (λ x. mapped (λ others. x ∷ others) (many rule n)))) read
+    ∙ regroup front a (many rule n after)
 
 pub goes_on : {A : Type 0} (rule : Rule A) (front : List A) (count i : ℕ) (bytes after : List ℕ) (a : A)
     (total : Outcome (List A)) → i < count → rule bytes ≡ Ok (a, after)
@@ -33,14 +33,14 @@ pub goes_on : {A : Type 0} (rule : Rule A) (front : List A) (count i : ℕ) (byt
 goes_on rule front count i bytes after a total within read so_far =
     let more : count - i ≡ suc (count - (i + 1)) = omega arith in
     sym (one_more rule (count - (i + 1)) front bytes after a read)
-        ∙ ap (λ n. with_front front (many rule n bytes)) (sym more) ∙ so_far
+    ∙ ap (λ n. with_front front (many rule n bytes)) (sym more) ∙ so_far
 
 fails : {A : Type 0} (rule : Rule A) (n : ℕ) (front : List A) (bytes : List ℕ) (fault : MsgError)
     → rule bytes ≡ Err fault → with_front front (many rule (suc n) bytes) ≡ Err fault
 unfolding many
 fails {A = A} rule n front bytes fault read =
     ap (λ (outcome : Outcome A). with_front front
-        (and_then outcome (λ x. mapped (λ others. x ∷ others) (many rule n)))) read
+    (and_then outcome (λ x. mapped (λ others. x ∷ others) (many rule n)))) read
 
 told_on : {A : Type 0} (rule : Rule A) (n : ℕ) (front : List A) (bytes : List ℕ) (error : MsgError)
     → TellsFault (told error) (rule bytes) → TellsFault (told error) (with_front front (many rule (suc n) bytes))
@@ -58,7 +58,7 @@ pub ends : {A : Type 0} (rule : Rule A) (front : List A) (count i : ℕ) (bytes 
 ends {A = A} rule front count i bytes error total within failed so_far =
     let more : count - i ≡ suc (count - (i + 1)) = omega arith in
     let same : with_front front (many rule (suc (count - (i + 1))) bytes) ≡ total =
-        ap (λ n. with_front front (many rule n bytes)) (sym more) ∙ so_far in
+    ap (λ n. with_front front (many rule n bytes)) (sym more) ∙ so_far in
     rw same at (told_on rule (count - (i + 1)) front bytes error failed)
 
 pub is_done : {A : Type 0} (rule : Rule A) (front : List A) (count i : ℕ) (bytes : List ℕ) (total : Outcome (List A))
@@ -67,6 +67,6 @@ unfolding many
 is_done {A = A} rule front count i bytes total over so_far =
     let none : count - i ≡ 0 = omega arith in
     sym so_far ∙ ap (λ n. with_front front (many rule n bytes)) none
-        ∙ ap (λ (all : List A). let whole : Outcome (List A) = Ok (all, bytes) in whole) (append-nil front)
+    ∙ ap (λ (all : List A). let whole : Outcome (List A) = Ok (all, bytes) in whole) (append-nil front)
 
 pub ruleset counting = (goes_on, is_done)

@@ -82,12 +82,12 @@ got_sendable checked subscriber (r.Insert table new) h =
     insert_got (takes_row checked.plan subscriber table new) table (takes_any checked.plan subscriber) new h.0 h.1
 got_sendable checked subscriber (r.Update table part new) h =
     update_got (takes_row checked.plan subscriber table (o.asked part new))
-        (takes_row checked.plan subscriber table new) table (takes_any checked.plan subscriber) part new h.0 h.1 h.2
+    (takes_row checked.plan subscriber table new) table (takes_any checked.plan subscriber) part new h.0 h.1 h.2
 got_sendable checked subscriber (r.Delete table part) h =
     gone_got (takes_row checked.plan subscriber table) table (takes_any checked.plan subscriber) part h.0 h.1
 got_sendable checked subscriber (r.Truncate numbers) h =
     truncate_got (list_any (takes_any checked.plan subscriber) numbers) 0 (takes_any checked.plan subscriber) numbers
-        h.0 h.1
+    h.0 h.1
 
 -- what the subscriber gets can be sent
 pub is_sendable : (checked : CheckedOf) (subscriber : ℕ) (change out : r.ChangeOf) → IsSendableChange change
@@ -120,9 +120,9 @@ module _ (P : Msg → Type 0) where
   all_relations tables holds told [] = All-nil P
   all_relations tables holds told (number ∷ numbers) =
       All-append P (introduced tables (slice_index_or told number false) number)
-          (relations_of tables (told_one told number) numbers)
+      (relations_of tables (told_one told number) numbers)
       (once tables holds (slice_index_or told number false) number)
-          (all_relations tables holds (told_one told number) numbers)
+      (all_relations tables holds (told_one told number) numbers)
 
   one_said : (tables : List Table) → Everywhere P tables → (told : List Bool) (change : Option r.ChangeOf)
       → IfSendable change → All P (said tables told change)
@@ -130,7 +130,7 @@ module _ (P : Msg → Type 0) where
   one_said tables holds told None h = All-nil P
   one_said tables holds told (Some change) h =
       All-append P (relations_of tables told (named_in change)) (message_of change)
-          (all_relations tables holds told (named_in change)) (holds.changes change h)
+      (all_relations tables holds told (named_in change)) (holds.changes change h)
 
   all_said : (checked : CheckedOf) (subscriber : ℕ) → Everywhere P checked.catalog.tables
       → (told : List Bool) (changes : List r.ChangeOf) → All IsSendableChange changes
@@ -141,7 +141,7 @@ module _ (P : Msg → Type 0) where
       let mine = got (setting_in checked) subscriber change in
       All-append P (said checked.catalog.tables told mine) (said_each checked subscriber (told_by told mine) changes)
       (one_said checked.catalog.tables holds told mine
-          (got_sendable checked subscriber change (all 0 change (omega arith))))
+      (got_sendable checked subscriber change (all 0 change (omega arith))))
       (all_said checked subscriber holds (told_by told mine) changes (λ k d h. all (suc k) d (omega (arith, h))))
 
   all_enclosed : (commit : CommitOf) (messages : List Msg) → P (begin_of commit) → P (commit_of commit)
@@ -149,7 +149,7 @@ module _ (P : Msg → Type 0) where
   all_enclosed commit [] begins ends all = All-nil P
   all_enclosed commit (first ∷ others) begins ends all =
       All-append P (begin_of commit ∷ []) ((first ∷ others) ++ commit_of commit ∷ [])
-          (all_one P (begin_of commit) begins)
+      (all_one P (begin_of commit) begins)
       (All-append P (first ∷ others) (commit_of commit ∷ []) all (all_one P (commit_of commit) ends))
 
   pub all_messages : (checked : CheckedOf) (subscriber : ℕ) (told : List Bool) (commit : CommitOf) → IsSendable commit
@@ -157,4 +157,4 @@ module _ (P : Msg → Type 0) where
       → P (begin_of commit) → P (commit_of commit) → All P (messages_for checked subscriber told commit)
   all_messages checked subscriber told commit h holds begins ends =
       all_enclosed commit (said_each checked subscriber told commit.changes) begins ends
-          (all_said checked subscriber holds told commit.changes h.changed)
+      (all_said checked subscriber holds told commit.changes h.changed)

@@ -167,9 +167,9 @@ pub exact_both : {A B : Type 0} (rule : Rule A) (spell : A → List ℕ) (Fits :
     → Exact (rule & other) (λ p. spell p.0 ++ spell_other p.1) (λ p. Fits p.0 × FitsOther p.1)
 exact_both {A = A} {B = B} rule spell Fits other spell_other FitsOther one two =
     exact_then rule (λ a. mapped (λ b. (a, b)) other) spell (λ p. spell_other p.1) Fits (λ p. FitsOther p.1)
-        (λ p. p.0) one
+    (λ p. p.0) one
     (λ a _. exact_mapped other spell_other FitsOther (λ b. (a, b)) (λ p. spell_other p.1)
-        (λ p. (p.0 ≡ a) × FitsOther p.1) two
+    (λ p. (p.0 ≡ a) × FitsOther p.1) two
     (λ b fits. (refl, (refl, fits)))
     (λ p fits. (p.1, (ap (λ (x : A). let pair : A × B = (x, p.1) in pair) (sym fits.0), fits.1))))
 
@@ -209,7 +209,7 @@ exact_many {A = A} rule spell Fits one zero = record {
   takes = λ bytes x rest is_bytes e.
       let same = same_read [] x bytes rest e in
       subst (λ (y : List A). Takes (flat_map spell) (λ all. (length all ≡ 0) × AllByRecursion Fits all) bytes y rest)
-          same.0
+      same.0
       (record { spelled = same.1; fits = (refl, tt); left = subst IsBytes same.1 is_bytes });
   again = λ x rest fits. elim x as (λ y. length y ≡ 0 → many rule 0 (flat_map spell y ++ rest) ≡ Ok (y, rest))
       [ [] ↦ λ _. refl | (a ∷ others) ↦ λ long. absurd (omega (arith, long)) ] fits.0;
@@ -224,7 +224,7 @@ exact_many {A = A} rule spell Fits one (suc n) =
           let u = others.takes parts.middle later.value later.middle t.left later.first in
           let same = same_read (parts.value ∷ later.value) x later.middle rest later.second in
           subst (λ (y : List A). Takes (flat_map spell) (λ all. (length all ≡ suc n) × AllByRecursion Fits all) bytes
-              y rest) same.0 (record {
+          y rest) same.0 (record {
             spelled = t.spelled ∙ ap (λ (y : List ℕ). spell parts.value ++ y)
                 (u.spelled ∙ ap (λ (y : List ℕ). flat_map spell later.value ++ y) same.1)
                 ∙ sym (append_assoc (spell parts.value) (flat_map spell later.value) rest)
@@ -234,14 +234,14 @@ exact_many {A = A} rule spell Fits one (suc n) =
           });
       again = λ x rest fits.
           elim x as (λ y. length y ≡ suc n → AllByRecursion Fits y
-              → many rule (suc n) (flat_map spell y ++ rest) ≡ Ok (y, rest)) [
+          → many rule (suc n) (flat_map spell y ++ rest) ≡ Ok (y, rest)) [
             | [] ↦ λ long _. absurd (omega (arith, long))
             | (a ∷ all) ↦ λ long each.
                 ap (λ (y : List ℕ). many rule (suc n) (y ++ rest)) (flat_map-cons spell a all)
                 ∙ ap (many rule (suc n)) (append_assoc (spell a) (flat_map spell all) rest)
                 ∙ ap (λ (outcome : Outcome A). and_then outcome (λ b. mapped (λ others. b ∷ others) (many rule n)))
-                    (one.again a (flat_map spell all ++ rest) each.0)
+                (one.again a (flat_map spell all ++ rest) each.0)
                 ∙ ap (λ (outcome : Outcome (List A)). and_then outcome (λ others. pure (a ∷ others)))
-                    (others.again all rest (omega (arith, long), each.1))
+                (others.again all rest (omega (arith, long), each.1))
           ] fits.0 fits.1;
     }

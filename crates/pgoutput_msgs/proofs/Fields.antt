@@ -123,9 +123,9 @@ number_takes w limit wide bytes n rest is_bytes e =
     let is : take (byte_len w) bytes ≡ parts.value = found.1.0 in
     let value_bytes : IsBytes parts.value = subst IsBytes is (IsBytes-take (byte_len w) bytes is_bytes) in
     let long : length parts.value ≡ byte_len w = sym (ap length is)
-        ∙ omega (arith, length-take (byte_len w) bytes, found.0) in
+    ∙ omega (arith, length-take (byte_len w) bytes, found.0) in
     let front : parts.value ≡ to_be_bytes w n = sym (wide.back parts.value long value_bytes)
-        ∙ ap (to_be_bytes w) same.0 in
+    ∙ ap (to_be_bytes w) same.0 in
     record {
       spelled = sym (take-append-drop (byte_len w) bytes)
           ∙ ap (λ (x : List ℕ). x ++ drop (byte_len w) bytes) (is ∙ front)
@@ -197,7 +197,7 @@ cut_takes (Some i) bytes x rest is_bytes at e =
           let k = contains.0 in
           let within : k < i = omega (arith, contains.1, ap length same.0, length-take i bytes) in
           let is : get_or bytes k 0 ≡ 0 = sym (get_or-take i bytes k 0 within)
-              ∙ ap (λ (y : List ℕ). get_or y k 0) same.0 ∙ contains.2 in
+          ∙ ap (λ (y : List ℕ). get_or y k 0) same.0 ∙ contains.2 in
           no_zero (get_or bytes k 0) is (there.2 k within);
       left = subst IsBytes same.1 (IsBytes-drop (i + 1) bytes is_bytes);
     }
@@ -219,7 +219,7 @@ position_is : (x rest : List ℕ) → NoZero x → position is_zero (x ++ (0 ∷
 position_is x rest none =
     let place : position_or_len is_zero (x ++ (0 ∷ rest)) ≡ length x =
     sym (is_position_or_len before_zero is_zero refl (λ n bytes. refl) (x ++ (0 ∷ rest)))
-        ∙ before_zero_is x rest none in
+    ∙ before_zero_is x rest none in
     let within : length x < length (x ++ (0 ∷ rest)) = omega (arith, length-append x (0 ∷ rest)) in
     rw (place, lt-ltb _ _ within) refl
 
@@ -230,7 +230,7 @@ zero_again x rest none =
     let front : take (length x) (x ++ (0 ∷ rest)) ≡ x = take_at x (0 ∷ rest) (length x) refl in
     let behind : drop (length x + 1) (x ++ (0 ∷ rest)) ≡ rest =
     ap (λ (y : List ℕ). drop (length x + 1) y) (sym grouped)
-        ∙ drop_at (string x) rest (length x + 1) (length-append x (0 ∷ [])) in
+    ∙ drop_at (string x) rest (length x + 1) (length-append x (0 ∷ [])) in
     ap (λ (y : List ℕ). cut_at (position is_zero y) y) grouped
     ∙ ap (λ (found : Option ℕ). cut_at found (x ++ (0 ∷ rest))) (position_is x rest none)
     ∙ ap (λ (y : List ℕ). done y (drop (length x + 1) (x ++ (0 ∷ rest)))) front ∙ ap (λ (y : List ℕ). done x y) behind
@@ -257,7 +257,7 @@ unfolding text_at utf8_text
 exact_text = exact_passed is_utf8 BadText (count32 >>= some) sized (λ text. (length text < 2 ^ 31) × Unit {0})
     (λ text. IsUtf8 text × (length text < 2 ^ 31))
     (exact_then count32 some int32 (λ text. text) (λ n. n < 2 ^ 31) (λ text. Unit {0}) length exact_count32
-        (λ n _. exact_some n))
+    (λ n _. exact_some n))
     (λ x fits e. (IsUtf8-from_is_utf8 x e, fits.0))
     (λ x fits. (is_utf8-from_IsUtf8 x fits.0, (fits.1, tt)))
 

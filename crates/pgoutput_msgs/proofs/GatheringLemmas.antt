@@ -30,7 +30,7 @@ pub all_gathered : {A B : Type 0} (P : B → Type 0) (make : ℕ → List A → 
     → made ≡ make 0 all
 all_gathered {A} {B} P make all made number over none so_far =
     sym (append-nil made) ∙ ap (λ (x : List B). made ++ x) (sym (at_drop_all (make number) all number over ∙ none))
-        ∙ so_far.list
+    ∙ so_far.list
 
 pub none_gathered : {A B : Type 0} (P : B → Type 0) (make : ℕ → List A → List B) (all : List A) (made : List B)
     → made ≡ [] → Gathers P make all made 0

@@ -84,7 +84,7 @@ new_relation told number table within is_new = record {
         (λ differs. still_known (oid_of number) (oid_of n) known (is.each n (told_before told number n differs h)));
     only = λ n. first_or_later (oid_of number) (oid_of n) known (is_told (told_one told number) n ≡ true)
         (λ e. let same : number ≡ n = omega (arith, e) in
-            subst (λ k. is_told (told_one told number) k ≡ true) same (told_itself told number within))
+        subst (λ k. is_told (told_one told number) k ≡ true) same (told_itself told number within))
         (λ found. still_told told number n within (is.only n found));
   };
 }
@@ -121,10 +121,10 @@ all_relations tables told (number ∷ numbers) long of =
     let there = All-head (λ table. table < length tables) number numbers of in
     let longer : length tables ≤ length (told_one told number) = omega (arith, long, length-set told number true) in
     both told (told_one told number) (told_all (told_one told number) numbers) (relation_once tables told number)
-        (relations_of tables (told_one told number) numbers)
+    (relations_of tables (told_one told number) numbers)
     (once_by tables told number (is_told told number) refl there (omega (arith, there, long)))
     (all_relations tables (told_one told number) numbers longer
-        (All-tail (λ table. table < length tables) number numbers of))
+    (All-tail (λ table. table < length tables) number numbers of))
 
 length-told_all : (told : List Bool) (numbers : List ℕ) → length (told_all told numbers) ≡ length told
 unfolding told_all
@@ -140,7 +140,7 @@ stays_told told [] most long of n h = h
 stays_told told (number ∷ numbers) most long of n h =
     let there = All-head (λ table. table < most) number numbers of in
     stays_told (told_one told number) numbers most (omega (arith, long, length-set told number true))
-        (All-tail (λ table. table < most) number numbers of) n
+    (All-tail (λ table. table < most) number numbers of) n
     (still_told told number n (omega (arith, there, long)) h)
 
 each_told : (told : List Bool) (numbers : List ℕ) (most : ℕ) → most ≤ length told
@@ -153,7 +153,7 @@ each_told told (number ∷ numbers) most long of =
     let longer : most ≤ length (told_one told number) = omega (arith, long, length-set told number true) in
     All-cons (λ n. is_told (told_all (told_one told number) numbers) n ≡ true) number numbers
     (stays_told (told_one told number) numbers most longer later number
-        (told_itself told number (omega (arith, there, long))))
+    (told_itself told number (omega (arith, there, long))))
     (each_told (told_one told number) numbers most longer later)
 
 all_known : (told : List Bool) (known : List ℕ) → AreTold told known → (numbers : List ℕ)
@@ -161,7 +161,7 @@ all_known : (told : List Bool) (known : List ℕ) → AreTold told known → (nu
 all_known told known is [] all = All-nil (Contains known)
 all_known told known is (number ∷ numbers) all =
     All-cons (Contains known) (oid_of number) (map oid_of numbers)
-        (is.each number (All-head (λ n. is_told told n ≡ true) number numbers all))
+    (is.each number (All-head (λ n. is_told told n ≡ true) number numbers all))
     (all_known told known is numbers (All-tail (λ n. is_told told n ≡ true) number numbers all))
 
 one_message : (told : List Bool) (message : Msg)
@@ -243,14 +243,14 @@ got_of checked subscriber (r.Insert table new) h =
 got_of checked subscriber (r.Update table part new) h =
     let setting = setting_in checked in
     updated_of checked.catalog.tables table h (setting.passes subscriber table (o.asked part new))
-        (setting.passes subscriber table new) (setting.carries subscriber) part new
+    (setting.passes subscriber table new) (setting.carries subscriber) part new
 got_of checked subscriber (r.Delete table part) h =
     let setting = setting_in checked in
     gone_of checked.catalog.tables table h (setting.passes subscriber table) (setting.carries subscriber) part
 got_of checked subscriber (r.Truncate numbers) h =
     let setting = setting_in checked in
     emptied_of checked.catalog.tables numbers h (list_any (setting.carries subscriber) numbers)
-        (setting.carries subscriber)
+    (setting.carries subscriber)
 
 -- ---- what is said of changes
 
@@ -261,7 +261,7 @@ unfolding said told_by IfOf
 one_said tables told None long h = nothing told
 one_said tables told (Some change) long h =
     both told (told_all told (named_in change)) (told_all told (named_in change))
-        (relations_of tables told (named_in change)) (message_of change)
+    (relations_of tables told (named_in change)) (message_of change)
     (all_relations tables told (named_in change) long h)
     (change_message (told_all told (named_in change)) change (each_told told (named_in change) (length tables) long h))
 
@@ -281,7 +281,7 @@ all_said checked subscriber told (change ∷ changes) long of =
     let mine = got (setting_in checked) subscriber change in
     let longer : length tables ≤ length (told_by told mine) = omega (arith, long, length-told_by told mine) in
     both told (told_by told mine) (told_each checked subscriber (told_by told mine) changes) (said tables told mine)
-        (said_each checked subscriber (told_by told mine) changes)
+    (said_each checked subscriber (told_by told mine) changes)
     (one_said tables told mine long (got_of checked subscriber change (All-head (IsChangeOf tables) change changes of)))
     (all_said checked subscriber (told_by told mine) changes longer (All-tail (IsChangeOf tables) change changes of))
 
@@ -300,14 +300,14 @@ between : (told after : List Bool) (commit : CommitOf) (messages : List Msg) →
 between told after commit [] h = h
 between told after commit (first ∷ others) h =
     both told told after (begin_of commit ∷ []) ((first ∷ others) ++ commit_of commit ∷ [])
-        (one_message told (begin_of commit) (λ known is. tt) (λ known. refl))
+    (one_message told (begin_of commit) (λ known is. tt) (λ known. refl))
     (both told after after (first ∷ others) (commit_of commit ∷ []) h
-        (one_message after (commit_of commit) (λ known is. tt) (λ known. refl)))
+    (one_message after (commit_of commit) (λ known is. tt) (λ known. refl)))
 
 pub commits_introduce : CommitsIntroduce
 commits_introduce checked subscriber told commit long of =
     between told (told_each checked subscriber told commit.changes) commit
-        (said_each checked subscriber told commit.changes)
+    (said_each checked subscriber told commit.changes)
     (all_said checked subscriber told commit.changes long of)
 
 pub in_turn_introduce : CommitsInTurnIntroduce
@@ -316,8 +316,8 @@ in_turn_introduce checked subscriber told (commit ∷ commits) long of =
     let tables = checked.catalog.tables in
     let after = told_after checked subscriber told commit in
     let longer : length tables ≤ length after =
-        omega (arith, long, length-told_each checked subscriber told commit.changes) in
+    omega (arith, long, length-told_each checked subscriber told commit.changes) in
     both told after (told_in_turn checked subscriber after commits) (messages_for checked subscriber told commit)
-        (messages_in_turn checked subscriber after commits)
+    (messages_in_turn checked subscriber after commits)
     (commits_introduce checked subscriber told commit long (All-head (IsOf tables) commit commits of))
     (in_turn_introduce checked subscriber after commits longer (All-tail (IsOf tables) commit commits of))

@@ -38,10 +38,10 @@ exact_begin : Exact begin_at fields_spelling (Is 66)
 unfolding begin_at
 exact_begin =
     exact_mapped (number w64 & number w64 & number w32) (λ f. int64 f.0 ++ (int64 f.1.0 ++ int32 f.1.1))
-        (λ f. (f.0 < 2 ^ 64) × ((f.1.0 < 2 ^ 64) × (f.1.1 < 2 ^ 32)))
+    (λ f. (f.0 < 2 ^ 64) × ((f.1.0 < 2 ^ 64) × (f.1.1 < 2 ^ 32)))
     (λ f. m.Begin f.0 f.1.0 f.1.1) fields_spelling (Is 66)
     (exact_both (number w64) int64 (λ n. n < 2 ^ 64) (number w64 & number w32) (λ f. int64 f.0 ++ int32 f.1)
-        (λ f. (f.0 < 2 ^ 64) × (f.1 < 2 ^ 32)) exact_int64
+    (λ f. (f.0 < 2 ^ 64) × (f.1 < 2 ^ 32)) exact_int64
     (exact_both (number w64) int64 (λ n. n < 2 ^ 64) (number w32) int32 (λ n. n < 2 ^ 32) exact_int64 exact_int32))
     (λ f fits. (refl, (refl, fits))) begin_back
 
@@ -65,12 +65,12 @@ commit_rest message = drop 1 (fields_spelling message)
 exact_commit_by : (flags : ℕ) → Exact (commit_by flags) commit_rest (λ x. (no_flags x ≡ flags) × Is 67 x)
 exact_commit_by flags =
     exact_if flags 0 (mapped (λ f. m.Commit f.0 f.1.0 f.1.1) (number w64 & number w64 & number w64))
-        (fail (Unknown flags)) commit_rest (Is 67) no_flags
+    (fail (Unknown flags)) commit_rest (Is 67) no_flags
     (exact_mapped (number w64 & number w64 & number w64) three
-        (λ f. (f.0 < 2 ^ 64) × ((f.1.0 < 2 ^ 64) × (f.1.1 < 2 ^ 64)))
+    (λ f. (f.0 < 2 ^ 64) × ((f.1.0 < 2 ^ 64) × (f.1.1 < 2 ^ 64)))
     (λ f. m.Commit f.0 f.1.0 f.1.1) commit_rest (λ x. (no_flags x ≡ 0) × Is 67 x)
     (exact_both (number w64) int64 (λ n. n < 2 ^ 64) (number w64 & number w64) (λ f. int64 f.0 ++ int64 f.1)
-        (λ f. (f.0 < 2 ^ 64) × (f.1 < 2 ^ 64)) exact_int64
+    (λ f. (f.0 < 2 ^ 64) × (f.1 < 2 ^ 64)) exact_int64
     (exact_both (number w64) int64 (λ n. n < 2 ^ 64) (number w64) int64 (λ n. n < 2 ^ 64) exact_int64 exact_int64))
     (λ f fits. (refl, (refl, (refl, fits)))) commit_back)
     (λ p. exact_fail (Unknown flags) commit_rest (λ x. (no_flags x ≡ flags) × Is 67 x) (λ x h. p (sym h.0)))
@@ -89,15 +89,16 @@ unfolding commit_at
 exact_commit = exact_as (byte >>= commit_by) (λ x. (0 ∷ []) ++ commit_rest x) (λ x. (0 < 256) × Is 67 x)
     fields_spelling (Is 67)
     (exact_then byte commit_by int8 commit_rest (λ n. n < 256) (Is 67) no_flags exact_byte
-        (λ flags _. exact_commit_by flags))
+    (λ flags _. exact_commit_by flags))
     (λ x fits. (commit_is x fits.1, fits.1)) (λ x fits. (omega arith, fits))
 
 relation_back : (x : Msg) → Is 82 x → (f : relation_fields) × ((m.Relation (relation_of f) ≡ x) × RelationFits f)
 relation_back (m.Begin a b c) h = absurd (omega (arith, h.0))
 relation_back (m.Commit a b c) h = absurd (omega (arith, h.0))
-relation_back (m.Relation a) h =
-    ((a.oid, (a.namespace, (a.name, (a.identity, a.columns)))),
-        (refl, (h.1.oid, (h.1.namespace, (h.1.name, (tt, (h.1.few, h.1.columns)))))))
+relation_back (m.Relation a) h = (
+  (a.oid, (a.namespace, (a.name, (a.identity, a.columns)))),
+  (refl, (h.1.oid, (h.1.namespace, (h.1.name, (tt, (h.1.few, h.1.columns)))))),
+)
 relation_back (m.Insert a b) h = absurd (omega (arith, h.0))
 relation_back (m.Update a b c) h = absurd (omega (arith, h.0))
 relation_back (m.Delete a b) h = absurd (omega (arith, h.0))
@@ -107,10 +108,21 @@ exact_relation : Exact relation_at fields_spelling (Is 82)
 unfolding relation_at
 exact_relation =
     exact_mapped (number w32 & string_at & string_at & identity_at & columns_at) relation_parts RelationFits
-        (λ f. m.Relation (relation_of f)) fields_spelling (Is 82) exact_relation_fields
-    (λ f fits. (refl, (refl,
-        record { oid = fits.0; namespace = fits.1.0; name = fits.1.1.0; few = fits.1.1.1.1.0; columns =
-        fits.1.1.1.1.1 }))) relation_back
+    (λ f. m.Relation (relation_of f)) fields_spelling (Is 82) exact_relation_fields
+    (λ f fits. (
+      refl,
+      (
+        refl,
+        record {
+          oid = fits.0;
+          namespace = fits.1.0;
+          name = fits.1.1.0;
+          few = fits.1.1.1.1.0;
+          columns =
+              fits.1.1.1.1.1;
+        },
+      ),
+    )) relation_back
 
 insert_back : (x : Msg) → Is 73 x → (f : ℕ × List Cell) × ((m.Insert f.0 f.1 ≡ x) × ((f.0 < 2 ^ 32) × IsTuple f.1))
 insert_back (m.Begin a b c) h = absurd (omega (arith, h.0))
@@ -125,7 +137,7 @@ exact_insert : Exact insert_at fields_spelling (Is 73)
 unfolding insert_at
 exact_insert =
     exact_mapped (number w32 & new_at) (λ f. int32 f.0 ++ new_spelling f.1) (λ f. (f.0 < 2 ^ 32) × IsTuple f.1)
-        (λ f. m.Insert f.0 f.1) fields_spelling (Is 73)
+    (λ f. m.Insert f.0 f.1) fields_spelling (Is 73)
     (exact_both (number w32) int32 (λ n. n < 2 ^ 32) new_at new_spelling IsTuple exact_int32 exact_new)
     (λ f fits. (refl, (refl, fits))) insert_back
 
@@ -158,21 +170,21 @@ alone_back (Some old, new) h = absurd (old_letter_apart old h.0)
 
 both_back : (kind : ℕ) → (kind ≡ 78 → ⊥) → (f : Rows) → (rows_letter f ≡ kind) × AreRows f
     → (p : OldTuple × List Cell)
-        × ((let rows : Rows = (Some p.0, p.1) in rows ≡ f) × (((old_letter p.0 ≡ kind) × IsOld p.0) × IsTuple p.1))
+    × ((let rows : Rows = (Some p.0, p.1) in rows ≡ f) × (((old_letter p.0 ≡ kind) × IsOld p.0) × IsTuple p.1))
 both_back kind apart (None, new) h = absurd (apart (sym h.0))
 both_back kind apart (Some old, new) h = ((old, new), (refl, ((h.0, h.1.0), h.1.1)))
 
 exact_rows_by : (kind : ℕ) → Exact (rows_by kind) rows_rest (λ f. (rows_letter f ≡ kind) × AreRows f)
 exact_rows_by kind =
     exact_if kind 78 (mapped (λ new. (None, new)) tuple_at) (mapped (λ f. (Some f.0, f.1)) (old_by kind & new_at))
-        rows_rest AreRows rows_letter
+    rows_rest AreRows rows_letter
     (exact_mapped tuple_at tuple_spelling IsTuple (λ new. (None, new)) rows_rest
-        (λ f. (rows_letter f ≡ 78) × AreRows f) exact_tuple (λ new fits. (refl, (refl, (tt, fits)))) alone_back)
+    (λ f. (rows_letter f ≡ 78) × AreRows f) exact_tuple (λ new fits. (refl, (refl, (tt, fits)))) alone_back)
     (λ apart. exact_mapped (old_by kind & new_at) (λ f. old_rest f.0 ++ new_spelling f.1)
-        (λ f. ((old_letter f.0 ≡ kind) × IsOld f.0) × IsTuple f.1)
+    (λ f. ((old_letter f.0 ≡ kind) × IsOld f.0) × IsTuple f.1)
     (λ f. (Some f.0, f.1)) rows_rest (λ f. (rows_letter f ≡ kind) × AreRows f)
     (exact_both (old_by kind) old_rest (λ o. (old_letter o ≡ kind) × IsOld o) new_at new_spelling IsTuple
-        (exact_old_by kind) exact_new)
+    (exact_old_by kind) exact_new)
     (λ f fits. (refl, (fits.0.0, (fits.0.1, fits.1)))) (both_back kind apart))
 
 rows_is : (f : Rows) → rows_letter f ∷ rows_rest f ≡ rows_spelling f
@@ -187,7 +199,7 @@ exact_rows : Exact (byte >>= rows_by) rows_spelling AreRows
 exact_rows = exact_as (byte >>= rows_by) (λ f. (rows_letter f ∷ []) ++ rows_rest f)
     (λ f. (rows_letter f < 256) × AreRows f) rows_spelling AreRows
     (exact_then byte rows_by int8 rows_rest (λ n. n < 256) AreRows rows_letter exact_byte
-        (λ kind _. exact_rows_by kind))
+    (λ kind _. exact_rows_by kind))
     (λ f fits. (rows_is f, fits.1)) (λ f fits. (byte_of_rows f, fits))
 
 update_back : (x : Msg) → Is 85 x → (f : ℕ × Rows) × ((m.Update f.0 f.1.0 f.1.1 ≡ x) × ((f.0 < 2 ^ 32) × AreRows f.1))
@@ -203,7 +215,7 @@ exact_update : Exact update_at fields_spelling (Is 85)
 unfolding update_at
 exact_update =
     exact_mapped (number w32 & (byte >>= rows_by)) (λ f. int32 f.0 ++ rows_spelling f.1)
-        (λ f. (f.0 < 2 ^ 32) × AreRows f.1) (λ f. m.Update f.0 f.1.0 f.1.1) fields_spelling (Is 85)
+    (λ f. (f.0 < 2 ^ 32) × AreRows f.1) (λ f. m.Update f.0 f.1.0 f.1.1) fields_spelling (Is 85)
     (exact_both (number w32) int32 (λ n. n < 2 ^ 32) (byte >>= rows_by) rows_spelling AreRows exact_int32 exact_rows)
     (λ f fits. (refl, (refl, fits))) update_back
 
@@ -220,7 +232,7 @@ exact_delete : Exact delete_at fields_spelling (Is 68)
 unfolding delete_at
 exact_delete =
     exact_mapped (number w32 & (byte >>= old_by)) (λ f. int32 f.0 ++ old_spelling f.1)
-        (λ f. (f.0 < 2 ^ 32) × IsOld f.1) (λ f. m.Delete f.0 f.1) fields_spelling (Is 68)
+    (λ f. (f.0 < 2 ^ 32) × IsOld f.1) (λ f. m.Delete f.0 f.1) fields_spelling (Is 68)
     (exact_both (number w32) int32 (λ n. n < 2 ^ 32) (byte >>= old_by) old_spelling IsOld exact_int32 exact_old)
     (λ f fits. (refl, (refl, fits))) delete_back
 
@@ -248,13 +260,13 @@ exact_truncate_by : (n : ℕ) → n < 2 ^ 31
     (λ x. (tables_of x ≡ n) × Is 84 x)
 exact_truncate_by n few =
     exact_mapped (byte & many (number w32) n) (λ f. int8 f.0 ++ flat_map int32 f.1)
-        (λ f. (f.0 < 256) × ((length f.1 ≡ n) × All IsOid f.1)) (λ f. m.Truncate f.0 f.1)
+    (λ f. (f.0 < 256) × ((length f.1 ≡ n) × All IsOid f.1)) (λ f. m.Truncate f.0 f.1)
     truncate_rest (λ x. (tables_of x ≡ n) × Is 84 x)
     (exact_both byte int8 (λ b. b < 256) (many (number w32) n) (flat_map int32)
-        (λ all. (length all ≡ n) × All IsOid all) exact_byte
+    (λ all. (length all ≡ n) × All IsOid all) exact_byte
     (many_all (number w32) int32 IsOid exact_int32 n))
     (λ f fits. (refl, (fits.1.0, (refl, (subst (λ (k : ℕ). k < 2 ^ 31) (sym fits.1.0) few, (fits.0, fits.1.1))))))
-        (truncate_back n)
+    (truncate_back n)
 
 truncate_is : (x : Msg) → Is 84 x → int32 (tables_of x) ++ truncate_rest x ≡ fields_spelling x
 truncate_is (m.Begin a b c) h = absurd (omega (arith, h.0))
@@ -279,7 +291,7 @@ unfolding truncate_at
 exact_truncate = exact_as (count32 >>= (λ n. mapped (λ f. m.Truncate f.0 f.1) (byte & many (number w32) n)))
     (λ x. int32 (tables_of x) ++ truncate_rest x) (λ x. (tables_of x < 2 ^ 31) × Is 84 x) fields_spelling (Is 84)
     (exact_then count32 (λ n. mapped (λ f. m.Truncate f.0 f.1) (byte & many (number w32) n)) int32 truncate_rest
-        (λ n. n < 2 ^ 31) (Is 84) tables_of exact_count32 exact_truncate_by)
+    (λ n. n < 2 ^ 31) (Is 84) tables_of exact_count32 exact_truncate_by)
     (λ x fits. (truncate_is x fits.1, fits.1)) (λ x fits. (few_tables x fits, fits))
 
 -- ---- messages
@@ -319,5 +331,5 @@ unfolding message_at
 exact_message = exact_as (byte >>= message_by) (λ x. (letter x ∷ []) ++ fields_spelling x)
     (λ x. (letter x < 256) × IsMessage x) spelling_of IsMessage
     (exact_then byte message_by int8 fields_spelling (λ n. n < 256) IsMessage letter exact_byte
-        (λ kind _. exact_message_by kind))
+    (λ kind _. exact_message_by kind))
     (λ x fits. (refl, fits.1)) (λ x fits. (byte_of_message x, fits))

@@ -27,9 +27,10 @@ blanked_of : (kinds : List ColType) (columns : List ℕ) (number : ℕ) (row : L
 blanked_of [] columns number [] h = tt
 blanked_of [] columns number (cell ∷ row) h = absurd h
 blanked_of (kind ∷ kinds) columns number [] h = absurd h
-blanked_of (kind ∷ kinds) columns number (cell ∷ row) h =
-    (cell_of_either kind (list_any (λ column. column == number) columns) cell h.0,
-        blanked_of kinds columns (number + 1) row h.1)
+blanked_of (kind ∷ kinds) columns number (cell ∷ row) h = (
+  cell_of_either kind (list_any (λ column. column == number) columns) cell h.0,
+  blanked_of kinds columns (number + 1) row h.1,
+)
 
 key_back : (kinds : List ColType) (blanked : List Datum) → AreOf kinds blanked → (kept : Bool) (part : r.PartOf)
     → (if kept then None else Some (r.Key blanked)) ≡ Some part
@@ -59,4 +60,4 @@ by_recorded Nowhere identity table kinds old h new part is = absurd cc
 pub recorded_back : RecordedRowsReadBack
 recorded_back table old valid new part is =
     by_recorded (recorded_as table.identity) (identity_in (Some table)) table (kinds_of table.columns) old
-        (are_of table.columns old valid.wide valid.fits) new part is
+    (are_of table.columns old valid.wide valid.fits) new part is

@@ -53,7 +53,7 @@ number_back kind z h =
     let high : int_le z (greatest_of kind) ≡ true = test_true _ h.below_greatest.le in
     ap (number_if kind (signed_decimal z)) (own_value z (within_mag kind z low high))
     ∙ if_some (bytes_eq (signed_decimal z) (signed_decimal z)) (int_le (least_of kind) z)
-        (int_le z (greatest_of kind)) z
+    (int_le z (greatest_of kind)) z
     ((bytes_eq-Decides (signed_decimal z) (signed_decimal z)).1 refl) low high
 
 -- ---- texts
@@ -61,8 +61,10 @@ number_back kind z h =
 no_zero_any : (bytes : List ℕ) → ¬ Contains bytes 0 → list_any (λ byte. byte == 0) bytes ≡ false
 no_zero_any [] none = refl
 no_zero_any (n ∷ bytes) none =
-    rw (is_not_zero n (λ e. none (0, omega arith, e)),
-        no_zero_any bytes (λ contains. none (suc contains.0, omega (arith, contains.1), contains.2))) refl
+    rw (
+      is_not_zero n (λ e. none (0, omega arith, e)),
+      no_zero_any bytes (λ contains. none (suc contains.0, omega (arith, contains.1), contains.2)),
+    ) refl
 
 text_back : (bytes : List ℕ) → IsText bytes → text_in bytes ≡ Some (Bytes bytes)
 unfolding text_in
@@ -98,7 +100,7 @@ unfolding row_in
 rows_back [] [] h = refl
 rows_back (kind ∷ kinds) (datum ∷ row) h =
     ap (λ (x : Option Datum). row_with x (row_in kinds (cells_of row))) (datum_back kind datum h.0)
-        ∙ ap (row_with (Some datum)) (rows_back kinds row h.1)
+    ∙ ap (row_with (Some datum)) (rows_back kinds row h.1)
 rows_back [] (datum ∷ row) h = absurd h
 rows_back (kind ∷ kinds) [] h = absurd h
 

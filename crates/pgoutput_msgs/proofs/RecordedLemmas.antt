@@ -29,7 +29,7 @@ all_of_fold P numbers [] all later = all
 all_of_fold P numbers (number ∷ more) all later =
     all_of_fold P (with_item nat_eq numbers number) more
     (with_one_if P (list_any (nat_eq number) numbers) numbers number all (All-head P number more later))
-        (All-tail P number more later)
+    (All-tail P number more later)
 
 all_distinct : (P : ℕ → Type 0) (numbers : List ℕ) → All P numbers → All P (distinct nat_eq numbers)
 all_distinct P numbers all = all_of_fold P [] numbers (All-nil P) all
@@ -72,18 +72,18 @@ module _ (checked : CheckedOf) where
   change_of_tables tables (c.Delete table key) h = one_table table _ h
   change_of_tables tables (c.Truncate numbers) h =
       all_distinct IsTable numbers
-          (known_tables numbers (no_fault (all_known (setting_in checked) numbers) NoTable None h))
+      (known_tables numbers (no_fault (all_known (setting_in checked) numbers) NoTable None h))
 
 pub records_of_tables : RecordsAreOfTables
 records_of_tables checked tables number [] h = All-nil (IsChangeOf checked.catalog.tables)
 records_of_tables checked tables number (command ∷ commands) h =
     let setting = setting_in checked in
     let parts = not_numbered number (fault_of setting tables command)
-        (first_fault setting (applied setting tables command) (number + 1) commands) h in
+    (first_fault setting (applied setting tables command) (number + 1) commands) h in
     All-cons (IsChangeOf checked.catalog.tables) (change_of setting tables command)
-        (record_of setting (applied setting tables command) commands)
+    (record_of setting (applied setting tables command) commands)
     (change_of_tables checked tables command parts.0)
-        (records_of_tables checked (applied setting tables command) (number + 1) commands parts.1)
+    (records_of_tables checked (applied setting tables command) (number + 1) commands parts.1)
 
 entries_of_tables : (checked : CheckedOf) (tables : Tables) (number : ℕ) (transactions : List Transaction)
     → AreAccepted (setting_in checked) tables transactions
@@ -92,12 +92,12 @@ entries_of_tables checked tables number [] h = All-nil (IsOf checked.catalog.tab
 entries_of_tables checked tables number (transaction ∷ transactions) h =
     let setting = setting_in checked in
     All-cons (IsOf checked.catalog.tables)
-        (commit_of number transaction.time (record_of setting tables transaction.commands))
+    (commit_of number transaction.time (record_of setting tables transaction.commands))
     (entries_from setting (left_by setting tables transaction) (number + 1) transactions)
     (records_of_tables checked tables 1 transaction.commands h.0.no_fault)
-        (entries_of_tables checked (left_by setting tables transaction) (number + 1) transactions h.1)
+    (entries_of_tables checked (left_by setting tables transaction) (number + 1) transactions h.1)
 
 pub logs_of_tables : LogsAreOfTables
 logs_of_tables book transactions stands =
     subst (All (IsOf (book_checked book).catalog.tables)) (sym stands.log)
-        (entries_of_tables (book_checked book) no_rows 1 transactions stands.accepted)
+    (entries_of_tables (book_checked book) no_rows 1 transactions stands.accepted)

@@ -59,15 +59,15 @@ Always a = Unit {0}
 exact_identity_by : (kind : ℕ) → Exact (identity_by kind) nothing_more (λ x. (identity_letter x ≡ kind) × Unit {0})
 exact_identity_by kind =
     exact_if kind 100 (pure i.Default) _ nothing_more Always identity_letter
-        (exact_value i.Default nothing_more Always identity_letter 100 refl refl tt default_alone) (λ p.
+    (exact_value i.Default nothing_more Always identity_letter 100 refl refl tt default_alone) (λ p.
     exact_if kind 110 (pure i.Nothing) _ nothing_more Always identity_letter
-        (exact_value i.Nothing nothing_more Always identity_letter 110 refl refl tt nothing_alone) (λ q.
+    (exact_value i.Nothing nothing_more Always identity_letter 110 refl refl tt nothing_alone) (λ q.
     exact_if kind 102 (pure i.Full) _ nothing_more Always identity_letter
-        (exact_value i.Full nothing_more Always identity_letter 102 refl refl tt full_alone) (λ r.
+    (exact_value i.Full nothing_more Always identity_letter 102 refl refl tt full_alone) (λ r.
     exact_if kind 105 (pure i.Index) (fail (Unknown kind)) nothing_more Always identity_letter
-        (exact_value i.Index nothing_more Always identity_letter 105 refl refl tt index_alone)
+    (exact_value i.Index nothing_more Always identity_letter 105 refl refl tt index_alone)
     (λ s. exact_fail (Unknown kind) nothing_more (λ x. (identity_letter x ≡ kind) × Unit {0})
-        (no_identity kind p q r s)))))
+    (no_identity kind p q r s)))))
 
 byte_of_identity : (x : ReplicaIdentity) → identity_letter x < 256
 byte_of_identity i.Default = omega arith
@@ -83,7 +83,7 @@ unfolding identity_at
 exact_identity = exact_as (byte >>= identity_by) (λ x. (identity_letter x ∷ []) ++ [])
     (λ x. (identity_letter x < 256) × Unit {0}) letter_of Always
     (exact_then byte identity_by int8 nothing_more (λ n. n < 256) Always identity_letter exact_byte
-        (λ kind _. exact_identity_by kind))
+    (λ kind _. exact_identity_by kind))
     (λ x fits. (refl, tt)) (λ x fits. (byte_of_identity x, tt))
 
 false_alone : (x : Bool) → key_flag x ≡ 0 → x ≡ false
@@ -101,9 +101,9 @@ no_flag kind p q true h = q (sym h.0)
 exact_flag_by : (kind : ℕ) → Exact (flag_by kind) nothing_more (λ x. (key_flag x ≡ kind) × Unit {0})
 exact_flag_by kind =
     exact_if kind 0 (pure false) _ nothing_more Always key_flag
-        (exact_value false nothing_more Always key_flag 0 refl refl tt false_alone) (λ p.
+    (exact_value false nothing_more Always key_flag 0 refl refl tt false_alone) (λ p.
     exact_if kind 1 (pure true) (fail (Unknown kind)) nothing_more Always key_flag
-        (exact_value true nothing_more Always key_flag 1 refl refl tt true_alone)
+    (exact_value true nothing_more Always key_flag 1 refl refl tt true_alone)
     (λ q. exact_fail (Unknown kind) nothing_more (λ x. (key_flag x ≡ kind) × Unit {0}) (no_flag kind p q)))
 
 byte_of_flag : (x : Bool) → key_flag x < 256
@@ -144,10 +144,10 @@ fields_of f = flag_of f.0 ++ (string f.1.0 ++ (int32 f.1.1.0 ++ int32 f.1.1.1))
 exact_column_fields : Exact (flag_at & string_at & number w32 & number w32) fields_of FieldsFit
 exact_column_fields =
     exact_both flag_at flag_of Always (string_at & number w32 & number w32)
-        (λ f. string f.0 ++ (int32 f.1.0 ++ int32 f.1.1)) (λ f. IsName f.0 × ((f.1.0 < 2 ^ 32) × (f.1.1 < 2 ^ 32)))
-        exact_flag
+    (λ f. string f.0 ++ (int32 f.1.0 ++ int32 f.1.1)) (λ f. IsName f.0 × ((f.1.0 < 2 ^ 32) × (f.1.1 < 2 ^ 32)))
+    exact_flag
     (exact_both string_at string IsName (number w32 & number w32) (λ f. int32 f.0 ++ int32 f.1)
-        (λ f. (f.0 < 2 ^ 32) × (f.1 < 2 ^ 32)) exact_string
+    (λ f. (f.0 < 2 ^ 32) × (f.1 < 2 ^ 32)) exact_string
     (exact_both (number w32) int32 (λ n. n < 2 ^ 32) (number w32) int32 (λ n. n < 2 ^ 32) exact_int32 exact_int32))
 
 column_made : (f : column_fields) → FieldsFit f → (fields_of f ≡ column_spelling (column_of f)) × IsColumn (column_of f)
@@ -205,6 +205,6 @@ exact_relation_fields =
     (λ f. IsName f.0 × (Unit {0} × ((length f.1.1 < 2 ^ 15) × All IsColumn f.1.1))) exact_string
     (exact_both string_at string IsName (identity_at & columns_at)
     (λ f. letter_of f.0 ++ columns_spelling f.1) (λ f. Unit {0} × ((length f.1 < 2 ^ 15) × All IsColumn f.1))
-        exact_string
+    exact_string
     (exact_both identity_at letter_of Always columns_at columns_spelling
-        (λ columns. (length columns < 2 ^ 15) × All IsColumn columns) exact_identity exact_columns)))
+    (λ columns. (length columns < 2 ^ 15) × All IsColumn columns) exact_identity exact_columns)))

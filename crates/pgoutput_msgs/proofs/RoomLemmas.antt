@@ -35,7 +35,7 @@ row_room cells h = record {
   short = λ k d long.
       let within : k < length cells = omega (arith, length-map cells cell_of, long) in
       subst IsCellWithinRange (sym (get_or-map cell_of cells k Missing d within))
-          (short_value (get_or cells k Missing) (h.values k Missing within));
+      (short_value (get_or cells k Missing) (h.values k Missing within));
 }
 
 pub old_room : (part : r.PartOf) → IsSendablePart (Some part) → IsOldWithinRange (old_of part)
@@ -71,7 +71,7 @@ relation_room tables number None e limited = tt
 relation_room tables number (Some table) e limited =
     let narrow : IsLimitedTable table =
     subst IsLimitedTable (get_or_from_slice_get tables number table table e)
-        (limited number table (slice_get_within tables number table e)) in
+    (limited number table (slice_get_within tables number table e)) in
     omega (arith, length_columns table 0 table.columns, narrow.columns)
 
 -- ---- all messages
@@ -82,6 +82,9 @@ pub messages_room : (checked : CheckedOf) (subscriber : ℕ) (told : List Bool) 
 messages_room checked subscriber told commit h limited =
     let tables = checked.catalog.tables in
     all_messages IsWithinRange checked subscriber told commit h
-    (record { relations =
-        λ number. relation_room tables number (slice_get tables number) refl limited.each_table; changes =
-        message_room }) tt tt
+    (record {
+      relations =
+          λ number. relation_room tables number (slice_get tables number) refl limited.each_table;
+      changes =
+          message_room;
+    }) tt tt

@@ -39,7 +39,7 @@ value_fits values i value is within fits =
     let long : i < length row = omega (arith, length-map values datum_view, within) in
     let one : get_or (cells_of row) i (cell_of (datum_view value)) ≡ cell_of (datum_view value) =
     get_or-map cell_of row i (datum_view value) (cell_of (datum_view value)) long
-        ∙ ap cell_of (get_or-map datum_view values i value (datum_view value) within ∙ ap datum_view (sym is)) in
+    ∙ ap cell_of (get_or-map datum_view values i value (datum_view value) within ∙ ap datum_view (sym is)) in
     subst IsCellWithinRange one (fits i (cell_of (datum_view value)) (omega (arith, length-map row cell_of, long)))
 
 -- a number of 64 bits has a sign and 20 digits at most
@@ -72,7 +72,7 @@ pub all_texts : {A : _} (values : List (Value A)) (count : ℕ) → length value
 all_texts values count over below =
     All-map IsCellText cell_of (map datum_view values)
     (All-map (λ (datum : Datum). IsCellText (cell_of datum)) datum_view values
-        (subst (All is_text_value) (take_all count values over) below))
+    (subst (All is_text_value) (take_all count values over) below))
 
 -- ---- OIDs
 

@@ -37,9 +37,9 @@ unfolding relations_of relation_once
 none_in_relations tables told [] = refl
 none_in_relations tables told (number ∷ numbers) =
     filter-append is_change (introduced tables (slice_index_or told number false) number)
-        (relations_of tables (told_one told number) numbers)
+    (relations_of tables (told_one told number) numbers)
     ∙ ap (λ (x : List Msg). x ++ filter is_change (relations_of tables (told_one told number) numbers))
-        (none_once tables number (slice_index_or told number false))
+    (none_once tables number (slice_index_or told number false))
     ∙ none_in_relations tables (told_one told number) numbers
 
 is_its_own : (change : r.ChangeOf) → filter is_change (message_of change) ≡ message_of change
@@ -61,12 +61,12 @@ one_said tables told (Some change) others =
     ap (λ (x : List Msg). x ++ messages_in others)
     (filter-append is_change (relations_of tables told (named_in change)) (message_of change)
     ∙ ap (λ (x : List Msg). x ++ filter is_change (message_of change))
-        (none_in_relations tables told (named_in change)) ∙ is_its_own change)
+    (none_in_relations tables told (named_in change)) ∙ is_its_own change)
     ∙ sym (flat_map-cons message_of change others)
 
 all_said : (checked : CheckedOf) (subscriber : ℕ) (told : List Bool) (changes : List r.ChangeOf)
     → filter is_change (said_each checked subscriber told changes)
-        ≡ messages_in (filter_map (got (setting_in checked) subscriber) changes)
+    ≡ messages_in (filter_map (got (setting_in checked) subscriber) changes)
 unfolding said_each
 all_said checked subscriber told [] = refl
 all_said checked subscriber told (change ∷ changes) =
@@ -75,7 +75,7 @@ all_said checked subscriber told (change ∷ changes) =
     let later = said_each checked subscriber (told_by told mine) changes in
     filter-append is_change (said tables told mine) later
     ∙ ap (λ (x : List Msg). filter is_change (said tables told mine) ++ x)
-        (all_said checked subscriber (told_by told mine) changes)
+    (all_said checked subscriber (told_by told mine) changes)
     ∙ one_said tables told mine (filter_map (got (setting_in checked) subscriber) changes)
 
 within_begin : (commit : CommitOf) (messages : List Msg)
@@ -105,7 +105,7 @@ unfolding said_each
 none_said checked subscriber told [] h = refl
 none_said checked subscriber told (change ∷ changes) h =
     none_after checked subscriber told (got (setting_in checked) subscriber change)
-        (filter_map (got (setting_in checked) subscriber) changes) changes
+    (filter_map (got (setting_in checked) subscriber) changes) changes
     (λ later none. none_said checked subscriber later changes none) h
 
 enclosed_none : (commit : CommitOf) (messages : List Msg) → messages ≡ [] → enclosed commit messages ≡ []
@@ -161,10 +161,10 @@ tells_what_is_seen checked covered subscriber told commit tables number commands
     let mine = filter_map (got setting subscriber) commit.changes in
     let gets : mine ≡ map (as_recorded setting) all =
     ap (filter_map (got setting subscriber)) recorded
-        ∙ record_shows_all setting covered subscriber tables number commands h in
+    ∙ record_shows_all setting covered subscriber tables number commands h in
     let changes : filter is_change (messages_for checked subscriber told commit) ≡ flat_map (seen_message setting) all =
     within_begin commit (said_each checked subscriber told commit.changes)
-        ∙ all_said checked subscriber told commit.changes
+    ∙ all_said checked subscriber told commit.changes
     ∙ ap messages_in gets ∙ flat_map-map message_of (as_recorded setting) all ∙ as_messages setting all in
     record {
       changes = changes;

@@ -52,23 +52,32 @@ flat_at_most {A = A} spell most (x ∷ xs) all =
 
 cell_read : (datum : Datum) → IsSendableValue datum → IsCellText (cell_of datum) → IsCell (cell_of datum)
 cell_read Missing h text = tt
-cell_read (Known (Number z)) h text =
-    (text, omega (arith, few_digits z 9223372036854775807 9223372036854775807 (lit< tt) (lit< tt) h.above_least
-    h.below_greatest))
+cell_read (Known (Number z)) h text = (
+  text,
+  omega (
+    arith,
+    few_digits z 9223372036854775807 9223372036854775807 (lit< tt) (lit< tt) h.above_least
+        h.below_greatest,
+  ),
+)
 cell_read (Known (Truth true)) h text = (text, omega arith)
 cell_read (Known (Truth false)) h text = (text, omega arith)
 cell_read (Known (Bytes bytes)) h text = (text, omega (arith, h))
 
 text_at_most : (text : List ℕ) (most : ℕ) → length text ≤ most → length (cell_spelling (Text text)) ≤ most + 5
 text_at_most text most h =
-    omega (arith, length-append (codes "t") (int32 (length text) ++ text), length-append (int32 (length text)) text,
-    h)
+    omega (
+      arith,
+      length-append (codes "t") (int32 (length text) ++ text),
+      length-append (int32 (length text)) text,
+      h,
+    )
 
 cell_short : (datum : Datum) → IsSendableValue datum → length (cell_spelling (cell_of datum)) ≤ 65540
 cell_short Missing h = omega arith
 cell_short (Known (Number z)) h =
     let digits = few_digits z 9223372036854775807 9223372036854775807 (lit< tt) (lit< tt) h.above_least
-        h.below_greatest in
+    h.below_greatest in
     text_at_most _ 65535 (omega (arith, digits))
 cell_short (Known (Truth true)) h = omega arith
 cell_short (Known (Truth false)) h = omega arith
@@ -77,13 +86,13 @@ cell_short (Known (Bytes bytes)) h = text_at_most bytes 65535 h
 cells_read : (cells : List Datum) → IsSendableRow cells → AreTexts (cells_of cells) → IsTuple (cells_of cells)
 cells_read cells h texts =
     let read = All-map (λ cell. IsCellText cell → IsCell cell) cell_of cells
-        (λ k d within. cell_read (get_or cells k d) (h.values k d within)) in
+    (λ k d within. cell_read (get_or cells k d) (h.values k d within)) in
     (omega (arith, length-map cells cell_of, h.few), λ k d within. read k d within (texts k d within))
 
 cells_short : (cells : List Datum) → IsSendableRow cells → length (tuple_spelling (cells_of cells)) ≤ 6554002
 cells_short cells h =
     let each = All-map (λ cell. length (cell_spelling cell) ≤ 65540) cell_of cells
-        (λ k d within. cell_short (get_or cells k d) (h.values k d within)) in
+    (λ k d within. cell_short (get_or cells k d) (h.values k d within)) in
     let all = flat_at_most cell_spelling 65540 (cells_of cells) each in
     omega (arith, all, length-map cells cell_of, h.few)
 
@@ -181,7 +190,7 @@ column_short : (table : Table) (number : ℕ) (column : Column) → HasPlainName
 column_short table number column h =
     let relation = column_of table number column in
     let split = length-append (string column.name)
-        (int32 relation.type_oid ++ int32 (cast_unsigned w32 relation.type_modifier)) in
+    (int32 relation.type_oid ++ int32 (cast_unsigned w32 relation.type_modifier)) in
     omega (arith, split, length-append column.name (0 ∷ []), h.short)
 
 columns_read : (table : Table) (number : ℕ) (columns : List Column) → All HasPlainName columns
@@ -200,9 +209,9 @@ columns_short : (table : Table) (number : ℕ) (columns : List Column) → All H
 columns_short table number [] names = All-nil (λ column. length (column_spelling column) ≤ 73)
 columns_short table number (column ∷ columns) names =
     All-cons (λ one. length (column_spelling one) ≤ 73) (column_of table number column)
-        (columns_from table (number + 1) columns)
+    (columns_from table (number + 1) columns)
     (column_short table number column (All-head HasPlainName column columns names))
-        (columns_short table (number + 1) columns (All-tail HasPlainName column columns names))
+    (columns_short table (number + 1) columns (All-tail HasPlainName column columns names))
 
 pub plain_relation : (number : ℕ) (table : Table) → number < 64 → length table.columns ≤ 100 → IsNamed table
     → IsPlain (m.Relation (relation_of number table))
@@ -220,12 +229,22 @@ plain_relation number table low few names =
       short =
           let all = flat_at_most column_spelling 73 columns (columns_short table 0 table.columns names.columns) in
           let schema_split = length-append (string table.schema)
-              (string table.name ++ (int8 (identity_letter (identity_of table.identity)) ++ columns_spelling columns))
-              in
+          (string table.name ++ (int8 (identity_letter (identity_of table.identity)) ++ columns_spelling columns))
+          in
           let name_split = length-append (string table.name)
-              (int8 (identity_letter (identity_of table.identity)) ++ columns_spelling columns) in
-          omega (arith, all, long, few, schema_split, name_split, length-append table.schema (0 ∷ []),
-              length-append table.name (0 ∷ []), names.schema.short, names.name.short);
+          (int8 (identity_letter (identity_of table.identity)) ++ columns_spelling columns) in
+          omega (
+            arith,
+            all,
+            long,
+            few,
+            schema_split,
+            name_split,
+            length-append table.schema (0 ∷ []),
+            length-append table.name (0 ∷ []),
+            names.schema.short,
+            names.name.short,
+          );
     }
 
 relation_found : (tables : List Table) (number : ℕ) (found : Option Table) → slice_get tables number ≡ found
@@ -270,8 +289,11 @@ pub messages_sent : (checked : CheckedOf) (subscriber : ℕ) (told : List Bool) 
     → messages ≡ messages_for checked subscriber told commit → All HasTexts messages → All IsSent messages
 messages_sent checked subscriber told commit messages h limited are texts =
     let plain = subst (All IsPlain) (sym are) (all_plain checked subscriber told commit h limited) in
-    λ n d within. record { read_back = (plain n d within).read_back (texts n d within); short =
-        (plain n d within).short }
+    λ n d within. record {
+      read_back = (plain n d within).read_back (texts n d within);
+      short =
+          (plain n d within).short;
+    }
 
 -- ---- laws
 

@@ -33,10 +33,10 @@ module _ {S : Type 0} (takes_one : S → S → Msg → Type 0) where
 
 -- messages that were taken so far, of which this holds
 pub record Taken {S : Type 0} (takes_one : S → S → Msg → Type 0) (old now : S) (holds : List Msg → Type 0) : Type 0
-    where
-  pub messages : List Msg
-  pub taken : Takes takes_one old now messages
-  pub so_far : holds messages
+  where
+    pub messages : List Msg
+    pub taken : Takes takes_one old now messages
+    pub so_far : holds messages
 
 abbrev pub Introduced : {S : Type 0} → (S → S → Msg → Type 0) → List Table → List Bool → List Bool → S → S → List ℕ
     → List ℕ → Type 0
@@ -110,7 +110,7 @@ module _ {S : Type 0} (takes_one : S → S → Msg → Type 0) where
   pub more_said : (old now new : S) (checked : CheckedOf) (subscriber : ℕ) (told told_now later : List Bool)
       (all : List Change) (i : ℕ) (c : Change) → c ≡ get_or all i c → i < length all
       → Takes takes_one now new
-          (said checked.catalog.tables told_now (got (setting_in checked) subscriber (change_view c)))
+      (said checked.catalog.tables told_now (got (setting_in checked) subscriber (change_view c)))
       → later ≡ told_by told_now (got (setting_in checked) subscriber (change_view c))
       → Said takes_one checked subscriber told told_now old now all (drop i all)
       → Said takes_one checked subscriber told later old new all (drop (i + 1) all)
@@ -130,7 +130,7 @@ module _ {S : Type 0} (takes_one : S → S → Msg → Type 0) where
       → Takes takes_one old now (said_each checked subscriber told (map change_view all))
   all_changes_taken old now checked subscriber told told_now all i over so =
       subst (Takes takes_one old now) (all_said checked subscriber told told_now [] so.messages all i over so.so_far)
-          so.taken
+      so.taken
 
   pub all_changes_told : (old now : S) (checked : CheckedOf) (subscriber : ℕ) (told told_now : List Bool)
       (all : List Change) (i : ℕ) → length all ≤ i
@@ -167,8 +167,8 @@ module _ {S : Type 0} (takes_one : S → S → Msg → Type 0) where
       → Takes takes_one between new (message_of change) → Takes takes_one old new (said tables told (Some change))
   takes_named old between new tables told table change named relations message =
       takes_said takes_one old between new tables told change
-          (subst (λ (ns : List ℕ). Takes takes_one old between (relations_of tables told ns)) (sym named) relations)
-          message
+      (subst (λ (ns : List ℕ). Takes takes_one old between (relations_of tables told ns)) (sym named) relations)
+      message
 
 pub told_named : (told later : List Bool) (table : ℕ) (change : r.ChangeOf) → named_in change ≡ table ∷ []
     → later ≡ told_all told (table ∷ []) → later ≡ told_by told (Some change)
@@ -191,7 +191,7 @@ pub all_added : (old new messages : List Msg) → Takes is_added old new message
 all_added old new [] is = is ∙ sym (append-nil old)
 all_added old new (message ∷ messages) took =
     all_added took.0 new messages took.2 ∙ ap (λ (m : List Msg). m ++ messages) took.1
-        ∙ append_assoc old (message ∷ []) messages
+    ∙ append_assoc old (message ∷ []) messages
 
 pub spoken_messages : (old new messages : List Msg) → old ≡ [] → Takes is_added old new messages → new ≡ messages
 spoken_messages old new messages none took = all_added old new messages took ∙ ap (λ (m : List Msg). m ++ messages) none

@@ -27,7 +27,7 @@ ended_ok : (outcome : Outcome Msg) (message : Msg) → ended outcome ≡ Ok mess
 ended_ok (Ok read) message e =
     let found = end_ok read message (length read.1 == 0) e in
     ap (λ (rest : List ℕ). done read.0 rest) (nil_from_length read.1 (eqb-true _ _ found.0))
-        ∙ ap (λ (x : Msg). done x []) found.1
+    ∙ ap (λ (x : Msg). done x []) found.1
 ended_ok (Err fault) message e = absurd cc
 
 pub are_spellings : DecodedAreSpellings
@@ -40,7 +40,7 @@ pub are_decoded : SpellingsAreDecoded
 unfolding decoded
 are_decoded message fits =
     ap (λ (bytes : List ℕ). ended (message_at bytes)) (sym (append-nil (spelling_of message)))
-        ∙ ap ended (exact_message.again message [] fits)
+    ∙ ap ended (exact_message.again message [] fits)
 
 not_at_end : (message : Msg) (next : ℕ) (more : List ℕ) → ended (Ok (message, next ∷ more)) ≡ Err Trailing
 not_at_end message next more =
@@ -56,14 +56,14 @@ pub prefix_free : NoneIsProperPrefix
 prefix_free one other rest p q e =
     let both : done one rest ≡ done other [] =
     sym (exact_message.again one rest p) ∙ ap message_at (e ∙ sym (append-nil (spelling_of other)))
-        ∙ exact_message.again other [] q in
+    ∙ exact_message.again other [] q in
     (same_read one other rest [] both).1
 
 pub same_message : EachSpellsOne
 same_message one other p q e =
     let both : done one [] ≡ done other [] =
     sym (exact_message.again one [] p) ∙ ap (λ (bytes : List ℕ). message_at (bytes ++ [])) e
-        ∙ exact_message.again other [] q in
+    ∙ exact_message.again other [] q in
     (same_read one other [] [] both).0
 
 pub is_found : (bytes : List ℕ) (result : Result Msg MsgError) → IsBytes bytes

@@ -51,9 +51,9 @@ introduces_on tables told told_now later before now after all i n is within wrot
     record {
       text = ap (λ (x : List Msg). x ++ relations_of tables later (drop (i + 1) all)) wrote
           ∙ ap (λ (x : List Bool). (now ++ relation_once tables told_now n)
-              ++ relations_of tables x (drop (i + 1) all)) marked
+          ++ relations_of tables x (drop (i + 1) all)) marked
           ∙ append_assoc now (relation_once tables told_now n)
-              (relations_of tables (told_one told_now n) (drop (i + 1) all))
+          (relations_of tables (told_one told_now n) (drop (i + 1) all))
           ∙ ap (λ (x : List Msg). now ++ x) (sym (relations_of-cons tables told_now n (drop (i + 1) all)))
           ∙ ap (λ (x : List ℕ). now ++ relations_of tables told_now x) (sym left) ∙ so_far.text;
       flags = ap (λ (x : List Bool). told_all x (drop (i + 1) all)) marked
@@ -67,7 +67,7 @@ pub all_introduced : (tables : List Table) (told told_now : List Bool) (before n
 unfolding relations_of
 all_introduced tables told told_now before now all i over so_far =
     sym (append-nil now) ∙ ap (λ (x : List Msg). now ++ x)
-        (sym (at_drop_all (relations_of tables told_now) all i over)) ∙ so_far.text
+    (sym (at_drop_all (relations_of tables told_now) all i over)) ∙ so_far.text
 
 pub all_marked : (tables : List Table) (told told_now : List Bool) (before now : List Msg) (all : List ℕ) (i : ℕ)
     → length all ≤ i → Introduces tables told told_now before now all (drop i all)
@@ -89,13 +89,13 @@ pub record Says (checked : CheckedOf) (subscriber : ℕ) (told told_now : List B
 said_each-cons : (checked : CheckedOf) (subscriber : ℕ) (told : List Bool) (c : ChangeOf) (changes : List ChangeOf)
     → said_each checked subscriber told (c ∷ changes)
     ≡ said checked.catalog.tables told (got (setting_in checked) subscriber c)
-        ++ said_each checked subscriber (told_by told (got (setting_in checked) subscriber c)) changes
+    ++ said_each checked subscriber (told_by told (got (setting_in checked) subscriber c)) changes
 unfolding said_each
 said_each-cons checked subscriber told c changes = refl
 
 told_each-cons : (checked : CheckedOf) (subscriber : ℕ) (told : List Bool) (c : ChangeOf) (changes : List ChangeOf)
     → told_each checked subscriber told (c ∷ changes)
-        ≡ told_each checked subscriber (told_by told (got (setting_in checked) subscriber c)) changes
+    ≡ told_each checked subscriber (told_by told (got (setting_in checked) subscriber c)) changes
 unfolding told_each
 told_each-cons checked subscriber told c changes = refl
 
@@ -132,8 +132,8 @@ pub all_said : (checked : CheckedOf) (subscriber : ℕ) (told told_now : List Bo
 unfolding said_each
 all_said checked subscriber told told_now before now all i over so_far =
     sym (append-nil now) ∙ ap (λ (x : List Msg). now ++ x)
-        (sym (at_drop_all (λ (left : List Change). said_each checked subscriber told_now (map change_view left)) all i
-        over)) ∙ so_far.text
+    (sym (at_drop_all (λ (left : List Change). said_each checked subscriber told_now (map change_view left)) all i
+    over)) ∙ so_far.text
 
 pub all_told : (checked : CheckedOf) (subscriber : ℕ) (told told_now : List Bool) (before now : List Msg)
     (all : List Change) (i : ℕ) → length all ≤ i → Says checked subscriber told told_now before now all (drop i all)
@@ -141,7 +141,7 @@ pub all_told : (checked : CheckedOf) (subscriber : ℕ) (told told_now : List Bo
 unfolding told_each
 all_told checked subscriber told told_now before now all i over so_far =
     sym (at_drop_all (λ (left : List Change). told_each checked subscriber told_now (map change_view left)) all i
-        over) ∙ so_far.flags
+    over) ∙ so_far.flags
 
 -- a change among those that can be sent can be sent
 pub sendable_change : (changes : List Change) (i : ℕ) (c : Change) → All IsSendableChange (map change_view changes)
@@ -156,10 +156,10 @@ sendable_change changes i c all is within =
 got_by : (checked : CheckedOf) (subscriber : ℕ) (change : r.ChangeOf) (plan : PlanOf) (out : Option o.OutOf)
     → plan ≡ checked.plan → out ≡ out_for plan subscriber change
     → got (setting_in checked) subscriber change
-        ≡ option_map (o.stands_for (o.table_of change) (takes_any plan subscriber)) out
+    ≡ option_map (o.stands_for (o.table_of change) (takes_any plan subscriber)) out
 got_by checked subscriber change plan out own is =
     sym (ap (λ (p : PlanOf). option_map (o.stands_for (o.table_of change) (takes_any p subscriber))
-        (out_for p subscriber change)) own)
+    (out_for p subscriber change)) own)
     ∙ ap (option_map (o.stands_for (o.table_of change) (takes_any plan subscriber))) (sym is)
 
 pub got_none : (checked : CheckedOf) (subscriber : ℕ) (change : r.ChangeOf) (plan : PlanOf) → plan ≡ checked.plan
@@ -180,7 +180,7 @@ pub got_update : (checked : CheckedOf) (subscriber : ℕ) (change : r.ChangeOf) 
     → got (setting_in checked) subscriber change ≡ Some (r.Update table part new)
 got_update checked subscriber change plan table part new own at out =
     got_by checked subscriber change plan (Some (o.Update part new)) own out
-        ∙ ap (λ (n : ℕ). Some (r.Update n part new)) (sym at)
+    ∙ ap (λ (n : ℕ). Some (r.Update n part new)) (sym at)
 
 pub got_delete : (checked : CheckedOf) (subscriber : ℕ) (change : r.ChangeOf) (plan : PlanOf) (table : ℕ)
     (part : Option r.PartOf) → plan ≡ checked.plan → table ≡ o.table_of change
@@ -188,7 +188,7 @@ pub got_delete : (checked : CheckedOf) (subscriber : ℕ) (change : r.ChangeOf) 
     → got (setting_in checked) subscriber change ≡ Some (r.Delete table part)
 got_delete checked subscriber change plan table part own at out =
     got_by checked subscriber change plan (Some (o.Delete part)) own out
-        ∙ ap (λ (n : ℕ). Some (r.Delete n part)) (sym at)
+    ∙ ap (λ (n : ℕ). Some (r.Delete n part)) (sym at)
 
 pub got_truncate : (checked : CheckedOf) (subscriber : ℕ) (change : r.ChangeOf) (plan : PlanOf)
     (numbers carried : List ℕ) → plan ≡ checked.plan → carried ≡ filter (takes_any plan subscriber) numbers
@@ -196,7 +196,7 @@ pub got_truncate : (checked : CheckedOf) (subscriber : ℕ) (change : r.ChangeOf
     → got (setting_in checked) subscriber change ≡ Some (r.Truncate carried)
 got_truncate checked subscriber change plan numbers carried own at out =
     got_by checked subscriber change plan (Some (o.Truncate numbers)) own out
-        ∙ ap (λ (ns : List ℕ). Some (r.Truncate ns)) (sym at)
+    ∙ ap (λ (ns : List ℕ). Some (r.Truncate ns)) (sym at)
 
 abbrev some_truncate : List ℕ → Option o.OutOf
 some_truncate numbers = Some (o.Truncate numbers)
@@ -236,7 +236,7 @@ truncated_numbers plan subscriber (r.Insert table new) numbers fits e =
     absurd (no_insert (takes_row plan subscriber table new) new numbers e)
 truncated_numbers plan subscriber (r.Update table part new) numbers fits e =
     absurd (no_update (takes_row plan subscriber table (o.asked part new)) (takes_row plan subscriber table new) part
-        new numbers e)
+    new numbers e)
 truncated_numbers plan subscriber (r.Delete table part) numbers fits e =
     absurd (no_gone (takes_row plan subscriber table) part numbers e)
 truncated_numbers plan subscriber (r.Truncate all) numbers fits e =

@@ -55,14 +55,14 @@ is_other n number differs false e = refl
 among_itself : (number : ℕ) (named : List ℕ) → is_among number (named ++ number ∷ []) ≡ true
 among_itself number named =
     list_any-append (nat_eq number) named (number ∷ [])
-        ∙ ap (λ (b : Bool). is_among number named || (b || false)) (eq_itself number)
-        ∙ or_true (is_among number named)
+    ∙ ap (λ (b : Bool). is_among number named || (b || false)) (eq_itself number)
+    ∙ or_true (is_among number named)
 
 among_others : (n number : ℕ) (named : List ℕ) → n ≢ number → is_among n (named ++ number ∷ []) ≡ is_among n named
 among_others n number named differs =
     list_any-append (nat_eq n) named (number ∷ [])
-        ∙ ap (λ (b : Bool). is_among n named || (b || false)) (is_other n number differs (nat_eq n number) refl)
-        ∙ or_false (is_among n named)
+    ∙ ap (λ (b : Bool). is_among n named || (b || false)) (is_other n number differs (nat_eq n number) refl)
+    ∙ or_false (is_among n named)
 
 -- ---- flags and names
 
@@ -107,7 +107,7 @@ module _ (tables : List Table) where
     | inr beyond ↦
         let none : slice_get tables number ≡ None = slice_get_past tables number beyond in
         introduced_by (is_told told number) number ∙ none_there (is_told told number) number none
-            ∙ sym (none_there (is_among number named) number none)
+        ∙ sym (none_there (is_among number named) number none)
   ]
 
   relations_first : (told : List Bool) (named numbers : List ℕ) → AreNamed tables told named
@@ -117,7 +117,7 @@ module _ (tables : List Table) where
   relations_first told named (number ∷ numbers) is =
       ap (λ (x : List Msg). x ++ relations_of tables (told_one told number) numbers) (once_first told named number is)
       ∙ ap (λ (x : List Msg). first_relation tables named number ++ x)
-          (relations_first (told_one told number) (named ++ number ∷ []) numbers (named_one told named number is))
+      (relations_first (told_one told number) (named ++ number ∷ []) numbers (named_one told named number is))
 
 -- ---- changes that a subscriber gets
 
@@ -140,7 +140,7 @@ module _ (checked : CheckedOf) (subscriber : ℕ) where
 
   said_one : (told : List Bool) (one : Option r.ChangeOf) (others : List r.ChangeOf)
       → said tables told one ++ all_said tables (told_by told one) others
-          ≡ all_said tables told (cons_option one others)
+      ≡ all_said tables told (cons_option one others)
   unfolding said told_by all_said
   said_one told None others = refl
   said_one told (Some change) others = refl
@@ -186,7 +186,7 @@ names_as setting covered (s.Insert table new) = refl
 names_as setting covered (s.Update table old new) = refl
 names_as setting covered (s.Delete table old) =
     named_by_part table (part_of setting table old None)
-        (part_there setting covered table old (setting.recorded table) refl (part_of setting table old None) refl)
+    (part_there setting covered table old (setting.recorded table) refl (part_of setting table old None) refl)
 names_as setting covered (s.Truncate numbers) = refl
 
 -- ---- the messages of what is seen
@@ -207,18 +207,18 @@ module _ (checked : CheckedOf) (covered : Covered (setting_in checked)) where
   unfolding said
   said_as told named one is =
       ap (λ (numbers : List ℕ). relations_of all_tables told numbers ++ message_of (recorded one))
-          (names_as (setting_in checked) covered one)
+      (names_as (setting_in checked) covered one)
       ∙ ap (λ (messages : List Msg). relations_of all_tables told (tables_of one) ++ messages)
-          (as_message (setting_in checked) one)
+      (as_message (setting_in checked) one)
       ∙ ap (λ (relations : List Msg). relations ++ seen_message (setting_in checked) one)
-          (relations_first all_tables told named (tables_of one) is)
+      (relations_first all_tables told named (tables_of one) is)
 
   told_one_more : (told : List Bool) (named : List ℕ) (one : Seen) → AreNamed all_tables told named
       → AreNamed all_tables (told_by told (Some (recorded one))) (named ++ tables_of one)
   unfolding told_by
   told_one_more told named one is =
       subst (λ numbers. AreNamed all_tables (told_all told numbers) (named ++ tables_of one))
-          (sym (names_as (setting_in checked) covered one))
+      (sym (names_as (setting_in checked) covered one))
       (named_all all_tables told named (tables_of one) is)
 
   changes_as : (told : List Bool) (named : List ℕ) (all : List Seen) → AreNamed all_tables told named
@@ -227,7 +227,7 @@ module _ (checked : CheckedOf) (covered : Covered (setting_in checked)) where
   changes_as told named [] is = refl
   changes_as told named (one ∷ all) is =
       ap (λ (messages : List Msg). messages
-          ++ all_said all_tables (told_by told (Some (recorded one))) (map recorded all)) (said_as told named one is)
+      ++ all_said all_tables (told_by told (Some (recorded one))) (map recorded all)) (said_as told named one is)
       ∙ ap (λ (messages : List Msg). change_told checked named one ++ messages)
       (changes_as (told_by told (Some (recorded one))) (named ++ tables_of one) all (told_one_more told named one is))
 
@@ -238,7 +238,7 @@ module _ (checked : CheckedOf) (covered : Covered (setting_in checked)) where
   told_as told named (one ∷ all) is =
       subst (AreNamed all_tables (all_told (told_by told (Some (recorded one))) (map recorded all)))
       (append_assoc named (tables_of one) (flat_map tables_of all)
-          ∙ ap (λ (numbers : List ℕ). named ++ numbers) (sym (flat_map-cons tables_of one all)))
+      ∙ ap (λ (numbers : List ℕ). named ++ numbers) (sym (flat_map-cons tables_of one all)))
       (told_as (told_by told (Some (recorded one))) (named ++ tables_of one) all (told_one_more told named one is))
 
   -- each change has a message
@@ -269,13 +269,13 @@ commits_tell_transactions checked covered subscriber told named is commit tables
     let all = seen setting subscriber tables commands in
     let gets : filter_map (got setting subscriber) commit.changes ≡ map (as_recorded setting) all =
     ap (filter_map (got setting subscriber)) as_recorded_there
-        ∙ record_shows_all setting covered subscriber tables number commands h in
+    ∙ record_shows_all setting covered subscriber tables number commands h in
     record {
       messages = ap (enclosed commit)
           (said_mine checked subscriber told commit.changes ∙ ap (all_said checked.catalog.tables told) gets
-              ∙ changes_as checked covered told named all is)
+          ∙ changes_as checked covered told named all is)
           ∙ told_within checked covered named commit all;
       named_after = subst (λ flags. AreNamed checked.catalog.tables flags (named ++ flat_map tables_of all))
           (sym (told_mine checked subscriber told commit.changes ∙ ap (all_told told) gets))
-              (told_as checked covered told named all is);
+          (told_as checked covered told named all is);
     }

@@ -19,7 +19,7 @@ pub many_all : {A : Type 0} (rule : Rule A) (spell : A → List ℕ) (Fits : A �
     → Exact (many rule n) (flat_map spell) (λ all. (length all ≡ n) × All Fits all)
 many_all rule spell Fits one n =
     exact_as (many rule n) (flat_map spell) (λ all. (length all ≡ n) × AllByRecursion Fits all) (flat_map spell)
-        (λ all. (length all ≡ n) × All Fits all) (exact_many rule spell Fits one n)
+    (λ all. (length all ≡ n) × All Fits all) (exact_many rule spell Fits one n)
     (λ all fits. (refl, (fits.0, All-from_recursion Fits all fits.1)))
     (λ all fits. (fits.0, recursion_from_All Fits all fits.1))
 
@@ -53,12 +53,12 @@ no_cell kind p q (Text text) h = q (sym h.0)
 exact_cell_by : (kind : ℕ) → Exact (cell_by kind) cell_rest (λ c. (cell_letter c ≡ kind) × IsCell c)
 exact_cell_by kind =
     exact_if kind 110 (pure Null) _ cell_rest IsCell cell_letter
-        (exact_value Null cell_rest IsCell cell_letter 110 refl refl tt null_alone) (λ p.
+    (exact_value Null cell_rest IsCell cell_letter 110 refl refl tt null_alone) (λ p.
     exact_if kind 117 (fail Toast) _ cell_rest IsCell cell_letter
-        (exact_fail Toast cell_rest (λ c. (cell_letter c ≡ 117) × IsCell c) no_toast) (λ _.
+    (exact_fail Toast cell_rest (λ c. (cell_letter c ≡ 117) × IsCell c) no_toast) (λ _.
     exact_if kind 116 (mapped Text text_at) (fail (Unknown kind)) cell_rest IsCell cell_letter
     (exact_mapped text_at sized (λ text. IsUtf8 text × (length text < 2 ^ 31)) Text cell_rest
-        (λ c. (cell_letter c ≡ 116) × IsCell c) exact_text
+    (λ c. (cell_letter c ≡ 116) × IsCell c) exact_text
     (λ text fits. (refl, (refl, fits))) text_back)
     (λ q. exact_fail (Unknown kind) cell_rest (λ c. (cell_letter c ≡ kind) × IsCell c) (no_cell kind p q))))
 
@@ -110,10 +110,10 @@ unfolding old_by
 exact_old_by kind =
     exact_if kind 75 (mapped Key tuple_at) _ old_rest IsOld old_letter
     (exact_mapped tuple_at tuple_spelling IsTuple Key old_rest (λ o. (old_letter o ≡ 75) × IsOld o) exact_tuple
-        (λ tuple fits. (refl, (refl, fits))) key_back) (λ p.
+    (λ tuple fits. (refl, (refl, fits))) key_back) (λ p.
     exact_if kind 79 (mapped Full tuple_at) (fail (Unknown kind)) old_rest IsOld old_letter
     (exact_mapped tuple_at tuple_spelling IsTuple Full old_rest (λ o. (old_letter o ≡ 79) × IsOld o) exact_tuple
-        (λ tuple fits. (refl, (refl, fits))) full_back)
+    (λ tuple fits. (refl, (refl, fits))) full_back)
     (λ q. exact_fail (Unknown kind) old_rest (λ o. (old_letter o ≡ kind) × IsOld o) (no_old kind p q)))
 
 pub old_is : (o : OldTuple) → (old_letter o ∷ []) ++ old_rest o ≡ old_spelling o
@@ -137,7 +137,7 @@ exact_new_by : (kind : ℕ) → Exact (new_by kind) tuple_spelling (λ t. (new_l
 exact_new_by kind =
     exact_if kind 78 tuple_at (fail (Unknown kind)) tuple_spelling IsTuple new_letter
     (exact_as tuple_at tuple_spelling IsTuple tuple_spelling (λ t. (new_letter t ≡ 78) × IsTuple t) exact_tuple
-        (λ t fits. (refl, (refl, fits))) (λ t fits. fits.1))
+    (λ t fits. (refl, (refl, fits))) (λ t fits. fits.1))
     (λ p. exact_fail (Unknown kind) tuple_spelling (λ t. (new_letter t ≡ kind) × IsTuple t) (λ t h. p (sym h.0)))
 
 pub exact_new : Exact new_at new_spelling IsTuple
@@ -145,5 +145,5 @@ unfolding new_at
 exact_new = exact_as (byte >>= new_by) (λ t. (78 ∷ []) ++ tuple_spelling t) (λ t. (78 < 256) × IsTuple t) new_spelling
     IsTuple
     (exact_then byte new_by int8 tuple_spelling (λ n. n < 256) IsTuple new_letter exact_byte
-        (λ kind _. exact_new_by kind))
+    (λ kind _. exact_new_by kind))
     (λ t fits. (refl, fits.1)) (λ t fits. (omega arith, fits))

@@ -51,11 +51,11 @@ unfolding number_in
 number_refused {E = E} kind text error r h e =
     let z = signed_digits_value 10 text in
     if_none (bytes_eq text (signed_decimal z)) (int_le (least_of kind) z) (int_le z (greatest_of kind)) z
-        (λ own low high.
+    (λ own low high.
     let small = within_mag kind z low high in
     let same : r ≡ Ok z =
-        parse-signed_decimal w64 z text r (record { sfits = small }) small
-        ((bytes_eq-Decides text (signed_decimal z)).0 own) h in
+    parse-signed_decimal w64 z text r (record { sfits = small }) small
+    ((bytes_eq-Decides text (signed_decimal z)).0 own) h in
     absurd cc)
 
 -- ---- rows
@@ -78,7 +78,7 @@ onto_with front datum (Some others) = ap (λ (all : List Datum). Some all) (sym 
 split_row : (kinds : List ColType) (cells : List Cell) (place : ℕ) (kind : ColType) (cell : Cell)
     → kind ≡ get_or kinds place kind → cell ≡ get_or cells place cell → place < length kinds → place < length cells
     → row_in (drop place kinds) (drop place cells)
-        ≡ row_with (datum_in kind cell) (row_in (drop (place + 1) kinds) (drop (place + 1) cells))
+    ≡ row_with (datum_in kind cell) (row_in (drop (place + 1) kinds) (drop (place + 1) cells))
 unfolding row_in
 split_row kinds cells place kind cell kind_is cell_is p q =
     at_drop_more (λ (ks : List ColType). row_in ks (drop place cells)) kinds place kind p
@@ -105,7 +105,7 @@ pub no_row : (kinds : List ColType) (cells : List Cell) (front : List Datum) (pl
 no_row kinds cells front place kind cell kind_is cell_is p q is so_far =
     let rest = row_in (drop (place + 1) kinds) (drop (place + 1) cells) in
     sym so_far.row ∙ ap (onto_row front) (split_row kinds cells place kind cell kind_is cell_is p q)
-        ∙ ap (λ (x : Option Datum). onto_row front (row_with x rest)) (sym is)
+    ∙ ap (λ (x : Option Datum). onto_row front (row_with x rest)) (sym is)
 
 pub row_ended : (kinds : List ColType) (cells : List Cell) (front : List Datum) (place : ℕ) → length kinds ≤ place
     → length cells ≤ place → RowSoFar kinds cells front (drop place kinds) (drop place cells)
@@ -113,8 +113,8 @@ pub row_ended : (kinds : List ColType) (cells : List Cell) (front : List Datum) 
 unfolding row_in
 row_ended kinds cells front place p q so_far =
     sym so_far.row ∙ ap (onto_row front)
-        (at_drop_all (λ (ks : List ColType). row_in ks (drop place cells)) kinds place p
-        ∙ at_drop_all (row_in []) cells place q)
+    (at_drop_all (λ (ks : List ColType). row_in ks (drop place cells)) kinds place p
+    ∙ at_drop_all (row_in []) cells place q)
     ∙ ap (λ (all : List Datum). Some all) (append-nil front)
 
 with_none : (x : Option Datum) → row_with x None ≡ None
@@ -130,4 +130,4 @@ other_width [] (cell ∷ cells) apart = refl
 other_width (kind ∷ kinds) [] apart = refl
 other_width (kind ∷ kinds) (cell ∷ cells) apart =
     ap (row_with (datum_in kind cell)) (other_width kinds cells (λ e. apart (ap suc e)))
-        ∙ with_none (datum_in kind cell)
+    ∙ with_none (datum_in kind cell)

@@ -28,14 +28,14 @@ first_left : {A : Type 0} (spell : A → List ℕ) (all : List A) (i : ℕ) (a :
     → flat_map spell (drop i all) ≡ spell a ++ flat_map spell (drop (i + 1) all)
 first_left {A = A} spell all i a is within =
     at_drop_more (flat_map spell) all i a within ∙ ap (λ (x : A). flat_map spell (x ∷ drop (i + 1) all)) (sym is)
-        ∙ flat_map-cons spell a (drop (i + 1) all)
+    ∙ flat_map-cons spell a (drop (i + 1) all)
 
 pub room_left : {A : Type 0} (spell : A → List ℕ) (old now : Vec ℕ) (all : List A) (i : ℕ) (a : A)
     → a ≡ get_or all i a → i < length all → Writes spell old now all (drop i all)
     → HasRoom old (flat_map spell all) → HasRoom now (spell a)
 room_left spell old now all i a is within so_far room =
     let split = ap length (first_left spell all i a is within)
-        ∙ length-append (spell a) (flat_map spell (drop (i + 1) all)) in
+    ∙ length-append (spell a) (flat_map spell (drop (i + 1) all)) in
     omega (arith, split, so_far.long, so_far.kept)
 
 pub writes_on : {A : Type 0} (spell : A → List ℕ) (old now later : Vec ℕ) (all : List A) (i : ℕ) (a : A)
@@ -78,7 +78,7 @@ pub measures_on : {A : Type 0} (spell : A → List ℕ) (all : List A) (i : ℕ)
     → Measures spell all (drop (i + 1) all) later
 measures_on spell all i a total size later is within one sum so_far =
     let split = ap length (first_left spell all i a is within)
-        ∙ length-append (spell a) (flat_map spell (drop (i + 1) all)) in
+    ∙ length-append (spell a) (flat_map spell (drop (i + 1) all)) in
     record { sum = omega (arith, split, one, sum, so_far.sum); few = omega (arith, sum) }
 
 pub all_measured : {A : Type 0} (spell : A → List ℕ) (all : List A) (i : ℕ) (total : ℕ) → length all ≤ i
@@ -99,7 +99,7 @@ pub covers_on : {A : Type 0} (spell : A → List ℕ) (before : ℕ) (all : List
     → Covers spell before all (drop (i + 1) all) later
 covers_on spell before all i a total size later is within one sum so_far =
     let split = ap length (first_left spell all i a is within)
-        ∙ length-append (spell a) (flat_map spell (drop (i + 1) all)) in
+    ∙ length-append (spell a) (flat_map spell (drop (i + 1) all)) in
     record { sum = omega (arith, split, one, sum, so_far.sum) }
 
 pub all_covered : {A : Type 0} (spell : A → List ℕ) (before : ℕ) (all : List A) (i : ℕ) (total : ℕ) → length all ≤ i

@@ -64,7 +64,7 @@ abbrev pub messages_in_turn : CheckedOf → ℕ → List Bool → List CommitOf 
 messages_in_turn checked subscriber told [] = []
 messages_in_turn checked subscriber told (commit ∷ commits) =
     messages_for checked subscriber told commit
-        ++ messages_in_turn checked subscriber (told_after checked subscriber told commit) commits
+    ++ messages_in_turn checked subscriber (told_after checked subscriber told commit) commits
 
 abbrev pub told_in_turn : CheckedOf → ℕ → List Bool → List CommitOf → List Bool
 told_in_turn checked subscriber told commits = fold (told_after checked subscriber) told commits

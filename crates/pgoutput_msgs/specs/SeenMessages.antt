@@ -60,4 +60,4 @@ MessagesTellWhatIsSeen = (checked : CheckedOf) → Covered (setting_in checked)
     → first_fault (setting_in checked) tables number commands ≡ None
     → commit.changes ≡ record_of (setting_in checked) tables commands
     → TellsWhatIsSeen (setting_in checked) (messages_for checked subscriber told commit)
-        (seen (setting_in checked) subscriber tables commands)
+    (seen (setting_in checked) subscriber tables commands)

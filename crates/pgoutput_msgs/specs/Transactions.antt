@@ -59,7 +59,7 @@ abbrev pub transaction_told : CheckedOf → List ℕ → ℕ → ℕ → List Se
 transaction_told checked named number time [] = []
 transaction_told checked named number time (first ∷ others) =
     m.Begin (lsn_of number) time (xid_of number) ∷ changes_told checked named (first ∷ others)
-        ++ m.Commit (lsn_of number) (end_lsn_of number) time ∷ []
+    ++ m.Commit (lsn_of number) (end_lsn_of number) time ∷ []
 
 -- ---- the law
 

@@ -38,7 +38,7 @@ value_spelling value = cell_spelling (cell_of (datum_view value))
 abbrev pub number_if : ColType → List ℕ → ℤ → Option ℤ
 number_if kind text number =
     if bytes_eq text (signed_decimal number) && (int_le (least_of kind) number && int_le number (greatest_of kind))
-        then Some number else None
+    then Some number else None
 
 unfoldable pub number_in : ColType → List ℕ → Option ℤ
 number_in kind text = number_if kind text (signed_digits_value 10 text)
@@ -46,7 +46,7 @@ number_in kind text = number_if kind text (signed_digits_value 10 text)
 unfoldable pub truth_in : List ℕ → Option Constant
 truth_in text =
     if bytes_eq text (codes "t") then
-        Some (Truth true) else (if bytes_eq text (codes "f") then Some (Truth false) else None)
+    Some (Truth true) else (if bytes_eq text (codes "f") then Some (Truth false) else None)
 
 -- a text has no zero byte, and at most 65,535 bytes
 unfoldable pub text_in : List ℕ → Option Constant

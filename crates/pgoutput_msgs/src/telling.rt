@@ -141,14 +141,7 @@ fn tell_each<S: MessageSink>(
 }
 
 /// Tells the subscriber of a change.
-#[tactic(auto, using(
-    crate::proofs::TellingLemmas::got_none,
-    crate::proofs::TellingLemmas::got_insert,
-    crate::proofs::TellingLemmas::got_update,
-    crate::proofs::TellingLemmas::got_delete,
-    crate::proofs::TellingLemmas::got_truncate,
-    crate::proofs::TellingLemmas::truncated_numbers
-))]
+#[tactic(auto, using(crate::proofs::TellingLemmas::got_none, crate::proofs::TellingLemmas::got_insert, crate::proofs::TellingLemmas::got_update, crate::proofs::TellingLemmas::got_delete, crate::proofs::TellingLemmas::got_truncate, crate::proofs::TellingLemmas::truncated_numbers))]
 fn tell_change<S: MessageSink>(
     alloc: Global,
     checked: &Checked,

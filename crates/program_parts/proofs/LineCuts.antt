@@ -28,7 +28,7 @@ after_line-newline byte text e = rw (position-newline byte text e) refl
 after_line-other : (byte : ℕ) (text : List ℕ) → is_newline byte ≡ false → after_line (byte ∷ text) ≡ after_line text
 after_line-other byte text e =
     let n : position_or_len is_newline (byte ∷ text) + 1 ≡ suc (position_or_len is_newline text + 1) =
-        omega (arith, position-other byte text e) in
+    omega (arith, position-other byte text e) in
     ap (λ k. drop k (byte ∷ text)) n
 
 -- ---- lines
@@ -68,7 +68,7 @@ whole_line-other : (byte : ℕ) (text : List ℕ) → is_newline byte ≡ false
     → whole_line (byte ∷ text) ≡ byte ∷ whole_line text
 whole_line-other byte text e =
     let n : position_or_len is_newline (byte ∷ text) + 1 ≡ suc (position_or_len is_newline text + 1) =
-        omega (arith, position-other byte text e) in
+    omega (arith, position-other byte text e) in
     ap (λ k. take k (byte ∷ text)) n
 
 onto_one : (byte : ℕ) (cut : Option Cut) → option_map (onto_part byte) cut ≡ option_map (onto_parts (byte ∷ [])) cut
@@ -78,7 +78,7 @@ onto_one byte (Some cut) = refl
 inside_step : (byte : ℕ) (text : List ℕ) (test : Bool) → is_newline byte ≡ test
     → (cut_from false text ≡ option_map (onto_parts (whole_line text)) (cut_of (after_line text)))
     → option_map (onto_part byte) (cut_from test text)
-        ≡ option_map (onto_parts (whole_line (byte ∷ text))) (cut_of (after_line (byte ∷ text)))
+    ≡ option_map (onto_parts (whole_line (byte ∷ text))) (cut_of (after_line (byte ∷ text)))
 inside_step byte text true e later = rw (position-newline byte text e) (onto_one byte (cut_from true text))
 inside_step byte text false e later =
     rw (after_line-other byte text e, whole_line-other byte text e, later)

@@ -33,7 +33,7 @@ pub report_is : (failure : Failure) (text : List ℕ) (told status : Status) (ol
 report_is failure text told status old new other is same writes =
     report_of failure status old new other
     (subst (λ (t : Status). IsWritten (text_of (failure_lines failure)) t old new status) same
-        (subst (λ (t : List ℕ). IsWritten t told old new status) is writes))
+    (subst (λ (t : List ℕ). IsWritten t told old new status) is writes))
 
 -- the writer failed before
 pub is_silent : (failure : Failure) (old : Option (List ℕ)) → failure ≡ f.Output → IsReport failure old old Output

@@ -32,8 +32,13 @@ first_whole text old new appends = record { written = text; rest = []; is = sym 
 pub first_kept : (text : List ℕ) (old new newer : Option (List ℕ)) → WritesFirst text old new → Keeps new newer
     → WritesFirst text old newer
 first_kept text old new newer now keeps =
-    record { written = now.written; rest = now.rest; is = now.is; appends =
-    Appends-kept old new newer now.written now.appends keeps }
+    record {
+      written = now.written;
+      rest = now.rest;
+      is = now.is;
+      appends =
+          Appends-kept old new newer now.written now.appends keeps;
+    }
 
 pub first_nothing : (text : List ℕ) (old new : Option (List ℕ)) → new ≡ old → WritesFirst text old new
 first_nothing text old new e = record { written = []; rest = text; is = refl; appends = unwritten old new e }

@@ -47,7 +47,7 @@ abbrev pub cut_from : Bool → List ℕ → Option Cut
 cut_from starts [] = None
 cut_from starts (byte ∷ text) =
     if starts && is_separator (first_line (byte ∷ text)) then
-        Some (record { part = []; rest = after_line (byte ∷ text) })
+    Some (record { part = []; rest = after_line (byte ∷ text) })
     else option_map (onto_part byte) (cut_from (is_newline byte) text)
 
 abbrev pub cut_of : List ℕ → Option Cut

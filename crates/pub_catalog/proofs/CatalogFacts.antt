@@ -58,7 +58,7 @@ all_carry-prop tables publications = Prim.hlevel (props, IsKnownEntry-prop)
 pub catalog_entries_known : (catalog : Catalog) → AllCarryKnown (catalog_view catalog)
 catalog_entries_known catalog =
     ∥∥₁_elim catalog.known_entries
-        (all_carry-prop catalog.tables.items (map publication_view catalog.publications.items)) (λ known. known)
+    (all_carry-prop catalog.tables.items (map publication_view catalog.publications.items)) (λ known. known)
 
 -- ---- names
 
@@ -88,5 +88,5 @@ catalog_named catalog =
       taken = subst (λ count. All (TakesKnown count) catalog.subscriptions.items)
           (sym (length-map publications publication_view))
           (∥∥₁_elim catalog.taken_publications (all_taken-prop (length publications) catalog.subscriptions.items)
-              (λ taken. taken));
+          (λ taken. taken));
     }

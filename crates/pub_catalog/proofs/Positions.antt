@@ -14,4 +14,4 @@ pub position-map : {A B : Type 0} (p : B → Bool) (f : A → B) (xs : List A)
 position-map p f xs =
     ap (λ n. cond (nat_lt n (length (map f xs))) (Some n) None) (prefix_len-map (λ y. not (p y)) f xs)
     ∙ ap (λ m. cond (nat_lt (position_or_len (λ x. p (f x)) xs) m) (Some (position_or_len (λ x. p (f x)) xs)) None)
-        (length-map xs f)
+    (length-map xs f)

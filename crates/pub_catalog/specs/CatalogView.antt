@@ -7,5 +7,9 @@ pub use Rattle.pub_catalog.specs.PublicationView.{entry_view, publication_view}
 
 abbrev pub catalog_view : Catalog → CatalogOf Expr
 catalog_view catalog =
-    record { tables = catalog.tables.items; publications =
-    map publication_view catalog.publications.items; subscriptions = catalog.subscriptions.items }
+    record {
+      tables = catalog.tables.items;
+      publications =
+          map publication_view catalog.publications.items;
+      subscriptions = catalog.subscriptions.items;
+    }

@@ -66,10 +66,18 @@ entry_map f entry = record { table = entry.table; filter = option_map f entry.fi
 
 abbrev pub publication_map : {S T : Type 0} → (S → T) → PublicationOf S → PublicationOf T
 publication_map f publication =
-    record { name = publication.name; publishes = publication.publishes; entries =
-    map (entry_map f) publication.entries }
+    record {
+      name = publication.name;
+      publishes = publication.publishes;
+      entries =
+          map (entry_map f) publication.entries;
+    }
 
 abbrev pub catalog_map : {S T : Type 0} → (S → T) → CatalogOf S → CatalogOf T
 catalog_map f catalog =
-    record { tables = catalog.tables; publications = map (publication_map f) catalog.publications; subscriptions =
-    catalog.subscriptions }
+    record {
+      tables = catalog.tables;
+      publications = map (publication_map f) catalog.publications;
+      subscriptions =
+          catalog.subscriptions;
+    }

@@ -12,5 +12,9 @@ entry_view entry = record { table = entry.table; filter = option_map expr_view e
 
 abbrev pub publication_view : Publication → PublicationOf Expr
 publication_view publication =
-    record { name = publication.name; publishes = publication.publishes; entries =
-    map entry_view publication.entries.items }
+    record {
+      name = publication.name;
+      publishes = publication.publishes;
+      entries =
+          map entry_view publication.entries.items;
+    }

@@ -42,24 +42,24 @@ resolved_entries-carried : {S T : Type 0} (h : S → T) (tables : List Table) (c
 resolved_entries-carried {S} h tables coverage =
     let covers : Table → Bool = is_covered coverage.everything coverage.schemas in
     map-append (entry_map h) coverage.entries (whole_from {S = S} covers 0 tables)
-        ∙ ap (λ entries. map (entry_map h) coverage.entries ++ entries) (whole_from-carried h covers 0 tables)
+    ∙ ap (λ entries. map (entry_map h) coverage.entries ++ entries) (whole_from-carried h covers 0 tables)
 
 resolved_publications-carried : {S T : Type 0} (h : S → T) (tables : List Table) (ps : List (DraftPublicationOf S)) →
     map (publication_map h) (map (resolved_publication tables) ps)
-        ≡ map (resolved_publication tables) (map (draft_publication_map h) ps)
+    ≡ map (resolved_publication tables) (map (draft_publication_map h) ps)
 resolved_publications-carried h tables [] = refl
 resolved_publications-carried {S} {T} h tables (p ∷ ps) =
     let made : List (EntryOf T) → List (PublicationOf T) → List (PublicationOf T) =
-        λ entries rest. record { name = p.name; publishes = p.publishes; entries = entries } ∷ rest in
+    λ entries rest. record { name = p.name; publishes = p.publishes; entries = entries } ∷ rest in
     ap (λ entries. made entries (map (publication_map h) (map (resolved_publication tables) ps)))
-        (resolved_entries-carried h tables p.coverage)
+    (resolved_entries-carried h tables p.coverage)
     ∙ ap (made (resolved_entries tables (coverage_map h p.coverage))) (resolved_publications-carried h tables ps)
 
 resolved-carried : {S T : Type 0} (h : S → T) (draft : DraftOf S)
     → resolved (draft_map h draft) ≡ catalog_map h (resolved draft)
 resolved-carried {S} {T} h draft =
     let made : List (PublicationOf T) → CatalogOf T =
-        λ ps. record { tables = draft.tables; publications = ps; subscriptions = draft.subscriptions } in
+    λ ps. record { tables = draft.tables; publications = ps; subscriptions = draft.subscriptions } in
     ap made (sym (resolved_publications-carried h draft.tables draft.publications))
 
 finished-mapped : {S T : Type 0} (h : S → T) (read : Outcome (DraftOf S))
@@ -85,7 +85,7 @@ module _ {S T : Type 0} (from : Forms S) (to : Forms T) (h : S → T) (carries :
   unfolding create created
   create-carried draft ts =
       then-same (draft_map h) (expect (i.Keyword k.Create) ts) _ _
-          (λ a ts2. created_by-carried (item_ahead ts2) draft ts2)
+      (λ a ts2. created_by-carried (item_ahead ts2) draft ts2)
 
   statement_by-carried : (item : Option Item) (draft : DraftOf S) (ts : Items)
       → statement_by to item (draft_map h draft) ts ≡ mapped (draft_map h) (statement_by from item draft ts)
@@ -99,7 +99,7 @@ module _ {S T : Type 0} (from : Forms S) (to : Forms T) (h : S → T) (carries :
   unfolding ended_statement statement
   ended_statement-carried draft ts =
       then-carried (draft_map h) (draft_map h) (statement from draft ts) (statement to (draft_map h draft) ts) _ _
-          (statement_by-carried (item_ahead ts) draft ts)
+      (statement_by-carried (item_ahead ts) draft ts)
       (λ made ts2. then-same (draft_map h) (expect i.Semicolon ts2) _ _ (λ a ts3. refl))
 
   -- the catalog of a text with one kind of filters is that with the other, carried over
@@ -107,9 +107,9 @@ module _ {S T : Type 0} (from : Forms S) (to : Forms T) (h : S → T) (carries :
   unfolding catalog_by statements
   catalog_by-carried text =
       ap finished (repeat-carried (draft_map h) (each more_ahead (ended_statement from))
-          (each more_ahead (ended_statement to))
+      (each more_ahead (ended_statement to))
       (each-carried (draft_map h) more_ahead (ended_statement from) (ended_statement to) ended_statement-carried)
-          no_draft (items_of text))
+      no_draft (items_of text))
       ∙ finished-mapped h (repeat (each more_ahead (ended_statement from)) no_draft (items_of text))
 
 -- ---- a catalog whose filters are carried over twice
@@ -124,7 +124,7 @@ entries_twice : {S T U : Type 0} (f : S → T) (g : T → U) (k : S → U) → (
 entries_twice f g k e [] = refl
 entries_twice {S} {T} {U} f g k e (entry ∷ entries) =
     let made : Option U → List (EntryOf U) → List (EntryOf U) =
-        λ filter rest. record { table = entry.table; filter = filter } ∷ rest in
+    λ filter rest. record { table = entry.table; filter = filter } ∷ rest in
     ap (λ filter. made filter (map (entry_map g) (map (entry_map f) entries))) (filters_twice f g k e entry.filter)
     ∙ ap (made (option_map k entry.filter)) (entries_twice f g k e entries)
 
@@ -134,16 +134,16 @@ publications_twice : {S T U : Type 0} (f : S → T) (g : T → U) (k : S → U) 
 publications_twice f g k e [] = refl
 publications_twice {S} {T} {U} f g k e (p ∷ ps) =
     let made : List (EntryOf U) → List (PublicationOf U) → List (PublicationOf U) =
-        λ entries rest. record { name = p.name; publishes = p.publishes; entries = entries } ∷ rest in
+    λ entries rest. record { name = p.name; publishes = p.publishes; entries = entries } ∷ rest in
     ap (λ entries. made entries (map (publication_map g) (map (publication_map f) ps)))
-        (entries_twice f g k e p.entries)
+    (entries_twice f g k e p.entries)
     ∙ ap (made (map (entry_map k) p.entries)) (publications_twice f g k e ps)
 
 catalog_twice : {S T U : Type 0} (f : S → T) (g : T → U) (k : S → U) → ((s : S) → g (f s) ≡ k s)
     → (catalog : CatalogOf S) → catalog_map g (catalog_map f catalog) ≡ catalog_map k catalog
 catalog_twice {S} {T} {U} f g k e catalog =
     let made : List (PublicationOf U) → CatalogOf U =
-        λ ps. record { tables = catalog.tables; publications = ps; subscriptions = catalog.subscriptions } in
+    λ ps. record { tables = catalog.tables; publications = ps; subscriptions = catalog.subscriptions } in
     ap made (publications_twice f g k e catalog.publications)
 
 -- ---- the law
@@ -159,7 +159,7 @@ means_by (Ok written) catalog e =
       trees = trees;
       meanings = λ row. ap (catalog_map (λ filter. meaning filter row)) trees
           ∙ catalog_twice filter_of (λ filter. meaning filter row) (λ expression. written_meaning expression row)
-              (λ expression. meaning-filter_of expression row) written;
+          (λ expression. meaning-filter_of expression row) written;
     }
 
 -- the filters of a catalog that was read mean what its expressions mean as they are written
@@ -167,7 +167,7 @@ pub means_as_written : (text : List ℕ) (catalog : CatalogOf Expr) → catalog_
     → MeansAsWritten (catalog_by as_written text) catalog
 means_as_written text catalog e =
     means_by (catalog_by as_written text) catalog
-        (sym (catalog_by-carried as_written as_filter filter_of filters_carry text) ∙ e)
+    (sym (catalog_by-carried as_written as_filter filter_of filters_carry text) ∙ e)
 
 pub read_as_written : (text : List ℕ) (result : Result Catalog ReadError)
     → Answers catalog_view (catalog_by as_filter text) result

@@ -71,7 +71,7 @@ table_named-there draft called ts =
     any-gives (IsThere draft.tables) (look ts) _ (λ u ts2.
     chosen-gives (IsThere draft.tables) (is_ahead i.Dot ts2) (table_in_schema draft called ts2) _
     (any-gives (IsThere draft.tables) (name_in_schema draft.schemas called ts2) _
-        (λ inner ts3. known_table-there draft.tables called.text inner ts3))
+    (λ inner ts3. known_table-there draft.tables called.text inner ts3))
     (known_table-there draft.tables _ called ts2))
 
 -- ---- what publications cover
@@ -102,8 +102,8 @@ module _ (draft : DraftOf Expr) where
   mentioned_by : (is_new is_twice : Bool) (coverage : CoverageOf Expr) (entry : EntryOf Expr) (fault : Fault)
       (ts : Items) → Kept coverage → IsKnownEntry draft.tables entry
       → Gives Kept (with_rest
-          (if is_new then Ok (record coverage { entries = coverage.entries ++ entry ∷ [] })
-          else (if is_twice then Err fault else Ok coverage)) ts)
+      (if is_new then Ok (record coverage { entries = coverage.entries ++ entry ∷ [] })
+      else (if is_twice then Err fault else Ok coverage)) ts)
   mentioned_by true is_twice coverage entry fault ts h known =
       All-push (IsKnownEntry draft.tables) coverage.entries entry h known
   mentioned_by false true coverage entry fault ts h known = tt
@@ -115,7 +115,7 @@ module _ (draft : DraftOf Expr) where
   unfolding table_mentioned
   table-kept coverage place entry ts h known =
       mentioned_by (not (list_any (is_of entry.table) coverage.entries))
-          (is_some entry.filter || list_any (is_filtered entry.table) coverage.entries) coverage entry _ ts h known
+      (is_some entry.filter || list_any (is_filtered entry.table) coverage.entries) coverage entry _ ts h known
 
   -- ---- filters
 
@@ -130,13 +130,13 @@ module _ (draft : DraftOf Expr) where
         any-gives NamesItsOwn (expect (i.Keyword k.Where) ts) _ (λ place ts2.
         any-gives NamesItsOwn (expect i.Open ts2) _ (λ a ts3.
         then-gives (NamesWithin (length (columns_at draft.tables number))) NamesItsOwn
-            (expression as_filter (columns_at draft.tables number) ts3) _
+        (expression as_filter (columns_at draft.tables number) ts3) _
         (expression-named (columns_at draft.tables number) ts3) (λ filter ts4 named.
         any-gives NamesItsOwn (expect i.Close ts4) _ (λ b ts5.
         any-gives NamesItsOwn
-            (with_rest (limited place
-            ((filters_on as_filter.tree number draft.publications
-            ++ filters_in as_filter.tree number coverage.entries) ++ filter ∷ [])) ts5) _ (λ u ts6. named)))))
+        (with_rest (limited place
+        ((filters_on as_filter.tree number draft.publications
+        ++ filters_in as_filter.tree number coverage.entries) ++ filter ∷ [])) ts5) _ (λ u ts6. named)))))
 
     filter_by-named : (item : Option Item) (coverage : CoverageOf Expr) (ts : Items)
         → Gives NamesItsOwn (filter_by as_filter item draft coverage number ts)
@@ -158,7 +158,7 @@ module _ (draft : DraftOf Expr) where
   named_schema-listed coverage ts h =
       any-gives Listed (name ts) _ (λ called ts2.
       then-gives Kept Listed (with_rest (schema_mentioned draft coverage called) ts2) _
-          (schema-kept coverage called ts2 h) (λ covered ts3 c. c))
+      (schema-kept coverage called ts2 h) (λ covered ts3 c. c))
 
   schema_object_by-listed : (item : Option Item) (coverage : CoverageOf Expr) (ts : Items) → Kept coverage
       → Gives Listed (schema_object_by item draft coverage ts)
@@ -184,21 +184,21 @@ module _ (draft : DraftOf Expr) where
   unfolding taken_schema
   taken_schema-listed coverage called ts h =
       then-gives Kept Listed (with_rest (schema_mentioned draft coverage called) ts) _
-          (schema-kept coverage called ts h) (λ covered ts2 c. c)
+      (schema-kept coverage called ts h) (λ covered ts2 c. c)
 
   taken_table-listed : (coverage : CoverageOf Expr) (called : PlacedName) (ts : Items) → Kept coverage
       → Gives Listed (taken_table as_filter draft coverage called ts)
   unfolding taken_table
   taken_table-listed coverage called ts h =
       then-gives (IsThere draft.tables) Listed (table_named draft called ts) _ (table_named-there draft called ts)
-          (λ number ts2 there.
+      (λ number ts2 there.
       any-gives Listed (eat (i.Operator Star) ts2) _ (λ a ts3.
       then-gives (NamesItsOwn number) Listed (filter_clause as_filter draft coverage number ts3) _
-          (filter-named number coverage ts3) (λ filter ts4 named.
+      (filter-named number coverage ts3) (λ filter ts4 named.
       then-gives Kept Listed
-          (with_rest (table_mentioned coverage called.place (record { table = number; filter = filter })) ts4) _
+      (with_rest (table_mentioned coverage called.place (record { table = number; filter = filter })) ts4) _
       (table-kept coverage called.place (record { table = number; filter = filter }) ts4 h
-          (record { table = there; columns = named })) (λ covered ts5 c. c))))
+      (record { table = there; columns = named })) (λ covered ts5 c. c))))
 
   table_object-listed : (coverage : CoverageOf Expr) (ts : Items) → Kept coverage
       → Gives Listed (table_object as_filter draft coverage ts)
@@ -224,7 +224,7 @@ module _ (draft : DraftOf Expr) where
   tables_object-listed objects ts h =
       any-gives Listed (name ts) _ (λ called ts2.
       any-gives Listed (look ts2) _
-          (λ u ts3. tables_by-listed (item_ahead ts3) objects.kind objects.coverage called ts3 h))
+      (λ u ts3. tables_by-listed (item_ahead ts3) objects.kind objects.coverage called ts3 h))
 
   object_of-listed : (kind : ObjectKind) (coverage : CoverageOf Expr) (ts : Items) → Kept coverage
       → Gives Listed (object_of as_filter kind draft coverage ts)
@@ -252,9 +252,9 @@ module _ (draft : DraftOf Expr) where
   unfolding objects first_object
   objects-listed ts =
       then-gives Listed Listed (first_object as_filter draft nothing_covered ts) _
-          (first_by-listed (item_ahead ts) nothing_covered ts (All-nil (IsKnownEntry draft.tables)))
+      (first_by-listed (item_ahead ts) nothing_covered ts (All-nil (IsKnownEntry draft.tables)))
       (repeat-gives Listed (link i.Comma (object as_filter draft))
-          (link-gives Listed i.Comma (object as_filter draft) object-listed))
+      (link-gives Listed i.Comma (object as_filter draft) object-listed))
 
   scope_by-kept : (item : Option Item) (ts : Items) → Gives Kept (scope_by as_filter item draft ts)
   unfolding all_tables listed_objects
@@ -320,13 +320,13 @@ added-carry : (draft : DraftOf Expr) (table : Table) → Carry draft
     → Carry (record draft { tables = draft.tables ++ table ∷ [] })
 added-carry draft table h =
     publications-later draft.tables (draft.tables ++ table ∷ []) (omega (arith, length_push draft.tables table))
-        (columns_at-before draft.tables (table ∷ [])) draft.publications h
+    (columns_at-before draft.tables (table ∷ [])) draft.publications h
 
 indexed-carry : (draft : DraftOf Expr) (number : ℕ) (index : UniqueIndex) → Carry draft
     → Carry (record draft { tables = indexed draft.tables number index })
 indexed-carry draft number index h =
     publications-later draft.tables (indexed draft.tables number index)
-        (omega (arith, length-indexed draft.tables number index))
+    (omega (arith, length-indexed draft.tables number index))
     (λ other within. columns_at-indexed draft.tables number other index) draft.publications h
 
 create_table-carry : (draft : DraftOf Expr) (ts : Items) → Carry draft → Gives Carry (create_table draft ts)
@@ -344,9 +344,9 @@ alter_table-carry draft ts h =
     any-gives Carry (eat (i.Keyword k.Only) ts3) _ (λ c ts4.
     any-gives Carry (table_number draft ts4) _ (λ number ts5.
     any-gives Carry (replica_identity (columns_at draft.tables number) (indexes_at draft.tables number) ts5) _
-        (λ recorded ts6.
+    (λ recorded ts6.
     publications-later draft.tables (identified draft.tables number recorded)
-        (omega (arith, length-identified draft.tables number recorded))
+    (omega (arith, length-identified draft.tables number recorded))
     (λ other within. columns_at-identified draft.tables number other recorded) draft.publications h)))))
 
 create_index-carry : (draft : DraftOf Expr) (ts : Items) → Carry draft → Gives Carry (create_index draft ts)
@@ -362,7 +362,7 @@ create_schema-carry : (draft : DraftOf Expr) (ts : Items) → Carry draft → Gi
 unfolding create_schema
 create_schema-carry draft ts h =
     any-gives Carry (name ts) _
-        (λ called ts2. any-gives Carry (with_rest (check_new_schema draft.schemas called) ts2) _ (λ n ts3. h))
+    (λ called ts2. any-gives Carry (with_rest (check_new_schema draft.schemas called) ts2) _ (λ n ts3. h))
 
 create_publication-carry : (draft : DraftOf Expr) (ts : Items) → Carry draft
     → Gives Carry (create_publication as_filter draft ts)
@@ -370,7 +370,7 @@ unfolding create_publication
 create_publication-carry draft ts h =
     any-gives Carry (publication_name draft ts) _ (λ called ts2.
     then-gives (Covers draft.tables) Carry (for_clause as_filter draft ts2) _ (for_clause-kept draft ts2)
-        (λ coverage ts3 covers.
+    (λ coverage ts3 covers.
     any-gives Carry (parameters_clause ts3) _ (λ given ts4.
     All-push (λ (p : DraftPublicationOf Expr). Covers draft.tables p.coverage) draft.publications _ h covers)))
 
@@ -379,7 +379,7 @@ create_subscription-carry : (draft : DraftOf Expr) (ts : Items) → Carry draft
 unfolding create_subscription
 create_subscription-carry draft ts h =
     any-gives Carry (subscription_name draft ts) _
-        (λ called ts2. any-gives Carry (subscription_body draft ts2) _ (λ numbers ts3. h))
+    (λ called ts2. any-gives Carry (subscription_body draft ts2) _ (λ numbers ts3. h))
 
 created_by-carry : (item : Option Item) (draft : DraftOf Expr) (ts : Items) → Carry draft
     → Gives Carry (created_by as_filter item draft ts)
@@ -407,14 +407,14 @@ ended_statement-carry : (draft : DraftOf Expr) (ts : Items) → Carry draft
 unfolding ended_statement statement
 ended_statement-carry draft ts h =
     then-gives Carry Carry (statement as_filter draft ts) _ (statement_by-carry (item_ahead ts) draft ts h)
-        (λ made ts2 l.
+    (λ made ts2 l.
     any-gives Carry (expect i.Semicolon ts2) _ (λ a ts3. l))
 
 statements-carry : (ts : Items) → Gives Carry (statements as_filter no_draft ts)
 unfolding statements
 statements-carry ts =
     repeat-gives Carry (each more_ahead (ended_statement as_filter))
-        (each-gives Carry more_ahead (ended_statement as_filter) ended_statement-carry) no_draft ts
+    (each-gives Carry more_ahead (ended_statement as_filter) ended_statement-carry) no_draft ts
     (All-nil (λ (p : DraftPublicationOf Expr). Covers [] p.coverage))
 
 -- ---- the end of the catalog
@@ -432,17 +432,17 @@ whole-known : (tables : List Table) (covers : Table → Bool) (number : ℕ) (re
 whole-known tables covers number [] room = All-nil (IsKnownEntry tables)
 whole-known tables covers number (table ∷ rest) room =
     whole_by tables (covers table) number (whole_from covers (suc number) rest) (omega arith)
-        (whole-known tables covers (suc number) rest (omega arith))
+    (whole-known tables covers (suc number) rest (omega arith))
 
 resolved-known : (draft : DraftOf Expr) → Carry draft → AllCarryKnown (resolved draft)
 resolved-known draft h =
     All-map (λ publication. All (IsKnownEntry draft.tables) publication.entries) (resolved_publication draft.tables)
-        draft.publications (λ n d low.
+    draft.publications (λ n d low.
     let publication : DraftPublicationOf Expr = get_or draft.publications n d in
     let whole = whole_from (is_covered publication.coverage.everything publication.coverage.schemas) 0 draft.tables in
     All-append (IsKnownEntry draft.tables) publication.coverage.entries whole (h n d low)
     (whole-known draft.tables (is_covered publication.coverage.everything publication.coverage.schemas) 0 draft.tables
-        (omega arith)))
+    (omega arith)))
 
 -- what is made of the statements of a text
 pub resolved_entries_known : (ts : Items) (draft : DraftOf Expr) (rest : Items)

@@ -61,8 +61,14 @@ indexed-within tables number index h room is =
 -- a table of at most 100 columns, which has no index yet
 made : (called : NewName) (parts : Parts) → IsNarrow parts → IsSizedTable (table_of called parts)
 made called parts narrow =
-    record { columns = narrow.0; keyed = narrow.1; indexes = omega arith; indexed =
-    All-nil (IsIndexOf parts.columns); identified = tt }
+    record {
+      columns = narrow.0;
+      keyed = narrow.1;
+      indexes = omega arith;
+      indexed =
+          All-nil (IsIndexOf parts.columns);
+      identified = tt;
+    }
 
 pushed-within : (tables : List Table) (table : Table) → length tables < 64 → AreLimited tables → IsSizedTable table
     → AreLimited (tables ++ table ∷ [])
@@ -73,7 +79,7 @@ check_new_table-gives : (tables : List Table) (called : NewName) (ts : Items)
 unfolding check_new_table
 check_new_table-gives tables called ts =
     room-gives (is_some (find_relation called.schema called.name.text tables)) (nat_le 64 (length tables))
-        (length tables) 64 _ _ ts (below 64 (length tables))
+    (length tables) 64 _ _ ts (below 64 (length tables))
 
 new_name-gives : {S : Type 0} (draft : DraftOf S) (ts : Items)
     → Gives (λ (called : NewName). length draft.tables < 64) (new_name draft ts)
@@ -83,7 +89,7 @@ new_name-gives {S} draft ts =
     any-gives room (name ts) _ (λ first ts2.
     any-gives room (new_named draft.schemas (is_ahead (i.Keyword k.If) ts) first ts2) _ (λ called ts3.
     then-gives (λ (u : Unit {0}). length draft.tables < 64) room (with_rest (check_new_table draft.tables called) ts3)
-        _ (check_new_table-gives draft.tables called ts3) (λ n ts4 h.
+    _ (check_new_table-gives draft.tables called ts3) (λ n ts4 h.
     any-gives room (table_head ts4) _ (λ m ts5. h))))
 
 table_body-gives : (called : PlacedName) (ts : Items) → Gives IsNarrow (table_body called ts)
@@ -100,7 +106,7 @@ create_table-gives : {S : Type 0} (draft : DraftOf S) (ts : Items) → Limited d
 unfolding create_table
 create_table-gives draft ts h =
     then-gives (λ (called : NewName). length draft.tables < 64) Limited (new_name draft ts) _
-        (new_name-gives draft ts) (λ called ts2 room.
+    (new_name-gives draft ts) (λ called ts2 room.
     then-gives IsNarrow Limited (table_body called.name ts2) _ (table_body-gives called.name ts2) (λ parts ts3 narrow.
     (pushed-within draft.tables _ room h.0 (made called parts narrow), h.1)))
 
@@ -123,9 +129,9 @@ create_index-gives draft ts h =
     any-gives Limited (expect (i.Keyword k.Index) ts) _ (λ a ts2.
     any-gives Limited (name ts2) _ (λ called ts3.
     then-gives (HasRoom draft.tables) Limited (indexed_table draft called ts3) _
-        (indexed_table-gives draft called ts3) (λ number ts4 room.
+    (indexed_table-gives draft called ts3) (λ number ts4 room.
     then-gives (λ (numbers : List ℕ). All (λ n. n < length (columns_at draft.tables number)) numbers) Limited
-        (index_body (columns_at draft.tables number) ts4) _
+    (index_body (columns_at draft.tables number) ts4) _
     (index_body-gives (columns_at draft.tables number) ts4) (λ numbers ts5 is.
     (indexed-within draft.tables number _ h.0 room is, h.1)))))
 
@@ -136,14 +142,14 @@ create_schema-gives : {S : Type 0} (draft : DraftOf S) (ts : Items) → Limited 
 unfolding create_schema
 create_schema-gives draft ts h =
     any-gives Limited (name ts) _
-        (λ called ts2. any-gives Limited (with_rest (check_new_schema draft.schemas called) ts2) _ (λ n ts3. h))
+    (λ called ts2. any-gives Limited (with_rest (check_new_schema draft.schemas called) ts2) _ (λ n ts3. h))
 
 check_new_publication-gives : {S : Type 0} (draft : DraftOf S) (called : PlacedName) (ts : Items)
     → Gives (λ (u : Unit {0}). length draft.publications < 64) (with_rest (check_new_publication draft called) ts)
 unfolding check_new_publication
 check_new_publication-gives draft called ts =
     room-gives (is_some (find_publication called.text draft.publications)) (nat_le 64 (length draft.publications))
-        (length draft.publications) 64 _ _ ts (below 64 (length draft.publications))
+    (length draft.publications) 64 _ _ ts (below 64 (length draft.publications))
 
 publication_name-gives : {S : Type 0} (draft : DraftOf S) (ts : Items)
     → Gives (λ (called : PlacedName). length draft.publications < 64) (publication_name draft ts)
@@ -152,15 +158,15 @@ publication_name-gives {S} draft ts =
     let room : PlacedName → Type 0 = λ called. length draft.publications < 64 in
     any-gives room (name ts) _ (λ called ts2.
     then-gives (λ (u : Unit {0}). length draft.publications < 64) room
-        (with_rest (check_new_publication draft called) ts2) _ (check_new_publication-gives draft called ts2)
-        (λ n ts3 h. h))
+    (with_rest (check_new_publication draft called) ts2) _ (check_new_publication-gives draft called ts2)
+    (λ n ts3 h. h))
 
 create_publication-gives : {S : Type 0} (forms : Forms S) (draft : DraftOf S) (ts : Items) → Limited draft
     → Gives Limited (create_publication forms draft ts)
 unfolding create_publication
 create_publication-gives forms draft ts h =
     then-gives (λ (called : PlacedName). length draft.publications < 64) Limited (publication_name draft ts) _
-        (publication_name-gives draft ts) (λ called ts2 room.
+    (publication_name-gives draft ts) (λ called ts2 room.
     any-gives Limited (for_clause forms draft ts2) _ (λ coverage ts3.
     any-gives Limited (parameters_clause ts3) _ (λ given ts4. (h.0, (pushed 64 draft.publications _ room, h.1.1)))))
 
@@ -169,7 +175,7 @@ check_new_subscription-gives : {S : Type 0} (draft : DraftOf S) (called : Placed
 unfolding check_new_subscription
 check_new_subscription-gives draft called ts =
     room-gives (is_some (find_subscription called.text draft.subscriptions)) (nat_le 32 (length draft.subscriptions))
-        (length draft.subscriptions) 32 _ _ ts (below 32 (length draft.subscriptions))
+    (length draft.subscriptions) 32 _ _ ts (below 32 (length draft.subscriptions))
 
 subscription_name-gives : {S : Type 0} (draft : DraftOf S) (ts : Items)
     → Gives (λ (called : PlacedName). length draft.subscriptions < 32) (subscription_name draft ts)
@@ -178,17 +184,17 @@ subscription_name-gives {S} draft ts =
     let room : PlacedName → Type 0 = λ called. length draft.subscriptions < 32 in
     any-gives room (name ts) _ (λ called ts2.
     then-gives (λ (u : Unit {0}). length draft.subscriptions < 32) room
-        (with_rest (check_new_subscription draft called) ts2) _ (check_new_subscription-gives draft called ts2)
-        (λ n ts3 h. h))
+    (with_rest (check_new_subscription draft called) ts2) _ (check_new_subscription-gives draft called ts2)
+    (λ n ts3 h. h))
 
 create_subscription-gives : {S : Type 0} (draft : DraftOf S) (ts : Items) → Limited draft
     → Gives Limited (create_subscription draft ts)
 unfolding create_subscription
 create_subscription-gives draft ts h =
     then-gives (λ (called : PlacedName). length draft.subscriptions < 32) Limited (subscription_name draft ts) _
-        (subscription_name-gives draft ts) (λ called ts2 room.
+    (subscription_name-gives draft ts) (λ called ts2 room.
     any-gives Limited (subscription_body draft ts2) _
-        (λ numbers ts3. (h.0, (h.1.0, pushed 32 draft.subscriptions _ room))))
+    (λ numbers ts3. (h.0, (h.1.0, pushed 32 draft.subscriptions _ room))))
 
 -- ---- statements
 
@@ -219,22 +225,29 @@ module _ {S : Type 0} (forms : Forms S) where
   unfolding ended_statement statement
   ended_statement-gives draft ts h =
       then-gives Limited Limited (statement forms draft ts) _ (statement_by-gives (item_ahead ts) draft ts h)
-          (λ made ts2 l.
+      (λ made ts2 l.
       any-gives Limited (expect i.Semicolon ts2) _ (λ a ts3. l))
 
   statements-gives : (ts : Items) → Gives Limited (statements forms no_draft ts)
   unfolding statements
   statements-gives ts =
       repeat-gives Limited (each more_ahead (ended_statement forms))
-          (each-gives Limited more_ahead (ended_statement forms) ended_statement-gives) no_draft ts
+      (each-gives Limited more_ahead (ended_statement forms) ended_statement-gives) no_draft ts
       ((omega arith, All-nil IsSizedTable), (omega arith, omega arith))
 
 -- ---- the end of the catalog
 
 both_limits : (table : Table) → IsSizedTable table → IsNamed table → IsLimitedTable table
 both_limits table h named =
-    record { columns = h.columns; keyed = h.keyed; indexes = h.indexes; indexed = h.indexed; identified =
-    h.identified; named = named }
+    record {
+      columns = h.columns;
+      keyed = h.keyed;
+      indexes = h.indexes;
+      indexed = h.indexed;
+      identified =
+          h.identified;
+      named = named;
+    }
 
 resolved-within : {S : Type 0} (draft : DraftOf S) → Limited draft → All IsNamed draft.tables
     → IsLimited (resolved draft)

@@ -37,9 +37,13 @@ use Rattle.pub_statements.proofs.OwnNames.{first_of, create_publication-named, c
 -- ---- the name of a new table
 
 public_plain : IsPlainName public_schema
-public_plain = record
-    { some = omega arith; short = omega arith; no_zero = λ found. no_zero_at found.0 found.1 found.2; utf8 =
-    IsUtf8-from_ascii public_schema (search rules) }
+public_plain = record {
+  some = omega arith;
+  short = omega arith;
+  no_zero = λ found. no_zero_at found.0 found.1 found.2;
+  utf8 =
+      IsUtf8-from_ascii public_schema (search rules);
+}
   where
     no_zero_at : (n : ℕ) → n < length public_schema → get_or public_schema n 0 ≡ 0 → ⊥
     no_zero_at zero low is = cc
@@ -59,7 +63,7 @@ name_in_schema-plain : (schemas : List (List ℕ)) (schema : PlacedName) (ts : I
 unfolding name_in_schema
 name_in_schema-plain schemas schema ts h =
     any-plain NamesPlain (with_rest (known_schema schemas schema) ts) _
-        (check-plain (known_schema schemas schema) ts h) (λ n ts2 p.
+    (check-plain (known_schema schemas schema) ts h) (λ n ts2 p.
     any-plain NamesPlain (expect i.Dot ts2) _ (expect-plain i.Dot ts2 (rest_plain ts2 p)) (λ a ts3 q. name-plain ts3 q))
 
 new_in_schema-plain : (schemas : List (List ℕ)) (schema : PlacedName) (ts : Items) → IsPlainName schema.text
@@ -67,7 +71,7 @@ new_in_schema-plain : (schemas : List (List ℕ)) (schema : PlacedName) (ts : It
 unfolding new_in_schema
 new_in_schema-plain schemas schema ts plain h =
     then-leaves NamesPlain NewPlain (name_in_schema schemas schema ts) _ (name_in_schema-plain schemas schema ts h)
-        (λ called ts2 p. (plain, p))
+    (λ called ts2 p. (plain, p))
 
 new_by-plain : (is_if : Bool) (item : Option Item) (schemas : List (List ℕ)) (called : PlacedName) (ts : Items)
     → IsPlainName called.text → ArePlain ts
@@ -81,7 +85,7 @@ new_named-plain : (schemas : List (List ℕ)) (is_if : Bool) (called : PlacedNam
 unfolding new_named
 new_named-plain schemas is_if called ts plain h =
     any-plain NewPlain (look ts) _ (look-plain ts h)
-        (λ u ts2 p. new_by-plain is_if (item_ahead ts2) schemas called ts2 plain p)
+    (λ u ts2 p. new_by-plain is_if (item_ahead ts2) schemas called ts2 plain p)
 
 head_by-plain : (item : Option Item) (ts : Items) → ArePlain ts → Leaves Any (head_by item ts)
 head_by-plain (Some (i.Keyword k.Partition)) ts h = tt
@@ -98,7 +102,7 @@ new_name-plain draft ts h =
     then-leaves NewPlain NewPlain (new_named draft.schemas (is_ahead (i.Keyword k.If) ts) first ts2) _
     (new_named-plain draft.schemas (is_ahead (i.Keyword k.If) ts) first ts2 p.0 p.1) (λ called ts3 q.
     any-plain NewPlain (with_rest (check_new_table draft.tables called) ts3) _
-        (check-plain (check_new_table draft.tables called) ts3 q.1.1) (λ n ts4 r.
+    (check-plain (check_new_table draft.tables called) ts3 q.1.1) (λ n ts4 r.
     any-plain NewPlain (table_head ts4) _ (table_head-plain ts4 r) (λ m ts5 s. (q.0, (q.1.0, s))))))
 
 -- ---- CREATE TABLE
@@ -125,8 +129,13 @@ table_body-plain called ts h =
 with_tables : {S : Type 0} (draft : DraftOf S) (tables : List Table) → IsNamedDraft draft → All IsNamed tables
     → IsNamedDraft (record draft { tables = tables })
 with_tables draft tables named all =
-    record { tables = all; publications = named.publications; subscriptions = named.subscriptions; taken =
-    named.taken }
+    record {
+      tables = all;
+      publications = named.publications;
+      subscriptions = named.subscriptions;
+      taken =
+          named.taken;
+    }
 
 create_table-named : {S : Type 0} (draft : DraftOf S) (ts : Items) → ArePlain ts → IsNamedDraft draft
     → Gives IsNamedDraft (create_table draft ts)
@@ -134,12 +143,12 @@ unfolding create_table
 create_table-named draft ts h named =
     first_of IsNamedDraft _ (
     then-leaves NewPlain (λ made ts2. IsNamedDraft made) (new_name draft ts) _ (new_name-plain draft ts h)
-        (λ called ts2 p.
+    (λ called ts2 p.
     then-leaves ColumnsPlain (λ made ts3. IsNamedDraft made) (table_body called.name ts2) _
-        (table_body-plain called.name ts2 p.1.1) (λ parts ts3 q.
+    (table_body-plain called.name ts2 p.1.1) (λ parts ts3 q.
     with_tables draft (draft.tables ++ table_of called parts ∷ []) named
     (All-push IsNamed draft.tables (table_of called parts) named.tables
-        (record { schema = p.0; name = p.1.0; columns = q.0 })))))
+    (record { schema = p.0; name = p.1.0; columns = q.0 })))))
 
 -- ---- other statements
 
@@ -149,11 +158,11 @@ identified-named [] number identity h = h
 identified-named (table ∷ tables) zero identity h =
     let first = All-head IsNamed table tables h in
     All-cons IsNamed (record table { identity = identity }) tables
-        (record { schema = first.schema; name = first.name; columns = first.columns })
-        (All-tail IsNamed table tables h)
+    (record { schema = first.schema; name = first.name; columns = first.columns })
+    (All-tail IsNamed table tables h)
 identified-named (table ∷ tables) (suc number) identity h =
     All-cons IsNamed table (identified tables number identity) (All-head IsNamed table tables h)
-        (identified-named tables number identity (All-tail IsNamed table tables h))
+    (identified-named tables number identity (All-tail IsNamed table tables h))
 
 indexed-named : (tables : List Table) (number : ℕ) (index : UniqueIndex) → All IsNamed tables
     → All IsNamed (indexed tables number index)
@@ -161,11 +170,11 @@ indexed-named [] number index h = h
 indexed-named (table ∷ tables) zero index h =
     let first = All-head IsNamed table tables h in
     All-cons IsNamed (record table { indexes = table.indexes ++ index ∷ [] }) tables
-        (record { schema = first.schema; name = first.name; columns = first.columns })
-        (All-tail IsNamed table tables h)
+    (record { schema = first.schema; name = first.name; columns = first.columns })
+    (All-tail IsNamed table tables h)
 indexed-named (table ∷ tables) (suc number) index h =
     All-cons IsNamed table (indexed tables number index) (All-head IsNamed table tables h)
-        (indexed-named tables number index (All-tail IsNamed table tables h))
+    (indexed-named tables number index (All-tail IsNamed table tables h))
 
 alter_table-named : {S : Type 0} (draft : DraftOf S) (ts : Items) → IsNamedDraft draft
     → Gives IsNamedDraft (alter_table draft ts)
@@ -176,9 +185,9 @@ alter_table-named draft ts h =
     any-gives IsNamedDraft (eat (i.Keyword k.Only) ts3) _ (λ c ts4.
     any-gives IsNamedDraft (table_number draft ts4) _ (λ number ts5.
     any-gives IsNamedDraft (replica_identity (columns_at draft.tables number) (indexes_at draft.tables number) ts5) _
-        (λ recorded ts6.
+    (λ recorded ts6.
     with_tables draft (identified draft.tables number recorded) h
-        (identified-named draft.tables number recorded h.tables))))))
+    (identified-named draft.tables number recorded h.tables))))))
 
 create_index-named : {S : Type 0} (draft : DraftOf S) (ts : Items) → IsNamedDraft draft
     → Gives IsNamedDraft (create_index draft ts)
@@ -188,21 +197,26 @@ create_index-named draft ts h =
     any-gives IsNamedDraft (name ts2) _ (λ called ts3.
     any-gives IsNamedDraft (indexed_table draft called ts3) _ (λ number ts4.
     any-gives IsNamedDraft (index_body (columns_at draft.tables number) ts4) _
-        (λ numbers ts5. with_tables draft _ h (indexed-named draft.tables number _ h.tables)))))
+    (λ numbers ts5. with_tables draft _ h (indexed-named draft.tables number _ h.tables)))))
 
 with_schemas : {S : Type 0} (draft : DraftOf S) (schemas : List (List ℕ)) → IsNamedDraft draft
     → IsNamedDraft (record draft { schemas = schemas })
 with_schemas draft schemas named =
-    record { tables = named.tables; publications = named.publications; subscriptions = named.subscriptions; taken =
-    named.taken }
+    record {
+      tables = named.tables;
+      publications = named.publications;
+      subscriptions = named.subscriptions;
+      taken =
+          named.taken;
+    }
 
 create_schema-named : {S : Type 0} (draft : DraftOf S) (ts : Items) → IsNamedDraft draft
     → Gives IsNamedDraft (create_schema draft ts)
 unfolding create_schema
 create_schema-named draft ts h =
     any-gives IsNamedDraft (name ts) _
-        (λ called ts2. any-gives IsNamedDraft (with_rest (check_new_schema draft.schemas called) ts2) _
-        (λ n ts3. with_schemas draft _ h))
+    (λ called ts2. any-gives IsNamedDraft (with_rest (check_new_schema draft.schemas called) ts2) _
+    (λ n ts3. with_schemas draft _ h))
 
 -- ---- statements
 
@@ -224,7 +238,7 @@ module _ {S : Type 0} (forms : Forms S) where
   create-named draft ts p h =
       first_of IsNamedDraft _ (
       any-plain (λ made ts2. IsNamedDraft made) (expect (i.Keyword k.Create) ts) _
-          (expect-plain (i.Keyword k.Create) ts p) (λ a ts2 q.
+      (expect-plain (i.Keyword k.Create) ts p) (λ a ts2 q.
       any_left (created_by forms (item_ahead ts2) draft ts2) (created_by-named (item_ahead ts2) draft ts2 q h)))
     where
       any_left : (read : Outcome (DraftOf S)) → Gives IsNamedDraft read → Leaves (λ made ts2. IsNamedDraft made) read
@@ -243,7 +257,7 @@ module _ {S : Type 0} (forms : Forms S) where
   unfolding ended_statement statement
   ended-named draft ts p h =
       then-gives IsNamedDraft IsNamedDraft (statement forms draft ts) _
-          (statement_by-named (item_ahead ts) draft ts p h) (λ made ts2 named.
+      (statement_by-named (item_ahead ts) draft ts p h) (λ made ts2 named.
       any-gives IsNamedDraft (expect i.Semicolon ts2) _ (λ a ts3. named))
 
   -- after a statement that a reader takes

@@ -43,8 +43,10 @@ check_new_publication-same : {S T : Type 0} (h : S → T) (draft : DraftOf S) (c
     → check_new_publication (draft_map h draft) called ≡ check_new_publication draft called
 unfolding check_new_publication
 check_new_publication-same h draft called =
-    rw (find_publication-same h called.text draft.publications,
-        length-map draft.publications (draft_publication_map h)) refl
+    rw (
+      find_publication-same h called.text draft.publications,
+      length-map draft.publications (draft_publication_map h),
+    ) refl
 
 pub publication_name-same : {S T : Type 0} (h : S → T) (draft : DraftOf S) (ts : Items)
     → publication_name (draft_map h draft) ts ≡ mapped same (publication_name draft ts)
@@ -65,15 +67,15 @@ pub create_schema-carried : {S T : Type 0} (h : S → T) (draft : DraftOf S) (ts
 unfolding create_schema
 create_schema-carried h draft ts =
     then-same (draft_map h) (name ts) _ _
-        (λ called ts2. then-same (draft_map h) (with_rest (check_new_schema draft.schemas called) ts2) _ _
-        (λ n ts3. refl))
+    (λ called ts2. then-same (draft_map h) (with_rest (check_new_schema draft.schemas called) ts2) _ _
+    (λ n ts3. refl))
 
 pub create_table-carried : {S T : Type 0} (h : S → T) (draft : DraftOf S) (ts : Items)
     → create_table (draft_map h draft) ts ≡ mapped (draft_map h) (create_table draft ts)
 unfolding create_table new_name
 create_table-carried h draft ts =
     then-same (draft_map h) (new_name draft ts) _ _
-        (λ called ts2. then-same (draft_map h) (table_body called.name ts2) _ _ (λ parts ts3. refl))
+    (λ called ts2. then-same (draft_map h) (table_body called.name ts2) _ _ (λ parts ts3. refl))
 
 pub alter_table-carried : {S T : Type 0} (h : S → T) (draft : DraftOf S) (ts : Items)
     → alter_table (draft_map h draft) ts ≡ mapped (draft_map h) (alter_table draft ts)
@@ -84,7 +86,7 @@ alter_table-carried h draft ts =
     then-same (draft_map h) (eat (i.Keyword k.Only) ts3) _ _ (λ c ts4.
     then-same (draft_map h) (table_number draft ts4) _ _ (λ number ts5.
     then-same (draft_map h) (replica_identity (columns_at draft.tables number) (indexes_at draft.tables number) ts5) _
-        _ (λ recorded ts6. refl)))))
+    _ (λ recorded ts6. refl)))))
 
 indexed_table-same : {S T : Type 0} (h : S → T) (draft : DraftOf S) (called : PlacedName) (ts : Items)
     → indexed_table (draft_map h draft) called ts ≡ mapped same (indexed_table draft called ts)
@@ -102,7 +104,7 @@ create_index-carried h draft ts =
     then-same (draft_map h) (expect (i.Keyword k.Index) ts) _ _ (λ a ts2.
     then-same (draft_map h) (name ts2) _ _ (λ called ts3.
     then-carried same (draft_map h) (indexed_table draft called ts3) (indexed_table (draft_map h draft) called ts3) _
-        _ (indexed_table-same h draft called ts3) (λ number ts4.
+    _ (indexed_table-same h draft called ts3) (λ number ts4.
     then-same (draft_map h) (index_body (columns_at draft.tables number) ts4) _ _ (λ columns ts5. refl))))
 
 -- ---- subscriptions
@@ -125,10 +127,10 @@ publication_list-same : {S T : Type 0} (h : S → T) (draft : DraftOf S) (ts : I
 unfolding publication_list
 publication_list-same h draft ts =
     then-carried same same (one_publication draft [] ts) (one_publication (draft_map h draft) [] ts) _ _
-        (one_publication-same h draft [] ts)
+    (one_publication-same h draft [] ts)
     (repeat-carried same (link i.Comma (one_publication draft)) (link i.Comma (one_publication (draft_map h draft)))
     (link-carried same i.Comma (one_publication draft) (one_publication (draft_map h draft))
-        (one_publication-same h draft)))
+    (one_publication-same h draft)))
 
 subscription_body-same : {S T : Type 0} (h : S → T) (draft : DraftOf S) (ts : Items)
     → subscription_body (draft_map h draft) ts ≡ mapped same (subscription_body draft ts)
@@ -138,7 +140,7 @@ subscription_body-same h draft ts =
     then-same same (expect i.Text ts2) _ _ (λ b ts3.
     then-same same (expect (i.Keyword k.Publication) ts3) _ _ (λ c ts4.
     then-carried same same (publication_list draft ts4) (publication_list (draft_map h draft) ts4) _ _
-        (publication_list-same h draft ts4) (λ numbers ts5.
+    (publication_list-same h draft ts4) (λ numbers ts5.
     then-same same (subscription_tail ts5) _ _ (λ d ts6. refl)))))
 
 subscription_name-same : {S T : Type 0} (h : S → T) (draft : DraftOf S) (ts : Items)
@@ -146,16 +148,16 @@ subscription_name-same : {S T : Type 0} (h : S → T) (draft : DraftOf S) (ts : 
 unfolding subscription_name check_new_subscription
 subscription_name-same h draft ts =
     then-same same (name ts) _ _
-        (λ called ts2. then-same same (with_rest (check_new_subscription draft called) ts2) _ _ (λ n ts3. refl))
+    (λ called ts2. then-same same (with_rest (check_new_subscription draft called) ts2) _ _ (λ n ts3. refl))
 
 pub create_subscription-carried : {S T : Type 0} (h : S → T) (draft : DraftOf S) (ts : Items)
     → create_subscription (draft_map h draft) ts ≡ mapped (draft_map h) (create_subscription draft ts)
 unfolding create_subscription
 create_subscription-carried h draft ts =
     then-carried same (draft_map h) (subscription_name draft ts) (subscription_name (draft_map h draft) ts) _ _
-        (subscription_name-same h draft ts) (λ called ts2.
+    (subscription_name-same h draft ts) (λ called ts2.
     then-carried same (draft_map h) (subscription_body draft ts2) (subscription_body (draft_map h draft) ts2) _ _
-        (subscription_body-same h draft ts2) (λ numbers ts3. refl))
+    (subscription_body-same h draft ts2) (λ numbers ts3. refl))
 
 -- ---- filters
 
@@ -183,7 +185,7 @@ pub filters_on-carried : {S T : Type 0} (from : S → Expr) (to : T → Expr) (h
 filters_on-carried from to h alike number [] = refl
 filters_on-carried from to h alike number (p ∷ ps) =
     ap (λ fs. fs ++ filters_on to number (map (draft_publication_map h) ps))
-        (filters_in-carried from to h alike number p.coverage.entries)
+    (filters_in-carried from to h alike number p.coverage.entries)
     ∙ ap (λ fs. filters_in from number p.coverage.entries ++ fs) (filters_on-carried from to h alike number ps)
 
 -- ---- what one more object adds
@@ -213,16 +215,19 @@ is_of-same h number (entry ∷ entries) = rw (is_of-same h number entries) refl
 
 pub table_mentioned-carried : {S T : Type 0} (h : S → T) (coverage : CoverageOf S) (place : ℕ) (entry : EntryOf S) →
     table_mentioned (coverage_map h coverage) place (entry_map h entry)
-        ≡ verdict_map (coverage_map h) (table_mentioned coverage place entry)
+    ≡ verdict_map (coverage_map h) (table_mentioned coverage place entry)
 unfolding table_mentioned
 table_mentioned-carried {S} {T} h coverage place entry =
     let made : List (EntryOf T) → Verdict (CoverageOf T) =
-        λ entries. Ok (record { entries = entries; schemas = coverage.schemas; everything = coverage.everything }) in
-    rw (is_of-same h entry.table coverage.entries, is_filtered-same h entry.table coverage.entries,
-        is_some-same h entry.filter)
+    λ entries. Ok (record { entries = entries; schemas = coverage.schemas; everything = coverage.everything }) in
+    rw (
+      is_of-same h entry.table coverage.entries,
+      is_filtered-same h entry.table coverage.entries,
+      is_some-same h entry.filter,
+    )
     (by_test (list_any (is_of entry.table) coverage.entries)
     (λ e. rw e (by_test (is_some entry.filter || list_any (is_filtered entry.table) coverage.entries) (λ f. rw f refl)
-        (λ f. rw f refl)))
+    (λ f. rw f refl)))
     (λ e. rw e (ap made (sym (map-append (entry_map h) coverage.entries (entry ∷ []))))))
 
 schema_by-carried : {S T : Type 0} (h : S → T) (coverage : CoverageOf S) (called : PlacedName) (found : Option ℕ)
@@ -234,7 +239,7 @@ schema_by-carried h coverage called (Some number) = refl
 schema_mentioned-carried : {S T : Type 0} (h : S → T) (draft : DraftOf S) (coverage : CoverageOf S)
     (called : PlacedName) →
     schema_mentioned (draft_map h draft) (coverage_map h coverage) called
-        ≡ verdict_map (coverage_map h) (schema_mentioned draft coverage called)
+    ≡ verdict_map (coverage_map h) (schema_mentioned draft coverage called)
 unfolding schema_mentioned
 schema_mentioned-carried h draft coverage called =
     schema_by-carried h coverage called (find_schema called.text draft.schemas)
@@ -247,17 +252,17 @@ objects_map h objects = record { kind = objects.kind; coverage = coverage_map h 
 pub taken_schema-carried : {S T : Type 0} (h : S → T) (draft : DraftOf S) (coverage : CoverageOf S)
     (called : PlacedName) (ts : Items) →
     taken_schema (draft_map h draft) (coverage_map h coverage) called ts
-        ≡ mapped (objects_map h) (taken_schema draft coverage called ts)
+    ≡ mapped (objects_map h) (taken_schema draft coverage called ts)
 unfolding taken_schema
 taken_schema-carried h draft coverage called ts =
     then-carried (coverage_map h) (objects_map h) (with_rest (schema_mentioned draft coverage called) ts)
-        (with_rest (schema_mentioned (draft_map h draft) (coverage_map h coverage) called) ts) _ _
+    (with_rest (schema_mentioned (draft_map h draft) (coverage_map h coverage) called) ts) _ _
     (ap (λ v. with_rest v ts) (schema_mentioned-carried h draft coverage called)
-        ∙ checked-mapped (coverage_map h) (schema_mentioned draft coverage called) ts) (λ covered ts2. refl)
+    ∙ checked-mapped (coverage_map h) (schema_mentioned draft coverage called) ts) (λ covered ts2. refl)
 
 named_schema-carried : {S T : Type 0} (h : S → T) (draft : DraftOf S) (coverage : CoverageOf S) (ts : Items) →
     named_schema (draft_map h draft) (coverage_map h coverage) ts
-        ≡ mapped (objects_map h) (named_schema draft coverage ts)
+    ≡ mapped (objects_map h) (named_schema draft coverage ts)
 unfolding named_schema taken_schema
 named_schema-carried h draft coverage ts =
     then-same (objects_map h) (name ts) _ _ (λ called ts2. taken_schema-carried h draft coverage called ts2)
@@ -271,13 +276,13 @@ current_schema-carried h coverage ts =
 schema_object_by-carried : {S T : Type 0} (h : S → T) (item : Option Item) (draft : DraftOf S)
     (coverage : CoverageOf S) (ts : Items) →
     schema_object_by item (draft_map h draft) (coverage_map h coverage) ts
-        ≡ mapped (objects_map h) (schema_object_by item draft coverage ts)
+    ≡ mapped (objects_map h) (schema_object_by item draft coverage ts)
 schema_object_by-carried h (Some (i.Keyword k.CurrentSchema)) draft coverage ts = current_schema-carried h coverage ts
 schema_object_by-carried h _ draft coverage ts = named_schema-carried h draft coverage ts
 
 pub schema_object-carried : {S T : Type 0} (h : S → T) (draft : DraftOf S) (coverage : CoverageOf S) (ts : Items) →
     schema_object (draft_map h draft) (coverage_map h coverage) ts
-        ≡ mapped (objects_map h) (schema_object draft coverage ts)
+    ≡ mapped (objects_map h) (schema_object draft coverage ts)
 unfolding schema_object
 schema_object-carried h draft coverage ts = schema_object_by-carried h (item_ahead ts) draft coverage ts
 
@@ -286,5 +291,5 @@ pub in_schema-carried : {S T : Type 0} (h : S → T) (draft : DraftOf S) (covera
 unfolding in_schema
 in_schema-carried h draft coverage ts =
     then-same (objects_map h) (expect (i.Keyword k.In) ts) _ _
-        (λ a ts2. then-same (objects_map h) (expect (i.Keyword k.Schema) ts2) _ _
-        (λ b ts3. schema_object-carried h draft coverage ts3))
+    (λ a ts2. then-same (objects_map h) (expect (i.Keyword k.Schema) ts2) _ _
+    (λ b ts3. schema_object-carried h draft coverage ts3))

@@ -34,12 +34,15 @@ module _ {S T : Type 0} (from : Forms S) (to : Forms T) (h : S → T) (carries :
   unfolding ended
   ended-carried draft coverage number place s ts =
       then-same (option_map h) (expect i.Close ts) _ _ (λ close ts2.
-      rw (filters_on-carried from.tree to.tree h carries.tree number draft.publications,
-          filters_in-carried from.tree to.tree h carries.tree number coverage.entries, carries.tree s)
+      rw (
+        filters_on-carried from.tree to.tree h carries.tree number draft.publications,
+        filters_in-carried from.tree to.tree h carries.tree number coverage.entries,
+        carries.tree s,
+      )
       (then-same (option_map h)
-          (with_rest (limited place
-          ((filters_on from.tree number draft.publications ++ filters_in from.tree number coverage.entries)
-          ++ from.tree s ∷ [])) ts2) _ _ (λ n ts3. refl)))
+      (with_rest (limited place
+      ((filters_on from.tree number draft.publications ++ filters_in from.tree number coverage.entries)
+      ++ from.tree s ∷ [])) ts2) _ _ (λ n ts3. refl)))
 
   where_clause-carried : (draft : DraftOf S) (coverage : CoverageOf S) (number : ℕ) (ts : Items)
       → where_clause to (draft_map h draft) (coverage_map h coverage) number ts
@@ -49,9 +52,9 @@ module _ {S T : Type 0} (from : Forms S) (to : Forms T) (h : S → T) (carries :
       then-same (option_map h) (expect (i.Keyword k.Where) ts) _ _ (λ place ts2.
       then-same (option_map h) (expect i.Open ts2) _ _ (λ open_place ts3.
       then-carried h (option_map h) (expression from (columns_at draft.tables number) ts3)
-          (expression to (columns_at draft.tables number) ts3) _ _
+      (expression to (columns_at draft.tables number) ts3) _ _
       (expression-carried from to h carries (columns_at draft.tables number) ts3)
-          (λ s ts4. ended-carried draft coverage number place s ts4)))
+      (λ s ts4. ended-carried draft coverage number place s ts4)))
 
   filter_by-carried : (item : Option Item) (draft : DraftOf S) (coverage : CoverageOf S) (number : ℕ) (ts : Items)
       → filter_by to item (draft_map h draft) (coverage_map h coverage) number ts
@@ -71,9 +74,9 @@ module _ {S T : Type 0} (from : Forms S) (to : Forms T) (h : S → T) (carries :
 
   mentioned-carried : (coverage : CoverageOf S) (place number : ℕ) (filter : Option S) (ts : Items) →
       with_rest (table_mentioned (coverage_map h coverage) place
-          (record { table = number; filter = option_map h filter })) ts
+      (record { table = number; filter = option_map h filter })) ts
       ≡ mapped (coverage_map h)
-          (with_rest (table_mentioned coverage place (record { table = number; filter = filter })) ts)
+      (with_rest (table_mentioned coverage place (record { table = number; filter = filter })) ts)
   mentioned-carried coverage place number filter ts =
       ap (λ v. with_rest v ts) (table_mentioned-carried h coverage place (record { table = number; filter = filter }))
       ∙ checked-mapped (coverage_map h) (table_mentioned coverage place (record { table = number; filter = filter })) ts
@@ -87,12 +90,12 @@ module _ {S T : Type 0} (from : Forms S) (to : Forms T) (h : S → T) (carries :
       (then-same (objects_map h) (table_named draft called ts) _ _ (λ number ts2.
       then-same (objects_map h) (eat (i.Operator Star) ts2) _ _ (λ star ts3.
       then-carried (option_map h) (objects_map h) (filter_clause from draft coverage number ts3)
-          (filter_clause to (draft_map h draft) (coverage_map h coverage) number ts3) _ _
+      (filter_clause to (draft_map h draft) (coverage_map h coverage) number ts3) _ _
       (filter_clause-carried draft coverage number ts3) (λ filter ts4.
       then-carried (coverage_map h) (objects_map h)
-          (with_rest (table_mentioned coverage called.place (record { table = number; filter = filter })) ts4)
+      (with_rest (table_mentioned coverage called.place (record { table = number; filter = filter })) ts4)
       (with_rest (table_mentioned (coverage_map h coverage) called.place
-          (record { table = number; filter = option_map h filter })) ts4) _ _
+      (record { table = number; filter = option_map h filter })) ts4) _ _
       (mentioned-carried coverage called.place number filter ts4) (λ covered ts5. refl)))))
 
   table_object-carried : (draft : DraftOf S) (coverage : CoverageOf S) (ts : Items)
@@ -101,22 +104,22 @@ module _ {S T : Type 0} (from : Forms S) (to : Forms T) (h : S → T) (carries :
   unfolding table_object
   table_object-carried draft coverage ts =
       then-same (objects_map h) (eat (i.Keyword k.Only) ts) _ _
-          (λ n ts2. then-same (objects_map h) (name ts2) _ _
-          (λ called ts3. taken_table-carried draft coverage called ts3))
+      (λ n ts2. then-same (objects_map h) (name ts2) _ _
+      (λ called ts3. taken_table-carried draft coverage called ts3))
 
   -- ---- objects
 
   taken_by-carried : (kind : ObjectKind) (draft : DraftOf S) (coverage : CoverageOf S) (called : PlacedName)
       (ts : Items) →
       taken_by to kind (draft_map h draft) (coverage_map h coverage) called ts
-          ≡ mapped (objects_map h) (taken_by from kind draft coverage called ts)
+      ≡ mapped (objects_map h) (taken_by from kind draft coverage called ts)
   taken_by-carried o.Table draft coverage called ts = taken_table-carried draft coverage called ts
   taken_by-carried o.Schema draft coverage called ts = taken_schema-carried h draft coverage called ts
 
   tables_by-carried : (item : Option Item) (kind : ObjectKind) (draft : DraftOf S) (coverage : CoverageOf S)
       (called : PlacedName) (ts : Items) →
       tables_by to item kind (draft_map h draft) (coverage_map h coverage) called ts
-          ≡ mapped (objects_map h) (tables_by from item kind draft coverage called ts)
+      ≡ mapped (objects_map h) (tables_by from item kind draft coverage called ts)
   tables_by-carried (Some (i.Keyword k.In)) kind draft coverage called ts = in_schema-carried h draft coverage ts
   tables_by-carried _ kind draft coverage called ts = taken_by-carried kind draft coverage called ts
 
@@ -126,18 +129,18 @@ module _ {S T : Type 0} (from : Forms S) (to : Forms T) (h : S → T) (carries :
   unfolding tables_object after_tables
   tables_object-carried draft read ts =
       then-same (objects_map h) (name ts) _ _
-          (λ called ts2. then-same (objects_map h) (look ts2) _ _
-          (λ u ts3. tables_by-carried (item_ahead ts3) read.kind draft read.coverage called ts3))
+      (λ called ts2. then-same (objects_map h) (look ts2) _ _
+      (λ u ts3. tables_by-carried (item_ahead ts3) read.kind draft read.coverage called ts3))
 
   object_of-carried : (kind : ObjectKind) (draft : DraftOf S) (coverage : CoverageOf S) (ts : Items) →
       object_of to kind (draft_map h draft) (coverage_map h coverage) ts
-          ≡ mapped (objects_map h) (object_of from kind draft coverage ts)
+      ≡ mapped (objects_map h) (object_of from kind draft coverage ts)
   object_of-carried o.Table draft coverage ts = table_object-carried draft coverage ts
   object_of-carried o.Schema draft coverage ts = schema_object-carried h draft coverage ts
 
   object_by-carried : (item : Option Item) (kind : ObjectKind) (draft : DraftOf S) (read : ObjectsOf S) (ts : Items) →
       object_by to item kind (draft_map h draft) (objects_map h read) ts
-          ≡ mapped (objects_map h) (object_by from item kind draft read ts)
+      ≡ mapped (objects_map h) (object_by from item kind draft read ts)
   object_by-carried (Some (i.Keyword k.Table)) kind draft read ts =
       table_object-carried draft read.coverage (rest_of ts)
   object_by-carried (Some (i.Keyword k.Tables)) kind draft read ts = tables_object-carried draft read ts
@@ -166,7 +169,7 @@ module _ {S T : Type 0} (from : Forms S) (to : Forms T) (h : S → T) (carries :
   unfolding objects
   objects-carried draft ts =
       then-carried (objects_map h) (objects_map h) (first_object from draft nothing_covered ts)
-          (first_object to (draft_map h draft) nothing_covered ts) _ _ (first_object-carried draft nothing_covered ts)
+      (first_object to (draft_map h draft) nothing_covered ts) _ _ (first_object-carried draft nothing_covered ts)
       (repeat-carried (objects_map h) (link i.Comma (object from draft)) (link i.Comma (object to (draft_map h draft)))
       (link-carried (objects_map h) i.Comma (object from draft) (object to (draft_map h draft)) (object-carried draft)))
 
@@ -177,7 +180,7 @@ module _ {S T : Type 0} (from : Forms S) (to : Forms T) (h : S → T) (carries :
   unfolding listed_objects
   listed_objects-carried draft ts =
       then-carried (objects_map h) (coverage_map h) (objects from draft ts) (objects to (draft_map h draft) ts) _ _
-          (objects-carried draft ts) (λ read ts2. refl)
+      (objects-carried draft ts) (λ read ts2. refl)
 
   all_tables-carried : (ts : Items) → all_tables {S = T} ts ≡ mapped (coverage_map h) (all_tables {S = S} ts)
   unfolding all_tables
@@ -206,13 +209,18 @@ module _ {S T : Type 0} (from : Forms S) (to : Forms T) (h : S → T) (carries :
   unfolding create_publication
   create_publication-carried draft ts =
       let made : List (DraftPublicationOf T) → DraftOf T =
-          λ ps. record { schemas = draft.schemas; tables = draft.tables; publications = ps; subscriptions =
-          draft.subscriptions } in
+      λ ps. record {
+        schemas = draft.schemas;
+        tables = draft.tables;
+        publications = ps;
+        subscriptions =
+            draft.subscriptions;
+      } in
       then-carried (λ called. called) (draft_map h) (publication_name draft ts)
-          (publication_name (draft_map h draft) ts) _ _ (publication_name-same h draft ts) (λ called ts2.
+      (publication_name (draft_map h draft) ts) _ _ (publication_name-same h draft ts) (λ called ts2.
       then-carried (coverage_map h) (draft_map h) (for_clause from draft ts2) (for_clause to (draft_map h draft) ts2)
-          _ _ (for_clause-carried draft ts2) (λ coverage ts3.
+      _ _ (for_clause-carried draft ts2) (λ coverage ts3.
       then-same (draft_map h) (parameters_clause ts3) _ _ (λ given ts4.
       ap (λ ps. Ok (made ps, ts4))
-          (sym (map-append (draft_publication_map h) draft.publications
-          (record { name = called.text; publishes = published given.publishes; coverage = coverage } ∷ []))))))
+      (sym (map-append (draft_publication_map h) draft.publications
+      (record { name = called.text; publishes = published given.publishes; coverage = coverage } ∷ []))))))

@@ -14,7 +14,7 @@ use Rattle.pub_statements.specs.Identities.{index_named}
 module _ (columns : List Column) (indexes : List UniqueIndex) (called : PlacedName) {text : List ℕ} {place : Option ℕ}
     {number : ℕ} {told : Bool}
     (spelled : text ≡ called.text) (found : place ≡ find_index text indexes) (there : place ≡ Some number)
-        (tells : told ≡ identifies columns (slice_get indexes number)) where
+    (tells : told ≡ identifies columns (slice_get indexes number)) where
   is_found : find_index called.text indexes ≡ Some number
   is_found = sym (found ∙ ap (λ (text : List ℕ). find_index text indexes) spelled) ∙ there
 

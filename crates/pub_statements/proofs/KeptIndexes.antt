@@ -46,7 +46,7 @@ unfolding index_column
 index_column-gives columns numbers ts h =
     any-gives (AreColumns columns) (name ts) _ (λ called ts2.
     then-gives (λ (column : FoundColumn). column.number < length columns) (AreColumns columns)
-        (with_rest (known_column columns called) ts2) _ (known_column-gives columns called ts2) (λ column ts3 within.
+    (with_rest (known_column columns called) ts2) _ (known_column-gives columns called ts2) (λ column ts3 within.
     any-gives (AreColumns columns) (with_rest (once_in_index numbers called column) ts3) _ (λ n ts4.
     All-push (λ number. number < length columns) numbers column.number h within)))
 
@@ -54,9 +54,9 @@ index_columns-gives : (columns : List Column) (ts : Items) → Gives (AreColumns
 unfolding index_columns
 index_columns-gives columns ts =
     then-gives (AreColumns columns) (AreColumns columns) (index_column columns [] ts) _
-        (index_column-gives columns [] ts (All-nil (λ number. number < length columns))) (λ numbers ts2 h.
+    (index_column-gives columns [] ts (All-nil (λ number. number < length columns))) (λ numbers ts2 h.
     repeat-gives (AreColumns columns) (link i.Comma (index_column columns))
-        (link-gives (AreColumns columns) i.Comma (index_column columns) (index_column-gives columns)) numbers ts2 h)
+    (link-gives (AreColumns columns) i.Comma (index_column columns) (index_column-gives columns)) numbers ts2 h)
 
 pub index_body-gives : (columns : List Column) (ts : Items) → Gives (AreColumns columns) (index_body columns ts)
 unfolding index_body
@@ -64,7 +64,7 @@ index_body-gives columns ts =
     any-gives (AreColumns columns) (method ts) _ (λ u ts2.
     any-gives (AreColumns columns) (expect i.Open ts2) _ (λ a ts3.
     then-gives (AreColumns columns) (AreColumns columns) (index_columns columns ts3) _
-        (index_columns-gives columns ts3) (λ numbers ts4 h.
+    (index_columns-gives columns ts3) (λ numbers ts4 h.
     any-gives (AreColumns columns) (expect i.Close ts4) _ (λ b ts5.
     any-gives (AreColumns columns) (index_tail ts5) _ (λ v ts6. h)))))
 
@@ -78,7 +78,7 @@ check_new_index-gives : (tables : List Table) (number : ℕ) (called : PlacedNam
 unfolding check_new_index
 check_new_index-gives tables number called ts =
     room-gives (is_some (find_relation (schema_at tables number) called.text tables))
-        (nat_le 8 (length (indexes_at tables number))) (length (indexes_at tables number)) 8 _ _ ts
+    (nat_le 8 (length (indexes_at tables number))) (length (indexes_at tables number)) 8 _ _ ts
     (below 8 (length (indexes_at tables number)))
 
 pub indexed_table-gives : {S : Type 0} (draft : DraftOf S) (called : PlacedName) (ts : Items)
@@ -89,7 +89,7 @@ indexed_table-gives draft called ts =
     any-gives (HasRoom draft.tables) (eat (i.Keyword k.Only) ts2) _ (λ b ts3.
     any-gives (HasRoom draft.tables) (table_number draft ts3) _ (λ number ts4.
     then-gives (λ (u : Unit {0}). HasRoom draft.tables number) (HasRoom draft.tables)
-        (with_rest (check_new_index draft.tables number called) ts4) _
+    (with_rest (check_new_index draft.tables number called) ts4) _
     (check_new_index-gives draft.tables number called ts4) (λ n ts5 room. room))))
 
 -- ---- the identity of a table
@@ -113,7 +113,7 @@ module _ (columns : List Column) (indexes : List UniqueIndex) where
       any-gives (IsIdentity columns indexes) (expect (i.Keyword k.Using) ts) _ (λ a ts2.
       any-gives (IsIdentity columns indexes) (expect (i.Keyword k.Index) ts2) _ (λ b ts3.
       any-gives (IsIdentity columns indexes) (name ts3) _
-          (λ called ts4. by_index-gives called (find_index called.text indexes) ts4)))
+      (λ called ts4. by_index-gives called (find_index called.text indexes) ts4)))
 
   identity_by-gives : (item : Option Item) (ts : Items)
       → Gives (IsIdentity columns indexes) (identity_by columns indexes item ts)
@@ -127,7 +127,7 @@ module _ (columns : List Column) (indexes : List UniqueIndex) where
   unfolding replica_identity identity
   replica_identity-gives ts =
       any-gives (IsIdentity columns indexes) ((action >> expect (i.Keyword k.Identity)) ts) _
-          (λ a ts3. identity_by-gives (item_ahead ts3) ts3)
+      (λ a ts3. identity_by-gives (item_ahead ts3) ts3)
 
 -- ---- tables
 
@@ -154,8 +154,8 @@ pub identified-limited : (tables : List Table) (number : ℕ) (identity : Identi
 identified-limited [] number identity h is = h
 identified-limited (table ∷ tables) zero identity h is =
     All-cons IsSizedTable (record table { identity = identity }) tables
-        (with_identity table identity (All-head IsSizedTable table tables h) is)
-        (All-tail IsSizedTable table tables h)
+    (with_identity table identity (All-head IsSizedTable table tables h) is)
+    (All-tail IsSizedTable table tables h)
 identified-limited (table ∷ tables) (suc number) identity h is =
     All-cons IsSizedTable table (identified tables number identity) (All-head IsSizedTable table tables h)
     (identified-limited tables number identity (All-tail IsSizedTable table tables h) is)
@@ -192,7 +192,7 @@ pub indexed-limited : (tables : List Table) (number : ℕ) (index : UniqueIndex)
 indexed-limited [] number index h room is = h
 indexed-limited (table ∷ tables) zero index h room is =
     All-cons IsSizedTable (record table { indexes = table.indexes ++ index ∷ [] }) tables
-        (with_index table index (All-head IsSizedTable table tables h) room is) (All-tail IsSizedTable table tables h)
+    (with_index table index (All-head IsSizedTable table tables h) room is) (All-tail IsSizedTable table tables h)
 indexed-limited (table ∷ tables) (suc number) index h room is =
     All-cons IsSizedTable table (indexed tables number index) (All-head IsSizedTable table tables h)
     (indexed-limited tables number index (All-tail IsSizedTable table tables h) room is)

@@ -38,9 +38,9 @@ parts-cut text front back n is first second some =
     let inside : prefix_len is_part_byte text < length text = omega (arith, length-drop n text, ap length second) in
     let one_more : n + 1 ≡ suc (prefix_len is_part_byte text) = omega arith in
     let all : take (length back - 1) (drop 1 back) ≡ drop 1 back =
-        take_all (length back - 1) (drop 1 back) (omega (arith, length-drop 1 back)) in
+    take_all (length back - 1) (drop 1 back) (omega (arith, length-drop 1 back)) in
     let following : drop 1 back ≡ drop (suc (prefix_len is_part_byte text)) text = ap (drop 1) second
-        ∙ drop-drop 1 n text ∙ ap (λ k. drop k text) one_more in
+    ∙ drop-drop 1 n text ∙ ap (λ k. drop k text) one_more in
     let same_front : front ≡ take (prefix_len is_part_byte text) text = first ∙ ap (λ k. take k text) is in
     cut text inside ∙ rw (all, following, same_front) refl
 

@@ -80,21 +80,21 @@ fresh-leaves called (Some number) is_full limit ts = tt
 
 check_new_publication-leaves : {S : Type 0} (draft : DraftOf S) (called : PlacedName) (ts : Items)
     → Leaves (λ (u : Unit {0}) ts2. find_publication called.text draft.publications ≡ None)
-        (with_rest (check_new_publication draft called) ts)
+    (with_rest (check_new_publication draft called) ts)
 unfolding check_new_publication
 check_new_publication-leaves draft called ts =
     fresh-leaves called (find_publication called.text draft.publications) (nat_le 64 (length draft.publications))
-        Publications ts
+    Publications ts
 
 publication_name-new : {S : Type 0} (draft : DraftOf S) (ts : Items) → ArePlain ts
     → Leaves (λ called ts2. IsNew (λ text. find_publication text draft.publications) called) (publication_name draft ts)
 unfolding publication_name
 publication_name-new {S} draft ts h =
     let new : PlacedName → Items → Type 0 =
-        λ called ts2. IsNew (λ text. find_publication text draft.publications) called in
+    λ called ts2. IsNew (λ text. find_publication text draft.publications) called in
     then-leaves NamesPlain new (name ts) _ (name-plain ts h) (λ called ts2 named.
     then-leaves (λ (u : Unit {0}) ts3. find_publication called.text draft.publications ≡ None) new
-        (with_rest (check_new_publication draft called) ts2) _ (check_new_publication-leaves draft called ts2)
+    (with_rest (check_new_publication draft called) ts2) _ (check_new_publication-leaves draft called ts2)
     (λ u ts3 free. (named.0, free)))
 
 more_taken : (subscriptions : List Subscription) (count more : ℕ) → count ≤ more
@@ -107,7 +107,7 @@ with_publication-named : {S : Type 0} (draft : DraftOf S) (called : PlacedName) 
     → IsNamedDraft draft → IsNamedDraft (with_publication draft called coverage given)
 with_publication-named {S} draft called coverage given new named =
     let one : DraftPublicationOf S =
-        record { name = called.text; publishes = published given.publishes; coverage = coverage } in
+    record { name = called.text; publishes = published given.publishes; coverage = coverage } in
     record {
       tables = named.tables;
       publications = own_push (λ (p : DraftPublicationOf S). p.name) draft.publications one named.publications new.0
@@ -123,10 +123,10 @@ unfolding create_publication
 create_publication-named forms draft ts h named =
     let new : PlacedName → Type 0 = IsNew (λ text. find_publication text draft.publications) in
     then-gives new IsNamedDraft (publication_name draft ts) _ (first_of new _ (publication_name-new draft ts h))
-        (λ called ts2 is_new.
+    (λ called ts2 is_new.
     any-gives IsNamedDraft (for_clause forms draft ts2) _ (λ coverage ts3.
     any-gives IsNamedDraft (parameters_clause ts3) _
-        (λ given ts4. with_publication-named draft called coverage given is_new named)))
+    (λ given ts4. with_publication-named draft called coverage given is_new named)))
 
 -- ---- the publications of a subscription
 
@@ -177,7 +177,7 @@ one_publication-gives draft numbers ts h =
     let count = length draft.publications in
     any-gives (AreTaken count) (name ts) _ (λ called ts2.
     then-gives (IsFree count numbers) (AreTaken count) (with_rest (subscribed draft numbers called) ts2) _
-        (subscribed-gives draft numbers called ts2) (λ number ts3 free.
+    (subscribed-gives draft numbers called ts2) (λ number ts3 free.
     record {
       some = omega (arith, length_push numbers number);
       once = IsDistinct-push nat_eq_equiv numbers number h.0 (turned_any number numbers ∙ free.1);
@@ -190,10 +190,10 @@ unfolding publication_list
 publication_list-gives draft ts =
     let count = length draft.publications in
     then-gives (AreTaken count) (AreTaken count) (one_publication draft [] ts) _
-        (one_publication-gives draft [] ts (none_known count)) (λ numbers ts2 taken.
+    (one_publication-gives draft [] ts (none_known count)) (λ numbers ts2 taken.
     repeat-gives (AreTaken count) (link i.Comma (one_publication draft))
     (link-gives (AreTaken count) i.Comma (one_publication draft)
-        (λ others ts3 h. one_publication-gives draft others ts3 (h.once, h.known))) numbers ts2 taken)
+    (λ others ts3 h. one_publication-gives draft others ts3 (h.once, h.known))) numbers ts2 taken)
 
 subscription_body-gives : {S : Type 0} (draft : DraftOf S) (ts : Items)
     → Gives (AreTaken (length draft.publications)) (subscription_body draft ts)
@@ -204,36 +204,36 @@ subscription_body-gives draft ts =
     any-gives (AreTaken count) (expect i.Text ts2) _ (λ b ts3.
     any-gives (AreTaken count) (expect (i.Keyword k.Publication) ts3) _ (λ c ts4.
     then-gives (AreTaken count) (AreTaken count) (publication_list draft ts4) _ (publication_list-gives draft ts4)
-        (λ numbers ts5 taken.
+    (λ numbers ts5 taken.
     any-gives (AreTaken count) (subscription_tail ts5) _ (λ d ts6. taken)))))
 
 -- ---- CREATE SUBSCRIPTION
 
 check_new_subscription-leaves : {S : Type 0} (draft : DraftOf S) (called : PlacedName) (ts : Items)
     → Leaves (λ (u : Unit {0}) ts2. find_subscription called.text draft.subscriptions ≡ None)
-        (with_rest (check_new_subscription draft called) ts)
+    (with_rest (check_new_subscription draft called) ts)
 unfolding check_new_subscription
 check_new_subscription-leaves draft called ts =
     fresh-leaves called (find_subscription called.text draft.subscriptions) (nat_le 32 (length draft.subscriptions))
-        Subscriptions ts
+    Subscriptions ts
 
 subscription_name-new : {S : Type 0} (draft : DraftOf S) (ts : Items) → ArePlain ts
     → Leaves (λ called ts2. IsNew (λ text. find_subscription text draft.subscriptions) called)
-        (subscription_name draft ts)
+    (subscription_name draft ts)
 unfolding subscription_name
 subscription_name-new draft ts h =
     let new : PlacedName → Items → Type 0 =
-        λ called ts2. IsNew (λ text. find_subscription text draft.subscriptions) called in
+    λ called ts2. IsNew (λ text. find_subscription text draft.subscriptions) called in
     then-leaves NamesPlain new (name ts) _ (name-plain ts h) (λ called ts2 named.
     then-leaves (λ (u : Unit {0}) ts3. find_subscription called.text draft.subscriptions ≡ None) new
-        (with_rest (check_new_subscription draft called) ts2) _ (check_new_subscription-leaves draft called ts2)
+    (with_rest (check_new_subscription draft called) ts2) _ (check_new_subscription-leaves draft called ts2)
     (λ u ts3 free. (named.0, free)))
 
 with_subscription-named : {S : Type 0} (draft : DraftOf S) (called : PlacedName) (numbers : List ℕ)
     → IsNew (λ text. find_subscription text draft.subscriptions) called
     → AreTaken (length draft.publications) numbers → IsNamedDraft draft
     → IsNamedDraft (record draft
-        { subscriptions = draft.subscriptions ++ record { name = called.text; publications = numbers } ∷ [] })
+    { subscriptions = draft.subscriptions ++ record { name = called.text; publications = numbers } ∷ [] })
 with_subscription-named draft called numbers new taken named =
     let one : Subscription = record { name = called.text; publications = numbers } in
     record {
@@ -249,20 +249,25 @@ unfolding create_subscription
 create_subscription-named draft ts h named =
     let new : PlacedName → Type 0 = IsNew (λ text. find_subscription text draft.subscriptions) in
     then-gives new IsNamedDraft (subscription_name draft ts) _ (first_of new _ (subscription_name-new draft ts h))
-        (λ called ts2 is_new.
+    (λ called ts2 is_new.
     then-gives (AreTaken (length draft.publications)) IsNamedDraft (subscription_body draft ts2) _
-        (subscription_body-gives draft ts2) (λ numbers ts3 taken.
+    (subscription_body-gives draft ts2) (λ numbers ts3 taken.
     with_subscription-named draft called numbers is_new taken named))
 
 -- ---- the start and the end of the catalog
 
 pub none_named : {S : Type 0} → IsNamedDraft {S = S} no_draft
-none_named = record { tables = All-nil IsNamed; publications = own_none; subscriptions = own_none; taken =
-    All-nil (TakesKnown 0) }
+none_named = record {
+  tables = All-nil IsNamed;
+  publications = own_none;
+  subscriptions = own_none;
+  taken =
+      All-nil (TakesKnown 0);
+}
 
 pub resolved_names : {S : Type 0} (tables : List Table) (publications : List (DraftPublicationOf S))
     → map (λ (p : PublicationOf S). p.name) (map (resolved_publication tables) publications)
-        ≡ map (λ (p : DraftPublicationOf S). p.name) publications
+    ≡ map (λ (p : DraftPublicationOf S). p.name) publications
 resolved_names tables [] = refl
 resolved_names tables (publication ∷ publications) =
     ap (λ names. publication.name ∷ names) (resolved_names tables publications)

@@ -43,8 +43,8 @@ pub names-push : {A : Type 0} (name_of : A → List ℕ) (text : List ℕ) (name
     new_names ≡ with_name names text → ys ≡ xs ++ x ∷ [] → new_names ≡ map name_of ys
 names-push name_of text names new_names xs ys x same is free added pushed =
     let absent : position (bytes_eq text) names ≡ None = position-by_names text name_of names xs same
-        ∙ ap (λ t. position (λ y. bytes_eq t (name_of y)) xs) is ∙ free in
+    ∙ ap (λ t. position (λ y. bytes_eq t (name_of y)) xs) is ∙ free in
     let none : list_any (bytes_eq text) names ≡ false = position-none (bytes_eq text) names absent in
     let grown : with_name names text ≡ names ++ text ∷ [] = rw none refl in
     added ∙ grown ∙ ap (λ ns. ns ++ text ∷ []) same ∙ ap (λ t. map name_of xs ++ t ∷ []) is
-        ∙ sym (map-append name_of xs (x ∷ [])) ∙ ap (map name_of) (sym pushed)
+    ∙ sym (map-append name_of xs (x ∷ [])) ∙ ap (map name_of) (sym pushed)

@@ -107,28 +107,47 @@ resolved_entries tables coverage =
 
 abbrev pub resolved_publication : {S : Type 0} → List Table → DraftPublicationOf S → PublicationOf S
 resolved_publication tables publication =
-    record { name = publication.name; publishes = publication.publishes; entries =
-    resolved_entries tables publication.coverage }
+    record {
+      name = publication.name;
+      publishes = publication.publishes;
+      entries =
+          resolved_entries tables publication.coverage;
+    }
 
 -- the catalog, once all tables are made
 abbrev pub resolved : {S : Type 0} → DraftOf S → CatalogOf S
-resolved draft = record
-    { tables = draft.tables; publications =
-    map (resolved_publication draft.tables) draft.publications; subscriptions = draft.subscriptions }
+resolved draft = record {
+  tables = draft.tables;
+  publications =
+      map (resolved_publication draft.tables) draft.publications;
+  subscriptions = draft.subscriptions;
+}
 
 -- ---- the same with other filters
 
 abbrev pub coverage_map : {S T : Type 0} → (S → T) → CoverageOf S → CoverageOf T
 coverage_map f coverage =
-    record { entries = map (entry_map f) coverage.entries; schemas = coverage.schemas; everything =
-    coverage.everything }
+    record {
+      entries = map (entry_map f) coverage.entries;
+      schemas = coverage.schemas;
+      everything =
+          coverage.everything;
+    }
 
 abbrev pub draft_publication_map : {S T : Type 0} → (S → T) → DraftPublicationOf S → DraftPublicationOf T
 draft_publication_map f publication =
-    record { name = publication.name; publishes = publication.publishes; coverage =
-    coverage_map f publication.coverage }
+    record {
+      name = publication.name;
+      publishes = publication.publishes;
+      coverage =
+          coverage_map f publication.coverage;
+    }
 
 abbrev pub draft_map : {S T : Type 0} → (S → T) → DraftOf S → DraftOf T
-draft_map f draft = record
-    { schemas = draft.schemas; tables = draft.tables; publications =
-    map (draft_publication_map f) draft.publications; subscriptions = draft.subscriptions }
+draft_map f draft = record {
+  schemas = draft.schemas;
+  tables = draft.tables;
+  publications =
+      map (draft_publication_map f) draft.publications;
+  subscriptions = draft.subscriptions;
+}

@@ -31,7 +31,7 @@ abbrev pub by_index : List Column → List UniqueIndex → PlacedName → Option
 by_index columns indexes called None = Err (fault called.place w.UnknownName)
 by_index columns indexes called (Some number) =
     if identifies columns (slice_get indexes number) then
-        Ok (Index number) else Err (fault called.place w.NullableIndex)
+    Ok (Index number) else Err (fault called.place w.NullableIndex)
 
 -- the identity by the index of this name, of a table that has these columns and indexes
 unfoldable pub index_named : List Column → List UniqueIndex → PlacedName → Verdict Identity

@@ -24,7 +24,7 @@ use Rattle.pub_statements.specs.TableNames.{table_number}
 unfoldable pub check_new_index : List Table → ℕ → PlacedName → Verdict (Unit {0})
 check_new_index tables number called =
     fresh called (find_relation (schema_at tables number) called.text tables)
-        (nat_le 8 (length (indexes_at tables number))) Indexes
+    (nat_le 8 (length (indexes_at tables number))) Indexes
 
 -- ---- the method
 

@@ -42,9 +42,9 @@ is_filtered number entry = entry.table == number && is_some entry.filter
 unfoldable pub table_mentioned : {S : Type 0} → CoverageOf S → ℕ → EntryOf S → Verdict (CoverageOf S)
 table_mentioned coverage place entry =
     if not (list_any (is_of entry.table) coverage.entries) then
-        Ok (record coverage { entries = coverage.entries ++ entry ∷ [] })
+    Ok (record coverage { entries = coverage.entries ++ entry ∷ [] })
     else if is_some entry.filter || list_any (is_filtered entry.table) coverage.entries then
-        Err (fault place w.TableTwice)
+    Err (fault place w.TableTwice)
     else Ok coverage
 
 -- ---- WHERE

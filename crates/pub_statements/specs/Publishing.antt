@@ -41,8 +41,8 @@ publish given = do
 abbrev pub is_boolean : List ℕ → Bool
 is_boolean word =
     str_eq_ignore_ascii_case word (codes "true")
-        || (str_eq_ignore_ascii_case word (codes "false")
-        || (str_eq_ignore_ascii_case word (codes "on") || str_eq_ignore_ascii_case word (codes "off")))
+    || (str_eq_ignore_ascii_case word (codes "false")
+    || (str_eq_ignore_ascii_case word (codes "on") || str_eq_ignore_ascii_case word (codes "off")))
 
 abbrev pub boolean_taken : Bool → Rule (Unit {0})
 boolean_taken true = advance

@@ -65,5 +65,7 @@ unfoldable pub create_subscription : {S : Type 0} → DraftOf S → Rule (DraftO
 create_subscription draft = do
   called ← subscription_name draft
   numbers ← subscription_body draft
-  pure (record draft { subscriptions =
-      draft.subscriptions ++ record { name = called.text; publications = numbers } ∷ [] })
+  pure (record draft {
+    subscriptions =
+        draft.subscriptions ++ record { name = called.text; publications = numbers } ∷ [];
+  })

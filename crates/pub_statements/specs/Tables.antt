@@ -17,8 +17,15 @@ keyed called parts = if has_key parts then Ok tt else Err (fault called.place w.
 
 abbrev pub table_of : NewName → Parts → Table
 table_of called parts =
-    record { schema = called.schema; name = called.name.text; columns = parts.columns; key = parts.key; indexes =
-    []; identity = Default }
+    record {
+      schema = called.schema;
+      name = called.name.text;
+      columns = parts.columns;
+      key = parts.key;
+      indexes =
+          [];
+      identity = Default;
+    }
 
 -- the words after the elements at which a clause begins that is left out
 abbrev pub tail_by : Option Item → Rule (Unit {0})

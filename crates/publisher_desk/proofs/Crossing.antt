@@ -24,12 +24,16 @@ module _ (Q : RattleType) (p : pub_.Ghosts Q.Denot) (l : led.Ghosts Q.Denot) whe
   pub desk_send : IsSend (D.the_row Q p l)
   desk_send = view_send _ _ _ _ _ (recorded_send (DI.the_field Q p l).row _ _ (DI.the_type Q p l).to_one
       (struct_send (shape (DI.the_type Q p l))
-          (book_field_send, (LB.the_send Q l, (Vec-send W.the_row wish_send, (search sendable, tt))))))
+      (book_field_send, (LB.the_send Q l, (Vec-send W.the_row wish_send, (search sendable, tt))))))
 
   publisher_field_sync : IsSync (PI.the_field Q p l).row
-  publisher_field_sync = struct_sync (shape (PI.the_type Q p l))
-      (search sendable, (Arc-sync C.the_row checked_send checked_sync,
-          (search (desk_send, crosses), (search (sendable, crosses) depth 40, tt))))
+  publisher_field_sync = struct_sync (shape (PI.the_type Q p l)) (
+    search sendable,
+    (
+      Arc-sync C.the_row checked_send checked_sync,
+      (search (desk_send, crosses), (search (sendable, crosses) depth 40, tt)),
+    ),
+  )
 
   pub publisher_sync : IsSync (P.the_row Q p l)
   publisher_sync = view_sync _ _ _ _ _

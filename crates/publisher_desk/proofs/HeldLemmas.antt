@@ -32,15 +32,20 @@ log_of : (checked : CheckedOf) (book : Book) (transactions : List Transaction) �
     → StandsFor book transactions → IsLogOf checked transactions (book_log book)
 log_of checked book transactions named stands =
     subst (λ (one : CheckedOf). IsLogOf one transactions (book_log book)) named
-        (record { accepted = stands.accepted; entries = stands.log })
+    (record { accepted = stands.accepted; entries = stands.log })
 
 pub new_held : (one checked : CheckedOf) (book : Book) (limit most total count : ℕ) (idle : Wish) (wishes : List Wish)
     → IsNew book one limit → one ≡ checked → limit ≡ most → total ≡ 0
     → idle.sent ≡ 0 → wishes ≡ replicate count idle → count ≡ length checked.catalog.subscriptions
     → IsHeldFor checked most book total wishes
 new_held one checked book limit most total count idle wishes new same bound none unsent all long = record {
-  is = record { named = new.checked_is ∙ same; limited = new.limit_is ∙ bound; transactions = []; stands =
-      new_stands book one limit new };
+  is = record {
+    named = new.checked_is ∙ same;
+    limited = new.limit_is ∙ bound;
+    transactions = [];
+    stands =
+        new_stands book one limit new;
+  };
   counted = ap length new.log ∙ sym none;
   slots = ap length all ∙ length-replicate count idle ∙ long;
   sent = subst (All (λ (wish : Wish). wish.sent ≤ end_after (length (book_log book)))) (sym all)
@@ -53,7 +58,7 @@ commit_held : (checked : CheckedOf) (limit : ℕ) (old new : Book) (commands : L
     → IsHeldFor checked limit old total wishes → IsHeldFor checked limit new more wishes
 commit_held checked limit old new commands time number total more wishes commits one held =
     let longer : length (book_log new) ≡ length (book_log old) + 1 = ap length commits.log
-        ∙ length-append (book_log old) _ in
+    ∙ length-append (book_log old) _ in
     record {
       is = record {
         named = commits.checked ∙ held.is.named;
@@ -90,7 +95,7 @@ made_held checked limit old new commands time total more wishes (Ok number) comm
     commit_held checked limit old new commands time number total more wishes commits one held
 made_held checked limit old new commands time total more wishes (Err error) commits kept one same held =
     subst (λ (n : ℕ). IsHeldFor checked limit new n wishes) (sym same)
-        (slots_held checked limit old new (book_slots old) total wishes kept held)
+    (slots_held checked limit old new (book_slots old) total wishes kept held)
 
 -- ---- answers
 
@@ -178,7 +183,7 @@ module _ (checked : CheckedOf) (limit : ℕ) (old : Book) (is : IsBookOf checked
   is_refused commands error refused =
       subst (λ (n : ℕ). IsRefused checked n commands error) is.limited
       (subst (λ (one : CheckedOf). IsRefused one (book_limit old) commands error) is.named
-          (refused_in commands error refused))
+      (refused_in commands error refused))
 
   pub commits_refuse : (commands : List Command) (result : Result ℕ CommitError)
       → IfErr result (RefusedBy old commands) → IfErr result (IsRefused checked limit commands)
@@ -189,5 +194,11 @@ module _ (checked : CheckedOf) (limit : ℕ) (old : Book) (is : IsBookOf checked
 pub slots_left : (old new : Book) (slots : List Slot) → ChangesSlots old new slots
     → ChangesSlots old new (book_slots new)
 slots_left old new slots changes =
-    record { checked = changes.checked; limit = changes.limit; rows = changes.rows; log = changes.log; slots_are =
-    refl }
+    record {
+      checked = changes.checked;
+      limit = changes.limit;
+      rows = changes.rows;
+      log = changes.log;
+      slots_are =
+          refl;
+    }

@@ -30,7 +30,7 @@ has_fault : (checked : CheckedOf) (book : Book) (commands : List Command) (error
     → HasFault (setting_in checked) commands error
 has_fault checked book commands error named refused =
     subst (λ (one : CheckedOf). HasFault (setting_in one) commands error) named
-        (has_fault_in book commands error refused)
+    (has_fault_in book commands error refused)
 
 pub commits_have_faults : (checked : CheckedOf) (book : Book) (commands : List Command) → book_checked book ≡ checked
     → (result : Result ℕ CommitError) → IfErr result (RefusedBy book commands)

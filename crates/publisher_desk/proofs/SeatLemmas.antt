@@ -37,7 +37,7 @@ later_of (first ∷ notes) number low = by_test (ltb number (number_of first))
     (λ here. record { place = 0; note = first; at = refl; later = ltb-true number (number_of first) here })
     (λ beside.
     let rest : HasLater notes number =
-        later_of notes number (omega (arith, ltb-false number (number_of first) beside)) in
+    later_of notes number (omega (arith, ltb-false number (number_of first) beside)) in
     record { place = suc rest.place; note = rest.note; at = rest.at; later = rest.later })
 
 later_found : (notes seen : List Note) (high number : ℕ) → notes ≡ seen → high ≡ highest notes → number < high
@@ -58,9 +58,11 @@ receipts_seen notes seen amount count same is low = let receipts_are : receipts 
 pub behind : (notes seen : List Note) (high number amount tables table : ℕ) → notes ≡ seen → high ≡ highest notes
     → amount ≡ receipts notes → number < high → amount ≤ number → table < tables
     → HasLater seen number × (receipts seen ≤ number) × (table < tables)
-behind notes seen high number amount tables table same high_is counted low bound there =
-    (later_found notes seen high number same high_is low, receipts_seen notes seen amount number same counted bound,
-        there)
+behind notes seen high number amount tables table same high_is counted low bound there = (
+  later_found notes seen high number same high_is low,
+  receipts_seen notes seen amount number same counted bound,
+  there,
+)
 
 pub up_to_seen : (notes seen : List Note) (high number : ℕ) → notes ≡ seen → high ≡ highest notes → high ≤ number
     → AreUpTo number seen
@@ -75,8 +77,8 @@ forward_more : (notes : List Note) (note : Note)
 forward_more notes note up forward earlier place before reading low at found = by_test (place == length notes)
     (λ here. let same : place ≡ length notes = number_is place (length notes) here in
     let last : note ≡ Looked reading =
-        some_is note (Looked reading)
-        (sym (get_last notes note) ∙ ap (slice_get (notes ++ note ∷ [])) (sym same) ∙ found) in
+    some_is note (Looked reading)
+    (sym (get_last notes note) ∙ ap (slice_get (notes ++ note ∷ [])) (sym same) ∙ found) in
     let apart : earlier ≢ length notes = omega arith in
     up reading last earlier before (sym (get_front notes note earlier apart) ∙ at))
     (λ beside. let apart : place ≢ length notes = number_apart place (length notes) beside in
@@ -117,7 +119,7 @@ reading_kept notes reading high last parts more amount count last_is low same st
   high_is = let push = highest_append notes (Looked reading ∷ []) in omega (arith, push, seat.high_is);
   forward = forward_more notes (Looked reading)
       (λ other same. let number : reading.number ≡ other.number = ap number_of same in
-          up_to_number notes high other.number seat.high_is (omega (arith, number))) seat.forward;
+      up_to_number notes high other.number seat.high_is (omega (arith, number))) seat.forward;
 }
 
 -- ---- notes that were pushed onto a list with room
@@ -129,14 +131,14 @@ module _ (notes roomy all : List Note) (same : roomy ≡ notes) where
       → IsSeat notes high parts amount → IsSeat all last more count
   receipt_pushed receipt high last number parts more amount count pushed number_is last_is timed more_is count_is seat =
       subst (λ (list : List Note). IsSeat list last more count)
-          (sym (pushed ∙ ap (λ (list : List Note). list ++ Committed receipt ∷ []) same))
+      (sym (pushed ∙ ap (λ (list : List Note). list ++ Committed receipt ∷ []) same))
       (receipt_kept notes receipt high last parts more amount count (omega (arith, last_is, number_is)) timed more_is
-          count_is seat)
+      count_is seat)
 
   pub reading_pushed : (reading : Reading) (high number parts more amount count : ℕ)
       → all ≡ roomy ++ Looked reading ∷ [] → reading.number ≡ number → high ≤ number
       → more ≡ parts → count ≡ amount → IsSeat notes high parts amount → IsSeat all number more count
   reading_pushed reading high number parts more amount count pushed number_is low more_is count_is seat =
       subst (λ (list : List Note). IsSeat list number more count)
-          (sym (pushed ∙ ap (λ (list : List Note). list ++ Looked reading ∷ []) same))
+      (sym (pushed ∙ ap (λ (list : List Note). list ++ Looked reading ∷ []) same))
       (reading_kept notes reading high number parts more amount count (sym number_is) low more_is count_is seat)

@@ -31,7 +31,7 @@ share_by_more : (filters : List (Option Expr)) (more : Option Expr)
 share_by_more filters None = by_test (list_any is_none filters)
     (λ e. rw (list_any-append is_none filters (None ∷ []), e) refl)
     (λ e. rw (list_any-append is_none filters (None ∷ []), e)
-        (sym (joined_whole (any_of (filter_map (λ f. f) filters)))))
+    (sym (joined_whole (any_of (filter_map (λ f. f) filters)))))
 share_by_more filters (Some more) = by_test (list_any is_none filters)
     (λ e. rw (list_any-append is_none filters (Some more ∷ []), e) refl)
     (λ e. rw (list_any-append is_none filters (Some more ∷ []), e)
@@ -43,10 +43,10 @@ filters_for-append : (table : ℕ) (entries more : List (EntryOf Expr))
     → filters_for table (entries ++ more) ≡ filters_for table entries ++ filters_for table more
 filters_for-append table entries more =
     ap (map (λ (entry : EntryOf Expr). entry.filter))
-        (filter-append (λ (entry : EntryOf Expr). entry.table == table) entries more)
+    (filter-append (λ (entry : EntryOf Expr). entry.table == table) entries more)
     ∙ map-append (λ (entry : EntryOf Expr). entry.filter)
-        (filter (λ (entry : EntryOf Expr). entry.table == table) entries)
-        (filter (λ (entry : EntryOf Expr). entry.table == table) more)
+    (filter (λ (entry : EntryOf Expr). entry.table == table) entries)
+    (filter (λ (entry : EntryOf Expr). entry.table == table) more)
 
 abbrev only_if : Bool → EntryOf Expr → List (Option Expr)
 only_if test entry = map (λ (e : EntryOf Expr). e.filter) (if test then entry ∷ [] else [])
@@ -55,14 +55,14 @@ share_in_more : (entries : List (EntryOf Expr)) (entry : EntryOf Expr) (table : 
     → share_in (entries ++ entry ∷ []) table ≡ joined (share_in entries table) entry.filter
 share_in_more entries entry table e =
     ap share_by (filters_for-append table entries (entry ∷ [])
-        ∙ ap (λ b. filters_for table entries ++ only_if b entry) e)
+    ∙ ap (λ b. filters_for table entries ++ only_if b entry) e)
     ∙ share_by_more (filters_for table entries) entry.filter
 
 share_in_same : (entries : List (EntryOf Expr)) (entry : EntryOf Expr) (table : ℕ) → (entry.table == table) ≡ false
     → share_in (entries ++ entry ∷ []) table ≡ share_in entries table
 share_in_same entries entry table e =
     ap share_by (filters_for-append table entries (entry ∷ [])
-        ∙ ap (λ b. filters_for table entries ++ only_if b entry) e ∙ append-nil (filters_for table entries))
+    ∙ ap (λ b. filters_for table entries ++ only_if b entry) e ∙ append-nil (filters_for table entries))
 
 -- ---- in the list of the tables
 
@@ -86,23 +86,23 @@ shares_same : (entries : List (EntryOf Expr)) (entry : EntryOf Expr) (k : ℕ) (
 shares_same entries entry k [] h = refl
 shares_same entries entry k (table ∷ tables) h =
     ap (λ share. share ∷ shares_from (entries ++ entry ∷ []) (k + 1) tables)
-        (share_in_same entries entry k (earlier_number entry.table k h))
+    (share_in_same entries entry k (earlier_number entry.table k h))
     ∙ ap (λ shares. share_in entries k ∷ shares) (shares_same entries entry (k + 1) tables (omega arith))
 
 joined_from : (entries : List (EntryOf Expr)) (entry : EntryOf Expr) (k j : ℕ) (tables : List Table)
     → entry.table ≡ k + j →
     shares_from (entries ++ entry ∷ []) k tables
-        ≡ slice_set (shares_from entries k tables) j
-        (joined (slice_index_or (shares_from entries k tables) j Nothing) entry.filter)
+    ≡ slice_set (shares_from entries k tables) j
+    (joined (slice_index_or (shares_from entries k tables) j Nothing) entry.filter)
 joined_from entries entry k j [] e = refl
 joined_from entries entry k zero (table ∷ tables) e =
     ap (λ share. share ∷ shares_from (entries ++ entry ∷ []) (k + 1) tables)
-        (share_in_more entries entry k (ap (λ n. n == k) e ∙ same_number k))
+    (share_in_more entries entry k (ap (λ n. n == k) e ∙ same_number k))
     ∙ ap (λ shares. joined (share_in entries k) entry.filter ∷ shares)
-        (shares_same entries entry (k + 1) tables (omega arith))
+    (shares_same entries entry (k + 1) tables (omega arith))
 joined_from entries entry k (suc j) (table ∷ tables) e =
     ap (λ share. share ∷ shares_from (entries ++ entry ∷ []) (k + 1) tables)
-        (share_in_same entries entry k (ap (λ n. n == k) e ∙ later_number k j))
+    (share_in_same entries entry k (ap (λ n. n == k) e ∙ later_number k j))
     ∙ ap (λ shares. share_in entries k ∷ shares) (joined_from entries entry (k + 1) j tables (e ∙ next_sum k j))
 
 joined_on : (entries more : List (EntryOf Expr)) (tables : List Table)

@@ -14,7 +14,7 @@ below_next column n = by_test (nat_lt column n)
     (λ h. by_test (n == column)
     (λ e. let same : n ≡ column = (unsigned_Decides n column).0 e in rw (h, e) (grind (arith, nat_tests)))
     (λ e. rw (h, e) (by_test (nat_lt column (suc n)) (λ k. absurd (eqb-false n column e (grind (arith, nat_tests))))
-        (λ k. k))))
+    (λ k. k))))
 
 none_below : (column : ℕ) → nat_lt column 0 ≡ false
 none_below column = grind (arith, nat_tests)

@@ -21,7 +21,7 @@ agree_ties : (columns : List ℕ) (one other : List Datum)
 agree_ties [] one other = refl
 agree_ties (column ∷ columns) one other =
     both_tied (agree_at one other column) (agree_in one other columns)
-        (datum_cmp (value_at one column) (value_at other column))
+    (datum_cmp (value_at one column) (value_at other column))
     (row_cmp (values_at columns one) (values_at columns other)) refl (agree_ties columns one other)
 
 agree_same : (columns : List ℕ) (one other : List Datum)
@@ -33,13 +33,13 @@ pub none_of_kept : (columns : List ℕ) (old new : List Datum) → agree_in old 
     → key_part columns old (Some new) ≡ None
 none_of_kept columns old new h =
     let kept : same_row (values_at columns old) (values_at columns new) ≡ true = sym (agree_same columns old new)
-        ∙ h in rw kept refl
+    ∙ h in rw kept refl
 
 pub key_of_changed : (columns : List ℕ) (old new : List Datum) → agree_in old new columns ≡ false
     → key_part columns old (Some new) ≡ Some (r.Key (blanked_from columns 0 old))
 key_of_changed columns old new h =
     let changed : same_row (values_at columns old) (values_at columns new) ≡ false = sym (agree_same columns old new)
-        ∙ h in rw changed refl
+    ∙ h in rw changed refl
 
 -- ---- by the replica identity
 

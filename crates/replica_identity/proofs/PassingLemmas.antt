@@ -96,13 +96,13 @@ one_lets table row (Some publication) rest later e = ap (λ b. carries table row
 
 publications_let : (table : ℕ) (row : List Datum) (publications : List (PublicationOf Expr)) (numbers : List ℕ) →
     list_any (entry_carries table row) (entries_listed publications numbers)
-        ≡ list_any (carries table row) (filter_map (slice_get publications) numbers)
+    ≡ list_any (carries table row) (filter_map (slice_get publications) numbers)
 publications_let table row publications [] = refl
 publications_let table row publications (number ∷ numbers) =
     list_any-append (entry_carries table row) (entries_at publications number) (entries_listed publications numbers)
     ∙ one_lets table row (slice_get publications number) (filter_map (slice_get publications) numbers)
-        (list_any (entry_carries table row) (entries_listed publications numbers))
-        (publications_let table row publications numbers)
+    (list_any (entry_carries table row) (entries_listed publications numbers))
+    (publications_let table row publications numbers)
 
 -- ---- shares of tables
 
@@ -119,11 +119,11 @@ no_more n = omega arith
 one_takes : (catalog : CatalogOf Expr) (subscription : Subscription) (table : ℕ) (row : List Datum)
     → table < length catalog.tables →
     takes (slice_index_or (shares_for catalog subscription) table Nothing) row
-        ≡ list_any (carries table row) (listed_by catalog.publications (Some subscription))
+    ≡ list_any (carries table row) (listed_by catalog.publications (Some subscription))
 one_takes catalog subscription table row h =
     let entries = entries_listed catalog.publications subscription.publications in
     ap (λ share. takes share row)
-        (share_in_list entries 0 table catalog.tables h ∙ ap (share_in entries) (no_more table))
+    (share_in_list entries 0 table catalog.tables h ∙ ap (share_in entries) (no_more table))
     ∙ takes_what_lets (filters_for table entries) row
     ∙ entries_let table row entries
     ∙ publications_let table row catalog.publications subscription.publications

@@ -35,7 +35,7 @@ joined_past shares entry h =
 set_joined : (shares : List (Share Global)) (i : ℕ) (share made : Share Global) (more : Option Expr)
     → i < length shares → share ≡ slice_index_or shares i share → share_view made ≡ joined (share_view share) more →
     map share_view (slice_set shares i made)
-        ≡ slice_set (map share_view shares) i (joined (slice_index_or (map share_view shares) i Nothing) more)
+    ≡ slice_set (map share_view shares) i (joined (slice_index_or (map share_view shares) i Nothing) more)
 set_joined [] i share made more h is e = absurd (omega arith)
 set_joined (first ∷ shares) zero share made more h is e =
     ap (λ (s : ShareOf). s ∷ map share_view shares) (e ∙ ap (λ (s : Share Global). joined (share_view s) more) is)

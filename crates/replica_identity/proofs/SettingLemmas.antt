@@ -57,7 +57,7 @@ numbers_after : (n : ℕ) → numbers_to (suc n) ≡ 0 ∷ map suc (numbers_to n
 numbers_after zero = refl
 numbers_after (suc n) =
     ap (λ numbers. numbers ++ suc n ∷ []) (numbers_after n)
-        ∙ ap (λ numbers. 0 ∷ numbers) (sym (map_append suc (numbers_to n) (n ∷ [])))
+    ∙ ap (λ numbers. 0 ∷ numbers) (sym (map_append suc (numbers_to n) (n ∷ [])))
 
 values_after : (cell : Datum) (row : List Datum) (numbers : List ℕ)
     → values_at (map suc numbers) (cell ∷ row) ≡ values_at numbers row
@@ -77,7 +77,7 @@ by_columns Default table row is wide = refl
 by_columns (Index number) table row is wide = refl
 by_columns Full table row is wide =
     sym (all_values row) ∙ ap (λ n. values_at (numbers_to n) row) wide
-        ∙ ap (λ identity. values_at (columns_by identity table) row) (sym is)
+    ∙ ap (λ identity. values_at (columns_by identity table) row) (sym is)
 by_columns Nothing table row is wide = refl
 
 pub columns_identify : (table : Table) (row : List Datum) → length row ≡ length table.columns

@@ -99,12 +99,7 @@ fn key_part(
 /// are want of memory, and that the row is shared too often.
 ///
 /// PostgreSQL 15, SQL Commands, ALTER TABLE (REPLICA IDENTITY).
-#[tactic(auto, using(
-    crate::proofs::PartLemmas::by_default,
-    crate::proofs::PartLemmas::by_index,
-    crate::proofs::PartLemmas::by_full,
-    crate::proofs::PartLemmas::by_nothing
-))]
+#[tactic(auto, using(crate::proofs::PartLemmas::by_default, crate::proofs::PartLemmas::by_index, crate::proofs::PartLemmas::by_full, crate::proofs::PartLemmas::by_nothing))]
 pub fn old_part(
     alloc: Global,
     table: &Table,

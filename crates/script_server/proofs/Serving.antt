@@ -81,17 +81,35 @@ module _ (service : Service) (input : List ℕ) (cut : CutTwice) (catalog : Cata
   certificate_returned old failure (Ok told) is same = absurd same
   certificate_returned old failure (Err failed) is same =
       subst (λ (told : Failure). EndsService service input old old (Err told)) (sym same)
-          (certificate_told old old failure is refl)
+      (certificate_told old old failure is refl)
 
   module _ (certificates : text_fault 1 (lines_of cut.second) ≡ None) where
     script_told : (old new : Option (List ℕ)) (failure : Failure) → IsOfScript catalog.tables cut.third failure
         → new ≡ old → EndsService service input old new (Err failure)
-    script_told old new (f.Input (i.Script error)) (inl is) same =
-        (inl (record { cut = cut; catalog = catalog; parts = parts; reads = reads; certificates =
-            certificates; script = is }), same)
-    script_told old new (f.Input (i.Script error)) (inr is) same =
-        (inr (record { cut = cut; catalog = catalog; parts = parts; reads = reads; certificates =
-            certificates; script = is }), same)
+    script_told old new (f.Input (i.Script error)) (inl is) same = (
+      inl (record {
+        cut = cut;
+        catalog = catalog;
+        parts = parts;
+        reads = reads;
+        certificates =
+            certificates;
+        script = is;
+      }),
+      same,
+    )
+    script_told old new (f.Input (i.Script error)) (inr is) same = (
+      inr (record {
+        cut = cut;
+        catalog = catalog;
+        parts = parts;
+        reads = reads;
+        certificates =
+            certificates;
+        script = is;
+      }),
+      same,
+    )
     script_told old new f.OutOfMemory is same = out_of_memory service input old new same
     script_told old new (f.CommandLine why) is same = absurd is
     script_told old new f.Output is same = absurd is
@@ -107,7 +125,7 @@ module _ (service : Service) (input : List ℕ) (cut : CutTwice) (catalog : Cata
     script_returned old failure (Ok told) is same = absurd same
     script_returned old failure (Err failed) is same =
         subst (λ (told : Failure). EndsService service input old old (Err told)) (sym same)
-            (script_told old old failure is refl)
+        (script_told old old failure is refl)
 
     -- ---- what is answered
 
@@ -118,7 +136,7 @@ module _ (service : Service) (input : List ℕ) (cut : CutTwice) (catalog : Cata
           → Tells service.port old new result → EndsService service input old new result
       served old new result sound unrefused tells =
           ends_as (IsTold service.port) (IsServing service input) (IsBegun service.port) (IsBegun service.port)
-              (IsFault input)
+          (IsFault input)
           (λ lines status told. record {
             cut = cut;
             catalog = catalog;
@@ -141,8 +159,11 @@ module _ (service : Service) (input : List ℕ) (cut : CutTwice) (catalog : Cata
         reads = reads;
         certificates = certificates;
         script = script;
-        result = inr (record { refused = record { error = error; refusal = refusal; wrong = wrong; are = refl }; is =
-            is });
+        result = inr (record {
+          refused = record { error = error; refusal = refusal; wrong = wrong; are = refl };
+          is =
+              is;
+        });
       }
 
       -- the sharding is refused

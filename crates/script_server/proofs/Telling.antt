@@ -37,8 +37,12 @@ pub closes : (line : List ℕ) (status : Status) (old new : Option (List ℕ)) (
     → IsLast line status → Says line status old new result → Closes old new result
 closes line status old new (Ok told) last says = record {
   lines = says.lines;
-  whole = record { line = line; are = says.whole.0; last =
-      subst (λ (s : Status). IsLast line s) (sym says.whole.1) last };
+  whole = record {
+    line = line;
+    are = says.whole.0;
+    last =
+        subst (λ (s : Status). IsLast line s) (sym says.whole.1) last;
+  };
   appends = says.appends;
 }
 closes line status old new (Err f.OutOfMemory) last says =
@@ -47,8 +51,11 @@ closes line status old new (Err f.Output) last says = record {
   lines = says.lines;
   part = elim says.part [
     | inl b ↦ inl b
-    | inr w ↦ inr (w.0, record
-        { line = line; are = w.1.0; last = subst (λ (s : Status). IsLast line s) (sym w.1.1) last })
+    | inr w ↦ inr (
+      w.0,
+      record
+          { line = line; are = w.1.0; last = subst (λ (s : Status). IsLast line s) (sym w.1.1) last },
+    )
   ];
   first = says.first;
 }
@@ -61,7 +68,7 @@ pub closes_nothing : (old : Option (List ℕ)) (result : Result Status Failure)
 closes_nothing old (Ok told) is = absurd is
 closes_nothing old (Err failed) is =
     subst (λ (failure : Failure). Closes old old (Err failure)) (sym is)
-        (record { lines = []; begun = refl; appends = unwritten old old refl })
+    (record { lines = []; begun = refl; appends = unwritten old old refl })
 
 -- ---- after the first line
 

@@ -32,9 +32,9 @@ pub record AreServed (port : ℕ) (catalog : CatalogOf Expr) (trees : List Tree)
 
 -- the line of the sharding's refusal
 pub record IsRefusal (catalog : CatalogOf Expr) (trees : List Tree) (lines : List (List ℕ)) (status : Status) : Type 0
-    where
-  pub refused : IsRefused catalog trees lines
-  pub is : status ≡ Refused
+  where
+    pub refused : IsRefused catalog trees lines
+    pub is : status ≡ Refused
 
 -- The input has three parts, the first is a catalog, each line of the second is a certificate, and the third is a
 -- script of its tables that only commits.

@@ -53,5 +53,5 @@ pub tells_flushed : (before after : Option (List ℕ)) (old new : Voice) (told :
     → IsTelling new (record told { passed = told.passed ++ flushes.bytes })
 tells_flushed before after old new told flushes tells =
     subst (λ (bytes : List ℕ). IsTelling new (record told { passed = told.passed ++ bytes }))
-        (flush_front before after old new flushes)
+    (flush_front before after old new flushes)
     (voice_passes_on old new told (length flushes.bytes) tells (flush_passes before after old new flushes))

@@ -74,8 +74,13 @@ last_part frames last front rest is (serving.Done done ends) = OfDone rest (sym 
 none_between : (middle last rest : List ℕ) → IsTail rest last → rest ≡ middle ++ last → middle ≡ []
 none_between middle last rest tail is =
     nil_from_length middle
-        (omega (arith, ap length is, ap length tail.list_is, length-append middle last,
-        length-append tail.front rest))
+    (omega (
+      arith,
+      ap length is,
+      ap length tail.list_is,
+      length-append middle last,
+      length-append tail.front rest,
+    ))
 
 module _ (checked : CheckedOf) (transactions : List Transaction) (frames : List Frame) (slot start : ℕ)
     (taken : List CommitOf) (written : List ℕ) (failed : Bool) (why : End)
@@ -119,12 +124,12 @@ pub served_are_first_parts : ServedAreFirstParts
 served_are_first_parts checked book transactions named stands frames slot start taken written failed why is at =
     let log : List CommitOf = log_of checked transactions in
     let there : AreAt log (count_before start) taken =
-        subst (λ (l : List CommitOf). AreAt l (count_before start) taken)
-        (log_is checked book transactions named stands) at in
+    subst (λ (l : List CommitOf). AreAt l (count_before start) taken)
+    (log_is checked book transactions named stands) at in
     by_cut checked transactions frames slot start taken written failed why is
     (stream (telling_of checked) log slot (length checked.catalog.tables) start is.moves) refl
     (cut written is.rest (stream (telling_of checked) log slot (length checked.catalog.tables) start is.moves) is.last
-        (is.bytes log there))
+    (is.bytes log there))
 
 -- ---- who is fed it
 
@@ -139,8 +144,12 @@ module _ (checked : Checked) (transactions : List Transaction)
       let plan = plan_view checked.plan in
       let own = kept_own catalog plan checked.own in
       let sound = kept_sound catalog checked.sound in
-      record { covered = own_covered catalog plan own sound; apart = own_apart catalog plan own sound; accepted =
-          accepted }
+      record {
+        covered = own_covered catalog plan own sound;
+        apart = own_apart catalog plan own sound;
+        accepted =
+            accepted;
+      }
 
   sent : (slot position : ℕ) (moves : List Move) → count_before position ≤ length transactions → All IsClocked moves
       → All IsSentItem (items_from (checked_view checked) transactions slot position moves)
@@ -148,7 +157,7 @@ module _ (checked : Checked) (transactions : List Transaction)
   sent slot position moves low clocks =
       streams_can_be_sent (checked_view checked) transactions accepted
       (logs_fit_layouts (checked_view checked) published.covered (checked_limited checked) transactions accepted timed
-          few) slot position moves low clocks
+      few) slot position moves low clocks
 
 pub clients_follow : ClientsFollow
 clients_follow checked transactions accepted timed few slot start moves clocks old between new follows at opens bytes
@@ -156,11 +165,11 @@ clients_follow checked transactions accepted timed few slot start moves clocks o
     let view : CheckedOf = checked_view checked in
     let position : ℕ = (sub_machine old).position in
     let here : AreFirst view transactions slot position moves bytes others =
-        subst (λ (p : ℕ). AreFirst view transactions slot p moves bytes others) (sym at) first in
+    subst (λ (p : ℕ). AreFirst view transactions slot p moves bytes others) (sym at) first in
     subst (λ (p : ℕ). Follows view transactions slot (position_in view transactions slot p moves bytes)
-        (sub_machine new)) at
+    (sub_machine new)) at
     (fed_follow view transactions (published checked transactions accepted timed few) slot old between new follows
-        opens moves
+    opens moves
     (sent checked transactions accepted timed few slot position moves follows.within clocks) bytes others here feeds)
 
 pub clients_stop : ClientsStop
@@ -171,9 +180,9 @@ clients_stop checked transactions accepted timed few slot start moves clocks old
     let here : AreFirst view transactions slot position moves (bytes ++ piece) others =
     subst (λ (p : ℕ). AreFirst view transactions slot p moves (bytes ++ piece) others) (sym at) first in
     let stopped = stopped_follow view transactions (published checked transactions accepted timed few) slot old
-        between middle new follows opens moves
+    between middle new follows opens moves
     (sent checked transactions accepted timed few slot position moves follows.within clocks) bytes piece others error
-        here feeds stops in (
+    here feeds stops in (
       stopped.0,
       subst (λ (p : ℕ). StopsFollowing view transactions slot p
           (whole_in (length bytes) (items_from view transactions slot p moves))
@@ -196,25 +205,25 @@ all_timed : (seats : List (List Note)) → All AreTimed seats → All IsTimedRec
 all_timed [] timed = All-nil IsTimedReceipt
 all_timed (notes ∷ seats) timed =
     All-append IsTimedReceipt (receipts_in notes) (all_receipts seats)
-        (receipts_timed notes (All-head AreTimed notes seats timed))
-        (all_timed seats (All-tail AreTimed notes seats timed))
+    (receipts_timed notes (All-head AreTimed notes seats timed))
+    (all_timed seats (All-tail AreTimed notes seats timed))
 
 transactions_timed : (receipts : List ReceiptOf) → All IsTimedReceipt receipts
     → All IsTimedTransaction (transactions_of receipts)
 transactions_timed [] timed = All-nil IsTimedTransaction
 transactions_timed (receipt ∷ receipts) timed =
     All-cons IsTimedTransaction (transaction_of receipt) (transactions_of receipts)
-        (All-head IsTimedReceipt receipt receipts timed)
+    (All-head IsTimedReceipt receipt receipts timed)
     (transactions_timed receipts (All-tail IsTimedReceipt receipt receipts timed))
 
 pub closed_are_told : ClosedAreTold
 closed_are_told checked limit seats served book closed =
     let order : List ReceiptOf = closed.order in
     let each : All IsTimedReceipt order =
-        All-permutation IsTimedReceipt (all_receipts seats) order closed.ordered.all (all_timed seats closed.timed) in
+    All-permutation IsTimedReceipt (all_receipts seats) order closed.ordered.all (all_timed seats closed.timed) in
     let long : length closed.transactions ≡ length order = ap length closed.told ∙ length-map order transaction_of in
     let logged : length (book_log book) ≡ length book.log.items =
-        length-map book.log.items (λ commit. arc_value commit) in
+    length-map book.log.items (λ commit. arc_value commit) in
     record {
       accepted = subst (λ (c : CheckedOf). AreAccepted (setting_in c) no_rows closed.transactions) closed.named
           closed.stands.accepted;
@@ -227,7 +236,7 @@ pub closed_tell_the_log : ClosedTellTheLog
 closed_tell_the_log checked limit seats served book closed one among frames slot start at written failed is =
     let taken : IsTaken (book_log book) one = All-contains (IsTaken (book_log book)) served one closed.taken among in
     served_are_first_parts checked book closed.transactions closed.named closed.stands frames slot start
-        (commits_of one) written failed one.end is
+    (commits_of one) written failed one.end is
     (subst (λ (o : Option ℕ). AreAt (book_log book) (count_before (unwrap_or o 0)) (commits_of one)) at taken.at)
 
 pub closed_are_followed : ClosedAreFollowed
@@ -238,4 +247,4 @@ closed_are_followed checked limit seats served book closed one frames slot start
     let first : AreFirst view closed.transactions slot start part.moves bytes (rest ++ part.others) =
     sym (append_assoc bytes rest part.others) ∙ ap (λ (l : List ℕ). l ++ part.others) is ∙ part.first in
     clients_follow checked closed.transactions told.accepted told.timed told.few slot start part.moves part.clocks old
-        between new follows at opens bytes (rest ++ part.others) first feeds
+    between new follows at opens bytes (rest ++ part.others) first feeds

@@ -51,7 +51,7 @@ pub hears_piece : (checked : CheckedOf) (before after : Listener) (old new : Boo
 hears_piece checked before after old new heard did = record {
   each = λ bytes has.
       let on = pieces_are_heard checked bytes (piece_of before) before.ear after.ear old new did.sent heard has
-          did.answer did.left in
+      did.answer did.left in
       record {
         stays = on.stays;
         asks = on.asks;
@@ -128,7 +128,7 @@ asks_still : (checked : CheckedOf) (bytes : List ℕ) (old new : Ear) → new �
     → AsksIfStarted checked (frames_in (bytes ++ [])) (ear_started new)
 asks_still checked bytes old new same has =
     subst (λ (all : List ℕ). AsksIfStarted checked (frames_in all) (ear_started new)) (sym (append-nil bytes))
-        (has_asked checked bytes new (same_ear checked bytes old new same has))
+    (has_asked checked bytes new (same_ear checked bytes old new same has))
 
 stays_same : (old new : Ear) → new ≡ old → StaysStarted old new
 stays_same old new same started is = ap ear_started same ∙ is
@@ -139,9 +139,12 @@ pub read_fails : (checked : CheckedOf) (left now_left : Option (List ℕ)) (fail
 read_fails checked left now_left failed ended old new pulls = record {
   more = [];
   read = pulls.read;
-  ends = λ bytes has. record
-      { asks = asks_still checked bytes old.ear new.ear pulls.ear has; ends = pulls.said; stays =
-      stays_same old.ear new.ear pulls.ear };
+  ends = λ bytes has. record {
+    asks = asks_still checked bytes old.ear new.ear pulls.ear has;
+    ends = pulls.said;
+    stays =
+        stays_same old.ear new.ear pulls.ear;
+  };
 }
 
 pub read_ends : (checked : CheckedOf) (left now_left : Option (List ℕ)) (failed ended : Bool) (old new : Listener)
@@ -150,9 +153,12 @@ pub read_ends : (checked : CheckedOf) (left now_left : Option (List ℕ)) (faile
 read_ends checked left now_left failed ended old new pulls = record {
   more = [];
   read = pulls.read;
-  ends = λ bytes has. record
-      { asks = asks_still checked bytes old.ear new.ear pulls.ear has; ends = pulls.said; stays =
-      stays_same old.ear new.ear pulls.ear };
+  ends = λ bytes has. record {
+    asks = asks_still checked bytes old.ear new.ear pulls.ear has;
+    ends = pulls.said;
+    stays =
+        stays_same old.ear new.ear pulls.ear;
+  };
 }
 
 -- ---- reads, one after another
@@ -162,9 +168,11 @@ pub hears_nothing : (checked : CheckedOf) (left : Option (List ℕ)) (listener :
 hears_nothing checked left listener = record {
   more = [];
   read = Consumes-nil left;
-  heard = λ bytes has. record
-      { has = subst (λ (all : List ℕ). HasHeard checked all listener.ear) (sym (append-nil bytes)) has; stays =
-      λ started is. is };
+  heard = λ bytes has. record {
+    has = subst (λ (all : List ℕ). HasHeard checked all listener.ear) (sym (append-nil bytes)) has;
+    stays =
+        λ started is. is;
+  };
   room = refl;
 }
 
@@ -195,7 +203,7 @@ module _ (checked : CheckedOf) (left middle_left last_left : Option (List ℕ)) 
         let one = first.heard bytes has in
         let two = then.ends (bytes ++ first.more) one.has in
         subst (λ (all : List ℕ). EndsOf checked all old.ear new.ear failed ended why)
-            (append_assoc bytes first.more then.more)
+        (append_assoc bytes first.more then.more)
         (record { asks = two.asks; ends = two.ends; stays = λ started is. two.stays started (one.stays started is) });
   }
 

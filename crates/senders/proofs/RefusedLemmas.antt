@@ -36,8 +36,14 @@ module _ (checked : CheckedOf) (bytes : List ℕ) (source_failed source_ended : 
       record {
         written = answers.written;
         put = answers.put;
-        answer = record { refusal = is.refusal; state_is = is.state_is; rest = answers.rest; bytes = answers.bytes_are
-            ∙ is.response_is; all = answers.all };
+        answer = record {
+          refusal = is.refusal;
+          state_is = is.state_is;
+          rest = answers.rest;
+          bytes = answers.bytes_are
+              ∙ is.response_is;
+          all = answers.all;
+        };
       }
   by_fault fault.FrameTooLong ends answers = record { written = []; put = answers; answer = refl }
   by_fault fault.BadLength ends answers = record { written = []; put = answers; answer = refl }
@@ -65,7 +71,7 @@ module _ (checked : CheckedOf) (bytes : List ℕ) (source_failed source_ended : 
     is = subst (λ (o : Option ℕ). IsWritten checked (frames_in bytes) o served.start (commits_of served)
         answer.written failed served.end) (sym no_slot)
         (subst (λ (o : Option ℕ). IsWritten checked (frames_in bytes) None o (commits_of served) answer.written failed
-            served.end) (sym no_start)
+        served.end) (sym no_start)
         (record { none = ap (map (λ commit. arc_value commit)) none; answer = answer.answer }));
     cause = subst (λ (o : Option ℕ). IsCause checked bytes (started_of o served.start) source_failed source_ended
         failed served.end) (sym no_slot) cause;
@@ -84,14 +90,14 @@ served_refused checked left now_left source_failed source_ended before after fai
     let all = at.hears.ends [] fresh in
     let ends : EndsFor checked bytes None (ear_refusal new.ear) source_failed source_ended why =
     subst (λ (o : Option (ℕ × ℕ)). EndsFor checked bytes o (ear_refusal new.ear) source_failed source_ended why)
-        at.started_is all.ends in
+    at.started_is all.ends in
     record {
       bytes = bytes;
       read = at.hears.read;
       served_for = unstarted checked bytes source_failed source_ended before after failed served no_slot no_start none
           (subst (Answered before after failed) (sym same)
-              (answered checked bytes source_failed source_ended before after failed (ear_refusal new.ear) why ends
-              answers))
+          (answered checked bytes source_failed source_ended before after failed (ear_refusal new.ear) why ends
+          answers))
           (subst (IsCause checked bytes None source_failed source_ended failed) (sym same)
           (heard_cause checked bytes None (ear_refusal new.ear) source_failed source_ended failed why ends));
     }
@@ -106,7 +112,7 @@ served_nothing checked left source_failed source_ended before failed served no_s
   read = Consumes-nil left;
   served_for = unstarted checked [] source_failed source_ended before before failed served no_slot no_start none
       (subst (Answered before before failed) (sym same)
-          (record { written = []; put = Appends-nil before; answer = refl }))
+      (record { written = []; put = Appends-nil before; answer = refl }))
       (subst (IsCause checked [] None source_failed source_ended failed) (sym same)
-          (record { sent = 0; commits = 0; from = tt; has = tt }));
+      (record { sent = 0; commits = 0; from = tt; has = tt }));
 }

@@ -35,8 +35,8 @@ spells voice told tells = record {
   takes = tells.takes;
   bytes = λ log are.
       (tells.speaks log are).bytes
-          ∙ sym (append-nil (stream (telling_of told.checked) log told.start.slot told.start.tables
-          told.start.position told.moves));
+      ∙ sym (append-nil (stream (telling_of told.checked) log told.start.slot told.start.tables
+      told.start.position told.moves));
 }
 
 module _ (before after : Option (List ℕ)) (told : Told) where
@@ -46,8 +46,13 @@ module _ (before after : Option (List ℕ)) (told : Told) where
     now = told;
     bytes = [];
     put = Appends-nil before;
-    follows = record { checked_is = refl; start_is = refl; taken_is = sym (append-nil told.taken); passed_is =
-        sym (append-nil told.passed) };
+    follows = record {
+      checked_is = refl;
+      start_is = refl;
+      taken_is = sym (append-nil told.taken);
+      passed_is =
+          sym (append-nil told.passed);
+    };
     quiet = quiet;
   }
 
@@ -55,7 +60,7 @@ module _ (before after : Option (List ℕ)) (told : Told) where
       → GoesOn before after taken old told → next_of (voice_stage old) ≡ Some number
       → commit.number ≡ number
       → Says old new (entry_bytes (voice_checked old) (voice_stage old) commit clock)
-          (entry_stage (voice_checked old) (voice_stage old) commit)
+      (entry_stage (voice_checked old) (voice_stage old) commit)
       → TellsOn before after (taken ++ commit ∷ []) new told
   takes_up taken old new commit number clock timed goes next is says =
       let tells = goes.quiet.tells in
@@ -139,8 +144,15 @@ module _ (before after : Option (List ℕ)) (told : Told) where
   pub starves : (taken : List CommitOf) (voice : Voice) → GoesOn before after taken voice told
       → Starves before after taken voice told
   starves taken voice goes = record {
-    breaks = record { now = goes.now; bytes = goes.bytes; put = goes.put; follows = goes.follows; clocks =
-        goes.clocks; spells = spells voice goes.now goes.quiet.tells };
+    breaks = record {
+      now = goes.now;
+      bytes = goes.bytes;
+      put = goes.put;
+      follows = goes.follows;
+      clocks =
+          goes.clocks;
+      spells = spells voice goes.now goes.quiet.tells;
+    };
     none = goes.quiet.none;
   }
 
@@ -179,16 +191,16 @@ module _ {X : Type 0} (view : X → CommitOf) (before after : Option (List ℕ))
       (number clock : ℕ) → clock < 2 ^ 64 → next ≡ next_of (voice_stage old) → next ≡ Some number
       → (view commit).number ≡ number → shown ≡ view commit
       → Says old new (entry_bytes (voice_checked old) (voice_stage old) shown clock)
-          (entry_stage (voice_checked old) (voice_stage old) shown)
+      (entry_stage (voice_checked old) (voice_stage old) shown)
       → pushed ≡ kept ++ commit ∷ [] → all ≡ pushed → voice ≡ new → TellsOn before after (map view all) voice told
   tells_entry pushed commit shown new next number clock timed next_is some numbered is says more all_is voice_is =
       subst (λ (taken : List CommitOf). TellsOn before after taken voice told)
-          (sym (commits_pushed view first kept pushed all commit same more all_is))
+      (sym (commits_pushed view first kept pushed all commit same more all_is))
       (subst (λ (v : Voice). TellsOn before after (map view first ++ view commit ∷ []) v told) (sym voice_is)
       (takes_up before after told (map view first) old new (view commit) number clock timed goes (sym next_is ∙ some)
-          numbered
+      numbered
       (subst (λ (c : CommitOf). Says old new (entry_bytes (voice_checked old) (voice_stage old) c clock)
-          (entry_stage (voice_checked old) (voice_stage old) c)) is says)))
+      (entry_stage (voice_checked old) (voice_stage old) c)) is says)))
 
   pub tells_reply : (new : Voice) (clock : ℕ) (want : Bool) → clock < 2 ^ 64
       → Says old new (kept_bytes (voice_stage old) clock want) (voice_stage old) → all ≡ kept → voice ≡ new
@@ -196,4 +208,4 @@ module _ {X : Type 0} (view : X → CommitOf) (before after : Option (List ℕ))
   tells_reply new clock want timed says all_is voice_is =
       subst (λ (taken : List CommitOf). TellsOn before after taken voice told) (sym (ap (map view) (all_is ∙ same)))
       (subst (λ (v : Voice). TellsOn before after (map view first) v told) (sym voice_is)
-          (keeps_alive before after told (map view first) old new clock want timed goes says))
+      (keeps_alive before after told (map view first) old new clock want timed goes says))

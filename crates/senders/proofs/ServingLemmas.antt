@@ -72,13 +72,13 @@ module _ (checked : CheckedOf) (bytes : List ℕ) (slot start : ℕ) (source_fai
   stream_cause is (Heard ending some same) =
       subst (IsCause checked bytes (Some (slot, start)) source_failed source_ended sink_failed) (sym same)
       (heard_cause checked bytes (Some (slot, start)) knows.response source_failed source_ended sink_failed ending
-          (knows.ends ending some))
+      (knows.ends ending some))
 
   stream_served : Streams checked slot start before after sink_failed why served
       → IsServedFor checked bytes source_failed source_ended before after sink_failed served
   stream_served streams =
       let is : IsStream checked (frames_in bytes) slot start (commits_of served) streams.written sink_failed
-          served.end = record {
+      served.end = record {
         asks = knows.asks;
         follow = streams.follow;
         moves = streams.moves;
@@ -97,11 +97,11 @@ module _ (checked : CheckedOf) (bytes : List ℕ) (slot start : ℕ) (source_fai
         is = subst (λ (o : Option ℕ). IsWritten checked (frames_in bytes) o served.start (commits_of served)
             streams.written sink_failed served.end) (sym streams.slot_is)
             (subst (λ (o : Option ℕ). IsWritten checked (frames_in bytes) (Some slot) o (commits_of served)
-                streams.written sink_failed served.end) (sym streams.start_is) is);
+            streams.written sink_failed served.end) (sym streams.start_is) is);
         cause = subst (λ (o : Option ℕ). IsCause checked bytes (started_of o served.start) source_failed source_ended
             sink_failed served.end) (sym streams.slot_is)
             (subst (λ (o : Option ℕ). IsCause checked bytes (started_of (Some slot) o) source_failed source_ended
-                sink_failed served.end) (sym streams.start_is)
+            sink_failed served.end) (sym streams.start_is)
             (stream_cause served.end streams.ends));
       }
 
@@ -122,7 +122,7 @@ knows_end checked bytes old new slot start source_failed source_ended why ends i
       let same : why ≡ ending = cc in
       subst (EndsFor checked bytes (Some (slot, start)) (ear_refusal new) source_failed source_ended) same
       (subst (λ (o : Option (ℕ × ℕ)). EndsFor checked bytes o (ear_refusal new) source_failed source_ended why) is
-          ends.ends);
+      ends.ends);
 }
 
 knows_on : (checked : CheckedOf) (bytes : List ℕ) (ear : Ear) (slot start : ℕ) (source_failed source_ended : Bool)
@@ -149,7 +149,7 @@ module _ (checked : CheckedOf) (left now_left : Option (List ℕ)) (source_faile
     served_for = stream_served checked at.hears.more started.0 started.1 source_failed source_ended before after
         sink_failed (Some why) served
         (knows_end checked at.hears.more old.ear new.ear started.0 started.1 source_failed source_ended why
-            (at.hears.ends [] fresh) at.started_is) streams;
+        (at.hears.ends [] fresh) at.started_is) streams;
   }
 
   -- it was heard on by this listener
@@ -168,7 +168,7 @@ module _ (checked : CheckedOf) (left now_left : Option (List ℕ)) (source_faile
           served_for = stream_served checked (on.hears.more ++ more.more) started.0 started.1 source_failed
               source_ended before after sink_failed None served
               (knows_on checked (on.hears.more ++ more.more) new.ear started.0 started.1 source_failed source_ended
-                  then.has (then.stays started on.started_is)) streams;
+              then.has (then.stays started on.started_is)) streams;
         }
     by_listener (Some why) last streams =
         let first = on.hears.heard [] fresh in
@@ -179,7 +179,7 @@ module _ (checked : CheckedOf) (left now_left : Option (List ℕ)) (source_faile
           served_for = stream_served checked (on.hears.more ++ last.more) started.0 started.1 source_failed
               source_ended before after sink_failed (Some why) served
               (knows_end checked (on.hears.more ++ last.more) middle.ear new.ear started.0 started.1 source_failed
-                  source_ended why then (then.stays started on.started_is)) streams;
+              source_ended why then (then.stays started on.started_is)) streams;
         }
 
     pub served_started : RunsOn checked started.0 started.1 middle_left now_left source_failed source_ended before

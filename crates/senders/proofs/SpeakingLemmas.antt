@@ -30,8 +30,16 @@ pub says_none : (s : Stop) (why : Option Ending) (known : Option (List ℕ)) (fa
     → SaysLast s why known known failed failed
 says_none s why known failed quiet =
     says_so s why known known failed failed quiet
-        (record { last = []; said = Nothing refl; written = []; rest = []; bytes = refl; put =
-        Appends-nil known; all = λ sound. refl })
+    (record {
+      last = [];
+      said = Nothing refl;
+      written = [];
+      rest = [];
+      bytes = refl;
+      put =
+          Appends-nil known;
+      all = λ sound. refl;
+    })
 
 quiet_at : (s : Stop) (voice : Voice) → IsQuietStop s → IsQuietAt s voice → voice_output voice ≡ []
 quiet_at stop.Told voice quiet none = none

@@ -58,26 +58,26 @@ module _ (checked : CheckedOf) (slot start : ℕ) where
         bytes = λ log are.
             let at : AreAt log (first_of now) now.taken =
             subst (λ (n : ℕ). AreAt log n now.taken) (sym position)
-                (subst (AreAt log (count_before start)) (sym follows.taken_is) are) in
+            (subst (AreAt log (count_before start)) (sym follows.taken_is) are) in
             ap (λ (passed : List ℕ). passed ++ output) (sym follows.passed_is) ∙ spelled.bytes log at
             ∙ append-nil (stream (telling_of now.checked) log now.start.slot now.start.tables now.start.position
-                now.moves)
+            now.moves)
             ∙ ap (λ (k : CheckedOf). stream (telling_of k) log now.start.slot now.start.tables now.start.position
-                now.moves) follows.checked_is
+            now.moves) follows.checked_is
             ∙ ap (λ (s : Start). stream (telling_of checked) log s.slot s.tables s.position now.moves) follows.start_is;
       }
 
   module _ (before opened sent last : Option (List ℕ)) (put : Appends before opened copy_both_response)
       (taken : List CommitOf) (voice : Voice) (why : Option Ending) (was_failed failed : Bool)
       (served : Served) (slot_is : served.slot ≡ Some slot) (start_is : served.start ≡ Some start)
-          (taken_is : commits_of served ≡ taken) (ends : IsEndOf why failed served.end) where
+      (taken_is : commits_of served ≡ taken) (ends : IsEndOf why failed served.end) where
     after_all : GoesOn opened sent taken voice (started_telling checked slot start copy_both_response)
         → Closes why sent last failed → Streams checked slot start before last failed why served
     after_all goes closes =
         let front : List ℕ = copy_both_response ++ goes.bytes in
         let w : Wrote checked slot start taken front (voice_output voice) =
-            wrote taken goes.now goes.bytes (voice_output voice) goes.clocks goes.follows
-            (spells voice goes.now goes.quiet.tells) in
+        wrote taken goes.now goes.bytes (voice_output voice) goes.clocks goes.follows
+        (spells voice goes.now goes.quiet.tells) in
         record {
           slot_is = slot_is;
           start_is = start_is;
@@ -95,7 +95,7 @@ module _ (checked : CheckedOf) (slot start : ℕ) where
               append_assoc front closes.written closes.rest ∙ ap (λ (x : List ℕ). front ++ x) closes.bytes
               ∙ ap (λ (x : List ℕ). x ++ closes.last)
               (sym (append-nil front) ∙ ap (λ (x : List ℕ). front ++ x) (sym goes.quiet.none)
-                  ∙ w.bytes log (subst (AreAt log (count_before start)) taken_is are));
+              ∙ w.bytes log (subst (AreAt log (count_before start)) taken_is are));
           all = λ sound memory. closes.all sound;
           whole = λ finished. record { front = closes.written; list_is = sym closes.bytes };
           ends = ends;
@@ -108,7 +108,7 @@ module _ (checked : CheckedOf) (slot start : ℕ) where
     after_part breaks says all unfinished =
         let front : List ℕ = copy_both_response ++ breaks.bytes in
         let w : Wrote checked slot start taken front (voice_output voice) =
-            wrote taken breaks.now breaks.bytes (voice_output voice) breaks.clocks breaks.follows breaks.spells in
+        wrote taken breaks.now breaks.bytes (voice_output voice) breaks.clocks breaks.follows breaks.spells in
         record {
           slot_is = slot_is;
           start_is = start_is;
@@ -124,7 +124,7 @@ module _ (checked : CheckedOf) (slot start : ℕ) where
           said = Nothing refl;
           bytes = λ log are.
               ap (λ (x : List ℕ). x ++ voice_output voice) (append-nil front)
-                  ∙ w.bytes log (subst (AreAt log (count_before start)) taken_is are)
+              ∙ w.bytes log (subst (AreAt log (count_before start)) taken_is are)
               ∙ sym (append-nil (stream (telling_of checked) log slot (length checked.catalog.tables) start w.moves));
           all = λ sound memory. all sound;
           whole = λ finished. absurd (unfinished finished);
@@ -183,38 +183,38 @@ module _ (checked : CheckedOf) (slot start : ℕ) (before opened sent last : Opt
       → Streams checked slot start before last failed why served
   by_stop stop.Told is_first taken put stops fails slot_is start_is taken_is end_is says =
       after_all checked slot start before opened sent last put taken voice why was_failed failed served slot_is
-          start_is taken_is
+      start_is taken_is
       (ends_by stop.Told is_first why failed served.end (λ no. cc) end_is) stops says
   by_stop stop.Finished is_first taken put stops fails slot_is start_is taken_is end_is says =
       after_all checked slot start before opened sent last put taken voice why was_failed failed served slot_is
-          start_is taken_is
+      start_is taken_is
       (ends_by stop.Finished is_first why failed served.end (λ no. cc) end_is) stops says
   by_stop stop.WriteFault is_first taken put stops fails slot_is start_is taken_is end_is says =
       let failing : failed ≡ true = says.same ∙ fails refl in
       after_part checked slot start before opened sent last put taken voice why was_failed failed served slot_is
-          start_is taken_is
+      start_is taken_is
       (ends_by stop.WriteFault is_first why failed served.end (λ same. failing) end_is) stops says (λ sound. cc)
       (λ finished. unfinished stop.WriteFault is_first why (λ no. cc) (sym end_is ∙ finished))
   by_stop stop.OutOfMemory is_first taken put stops fails slot_is start_is taken_is end_is says =
       after_part checked slot start before opened sent last put taken voice why was_failed failed served slot_is
-          start_is taken_is
+      start_is taken_is
       (ends_by stop.OutOfMemory is_first why failed served.end (λ no. cc) end_is) stops.breaks says
-          (λ sound. stops.none)
+      (λ sound. stops.none)
       (λ finished. unfinished stop.OutOfMemory is_first why (λ no. cc) (sym end_is ∙ finished))
 
 pub streams_to_its_end : (checked : CheckedOf) (slot start : ℕ) (before opened sent last : Option (List ℕ))
     (voice old_voice : Voice) (why : Option Ending) (was_failed failed : Bool) (served : Served) (did : Sent)
     → Opens checked slot start before opened old_voice
     → StopsAs did.stop opened sent (map (λ commit. arc_value commit) did.taken.items) voice
-        (started_telling checked slot start copy_both_response) → (did.stop ≡ stop.WriteFault → was_failed ≡ true)
+    (started_telling checked slot start copy_both_response) → (did.stop ≡ stop.WriteFault → was_failed ≡ true)
     → Concludes slot start did why sent last was_failed failed served
     → Streams checked slot start before last failed why served
 streams_to_its_end checked slot start before opened sent last voice old_voice why was_failed failed served did opens
     stops fails concludes =
     by_stop checked slot start before opened sent last voice why was_failed failed served did.stop did.is_first
-        (map (λ commit. arc_value commit) did.taken.items) opens.put stops fails concludes.slot_is
+    (map (λ commit. arc_value commit) did.taken.items) opens.put stops fails concludes.slot_is
     concludes.start_is (ap (λ taken. map (λ commit. arc_value commit) taken.items) concludes.taken_is)
-        concludes.end_is concludes.says
+    concludes.end_is concludes.says
 
 -- ---- no commit was taken up
 
@@ -250,13 +250,13 @@ module _ (checked : CheckedOf) (slot start : ℕ) (before last : Option (List �
       → Streams checked slot start before last failed why served
   not_opened is fails without_it not ends =
       without fails.written fails.rest fails.put fails.bytes without_it.slot_is without_it.start_is without_it.none
-          (λ sound memory. cc) (λ finished. not (sym without_it.end_is ∙ finished)) ends
+      (λ sound memory. cc) (λ finished. not (sym without_it.end_is ∙ finished)) ends
 
   starved : Appends before last [] → IsWithout slot start (end.Link fault.OutOfMemory) served
       → Streams checked slot start before last failed why served
   starved put is =
       without [] copy_both_response put refl is.slot_is is.start_is is.none
-          (λ sound memory. absurd (memory is.end_is)) (λ finished. cc) (Memory is.end_is)
+      (λ sound memory. absurd (memory is.end_is)) (λ finished. cc) (Memory is.end_is)
 
   pub streams_not : (s : Stop) → FailsToOpen before last failed s → IsWithout slot start (end_by s) served
       → Streams checked slot start before last failed why served
@@ -282,4 +282,4 @@ module _ (checked : CheckedOf) (slot start : ℕ) (before last : Option (List �
       → Streams checked slot start before last failed why served
   streams_no_further put is =
       without copy_both_response [] put (append-nil copy_both_response) is.slot_is is.start_is is.none
-          (λ sound memory. refl) (λ finished. cc) (Memory is.end_is)
+      (λ sound memory. refl) (λ finished. cc) (Memory is.end_is)

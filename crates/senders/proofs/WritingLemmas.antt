@@ -28,8 +28,14 @@ writes_more before middle after bytes rest count writing put = record {
 pub wrote_all : (before after : Option (List ℕ)) (failed : Bool) (bytes rest : List ℕ)
     → IsWriting before after bytes rest → rest ≡ [] → WritesFirst before after failed bytes
 wrote_all before after failed bytes rest writing none =
-    record { written = writing.written; rest = rest; bytes_are = sym writing.bytes_are; put = writing.put; all =
-    λ sound. none }
+    record {
+      written = writing.written;
+      rest = rest;
+      bytes_are = sym writing.bytes_are;
+      put = writing.put;
+      all =
+          λ sound. none;
+    }
 
 pub wrote_part : (before middle after : Option (List ℕ)) (failed : Bool) (bytes rest : List ℕ)
     → IsWriting before middle bytes rest → Keeps middle after → failed ≡ true
@@ -53,4 +59,4 @@ pub writes_on : (before middle after : Option (List ℕ)) (bytes rest : List ℕ
     → IsWriting before after bytes (take (length rest - count) (drop count rest))
 writes_on before middle after bytes rest count writing put =
     subst (IsWriting before after bytes) (sym (rest_of_slice count rest))
-        (writes_more before middle after bytes rest count writing put)
+    (writes_more before middle after bytes rest count writing put)

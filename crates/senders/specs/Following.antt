@@ -71,7 +71,7 @@ ClientsFollow = (checked : Checked) (transactions : List Transaction)
     → (bytes others : List ℕ) → AreFirst (checked_view checked) transactions slot start moves bytes others
     → Feeds between bytes new
     → Follows (checked_view checked) transactions slot
-        (position_in (checked_view checked) transactions slot start moves bytes) (sub_machine new)
+    (position_in (checked_view checked) transactions slot start moves bytes) (sub_machine new)
 
 -- Where a piece stops it, memory was refused, and it follows still, after all that is whole in the bytes before the
 -- piece, and some of what is whole with it.
@@ -85,8 +85,8 @@ ClientsStop = (checked : Checked) (transactions : List Transaction)
     → AreFirst (checked_view checked) transactions slot start moves (bytes ++ piece) others
     → Feeds between bytes middle → FeedStops middle piece error new
     → (told error ≡ None)
-        × StopsFollowing (checked_view checked) transactions slot start
-        (whole_in (length bytes) (items_from (checked_view checked) transactions slot start moves))
+    × StopsFollowing (checked_view checked) transactions slot start
+    (whole_in (length bytes) (items_from (checked_view checked) transactions slot start moves))
     (whole_in (length (bytes ++ piece)) (items_from (checked_view checked) transactions slot start moves)) new
 
 -- ---- in a publisher that was closed
@@ -123,4 +123,4 @@ ClosedAreFollowed = (checked : Checked) (limit : ℕ) (seats : List (List Note))
     → (sub_machine old).position ≡ start → Opens old between
     → (bytes rest : List ℕ) → bytes ++ rest ≡ part.front → Feeds between bytes new
     → Follows (checked_view checked) closed.transactions slot
-        (position_in (checked_view checked) closed.transactions slot start part.moves bytes) (sub_machine new)
+    (position_in (checked_view checked) closed.transactions slot start part.moves bytes) (sub_machine new)

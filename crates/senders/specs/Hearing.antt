@@ -17,11 +17,11 @@ IsSentFrom (Some started) sent = first_sent started.1 ≤ sent
 
 -- The bytes have this fault, where the log has some number of commits, and some position from the start on was sent.
 pub record HoldsFault (checked : CheckedOf) (bytes : List ℕ) (started : Option (ℕ × ℕ)) (fault : LinkFault) : Type 0
-    where
-  pub sent : ℕ
-  pub commits : ℕ
-  pub from : IsSentFrom started sent
-  pub has : HasFault checked bytes (min sent (end_after commits)) fault
+  where
+    pub sent : ℕ
+    pub commits : ℕ
+    pub from : IsSentFrom started sent
+    pub has : HasFault checked bytes (min sent (end_after commits)) fault
 
 -- What was started stays so.
 abbrev pub StaysStarted : Ear → Ear → Type 0
@@ -46,5 +46,5 @@ pub record Hears (checked : CheckedOf) (bytes : List ℕ) (old new : Ear) (heard
 
 -- So it is of each list of bytes that the ear had heard before the piece.
 pub record HearsPiece (checked : CheckedOf) (piece : List ℕ) (old new : Ear) (heard : Result Heard LinkFault) : Type 0
-    where
-  pub each : (bytes : List ℕ) → HasHeard checked bytes old → Hears checked (bytes ++ piece) old new heard
+  where
+    pub each : (bytes : List ℕ) → HasHeard checked bytes old → Hears checked (bytes ++ piece) old new heard

@@ -57,10 +57,10 @@ EndsFor checked bytes started response failed ended (ending.Frame kind) = HasEnd
 EndsFor checked bytes started response failed ended (ending.Fault fault) = Faults checked bytes started response fault
 
 pub record EndsOf (checked : CheckedOf) (bytes : List ℕ) (old new : Ear) (failed ended : Bool) (why : Ending) : Type 0
-    where
-  pub asks : AsksIfStarted checked (frames_in bytes) (ear_started new)
-  pub ends : EndsFor checked bytes (ear_started new) (ear_refusal new) failed ended why
-  pub stays : StaysStarted old new
+  where
+    pub asks : AsksIfStarted checked (frames_in bytes) (ear_started new)
+    pub ends : EndsFor checked bytes (ear_started new) (ear_refusal new) failed ended why
+    pub stays : StaysStarted old new
 
 -- More bytes were read and heard, and the listener ended.
 pub record HearsLast (checked : CheckedOf) (before after : Option (List ℕ)) (failed ended : Bool) (old new : Listener)

@@ -24,8 +24,8 @@ pub record Spells (told : Told) (output last : List ℕ) : Type 0 where
   pub takes : takes_in told.moves ≡ length told.taken
   pub bytes : (log : List CommitOf) → AreAt log (first_of told) told.taken
       → told.passed ++ output
-          ≡ stream (telling_of told.checked) log told.start.slot told.start.tables told.start.position told.moves
-          ++ last
+      ≡ stream (telling_of told.checked) log told.start.slot told.start.tables told.start.position told.moves
+      ++ last
 
 -- A voice tells on, and nothing waits.
 pub record IsQuiet (voice : Voice) (told : Told) : Type 0 where

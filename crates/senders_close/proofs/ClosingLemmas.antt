@@ -58,7 +58,7 @@ pub in_order : (seats : List (List Note)) (gathered sorted : List ReceiptOf) (hi
 in_order seats gathered sorted high all count moved rising rise =
     let long : length sorted ≡ high = length_permutation gathered sorted moved ∙ count in
     let numbers : length (numbers_of sorted) ≡ length sorted =
-        length-map sorted (λ (receipt : ReceiptOf). receipt.number) in (
+    length-map sorted (λ (receipt : ReceiptOf). receipt.number) in (
       record {
         all = subst (λ (list : List ReceiptOf). IsPermutation list sorted) all moved;
         numbered = rise_is_range high 0 (numbers_of sorted) (omega (arith, long, numbers)) rise
@@ -90,7 +90,7 @@ right_in_order : (P : Reading → Type 0) (seats : List (List Note)) (gathered s
     → gathered ≡ all_readings seats → IsPermutation gathered sorted → All P sorted → All P (all_readings seats)
 right_in_order P seats gathered sorted all moved right =
     subst (λ (list : List Reading). All P list) all
-        (All-permutation P sorted gathered (IsPermutation-sym gathered sorted moved) right)
+    (All-permutation P sorted gathered (IsPermutation-sym gathered sorted moved) right)
 
 wrong_in_order : (P : Reading → Type 0) (seats : List (List Note)) (gathered sorted : List Reading)
     → gathered ≡ all_readings seats → IsPermutation gathered sorted → ¬ All P sorted → ¬ All P (all_readings seats)
@@ -125,10 +125,10 @@ module _ (book fresh : Book) (seats : List (List Note)) (order : List ReceiptOf)
   told_by : IsToldBy book seats order
   told_by =
       let all : StandsFor fresh (transactions_of order) × (book_log fresh ≡ book_log book) =
-          replays_all book fresh order replayed long count in
+      replays_all book fresh order replayed long count in
       let there : Told (book_setting book) =
-          subst Told (ap setting_in replayed.named)
-          (record { accepted = all.0.accepted; logged = sym all.1 ∙ all.0.log }) in
+      subst Told (ap setting_in replayed.named)
+      (record { accepted = all.0.accepted; logged = sym all.1 ∙ all.0.log }) in
       record { ordered = ordered; accepted = there.accepted; logged = there.logged }
 
   wrong_cause : ¬ All (IsRight (book_setting book) (transactions_of order)) (all_readings seats)
@@ -171,7 +171,7 @@ module _ (book fresh : Book) (seats : List (List Note)) (order : List ReceiptOf)
 module _ (book fresh : Book) (seats : List (List Note)) (receipts seen : List (Bor ReceiptOf))
     (seen_is : seen ≡ receipts)
     (ordered : AreInOrder seats (map (λ (one : Bor ReceiptOf). one.now) receipts))
-        (long : IsAsLong book (map (λ (one : Bor ReceiptOf). one.now) receipts)) where
+    (long : IsAsLong book (map (λ (one : Bor ReceiptOf). one.now) receipts)) where
   seen_ordered : AreInOrder seats (map (λ (one : Bor ReceiptOf). one.now) seen)
   seen_ordered = subst (λ (list : List (Bor ReceiptOf)). AreInOrder seats
       (map (λ (one : Bor ReceiptOf). one.now) list)) (sym seen_is) ordered
@@ -189,9 +189,9 @@ module _ (book fresh : Book) (seats : List (List Note)) (receipts seen : List (B
   module _ (gathered sorted looked : List (Bor Reading))
       (all : map (λ (one : Bor Reading). one.now) gathered ≡ all_readings seats)
       (moved : IsPermutation (map (λ (one : Bor Reading). one.now) gathered)
-          (map (λ (one : Bor Reading). one.now) sorted)) (looked_is : looked ≡ sorted)
+      (map (λ (one : Bor Reading). one.now) sorted)) (looked_is : looked ≡ sorted)
       (replayed : Replays book fresh (map (λ (one : Bor ReceiptOf). one.now) seen))
-          (count : length (book_log fresh) ≡ length seen) where
+      (count : length (book_log fresh) ≡ length seen) where
     seen_moved : IsPermutation (map (λ (one : Bor Reading). one.now) gathered)
         (map (λ (one : Bor Reading). one.now) looked)
     seen_moved = subst (λ (list : List (Bor Reading)). IsPermutation (map (λ (one : Bor Reading). one.now) gathered)
@@ -206,9 +206,9 @@ module _ (book fresh : Book) (seats : List (List Note)) (receipts seen : List (B
     unfolding seen_moved seen_count seen_ordered seen_long
     wrong_compared wrong =
         wrong_cause book fresh seats (map (λ (one : Bor ReceiptOf). one.now) seen) seen_ordered seen_long replayed
-            seen_count
+        seen_count
         (wrong_in_order (IsRight (book_setting book) (transactions_of (map (λ (one : Bor ReceiptOf). one.now) seen)))
-            seats (map (λ (one : Bor Reading). one.now) gathered)
+        seats (map (λ (one : Bor Reading). one.now) gathered)
         (map (λ (one : Bor Reading). one.now) looked) all seen_moved wrong)
 
     module _ (right : All
@@ -282,4 +282,4 @@ pub memory_refused : {A : Type 0} (checked : CheckedOf) (limit : ℕ) (book : Bo
 memory_refused checked limit book seats served (Ok done) is memory = tt
 memory_refused checked limit book seats served (Err error) is memory =
     subst (λ (other : CloseError). RefusedClose checked limit seats served other) (sym memory)
-        (record { book = book; is = is; cause = tt })
+    (record { book = book; is = is; cause = tt })

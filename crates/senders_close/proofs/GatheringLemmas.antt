@@ -11,7 +11,7 @@ sorted_shown show key xs sorted i j d order low =
     elim (slice_get_cases xs j).1 [
       | inl found ↦
           let first : get_or (map show xs) i d ≡ show (get_or xs i found.0) =
-              get_or-map show xs i found.0 d (omega arith) in
+          get_or-map show xs i found.0 d (omega arith) in
           let second : get_or (map show xs) j d ≡ show (get_or xs j found.0) = get_or-map show xs j found.0 d inside in
           omega (arith, sorted i j found.0 order inside, ap key first, ap key second)
       | inr past ↦ absurd (omega (arith, past.0, inside))

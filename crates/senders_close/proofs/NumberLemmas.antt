@@ -21,6 +21,6 @@ rise_is_range high low (number ∷ numbers) count rise =
     let room : number + length numbers ≤ high = rise_room high number numbers rise.1 rise.2 in
     let next : number ≡ low + 1 = omega (arith, room, rise.0, count) in
     let rest : numbers ≡ range_with_len (number + 1) (length numbers) =
-        rise_is_range high number numbers (omega (arith, next, count)) rise.2 in
+    rise_is_range high number numbers (omega (arith, next, count)) rise.2 in
     ap (λ n. n ∷ numbers) next ∙ ap (λ (list : List ℕ). (low + 1) ∷ list) rest
-        ∙ ap (λ n. (low + 1) ∷ range_with_len (n + 1) (length numbers)) next
+    ∙ ap (λ n. (low + 1) ∷ range_with_len (n + 1) (length numbers)) next

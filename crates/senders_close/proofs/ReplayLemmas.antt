@@ -37,7 +37,7 @@ pub take_one_more : {X : Type 0} (xs : List X) (place : ℕ) (x : X) → slice_g
     → take (place + 1) xs ≡ take place xs ++ x ∷ []
 take_one_more xs place x at =
     take_more xs place x (slice_get_within xs place x at)
-        ∙ ap (λ y. take place xs ++ y ∷ []) (get_or_from_slice_get xs place x x at)
+    ∙ ap (λ y. take place xs ++ y ∷ []) (get_or_from_slice_get xs place x x at)
 
 pub get_here : {X : Type 0} (xs : List X) (place : ℕ) (x : X) → place < length xs → x ≡ get_or xs place x
     → slice_get xs place ≡ Some x
@@ -49,7 +49,7 @@ transactions_more : (order : List ReceiptOf) (place : ℕ) (receipt : ReceiptOf)
     → transactions_of (take (place + 1) order) ≡ transactions_of (take place order) ++ transaction_of receipt ∷ []
 transactions_more order place receipt at =
     ap transactions_of (take_one_more order place receipt at)
-        ∙ map-append transaction_of (take place order) (receipt ∷ [])
+    ∙ map-append transaction_of (take place order) (receipt ∷ [])
 
 -- ---- one receipt
 
@@ -61,10 +61,10 @@ entry_next log number place is = by_test (number == 0)
 
 new_entry : (old new : Book) (commands : List Command) (time number : ℕ) → Commits old new commands time number
     → slice_get (book_log new) (length (book_log old))
-        ≡ Some (commit_of number time (record_of (book_setting old) (book_rows old) commands))
+    ≡ Some (commit_of number time (record_of (book_setting old) (book_rows old) commands))
 new_entry old new commands time number commits =
     ap (λ (log : List CommitOf). slice_get log (length (book_log old))) commits.log
-        ∙ get_last (book_log old) (commit_of number time (record_of (book_setting old) (book_rows old) commands))
+    ∙ get_last (book_log old) (commit_of number time (record_of (book_setting old) (book_rows old) commands))
 
 longer : (old new : Book) (commands : List Command) (time number : ℕ) → Commits old new commands time number
     → length (book_log new) ≡ length (book_log old) + 1
@@ -81,16 +81,16 @@ module _ (book old : Book) (order : List ReceiptOf) (receipt : ReceiptOf) (place
   unfolding at_end
   replays_one new again =
       let count : length (book_log new) ≡ length (book_log old) + 1 =
-          longer old new receipt.commands receipt.time again.number again.commits in
+      longer old new receipt.commands receipt.time again.number again.commits in
       let entry : CommitOf =
-          commit_of again.number receipt.time (record_of (book_setting old) (book_rows old) receipt.commands) in
+      commit_of again.number receipt.time (record_of (book_setting old) (book_rows old) receipt.commands) in
       let stood : StandsFor new (transactions_of (take (length (book_log old)) order) ++ transaction_of receipt ∷ []) =
       commits_add_one old new receipt.commands receipt.time again.number again.commits
-          (transactions_of (take (length (book_log old)) order)) so_far.stands in
+      (transactions_of (take (length (book_log old)) order)) so_far.stands in
       let more : transactions_of (take (length (book_log new)) order)
-          ≡ transactions_of (take (length (book_log old)) order) ++ transaction_of receipt ∷ [] =
+      ≡ transactions_of (take (length (book_log old)) order) ++ transaction_of receipt ∷ [] =
       ap (λ (n : ℕ). transactions_of (take n order)) count
-          ∙ transactions_more order (length (book_log old)) receipt at_end in
+      ∙ transactions_more order (length (book_log old)) receipt at_end in
       let there : slice_get (book_log book) (length (book_log old)) ≡ Some entry =
       sym (entry_next (book_log book) again.number (length (book_log old)) again.commits.number_is) ∙ again.same
       ∙ entry_next (book_log new) again.number (length (book_log old)) again.commits.number_is
@@ -127,12 +127,12 @@ module _ (book old : Book) (order : List ReceiptOf) (receipt : ReceiptOf) (place
   alike : AreAlike (book_setting old) (book_rows old) (after (book_setting old) (transactions_of (take place order)))
   alike = are_alike (book_setting old) (book_rows old) (after (book_setting old) (transactions_of (take place order)))
       (subst (λ (n : ℕ). SameTables (book_rows old) (after (book_setting old) (transactions_of (take n order))))
-          counted so_far.stands.rows)
+      counted so_far.stands.rows)
 
   refused_now : (error : CommitError) → error ≢ e.OutOfMemory → length (book_log old) < book_limit old
       → RefusedBy old receipt.commands error
       → ¬ IsAccepted (book_setting old) (after (book_setting old) (transactions_of (take place order)))
-          (transaction_of receipt)
+      (transaction_of receipt)
   unfolding alike
   refused_now e.EmptyTransaction other room refused is = absurd (omega (arith, is.sized.some, ap length refused))
   refused_now e.TooManyCommands other room refused is = absurd (omega (arith, is.sized.few, refused))
@@ -156,8 +156,8 @@ module _ (book old : Book) (order : List ReceiptOf) (receipt : ReceiptOf) (place
         entry_next (book_log book) number (length (book_log old)) commits.number_is
         ∙ ap (slice_get (book_log book)) counted ∙ same
         ∙ ap (λ n. Some (commit_of n receipt.time
-            (record_of (book_setting old) (after (book_setting old) (transactions_of (take place order)))
-            receipt.commands))) (omega (arith, commits.number_is, counted))
+        (record_of (book_setting old) (after (book_setting old) (transactions_of (take place order)))
+        receipt.commands))) (omega (arith, commits.number_is, counted))
         ∙ ap (λ changes. Some (commit_of number receipt.time changes)) (sym (alike.recorded receipt.commands))
         ∙ sym (new_entry old new receipt.commands receipt.time number commits)
         ∙ sym (entry_next (book_log new) number (length (book_log old)) commits.number_is));
@@ -186,8 +186,8 @@ pub other_now : (book old new : Book) (receipt : ReceiptOf) (commands : List Com
     → entry_at (book_log book) number ≢ entry_at (book_log new) number → IsNotAgain book old receipt
 other_now book old new receipt commands time number same at commits apart =
     IsOtherNow new number
-        (subst (λ (n : ℕ). Commits old new receipt.commands n number) at
-        (subst (λ (list : List Command). Commits old new list time number) same commits)) apart
+    (subst (λ (n : ℕ). Commits old new receipt.commands n number) at
+    (subst (λ (list : List Command). Commits old new list time number) same commits)) apart
 
 pub refused_then : (book old : Book) (receipt : ReceiptOf) (commands : List Command) (error : CommitError)
     → commands ≡ receipt.commands → error ≢ e.OutOfMemory → RefusedBy old commands error → IsNotAgain book old receipt
@@ -203,7 +203,7 @@ pub shown_here : (receipts : List (Bor ReceiptOf)) (place : ℕ) (item : Bor Rec
     → slice_get (map (λ (one : Bor ReceiptOf). one.now) receipts) place ≡ Some item.now
 shown_here receipts place item low is =
     slice_get-map (λ (one : Bor ReceiptOf). one.now) receipts place
-        ∙ ap (option_map (λ (one : Bor ReceiptOf). one.now)) (get_here receipts place item low is)
+    ∙ ap (option_map (λ (one : Bor ReceiptOf). one.now)) (get_here receipts place item low is)
 
 -- ---- readings
 
@@ -215,9 +215,9 @@ module _ (book fresh : Book) (order : List ReceiptOf) (so_far : Replays book fre
       so_far.stands.rows reading.table 0 reading.key
       ∙ ap (λ (n : ℕ). after (book_setting fresh) (transactions_of (take n order)) reading.table 0 reading.key) count
       ∙ ap (λ (list : List Transaction). after (book_setting fresh) list reading.table 0 reading.key)
-          (sym (take-map transaction_of reading.number order))
+      (sym (take-map transaction_of reading.number order))
       ∙ ap (λ (setting : Setting). after setting (take reading.number (transactions_of order)) reading.table 0
-          reading.key) (ap setting_in so_far.named)
+      reading.key) (ap setting_in so_far.named)
 
   pub right_now : reading.answer ≡ book_rows fresh reading.table 0 reading.key
       → IsRight (book_setting book) (transactions_of order) reading
@@ -233,9 +233,9 @@ module _ (book fresh : Book) (order : List ReceiptOf) (so_far : Replays book fre
 pub right_then : (book fresh : Book) (order : List ReceiptOf) (reading : Reading) → Replays book fresh order
     → length (book_log fresh) ≡ reading.number → reading.number ≤ length order
     → (result : Bool) → MatchBool result (reading.answer ≡ book_rows fresh reading.table 0 reading.key)
-        (reading.answer ≢ book_rows fresh reading.table 0 reading.key)
+    (reading.answer ≢ book_rows fresh reading.table 0 reading.key)
     → MatchBool result (IsRight (book_setting book) (transactions_of order) reading)
-        (¬ IsRight (book_setting book) (transactions_of order) reading)
+    (¬ IsRight (book_setting book) (transactions_of order) reading)
 right_then book fresh order reading so_far count few true answer =
     right_now book fresh order so_far reading count few answer
 right_then book fresh order reading so_far count few false answer =
@@ -248,13 +248,13 @@ pub readings_rise : (readings : List (Bor Reading)) (place count : ℕ) (item d 
 readings_rise readings place count item d sorted low is up =
     let next : get_or readings (place + 1) d ≡ get_or readings (place + 1) item =
     get_or_from_slice_get readings (place + 1) (get_or readings (place + 1) item) d
-        (slice_get-get_or readings (place + 1) item low) in
+    (slice_get-get_or readings (place + 1) item low) in
     let rises : (get_or readings place item).now.number ≤ (get_or readings (place + 1) item).now.number =
-        sorted place (place + 1) item (omega arith) low in
+    sorted place (place + 1) item (omega arith) low in
     let here : item.now.number ≡ (get_or readings place item).now.number =
-        ap (λ (one : Bor Reading). one.now.number) is in
+    ap (λ (one : Bor Reading). one.now.number) is in
     let there : (get_or readings (place + 1) d).now.number ≡ (get_or readings (place + 1) item).now.number =
-        ap (λ (one : Bor Reading). one.now.number) next in
+    ap (λ (one : Bor Reading). one.now.number) next in
     omega (arith, up, rises, here, there)
 
 module _ (P : Reading → Type 0) (readings : List (Bor Reading)) (place : ℕ) (item : Bor Reading)
@@ -275,9 +275,9 @@ module _ (P : Reading → Type 0) (readings : List (Bor Reading)) (place : ℕ) 
   fewer all k d short =
       let within : k < place = omega (arith, short, length-take place shown) in
       let long : k < length (take (place + 1) shown) =
-          omega (arith, short, length-take place shown, length-take (place + 1) shown) in
+      omega (arith, short, length-take place shown, length-take (place + 1) shown) in
       subst P (get_or-take (place + 1) shown k d (omega arith) ∙ sym (get_or-take place shown k d within))
-          (all k d long)
+      (all k d long)
 
   more : P item.now → All P (take place shown) → All P (take (place + 1) shown)
   unfolding at_place inside
@@ -287,14 +287,14 @@ module _ (P : Reading → Type 0) (readings : List (Bor Reading)) (place : ℕ) 
       → MatchBool so (All P (take place (map (λ (one : Bor Reading). one.now) readings)))
       (¬ All P (take place (map (λ (one : Bor Reading). one.now) readings)))
       → MatchBool so (All P (take (place + 1) (map (λ (one : Bor Reading). one.now) readings)))
-          (¬ All P (take (place + 1) (map (λ (one : Bor Reading). one.now) readings)))
+      (¬ All P (take (place + 1) (map (λ (one : Bor Reading). one.now) readings)))
   unfolding shown fewer more
   right_more true here so_far = more here so_far
   right_more false here so_far = λ all. so_far (fewer all)
 
   pub wrong_more : (so : Bool) → so ≡ false → ¬ P item.now
       → MatchBool so (All P (take (place + 1) (map (λ (one : Bor Reading). one.now) readings)))
-          (¬ All P (take (place + 1) (map (λ (one : Bor Reading). one.now) readings)))
+      (¬ All P (take (place + 1) (map (λ (one : Bor Reading). one.now) readings)))
   unfolding shown at_place inside
   wrong_more so is_false wrong =
       subst (λ (b : Bool). MatchBool b (All P (take (place + 1) shown)) (¬ All P (take (place + 1) shown)))

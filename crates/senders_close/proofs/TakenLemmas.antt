@@ -25,8 +25,11 @@ module _ (log : List CommitOf) (served : Served) (count : ℕ) (first : count �
       → IsTaken log served
   unfolding at_first
   taken_whole at whole =
-      record { at = at_first at; whole = λ finished. let long =
-      length-map served.taken.items (λ commit. arc_value commit) in omega (arith, whole, first, long) }
+      record {
+        at = at_first at;
+        whole = λ finished. let long =
+            length-map served.taken.items (λ commit. arc_value commit) in omega (arith, whole, first, long);
+      }
 
   pub taken_short : served.end ≡ Finished → count + length served.taken.items ≢ length log → ¬ IsTaken log served
   taken_short finished other taken =

@@ -50,10 +50,10 @@ IsReason words known (i.Script error) = HasFault words known (i.Script error)
 
 -- what the reader gave is served
 pub record ServesInput (service : Service) (known old new : Option (List ℕ)) (result : Result Status Failure) : Type 0
-    where
-  pub input : List ℕ
-  pub given : IsInput known input
-  pub ends : EndsService service input old new result
+  where
+    pub input : List ℕ
+    pub given : IsInput known input
+    pub ends : EndsService service input old new result
 
 -- or reading it stopped, and nothing is written
 abbrev pub ServesReader : Service → Option (List ℕ) → Option (List ℕ) → Option (List ℕ) → Result Status Failure → Type 0

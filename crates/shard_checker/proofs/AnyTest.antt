@@ -42,7 +42,7 @@ three_alike : (a b c d e f : Option CheckError) → a ≡ d → b ≡ e → c �
     → first_of a (first_of b c) ≡ first_of d (first_of e f)
 three_alike a b c d e f p q r =
     ap (λ x. first_of x (first_of b c)) p ∙ ap (λ x. first_of d (first_of x c)) q
-        ∙ ap (λ x. first_of d (first_of e x)) r
+    ∙ ap (λ x. first_of d (first_of e x)) r
 
 split_alike : (subject : Subject) (path : Path) (node : ℕ) (found : Option AtomOf)
     (a b c d e f : Path → Option CheckError)
@@ -52,9 +52,9 @@ split_alike : (subject : Subject) (path : Path) (node : ℕ) (found : Option Ato
 split_alike subject path node None a b c d e f p q r = refl
 split_alike subject path node (Some atom) a b c d e f p q r =
     three_alike (a (path ++ (atom, True) ∷ [])) (b (path ++ (atom, False) ∷ [])) (c (path ++ (atom, Null) ∷ []))
-        (d (path ++ (atom, True) ∷ [])) (e (path ++ (atom, False) ∷ []))
+    (d (path ++ (atom, True) ∷ [])) (e (path ++ (atom, False) ∷ []))
     (f (path ++ (atom, Null) ∷ [])) (p (path ++ (atom, True) ∷ [])) (q (path ++ (atom, False) ∷ []))
-        (r (path ++ (atom, Null) ∷ []))
+    (r (path ++ (atom, Null) ∷ []))
 
 refusal_alike : (one other : Test) → Alike one other → (subject : Subject) (tree : Tree) (path : Path) (node : ℕ)
     → refusal one subject tree path node ≡ refusal other subject tree path node
@@ -69,7 +69,7 @@ refusal_alike one other same subject (Split index if_true if_false if_null) path
     (λ longer. refusal_alike one other same subject if_true longer (later node 1))
     (λ longer. refusal_alike one other same subject if_false longer (later (later node 1) (nodes if_true)))
     (λ longer. refusal_alike one other same subject if_null longer
-        (later (later (later node 1) (nodes if_true)) (nodes if_false)))
+    (later (later (later node 1) (nodes if_true)) (nodes if_false)))
 refusal_alike one other same subject (Owner subscriber) path node = refl
 refusal_alike one other same subject (Empty term) path node =
     empty_alike one other same subject path node (slice_get subject.terms term)
@@ -78,14 +78,14 @@ refusal_alike one other same subject (NeverNull index) path node = refl
 certificates_alike : (one other : Test) → Alike one other
     → (plan : PlanOf) (subscriptions : List Subscription) (number : ℕ) (tables : List Table) (trees : List Tree)
     → certificates_refusal one plan subscriptions number tables trees
-        ≡ certificates_refusal other plan subscriptions number tables trees
+    ≡ certificates_refusal other plan subscriptions number tables trees
 certificates_alike one other same plan subscriptions number [] trees = refl
 certificates_alike one other same plan subscriptions number (table ∷ tables) [] = refl
 certificates_alike one other same plan subscriptions number (table ∷ tables) (tree ∷ trees) =
     ap (λ x. first_of x (certificates_refusal one plan subscriptions (number + 1) tables trees))
-        (refusal_alike one other same _ tree [] 0)
+    (refusal_alike one other same _ tree [] 0)
     ∙ ap (λ x. first_of (certificate_refusal other plan subscriptions number table tree) x)
-        (certificates_alike one other same plan subscriptions (number + 1) tables trees)
+    (certificates_alike one other same plan subscriptions (number + 1) tables trees)
 
 -- ---- what the code's test finds, each test that tells the same finds
 
@@ -100,7 +100,7 @@ pub sharding_by_any : (test : Test) → IsEmptiness test → (catalog : CatalogO
 sharding_by_any test tells catalog plan trees =
     ap (λ x. first_of (catalog_refusal catalog) (first_of (count_refusal (length catalog.tables) (length trees)) x))
     (certificates_alike is_empty test (tests_alike is_empty test told_by_values tells) plan catalog.subscriptions 0
-        catalog.tables trees)
+    catalog.tables trees)
 
 pub none_by_any : (catalog : CatalogOf Expr) (plan : PlanOf) (trees : List Tree)
     → sharding_refusal is_empty catalog plan trees ≡ None

@@ -36,7 +36,7 @@ pub lists_within : (lists : Vec (Vec ℕ)) (old new : List (Vec ℕ)) (number bl
     → Lists old new number block → Lists lists.items (with_items lists new).items number block
 lists_within lists old new number block is changed =
     subst (λ (after : List (Vec ℕ)). Lists lists.items after number block)
-        (sym (with_items_is lists new (changed.sized ∙ ap length is ∙ sym lists.ok.0)))
+    (sym (with_items_is lists new (changed.sized ∙ ap length is ∙ sym lists.ok.0)))
     (subst (λ (before : List (Vec ℕ)). Lists before new number block) is changed)
 
 module _ (old new : Users) (block : ℕ) (step : Step) where
@@ -93,9 +93,9 @@ users_more count next steps old new default before lists within after = record {
         | inl same ↦
             let at : slice_get steps count ≡ Some step = subst (λ k. slice_get steps k ≡ Some step) same h in
             let found : get_or steps count default ≡ step =
-                same_Some _ step (sym (slice_get-get_or steps count default within) ∙ at) in
+            same_Some _ step (sym (slice_get-get_or steps count default within) ∙ at) in
             subst (λ k. AreListed new (block_of k) step) (sym same)
-                (subst (λ s. AreListed new (block_of count) s) found lists.listed)
+            (subst (λ s. AreListed new (block_of count) s) found lists.listed)
         | inr other ↦ listed_still old new (block_of count) (get_or steps count default) lists (block_of number) step
             (before.each number step (omega (arith, other)) h)
       ];
@@ -133,7 +133,7 @@ part_same lists old new number part block listed within marks fresh masks mask =
     elim (cases_eq part number) [
       | inl same ↦
           let listed_there : Contains (blocks_in lists number) block =
-              subst (λ k. IsListed lists k block) same listed within in
+          subst (λ k. IsListed lists k block) same listed within in
           absurd (true_false (is_stale new block) (marks.marked block listed_there) fresh)
       | inr other ↦ get_or-set_other masks number part mask _ other
     ]
@@ -164,10 +164,10 @@ module _ (users : Users) (old new : List Bool) (number block : ℕ) (fresh : is_
     step_changed (Not part) listed = ap (lift_one not_of) (same part listed)
     step_changed (And left right) listed =
         ap (λ m. lift_two and_of m (mask_in (slice_set masks number mask) right)) (same left listed.0)
-            ∙ ap (lift_two and_of (mask_in masks left)) (same right listed.1)
+        ∙ ap (lift_two and_of (mask_in masks left)) (same right listed.1)
     step_changed (Or left right) listed =
         ap (λ m. lift_two or_of m (mask_in (slice_set masks number mask) right)) (same left listed.0)
-            ∙ ap (lift_two or_of (mask_in masks left)) (same right listed.1)
+        ∙ ap (lift_two or_of (mask_in masks left)) (same right listed.1)
     step_changed (Is test part) listed = ap (lift_one (is_of test)) (same part listed)
 
 -- ---- a step is computed again
@@ -184,7 +184,7 @@ module _ (count : ℕ) (steps : List Step) (atoms : List Mask) (old : Masks) (st
           | inl here ↦
               let at : slice_get steps count ≡ Some found = subst (λ k. slice_get steps k ≡ Some found) here h in
               subst (λ k. mask_in old.list.items k ≡ step_mask atoms old.list.items found) (sym here)
-                  (same ∙ is ∙ ap (step_mask atoms old.list.items) (same_Some step found (sym got ∙ at)))
+              (same ∙ is ∙ ap (step_mask atoms old.list.items) (same_Some step found (sym got ∙ at)))
           | inr other ↦ before.each number found h
               (elim case [ inl less ↦ inl (omega (arith, other)) | inr fresh ↦ inr fresh ])
         ];
@@ -202,9 +202,9 @@ module _ (count : ℕ) (steps : List Step) (atoms : List Mask) (old : Masks) (st
     here_is number found h here =
         let at : slice_get steps count ≡ Some found = subst (λ k. slice_get steps k ≡ Some found) here h in
         subst (λ k. mask_in (slice_set old.list.items count mask) k
-            ≡ step_mask atoms (slice_set old.list.items count mask) found) (sym here)
+        ≡ step_mask atoms (slice_set old.list.items count mask) found) (sym here)
         (get_or-set_same old.list.items count mask _ (omega (arith, before.sized, within)) ∙ is
-            ∙ ap (step_mask atoms old.list.items) (same_Some step found (sym got ∙ at))
+        ∙ ap (step_mask atoms old.list.items) (same_Some step found (sym got ∙ at))
         ∙ sym (step_before atoms old.list.items count mask found (ordered.each count found at)))
 
     less_is : (number : ℕ) (found : Step) → slice_get steps number ≡ Some found → number ≢ count → number < count
@@ -213,19 +213,19 @@ module _ (count : ℕ) (steps : List Step) (atoms : List Mask) (old : Masks) (st
     less_is number found h other less =
         get_or-set_other old.list.items count number mask _ other ∙ before.each number found h (inl less)
         ∙ sym (step_before atoms old.list.items count mask found
-            (parts_earlier number count found (omega (arith, less)) (ordered.each number found h)))
+        (parts_earlier number count found (omega (arith, less)) (ordered.each number found h)))
 
     fresh_is : (number : ℕ) (found : Step) → slice_get steps number ≡ Some found → number ≢ count
         → is_stale new.stale.items (block_of number) ≡ false
         → mask_in (slice_set old.list.items count mask) number
-            ≡ step_mask atoms (slice_set old.list.items count mask) found
+        ≡ step_mask atoms (slice_set old.list.items count mask) found
     fresh_is number found h other fresh =
         get_or-set_other old.list.items count number mask _ other
         ∙ before.each number found h
-            (inr (fresh_before old.stale.items new.stale.items (blocks_in users.of_steps.items count) marks
-            (block_of number) fresh))
+        (inr (fresh_before old.stale.items new.stale.items (blocks_in users.of_steps.items count) marks
+        (block_of number) fresh))
         ∙ sym (step_changed users old.stale.items new.stale.items count (block_of number) fresh
-            (omega (arith, are.sized, within)) marks atoms old.list.items mask found (are.each number found h))
+        (omega (arith, are.sized, within)) marks atoms old.list.items mask found (are.each number found h))
 
     pub told_again : (next : ℕ) → next ≡ count + 1 → IsSettledBut next steps atoms new
     told_again next after = record {
@@ -234,9 +234,11 @@ module _ (count : ℕ) (steps : List Step) (atoms : List Mask) (old : Masks) (st
           subst (λ (masks : List Mask). mask_in masks number ≡ step_mask atoms masks found) (sym put)
           (elim (cases_eq number count) [
             | inl here ↦ here_is number found h here
-            | inr other ↦ elim case
-                [ inl less ↦ less_is number found h other (omega (arith, other, less)) | inr fresh ↦
-                fresh_is number found h other fresh ]
+            | inr other ↦ elim case [
+              | inl less ↦ less_is number found h other (omega (arith, other, less))
+              | inr fresh ↦
+                  fresh_is number found h other fresh
+            ]
           ]);
     }
 
@@ -281,7 +283,7 @@ told_block block end steps atoms old new before far list_same put = record {
           | inl here ↦ told (in_block number block here)
           | inr other ↦ before.each number step h (inr (
               sym (get_or-set_other old.stale.items block (number / 8) false _ other)
-                  ∙ ap (λ (stale : List Bool). is_stale stale (number / 8)) (sym put) ∙ fresh))
+              ∙ ap (λ (stale : List Bool). is_stale stale (number / 8)) (sym put) ∙ fresh))
         ]
       ]);
 }
@@ -330,15 +332,15 @@ marked_atom number steps atoms mask users old new are before list_same marks wit
   sized = ap length list_same ∙ before.sized;
   each = λ number' step h case.
       subst (λ (masks : List Mask). mask_in masks number' ≡ step_mask (slice_set atoms number mask) masks step)
-          (sym list_same)
+      (sym list_same)
       (elim case [
         | inl less ↦ absurd (omega (arith, less))
         | inr fresh ↦
             before.each number' step h
-                (inr (fresh_before old.stale.items new.stale.items (blocks_in users.of_atoms.items number) marks
-                (block_of number') fresh))
+            (inr (fresh_before old.stale.items new.stale.items (blocks_in users.of_atoms.items number) marks
+            (block_of number') fresh))
             ∙ sym (atom_changed users old.stale.items new.stale.items number (block_of number') fresh within marks
-                step (are.each number' step h) atoms old.list.items mask)
+            step (are.each number' step h) atoms old.list.items mask)
       ]);
 }
 

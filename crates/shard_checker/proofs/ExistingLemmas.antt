@@ -37,7 +37,7 @@ serving_given : (range : Range) (term : Term) (path : Path) (constants : List Co
 serving_given range term path [] h = absurd cc
 serving_given range term path (Number k ∷ constants) h =
     by_either (serves range term path k || serves range term path (k +ℤ pos 1))
-        (list_any (gives_number range term path) constants) h
+    (list_any (gives_number range term path) constants) h
     (λ nearby. by_either (serves range term path k) (serves range term path (k +ℤ pos 1)) nearby
     (λ here. record { number = k; serving = here })
     (λ next. record { number = k +ℤ pos 1; serving = next }))
@@ -72,10 +72,10 @@ number_exists : (kind : ColType) (term : Term) (path : Path)
 number_exists kind term path domain h =
     let some = some_serving (range_of kind term) term path h in
     let both = both_true (int_le (range_of kind term).least some.number)
-        (int_le some.number (range_of kind term).greatest && may_be term path (Some (Number some.number)))
-        some.serving in
+    (int_le some.number (range_of kind term).greatest && may_be term path (Some (Number some.number)))
+    some.serving in
     let rest = both_true (int_le some.number (range_of kind term).greatest)
-        (may_be term path (Some (Number some.number))) both.1 in
+    (may_be term path (Some (Number some.number))) both.1 in
     record {
       value = Number some.number;
       in_domain = domain some.number (record { above_least = test_le _ _ both.0; below_greatest = test_le _ _ rest.0 });
@@ -100,7 +100,7 @@ path_length (entry ∷ path) = constants_length (constants_of entry.0) + path_le
 longer_apart : (text named : List ℕ) → length named < length text → bytes_eq text named ≡ false
 longer_apart text named h = not_true_false (bytes_eq text named)
     (λ same. let e : length text ≡ length named = ap length ((bytes_eq-Decides text named).0 same) in
-        absurd (omega arith))
+    absurd (omega arith))
 
 longer_constants : (text : List ℕ) (constants : List Constant) → constants_length constants < length text
     → list_any (compares Eq (Some (Bytes text))) constants ≡ false
@@ -120,7 +120,7 @@ longer_path text (entry ∷ path) long =
     let here : constants_length (constants_of entry.0) < length text = omega arith in
     let there : path_length path < length text = omega arith in
     two_false (has_constant text entry.0) _ (longer_constants text (constants_of entry.0) here)
-        (longer_path text path there)
+    (longer_path text path there)
 
 all_leave_longer : (term : Term) (text : List ℕ) (path : Path) → path_length path < length text
     → may_be term path None ≡ true → may_be term path (Some (Bytes text)) ≡ true
@@ -151,7 +151,7 @@ text_given term path (Truth b ∷ constants) h = text_given term path constants 
 text_named : (term : Term) (path : Path) (atom : AtomOf) → names_text term path atom ≡ true → HasText term path
 text_named term path atom h =
     let both = both_true (is_about term atom) (list_any (gives_text term path) (constants_of atom)) h in
-        text_given term path (constants_of atom) both.1
+    text_given term path (constants_of atom) both.1
 
 text_in : (term : Term) (path part : Path) → has_named_text term path part ≡ true → HasText term path
 text_in term path [] h = absurd cc
@@ -161,8 +161,11 @@ text_in term path (entry ∷ part) h = by_either (names_text term path entry.0) 
 
 some_text : (term : Term) (path : Path) → has_text term path ≡ true → HasText term path
 some_text term path h = by_either (may_be term path None) (has_named_text term path path) h
-    (λ unnamed. record { text = long_text (path_length path); left =
-        all_leave_longer term (long_text (path_length path)) path (long_text_is (path_length path)) unnamed })
+    (λ unnamed. record {
+      text = long_text (path_length path);
+      left =
+          all_leave_longer term (long_text (path_length path)) path (long_text_is (path_length path)) unnamed;
+    })
     (λ named. text_in term path path named)
 
 -- ---- values

@@ -112,7 +112,7 @@ says_present_is : (row : List Datum) (column : ℕ) (atom : AtomOf) (value : Tri
 says_present_is row column atom value meant says missing =
     let both = both_true (tells_present atom value) (column_of (term_of atom) == column) says in
     let there : value_at row (column_of (term_of atom)) ≡ Missing =
-        subst (λ k. value_at row k ≡ Missing) (sym (same_number (column_of (term_of atom)) column both.1)) missing in
+    subst (λ k. value_at row k ≡ Missing) (sym (same_number (column_of (term_of atom)) column both.1)) missing in
     let gone : term_value (term_of atom) row ≡ Missing = missing_term (term_of atom) row there in
     never_present atom (subst (λ found. tells_present atom found ≡ true) (sym meant ∙ ap (said_of atom) gone) both.0)
 
@@ -164,7 +164,7 @@ null_atom columns row atom valid null h =
     by_either (is_always_known atom) (is_declared columns (column_of (term_of atom))) h
     (λ always. always_said atom (term_value (term_of atom) row) always null)
     (λ declared. declared_is columns row (column_of (term_of atom)) valid declared
-        (term_missing (term_of atom) row (said_null atom (term_value (term_of atom) row) null)))
+    (term_missing (term_of atom) row (said_null atom (term_value (term_of atom) row) null)))
 
 -- no row that fits the columns agrees with a path on which an atom is null that never is
 pub never_null_is : (columns : List Column) (row : List Datum) (atom : AtomOf) (path : Path) → IsTyped columns row
@@ -172,7 +172,7 @@ pub never_null_is : (columns : List Column) (row : List Datum) (atom : AtomOf) (
     → is_never_null columns atom path ≡ true → ⊥
 never_null_is columns row atom path valid agrees h =
     let both = both_true (has_null atom path) (is_always_known atom || is_declared columns (column_of (term_of atom)))
-        h in
+    h in
     null_atom columns row atom valid (has_null_is row atom path agrees both.0) both.1
 
 -- ---- values
@@ -219,4 +219,4 @@ pub value_left : (row : List Datum) (term : Term) (value : Constant) (path : Pat
 value_left row term value [] agrees is = refl
 value_left row term value (entry ∷ path) agrees is =
     two_true (leaves term (Some value) entry.0 entry.1) (may_be term path (Some value))
-        (leaves_found row term value entry.0 entry.1 agrees.0 is) (value_left row term value path agrees.1 is)
+    (leaves_found row term value entry.0 entry.1 agrees.0 is) (value_left row term value path agrees.1 is)

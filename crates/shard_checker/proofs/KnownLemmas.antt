@@ -72,7 +72,7 @@ mask_other atom tested value path other =
 pub other_way : (one other : AtomOf) → same_atom one other ≡ false → same_atom other one ≡ false
 other_way one other h = by_test (same_atom other one)
     (λ same. absurd (let found : same_atom one other ≡ true =
-        same_atom_of_equal one other (sym (same_atom_is other one same)) in cc))
+    same_atom_of_equal one other (sym (same_atom_is other one same)) in cc))
     (λ differs. differs)
 
 masks_other : (atoms : List AtomOf) (tested : AtomOf) (value : Tri) (path : Path)
@@ -82,7 +82,7 @@ masks_other [] tested value path h = refl
 masks_other (atom ∷ atoms) tested value path h =
     let both = none_of (same_atom tested atom) (list_any (same_atom tested) atoms) h in
     ap (λ m. m ∷ atom_masks atoms (path ++ (tested, value) ∷ []))
-        (mask_other atom tested value path (other_way tested atom both.0))
+    (mask_other atom tested value path (other_way tested atom both.0))
     ∙ ap (λ ms. atom_mask path atom ∷ ms) (masks_other atoms tested value path both.1)
 
 pub not_there : (test : AtomOf → Bool) (atoms : List AtomOf) (number : ℕ) (atom : AtomOf)
@@ -97,18 +97,18 @@ not_there test (first ∷ atoms) (suc number) atom h there =
 masks_learned : (atoms : List AtomOf) (number : ℕ) (atom : AtomOf) (value : Tri) (path : Path) → Differ atoms
     → slice_get atoms number ≡ Some atom
     → slice_set (atom_masks atoms path) number (met (mask_in (atom_masks atoms path) number) value)
-        ≡ atom_masks atoms (path ++ (atom, value) ∷ [])
+    ≡ atom_masks atoms (path ++ (atom, value) ∷ [])
 masks_learned [] number atom value path differ there = absurd cc
 masks_learned (first ∷ atoms) zero atom value path differ there =
     let same : first ≡ atom = same_Some first atom there in
     subst (λ a. met (atom_mask path first) value ∷ atom_masks atoms path
-        ≡ atom_masks (first ∷ atoms) (path ++ (a, value) ∷ [])) same
+    ≡ atom_masks (first ∷ atoms) (path ++ (a, value) ∷ [])) same
     (ap (λ m. m ∷ atom_masks atoms path) (sym (mask_same first first value path (same_atom_of_equal first first refl)))
     ∙ ap (λ ms. atom_mask (path ++ (first, value) ∷ []) first ∷ ms) (sym (masks_other atoms first value path differ.0)))
 masks_learned (first ∷ atoms) (suc number) atom value path differ there =
     ap (λ ms. atom_mask path first ∷ ms) (masks_learned atoms number atom value path differ.1 there)
     ∙ ap (λ m. m ∷ atom_masks atoms (path ++ (atom, value) ∷ []))
-        (sym (mask_other first atom value path (not_there (same_atom first) atoms number atom differ.0 there)))
+    (sym (mask_other first atom value path (not_there (same_atom first) atoms number atom differ.0 there)))
 
 masks_taken_back : (atoms : List AtomOf) (number : ℕ) (atom : AtomOf) (value : Tri) (path : Path) → Differ atoms
     → slice_get atoms number ≡ Some atom
@@ -120,9 +120,9 @@ masks_taken_back (first ∷ atoms) zero atom value path differ there =
     (ap (λ ms. atom_mask path first ∷ ms) (masks_other atoms first value path differ.0))
 masks_taken_back (first ∷ atoms) (suc number) atom value path differ there =
     ap (λ ms. atom_mask (path ++ (atom, value) ∷ []) first ∷ ms)
-        (masks_taken_back atoms number atom value path differ.1 there)
+    (masks_taken_back atoms number atom value path differ.1 there)
     ∙ ap (λ m. m ∷ atom_masks atoms path)
-        (mask_other first atom value path (not_there (same_atom first) atoms number atom differ.0 there))
+    (mask_other first atom value path (not_there (same_atom first) atoms number atom differ.0 there))
 
 -- ---- what was there before
 
@@ -134,9 +134,11 @@ before_more atoms done [] [] before entry h there was =
     ((there, was ∙ ap (λ (p : Path). atom_mask p entry.0) (append-nil done)), tt)
 before_more atoms done [] (e ∷ path) before entry h there was = absurd h
 before_more atoms done (b ∷ befores) [] before entry h there was = absurd h
-before_more atoms done (b ∷ befores) (e ∷ path) before entry h there was =
-    (h.0, before_more atoms (done ++ e ∷ []) befores path before entry h.1 there
-        (was ∙ ap (λ (p : Path). atom_mask p entry.0) (sym (append_assoc done (e ∷ []) path))))
+before_more atoms done (b ∷ befores) (e ∷ path) before entry h there was = (
+  h.0,
+  before_more atoms (done ++ e ∷ []) befores path before entry h.1 there
+      (was ∙ ap (λ (p : Path). atom_mask p entry.0) (sym (append_assoc done (e ∷ []) path))),
+)
 
 none_before : (atoms : List AtomOf) (done path : Path) (entry : AtomOf × Tri)
     → AreBefore atoms done [] (path ++ entry ∷ []) → ⊥
@@ -152,7 +154,7 @@ before_less : (atoms : List AtomOf) (done : Path) (befores : List Before) (path 
     (entry : AtomOf × Tri)
     → AreBefore atoms done (befores ++ before ∷ []) (path ++ entry ∷ [])
     → AreBefore atoms done befores path
-        × ((slice_get atoms before.number ≡ Some entry.0) × (before.mask ≡ atom_mask (done ++ path) entry.0))
+    × ((slice_get atoms before.number ≡ Some entry.0) × (before.mask ≡ atom_mask (done ++ path) entry.0))
 before_less atoms done [] [] before entry h =
     (tt, (h.0.0, h.0.1 ∙ ap (λ (p : Path). atom_mask p entry.0) (sym (append-nil done))))
 before_less atoms done [] (e ∷ path) before entry h = absurd (none_before atoms (done ++ e ∷ []) path entry h.1)
@@ -172,7 +174,7 @@ known_learned atoms old new path number atom value differ known there learns = r
       ∙ masks_learned atoms number atom value path differ there;
   befores = subst (λ bs. AreBefore atoms [] bs (path ++ (atom, value) ∷ [])) (sym learns.befores)
       (before_more atoms [] old.befores.items path (before_of number (mask_in old.atoms.items number)) (atom, value)
-          known.befores there
+      known.befores there
       (ap (λ ms. mask_in ms number) known.masks ∙ atom_there atoms path number atom there));
 }
 

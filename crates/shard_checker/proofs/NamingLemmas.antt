@@ -21,9 +21,11 @@ differ_then : (atoms : List AtomOf) (atom : AtomOf) → Differ atoms → list_an
     → Differ (atoms ++ atom ∷ [])
 differ_then [] atom h new = (refl, tt)
 differ_then (first ∷ atoms) atom h new =
-    let both = none_of (same_atom atom first) (list_any (same_atom atom) atoms) new in
-    (list_any-append (same_atom first) atoms (atom ∷ [])
-        ∙ rw (h.0, other_way atom first both.0) refl, differ_then atoms atom h.1 both.1)
+    let both = none_of (same_atom atom first) (list_any (same_atom atom) atoms) new in (
+      list_any-append (same_atom first) atoms (atom ∷ [])
+          ∙ rw (h.0, other_way atom first both.0) refl,
+      differ_then atoms atom h.1 both.1,
+    )
 
 differ_with : (atoms : List AtomOf) (atom : AtomOf) → Differ atoms → Differ (with_item same_atom atoms atom)
 differ_with atoms atom h = by_test (list_any (same_atom atom) atoms)
@@ -64,13 +66,13 @@ there_once_added : (atoms : List AtomOf) (atom : AtomOf)
 there_once_added atoms atom = by_test (list_any (same_atom atom) atoms)
     (λ found. rw found found)
     (λ new. rw new (list_any-append (same_atom atom) atoms (atom ∷ [])
-        ∙ right_true _ _ (left_true _ _ (same_atom_of_equal atom atom refl))))
+    ∙ right_true _ _ (left_true _ _ (same_atom_of_equal atom atom refl))))
 
 all_added : (atoms more : List AtomOf) → among (fold (with_item same_atom) atoms more) more ≡ true
 all_added atoms [] = refl
 all_added atoms (atom ∷ more) =
     two_true _ _ (there_at_end atom (with_item same_atom atoms atom) more (there_once_added atoms atom))
-        (all_added (with_item same_atom atoms atom) more)
+    (all_added (with_item same_atom atoms atom) more)
 
 same_is_there : (wanted : AtomOf) (atoms some : List AtomOf) → among atoms some ≡ true
     → list_any (same_atom wanted) some ≡ true → list_any (same_atom wanted) atoms ≡ true
@@ -80,14 +82,14 @@ same_is_there wanted atoms (atom ∷ some) all h =
     by_test (same_atom wanted atom)
     (λ here. subst (λ a. list_any (same_atom a) atoms ≡ true) (sym (same_atom_is wanted atom here)) both.0)
     (λ later. let rest : list_any (same_atom wanted) some ≡ true = rw later at h in
-        same_is_there wanted atoms some both.1 rest)
+    same_is_there wanted atoms some both.1 rest)
 
 among_those : (atoms some part : List AtomOf) → among atoms some ≡ true → among some part ≡ true
     → among atoms part ≡ true
 among_those atoms some [] all h = refl
 among_those atoms some (atom ∷ part) all h =
     let both = both_of _ _ h in
-        two_true _ _ (same_is_there atom atoms some all both.0) (among_those atoms some part all both.1)
+    two_true _ _ (same_is_there atom atoms some all both.0) (among_those atoms some part all both.1)
 
 names_by_atoms : (atoms : List AtomOf) (filter : Expr) → among atoms (atoms_in filter) ≡ true
     → names_only atoms filter ≡ true
@@ -96,11 +98,11 @@ names_by_atoms atoms (Atom atom) h = (both_of _ _ h).0
 names_by_atoms atoms (Not part) h = names_by_atoms atoms part h
 names_by_atoms atoms (And left right) h =
     let both = both_of _ _
-        (sym (list_all-append (λ atom. list_any (same_atom atom) atoms) (atoms_in left) (atoms_in right)) ∙ h) in
+    (sym (list_all-append (λ atom. list_any (same_atom atom) atoms) (atoms_in left) (atoms_in right)) ∙ h) in
     two_true _ _ (names_by_atoms atoms left both.0) (names_by_atoms atoms right both.1)
 names_by_atoms atoms (Or left right) h =
     let both = both_of _ _
-        (sym (list_all-append (λ atom. list_any (same_atom atom) atoms) (atoms_in left) (atoms_in right)) ∙ h) in
+    (sym (list_all-append (λ atom. list_any (same_atom atom) atoms) (atoms_in left) (atoms_in right)) ∙ h) in
     two_true _ _ (names_by_atoms atoms left both.0) (names_by_atoms atoms right both.1)
 names_by_atoms atoms (Is test part) h = names_by_atoms atoms part h
 
@@ -117,8 +119,8 @@ all_names : (atoms : List AtomOf) (shares : List ShareOf) → among atoms (flat_
 all_names atoms [] h = refl
 all_names atoms (share ∷ shares) h =
     let both = both_of _ _
-        (sym (list_all-append (λ atom. list_any (same_atom atom) atoms) (share_atoms share)
-        (flat_map share_atoms shares)) ∙ h) in
+    (sym (list_all-append (λ atom. list_any (same_atom atom) atoms) (share_atoms share)
+    (flat_map share_atoms shares)) ∙ h) in
     two_true _ _ (share_names atoms share both.0) (all_names atoms shares both.1)
 
 pub numbered_names : (shares : List ShareOf) → all_name_only (numbered_atoms shares) shares ≡ true

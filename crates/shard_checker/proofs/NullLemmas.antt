@@ -23,13 +23,13 @@ numbers_tell [] one other first second differ there again same = absurd cc
 numbers_tell (atom ∷ atoms) zero zero first second differ there again same = refl
 numbers_tell (atom ∷ atoms) zero (suc other) first second differ there again same =
     absurd (let apart = not_there (same_atom atom) atoms other second differ.0 again in let is : atom ≡ first =
-        same_Some atom first there in
+    same_Some atom first there in
     let found : same_atom atom second ≡ true = ap (λ a. same_atom a second) is ∙ same in cc)
 numbers_tell (atom ∷ atoms) (suc one) zero first second differ there again same =
     absurd (let apart = not_there (same_atom atom) atoms one first differ.0 there in let is : atom ≡ second =
-        same_Some atom second again in
+    same_Some atom second again in
     let found : same_atom atom first ≡ true =
-        same_atom_of_equal atom first (is ∙ sym (same_atom_is first second same)) in cc)
+    same_atom_of_equal atom first (is ∙ sym (same_atom_is first second same)) in cc)
 numbers_tell (atom ∷ atoms) (suc one) (suc other) first second differ there again same =
     ap suc (numbers_tell atoms one other first second differ.1 there again same)
 
@@ -38,10 +38,10 @@ by_number : (atoms : List AtomOf) (number named : ℕ) (wanted atom : AtomOf) �
     → (named == number) ≡ same_atom wanted atom
 by_number atoms number named wanted atom differ there found = by_test (same_atom wanted atom)
     (λ same. ap (λ n. n == number) (sym (numbers_tell atoms number named wanted atom differ there found same))
-        ∙ number_itself number ∙ sym same)
+    ∙ number_itself number ∙ sym same)
     (λ other. not_true_false (named == number) (λ equal.
     let is : wanted ≡ atom =
-        same_Some wanted atom (sym there ∙ ap (slice_get atoms) (sym (same_number named number equal)) ∙ found) in
+    same_Some wanted atom (sym there ∙ ap (slice_get atoms) (sym (same_number named number equal)) ∙ found) in
     let same = same_atom_of_equal wanted atom is in cc) ∙ sym other)
 
 module _ (atoms : List AtomOf) (number : ℕ) (wanted : AtomOf) (differ : Differ atoms)
@@ -54,8 +54,8 @@ module _ (atoms : List AtomOf) (number : ℕ) (wanted : AtomOf) (differ : Differ
   null_in done (b ∷ befores) [] place are h = absurd are
   null_in done (b ∷ befores) (e ∷ path) zero are h =
       ap (λ x. x || has_null wanted path)
-          (sym (ap (λ x. x && same_tri e.1 Null) (by_number atoms number b.number wanted e.0 differ there are.0.0))
-          ∙ h)
+      (sym (ap (λ x. x && same_tri e.1 Null) (by_number atoms number b.number wanted e.0 differ there are.0.0))
+      ∙ h)
   null_in done (b ∷ befores) (e ∷ path) (suc place) are h =
       right_true (is_this_null wanted e.0 e.1) _ (null_in (done ++ e ∷ []) befores path place are.1 h)
 
@@ -67,7 +67,7 @@ module _ (atoms : List AtomOf) (number : ℕ) (wanted : AtomOf) (differ : Differ
   null_not_in done (b ∷ befores) (e ∷ path) are h =
       two_false (is_this_null wanted e.0 e.1) _
       (sym (ap (λ x. x && same_tri e.1 Null) (by_number atoms number b.number wanted e.0 differ there are.0.0))
-          ∙ h 0 (omega arith))
+      ∙ h 0 (omega arith))
       (null_not_in (done ++ e ∷ []) befores path are.1 (λ place within. h (suc place) (omega arith)))
 
   pub null_found : (befores : List Before) (path : Path) (place : ℕ) → AreBefore atoms [] befores path

@@ -44,7 +44,7 @@ near_below (negsuc n) far near = omega (arith, ints)
 -- by a divisor that isn't 0 it is nearer to 0 than the divisor
 rem_within : (number divisor : ℤ) → (divisor ≡ pos 0 → ⊥)
     → (neg_ℤ (greatest_remainder divisor) ≤ℤ int_rem number divisor)
-        × (int_rem number divisor ≤ℤ greatest_remainder divisor)
+    × (int_rem number divisor ≤ℤ greatest_remainder divisor)
 rem_within number (pos zero) divides = absurd (divides refl)
 rem_within number (pos (suc k)) divides =
     let some : 0 < nat_abs (pos (suc k)) = omega arith in
@@ -87,7 +87,7 @@ in_cut : (kind : ColType) (number divisor : ℤ) → IsWithin kind number → (d
     → IsIn (range_within kind (greatest_remainder divisor)) (int_rem number divisor)
 in_cut kind number divisor fits divides =
     let between = rem_between number divisor (least_of kind) (greatest_of kind) (zero_above kind) (zero_below kind)
-        fits.above_least fits.below_greatest in
+    fits.above_least fits.below_greatest in
     let near = rem_within number divisor divides in
     record {
       above_least = cut_above (least_of kind) (neg_ℤ (greatest_remainder divisor)) (int_rem number divisor) between.0
@@ -102,7 +102,7 @@ in_range kind column number divisor fits = by_test (int_eq divisor (pos 0))
     (λ zero_divisor. let e : divisor ≡ pos 0 = (signed_Decides divisor (pos 0)).0 zero_divisor in
     rw (zero_divisor, e, rem_zero) (in_whole kind number fits))
     (λ divides. rw divides
-        (in_cut kind number divisor fits (λ e. let same = (signed_Decides divisor (pos 0)).1 e in cc)))
+    (in_cut kind number divisor fits (λ e. let same = (signed_Decides divisor (pos 0)).1 e in cc)))
 
 -- ---- values of terms
 
@@ -118,8 +118,12 @@ of_number : (kind : ColType) (row : List Datum) (column : ℕ) (divisor number :
     → IsInDomain kind (Mod column divisor) (Number (int_rem number divisor)))
     → HasKnown kind (Mod column divisor) row
 of_number kind row column divisor number is fits domain =
-    record { value = Number (int_rem number divisor); is = ap (λ v. remainder_of v divisor) is; in_domain =
-        domain (in_range kind column number divisor fits) }
+    record {
+      value = Number (int_rem number divisor);
+      is = ap (λ v. remainder_of v divisor) is;
+      in_domain =
+          domain (in_range kind column number divisor fits);
+    }
 
 known_of : (kind : ColType) (term : Term) (row : List Datum) (value : Constant)
     → value_at row (column_of term) ≡ Known value → IsOfType kind value → HasKnown kind term row
@@ -174,6 +178,6 @@ pub known_in_domain : (columns : List Column) (term : Term) (row : List Datum) (
 known_in_domain columns term row value valid is =
     column_known columns (slice_get columns (column_of term)) term row value
     (subst (λ v. IfSome (slice_get columns (column_of term)) (λ column. MayHold column v)) is
-        (valid.fits (column_of term)))
+    (valid.fits (column_of term)))
     (λ none. missing_past columns row (column_of term) valid (past_from_none columns (column_of term) none))
     is

@@ -53,11 +53,11 @@ contains_later xs first x h = (suc h.0, omega (arith, h.1), h.2)
 
 missing_in : (insert update delete truncate : Bool) (operation : Operation)
     → (if insert then (if update then
-        (if delete then (if truncate then None else Some Truncate) else Some Delete) else Some Update)
-        else Some Insert) ≡ Some operation
+    (if delete then (if truncate then None else Some Truncate) else Some Delete) else Some Update)
+    else Some Insert) ≡ Some operation
     → ((operation ≡ Insert) × (insert ≡ false)) ⊎
-        (((operation ≡ Update) × (update ≡ false)) ⊎
-        (((operation ≡ Delete) × (delete ≡ false)) ⊎ ((operation ≡ Truncate) × (truncate ≡ false))))
+    (((operation ≡ Update) × (update ≡ false)) ⊎
+    (((operation ≡ Delete) × (delete ≡ false)) ⊎ ((operation ≡ Truncate) × (truncate ≡ false))))
 missing_in true true true true operation h = absurd cc
 missing_in true true true false operation h = inr (inr (inr (cc, refl)))
 missing_in true true false truncate operation h = inr (inr (inl (cc, refl)))
@@ -113,11 +113,11 @@ unpublished : (subscriptions : List Subscription) (number : ℕ) (publications :
 unpublished subscriptions number [] error h = absurd cc
 unpublished subscriptions number (publication ∷ publications) error h =
     by_first (publication_refusal subscriptions number publication.publishes)
-        (publishing_refusal subscriptions (number + 1) publications) error h
+    (publishing_refusal subscriptions (number + 1) publications) error h
     (λ here. let both = under_test (is_taken subscriptions number)
-        (missing_by number (missing_operation publication.publishes)) error here in
+    (missing_by number (missing_operation publication.publishes)) error here in
     first_unpublished subscriptions number publication publications error (missing_operation publication.publishes)
-        refl both.0 both.1)
+    refl both.0 both.1)
     (λ there. let rest = unpublished subscriptions (number + 1) publications error there in record {
       place = suc rest.place;
       operation = rest.operation;
@@ -143,11 +143,23 @@ first_untold number [] error h = absurd cc
 first_untold number (table ∷ tables) error h =
     by_first (table_refusal number table) (identity_refusal (number + 1) tables) error h
     (λ here. let both = failed (tells_rows_apart table) (NoIdentity number) error here in
-    record { place = 0; is = both.1 ∙ ap NoIdentity (sym (at_zero number)); table = table; there = refl; untold =
-        both.0 })
+    record {
+      place = 0;
+      is = both.1 ∙ ap NoIdentity (sym (at_zero number));
+      table = table;
+      there = refl;
+      untold =
+          both.0;
+    })
     (λ there. let rest = first_untold (number + 1) tables error there in
-    record { place = suc rest.place; is = rest.is ∙ ap NoIdentity (sym (at_next number rest.place)); table =
-        rest.table; there = rest.there; untold = rest.untold })
+    record {
+      place = suc rest.place;
+      is = rest.is ∙ ap NoIdentity (sym (at_next number rest.place));
+      table =
+          rest.table;
+      there = rest.there;
+      untold = rest.untold;
+    })
 
 -- ---- which tables are carried, and which columns filters name
 
@@ -166,14 +178,19 @@ uncovered_from : (publication number : ℕ) (table : Table) (column : ℕ) (colu
     → (column_refusal publication number table columns ≡ Some error
     → IsUncovered publication number table columns error)
     → ((is_covered table column ≡ false) × (error ≡ NotCovered publication number column)) ⊎
-        (column_refusal publication number table columns ≡ Some error)
+    (column_refusal publication number table columns ≡ Some error)
     → IsUncovered publication number table (column ∷ columns) error
 uncovered_from publication number table column columns error later (inl h) =
     record { column = column; is = h.1; names = contains_first columns column; lacks = h.0 }
 uncovered_from publication number table column columns error later (inr h) =
     let rest = later h in
-        record { column = rest.column; is = rest.is; names =
-        contains_later columns column rest.column rest.names; lacks = rest.lacks }
+    record {
+      column = rest.column;
+      is = rest.is;
+      names =
+          contains_later columns column rest.column rest.names;
+      lacks = rest.lacks;
+    }
 
 uncovered : (publication number : ℕ) (table : Table) (columns : List ℕ) (error : CheckError)
     → column_refusal publication number table columns ≡ Some error
@@ -181,9 +198,9 @@ uncovered : (publication number : ℕ) (table : Table) (columns : List ℕ) (err
 uncovered publication number table [] error h = absurd cc
 uncovered publication number table (column ∷ columns) error h =
     uncovered_from publication number table column columns error
-        (λ rest. uncovered publication number table columns error rest)
+    (λ rest. uncovered publication number table columns error rest)
     (column_failed (is_covered table column) (column_refusal publication number table columns)
-        (NotCovered publication number column) error h)
+    (NotCovered publication number column) error h)
 
 -- an entry has a filter that names a column that isn't covered
 record EntryIsWrong (tables : List Table) (publication : ℕ) (entry : EntryOf Expr) (error : CheckError) : Type 0 where
@@ -204,10 +221,10 @@ named_within : (tables : List Table) (entry : EntryOf Expr) (table : Table) (fil
     → entry.filter ≡ Some filter → Contains (distinct_columns filter) column → column < length table.columns
 named_within tables entry table filter column known there is names =
     let named : NamesWithin (length (columns_at tables entry.table)) filter =
-        subst (FilterNamesWithin (length (columns_at tables entry.table))) is known.columns in
+    subst (FilterNamesWithin (length (columns_at tables entry.table))) is known.columns in
     distinct_within (length table.columns) filter column
-        (subst (λ columns. NamesWithin (length columns) filter) (columns_found tables entry.table table there) named)
-        names
+    (subst (λ columns. NamesWithin (length columns) filter) (columns_found tables entry.table table there) named)
+    names
 
 entry_wrong : (tables : List Table) (publication : ℕ) (entry : EntryOf Expr) (error : CheckError)
     (found : Option Table) (filter : Option Expr)
@@ -253,9 +270,13 @@ entries_wrong tables publication (entry ∷ entries) error known h =
           (All-head (IsKnownEntry tables) entry entries known) refl refl here;
     })
     (λ there. let rest = entries_wrong tables publication entries error
-        (All-tail (IsKnownEntry tables) entry entries known) there in
-    record { entry = rest.entry; has_entry = contains_later entries entry rest.entry rest.has_entry; wrong =
-        rest.wrong })
+    (All-tail (IsKnownEntry tables) entry entries known) there in
+    record {
+      entry = rest.entry;
+      has_entry = contains_later entries entry rest.entry rest.has_entry;
+      wrong =
+          rest.wrong;
+    })
 
 record HasWrongPublication (tables : List Table) (subscriptions : List Subscription) (number : ℕ)
     (publications : List (PublicationOf Expr)) (error : CheckError) : Type 0 where
@@ -272,9 +293,9 @@ publications_wrong : (tables : List Table) (subscriptions : List Subscription) (
 publications_wrong tables subscriptions number [] error known h = absurd cc
 publications_wrong tables subscriptions number (publication ∷ publications) error known h =
     by_first (taken_refusal tables subscriptions number publication.entries)
-        (covering_refusal tables subscriptions (number + 1) publications) error h
+    (covering_refusal tables subscriptions (number + 1) publications) error h
     (λ here. let both = under_test (is_taken subscriptions number) (entries_refusal tables number publication.entries)
-        error here in record {
+    error here in record {
       place = 0;
       publication = publication;
       there = refl;
@@ -284,7 +305,7 @@ publications_wrong tables subscriptions number (publication ∷ publications) er
           (All-head (CarriesKnown tables) publication publications known) both.1);
     })
     (λ there. let rest = publications_wrong tables subscriptions (number + 1) publications error
-        (All-tail (CarriesKnown tables) publication publications known) there in record {
+    (All-tail (CarriesKnown tables) publication publications known) there in record {
       place = suc rest.place;
       publication = rest.publication;
       there = rest.there;
@@ -313,7 +334,7 @@ refused_certificate plan subscriptions number [] trees error h = absurd cc
 refused_certificate plan subscriptions number (table ∷ tables) [] error h = absurd cc
 refused_certificate plan subscriptions number (table ∷ tables) (tree ∷ trees) error h =
     by_first (first_refusal is_empty number table (table_shares plan number 0 subscriptions) tree)
-        (certificates_refusal is_empty plan subscriptions (number + 1) tables trees) error h
+    (certificates_refusal is_empty plan subscriptions (number + 1) tables trees) error h
     (λ here. record {
       place = 0;
       table = table;
@@ -383,7 +404,7 @@ names_node subject (Split index if_true if_false if_null) path node error h =
     (λ longer wrong. names_node subject if_true longer (later node 1) error wrong)
     (λ longer wrong. names_node subject if_false longer (later (later node 1) (nodes if_true)) error wrong)
     (λ longer wrong. names_node subject if_null longer (later (later (later node 1) (nodes if_true)) (nodes if_false))
-        error wrong)
+    error wrong)
     h
 names_node subject (Owner subscriber) path node error h =
     owner_names subject path node subscriber (slice_get subject.shares subscriber) error h
@@ -418,7 +439,7 @@ publishing_wrong : (catalog : CatalogOf Expr) (plan : PlanOf) (trees : List Tree
 publishing_wrong catalog plan trees error h =
     let found = unpublished catalog.subscriptions 0 catalog.publications error h in
     let is : error ≡ PublishMissing found.place found.operation = found.is
-        ∙ ap (λ n. PublishMissing n found.operation) (zero_more found.place) in
+    ∙ ap (λ n. PublishMissing n found.operation) (zero_more found.place) in
     subst (ShardingIsWrong catalog plan trees) (sym is) (record {
       publication = found.publication;
       there = found.there;
@@ -432,7 +453,7 @@ identity_wrong catalog plan trees error h =
     let found = first_untold 0 catalog.tables error h in
     let is : error ≡ NoIdentity found.place = found.is ∙ ap NoIdentity (zero_more found.place) in
     subst (ShardingIsWrong catalog plan trees) (sym is)
-        (record { table = found.table; there = found.there; untold = found.untold })
+    (record { table = found.table; there = found.there; untold = found.untold })
 
 -- the publication of this number is taken, and an entry of it is wrong
 entry_is_wrong : (catalog : CatalogOf Expr) (plan : PlanOf) (trees : List Tree) (error : CheckError) (number : ℕ)
@@ -442,8 +463,15 @@ entry_is_wrong : (catalog : CatalogOf Expr) (plan : PlanOf) (trees : List Tree) 
     → EntryIsWrong catalog.tables number entry error → ShardingIsWrong catalog plan trees error
 entry_is_wrong catalog plan trees error number publication there taken entry has_entry wrong =
     subst (ShardingIsWrong catalog plan trees) (sym wrong.is)
-    (record { publication = publication; there = there; taken = taken; entry = entry; has_entry =
-        has_entry; uncovered = wrong.uncovered_by })
+    (record {
+      publication = publication;
+      there = there;
+      taken = taken;
+      entry = entry;
+      has_entry =
+          has_entry;
+      uncovered = wrong.uncovered_by;
+    })
 
 covering_wrong : (catalog : CatalogOf Expr) (plan : PlanOf) (trees : List Tree) (error : CheckError)
     → AllCarryKnown catalog
@@ -453,9 +481,9 @@ covering_wrong catalog plan trees error known h =
     let found = publications_wrong catalog.tables catalog.subscriptions 0 catalog.publications error known h in
     let entry = found.wrong_entry in
     entry_is_wrong catalog plan trees error found.place found.publication found.there
-        (subst (λ n. is_taken catalog.subscriptions n ≡ true) (zero_more found.place) found.taken)
+    (subst (λ n. is_taken catalog.subscriptions n ≡ true) (zero_more found.place) found.taken)
     entry.entry entry.has_entry
-        (subst (λ n. EntryIsWrong catalog.tables n entry.entry error) (zero_more found.place) entry.wrong)
+    (subst (λ n. EntryIsWrong catalog.tables n entry.entry error) (zero_more found.place) entry.wrong)
 
 count_wrong : (catalog : CatalogOf Expr) (plan : PlanOf) (trees : List Tree) (error : CheckError)
     → count_refusal (length catalog.tables) (length trees) ≡ Some error
@@ -464,7 +492,7 @@ count_wrong catalog plan trees error h =
     let both = failed (length trees == length catalog.tables) CertCount error h in
     subst (ShardingIsWrong catalog plan trees) (sym both.1)
     (λ same. clash (length trees == length catalog.tables)
-        ((unsigned_Decides (length trees) (length catalog.tables)).1 same) both.0)
+    ((unsigned_Decides (length trees) (length catalog.tables)).1 same) both.0)
 
 certificates_wrong : (catalog : CatalogOf Expr) (plan : PlanOf) (trees : List Tree) (error : CheckError)
     → certificates_refusal is_empty plan catalog.subscriptions 0 catalog.tables trees ≡ Some error
@@ -474,7 +502,7 @@ certificates_wrong catalog plan trees error h =
     let shares = table_shares plan found.place 0 catalog.subscriptions in
     let refused : first_refusal is_empty found.place found.table shares found.tree ≡ Some error =
     subst (λ n. first_refusal is_empty n found.table (table_shares plan n 0 catalog.subscriptions) found.tree
-        ≡ Some error) (zero_more found.place) found.refused in
+    ≡ Some error) (zero_more found.place) found.refused in
     let wrong = certificate_wrong found.place found.table shares found.tree error refused in
     wrong_by_table catalog plan trees found.place error (names_node _ found.tree [] 0 error wrong)
     (record { table = found.table; there = found.there; tree = found.tree; given = found.given; wrong = wrong })
@@ -484,17 +512,17 @@ pub sharding_wrong : (catalog : CatalogOf Expr) (plan : PlanOf) (trees : List Tr
     → sharding_refusal is_empty catalog plan trees ≡ Some error → ShardingIsWrong catalog plan trees error
 sharding_wrong catalog plan trees error known h =
     by_first (catalog_refusal catalog)
-        (first_of (count_refusal (length catalog.tables) (length trees))
-        (certificates_refusal is_empty plan catalog.subscriptions 0 catalog.tables trees)) error h
+    (first_of (count_refusal (length catalog.tables) (length trees))
+    (certificates_refusal is_empty plan catalog.subscriptions 0 catalog.tables trees)) error h
     (λ of_catalog. by_first (publishing_refusal catalog.subscriptions 0 catalog.publications)
     (first_of (identity_refusal 0 catalog.tables)
-        (covering_refusal catalog.tables catalog.subscriptions 0 catalog.publications)) error of_catalog
+    (covering_refusal catalog.tables catalog.subscriptions 0 catalog.publications)) error of_catalog
     (λ publishing. publishing_wrong catalog plan trees error publishing)
     (λ rest. by_first (identity_refusal 0 catalog.tables)
-        (covering_refusal catalog.tables catalog.subscriptions 0 catalog.publications) error rest
+    (covering_refusal catalog.tables catalog.subscriptions 0 catalog.publications) error rest
     (λ identity. identity_wrong catalog plan trees error identity)
     (λ covering. covering_wrong catalog plan trees error known covering)))
     (λ of_certificates. by_first (count_refusal (length catalog.tables) (length trees))
-        (certificates_refusal is_empty plan catalog.subscriptions 0 catalog.tables trees) error of_certificates
+    (certificates_refusal is_empty plan catalog.subscriptions 0 catalog.tables trees) error of_certificates
     (λ count. count_wrong catalog plan trees error count)
     (λ certificates. certificates_wrong catalog plan trees error certificates))

@@ -40,8 +40,8 @@ none_first (Some error) next h = absurd cc
 
 all_published : (insert update delete truncate : Bool)
     → (if insert then (if update then
-        (if delete then (if truncate then None else Some Truncate) else Some Delete) else Some Update)
-        else Some Insert) ≡ None
+    (if delete then (if truncate then None else Some Truncate) else Some Delete) else Some Update)
+    else Some Insert) ≡ None
     → (insert ≡ true) × (update ≡ true) × (delete ≡ true) × (truncate ≡ true)
 all_published true true true true h = (refl, refl, refl, refl)
 all_published true true true false h = absurd cc
@@ -59,7 +59,7 @@ publishes_changes : (subscriptions : List Subscription) (number : ℕ) (publishe
 publishes_changes subscriptions number publishes h taken =
     let missing : missing_by number (missing_operation publishes) ≡ None = rw taken at h in
     let all = all_published publishes.insert publishes.update publishes.delete publishes.truncate
-        (none_missing number (missing_operation publishes) missing) in
+    (none_missing number (missing_operation publishes) missing) in
     record { inserts = all.0; updates = all.1; deletes = all.2; truncates = all.3 }
 
 all_publish : (subscriptions : List Subscription) (number : ℕ) (publications : List (PublicationOf Expr))
@@ -69,14 +69,14 @@ all_publish : (subscriptions : List Subscription) (number : ℕ) (publications :
 all_publish subscriptions number [] h k taken = tt
 all_publish subscriptions number (publication ∷ publications) h zero taken =
     let both = none_first (publication_refusal subscriptions number publication.publishes)
-        (publishing_refusal subscriptions (number + 1) publications) h in
+    (publishing_refusal subscriptions (number + 1) publications) h in
     publishes_changes subscriptions number publication.publishes both.0
-        (subst (λ n. is_taken subscriptions n ≡ true) (at_zero number) taken)
+    (subst (λ n. is_taken subscriptions n ≡ true) (at_zero number) taken)
 all_publish subscriptions number (publication ∷ publications) h (suc k) taken =
     let both = none_first (publication_refusal subscriptions number publication.publishes)
-        (publishing_refusal subscriptions (number + 1) publications) h in
+    (publishing_refusal subscriptions (number + 1) publications) h in
     all_publish subscriptions (number + 1) publications both.1 k
-        (subst (λ n. is_taken subscriptions n ≡ true) (at_next number k) taken)
+    (subst (λ n. is_taken subscriptions n ≡ true) (at_next number k) taken)
 
 -- ---- what is recorded of old rows
 
@@ -89,10 +89,10 @@ all_identified : (number : ℕ) (tables : List Table) → identity_refusal numbe
 all_identified number [] h k = tt
 all_identified number (table ∷ tables) h zero =
     let both = none_first (table_refusal number table) (identity_refusal (number + 1) tables) h in
-        told (tells_rows_apart table) (NoIdentity number) both.0
+    told (tells_rows_apart table) (NoIdentity number) both.0
 all_identified number (table ∷ tables) h (suc k) =
     let both = none_first (table_refusal number table) (identity_refusal (number + 1) tables) h in
-        all_identified (number + 1) tables both.1 k
+    all_identified (number + 1) tables both.1 k
 
 -- ---- which columns filters name
 
@@ -106,9 +106,9 @@ columns_covered : (publication number : ℕ) (table : Table) (columns : List ℕ
 columns_covered publication number table [] h = refl
 columns_covered publication number table (column ∷ columns) h =
     let both = covered_first (is_covered table column) (column_refusal publication number table columns)
-        (NotCovered publication number column) h in
+    (NotCovered publication number column) h in
     two_true (is_covered table column) (list_all (is_covered table) columns) both.0
-        (columns_covered publication number table columns both.1)
+    (columns_covered publication number table columns both.1)
 
 not_missing : (tables : List Table) (number : ℕ) → number < length tables → slice_get tables number ≡ None → ⊥
 not_missing [] number within h = absurd (omega arith)
@@ -130,7 +130,7 @@ entries_covered tables publication (entry ∷ entries) known h =
     let both = none_first (entry_refusal tables publication entry) (entries_refusal tables publication entries) h in
     two_true (entry_is_covered tables entry) (list_all (entry_is_covered tables) entries)
     (carried_covered publication entry.table (slice_get tables entry.table) entry.filter
-        (not_missing tables entry.table (All-head (IsKnownEntry tables) entry entries known).table) both.0)
+    (not_missing tables entry.table (All-head (IsKnownEntry tables) entry entries known).table) both.0)
     (entries_covered tables publication entries (All-tail (IsKnownEntry tables) entry entries known) both.1)
 
 taken_covered : (tables : List Table) (subscriptions : List Subscription) (number : ℕ) (entries : List (EntryOf Expr))
@@ -138,7 +138,7 @@ taken_covered : (tables : List Table) (subscriptions : List Subscription) (numbe
     → is_taken subscriptions number ≡ true → list_all (entry_is_covered tables) entries ≡ true
 taken_covered tables subscriptions number entries known h taken =
     let all : entries_refusal tables number entries ≡ None = rw taken at h in
-        entries_covered tables number entries known all
+    entries_covered tables number entries known all
 
 all_covered : (tables : List Table) (subscriptions : List Subscription) (number : ℕ)
     (publications : List (PublicationOf Expr)) → All (CarriesKnown tables) publications
@@ -148,16 +148,16 @@ all_covered : (tables : List Table) (subscriptions : List Subscription) (number 
 all_covered tables subscriptions number [] known h k taken = tt
 all_covered tables subscriptions number (publication ∷ publications) known h zero taken =
     let both = none_first (taken_refusal tables subscriptions number publication.entries)
-        (covering_refusal tables subscriptions (number + 1) publications) h in
+    (covering_refusal tables subscriptions (number + 1) publications) h in
     taken_covered tables subscriptions number publication.entries
-        (All-head (CarriesKnown tables) publication publications known) both.0
-        (subst (λ n. is_taken subscriptions n ≡ true) (at_zero number) taken)
+    (All-head (CarriesKnown tables) publication publications known) both.0
+    (subst (λ n. is_taken subscriptions n ≡ true) (at_zero number) taken)
 all_covered tables subscriptions number (publication ∷ publications) known h (suc k) taken =
     let both = none_first (taken_refusal tables subscriptions number publication.entries)
-        (covering_refusal tables subscriptions (number + 1) publications) h in
+    (covering_refusal tables subscriptions (number + 1) publications) h in
     all_covered tables subscriptions (number + 1) publications
-        (All-tail (CarriesKnown tables) publication publications known) both.1 k
-        (subst (λ n. is_taken subscriptions n ≡ true) (at_next number k) taken)
+    (All-tail (CarriesKnown tables) publication publications known) both.1 k
+    (subst (λ n. is_taken subscriptions n ≡ true) (at_next number k) taken)
 
 -- ---- certificates
 
@@ -173,14 +173,14 @@ all_owned plan subscriptions number [] trees same h k = tt
 all_owned plan subscriptions number (table ∷ tables) [] same h k = absurd (omega arith)
 all_owned plan subscriptions number (table ∷ tables) (tree ∷ trees) same h zero =
     let both = none_first (first_refusal is_empty number table (table_shares plan number 0 subscriptions) tree)
-        (certificates_refusal is_empty plan subscriptions (number + 1) tables trees) h in
+    (certificates_refusal is_empty plan subscriptions (number + 1) tables trees) h in
     subst (λ n. HasOwners (λ m. table_shares plan m 0 subscriptions) n table) (sym (at_zero number))
-        (certificate_sound number table (table_shares plan number 0 subscriptions) tree both.0)
+    (certificate_sound number table (table_shares plan number 0 subscriptions) tree both.0)
 all_owned plan subscriptions number (table ∷ tables) (tree ∷ trees) same h (suc k) =
     let both = none_first (first_refusal is_empty number table (table_shares plan number 0 subscriptions) tree)
-        (certificates_refusal is_empty plan subscriptions (number + 1) tables trees) h in
+    (certificates_refusal is_empty plan subscriptions (number + 1) tables trees) h in
     subst (λ n. IfSome (slice_get tables k) (HasOwners (λ m. table_shares plan m 0 subscriptions) n))
-        (sym (at_next number k)) (all_owned plan subscriptions (number + 1) tables trees (omega arith) both.1 k)
+    (sym (at_next number k)) (all_owned plan subscriptions (number + 1) tables trees (omega arith) both.1 k)
 
 -- the share of a subscriber who is there
 share_there : (plan : PlanOf) (table number : ℕ) (subscriptions : List Subscription) (k : ℕ)
@@ -191,7 +191,7 @@ share_there plan table number (first ∷ subscriptions) zero subscription h =
     ap (λ n. share_at plan n table) (sym (at_zero number))
 share_there plan table number (first ∷ subscriptions) (suc k) subscription h =
     share_there plan table (number + 1) subscriptions k subscription h
-        ∙ ap (λ n. share_at plan n table) (sym (at_next number k))
+    ∙ ap (λ n. share_at plan n table) (sym (at_next number k))
 
 no_share : (plan : PlanOf) (table number : ℕ) (subscriptions : List Subscription) (k : ℕ)
     → slice_get subscriptions k ≡ None → share_in (table_shares plan table number subscriptions) k ≡ s.Nothing
@@ -204,14 +204,14 @@ takes_by : (catalog : CatalogOf Expr) (plan : PlanOf) → TakesWhatPasses catalo
     → table < length catalog.tables → (row : List Datum)
     (subscriber : ℕ) (found : Option Subscription) → slice_get catalog.subscriptions subscriber ≡ found
     → s.takes (share_in (table_shares plan table 0 catalog.subscriptions) subscriber) row
-        ≡ passes catalog subscriber table row
+    ≡ passes catalog subscriber table row
 takes_by catalog plan same table there row subscriber None e =
     ap (λ share. s.takes share row) (no_share plan table 0 catalog.subscriptions subscriber e)
     ∙ sym (ap (λ found. list_any (carries table row) (listed_by catalog.publications found)) e)
 takes_by catalog plan same table there row subscriber (Some subscription) e =
     ap (λ share. s.takes share row)
-        (share_there plan table 0 catalog.subscriptions subscriber subscription e
-        ∙ ap (λ n. share_at plan n table) (zero_more subscriber))
+    (share_there plan table 0 catalog.subscriptions subscriber subscription e
+    ∙ ap (λ n. share_at plan n table) (zero_more subscriber))
     ∙ same.same subscriber table there row
 
 one_owner : (catalog : CatalogOf Expr) (plan : PlanOf) → TakesWhatPasses catalog plan → (table : ℕ)
@@ -242,18 +242,18 @@ pub sharding_sound : (catalog : CatalogOf Expr) (plan : PlanOf) (trees : List Tr
     → sharding_refusal is_empty catalog plan trees ≡ None → plan ≡ plan_of catalog → IsSound catalog
 sharding_sound catalog plan trees known h own =
     let all = none_first (catalog_refusal catalog)
-        (first_of (count_refusal (length catalog.tables) (length trees))
-        (certificates_refusal is_empty plan catalog.subscriptions 0 catalog.tables trees)) h in
+    (first_of (count_refusal (length catalog.tables) (length trees))
+    (certificates_refusal is_empty plan catalog.subscriptions 0 catalog.tables trees)) h in
     let certificates = none_first (count_refusal (length catalog.tables) (length trees))
-        (certificates_refusal is_empty plan catalog.subscriptions 0 catalog.tables trees) all.1 in
+    (certificates_refusal is_empty plan catalog.subscriptions 0 catalog.tables trees) all.1 in
     let publishing = none_first (publishing_refusal catalog.subscriptions 0 catalog.publications)
     (first_of (identity_refusal 0 catalog.tables)
-        (covering_refusal catalog.tables catalog.subscriptions 0 catalog.publications)) all.0 in
+    (covering_refusal catalog.tables catalog.subscriptions 0 catalog.publications)) all.0 in
     let rest = none_first (identity_refusal 0 catalog.tables)
-        (covering_refusal catalog.tables catalog.subscriptions 0 catalog.publications) publishing.1 in
+    (covering_refusal catalog.tables catalog.subscriptions 0 catalog.publications) publishing.1 in
     let many : length trees ≡ length catalog.tables =
-        same_number (length trees) (length catalog.tables)
-        (counted (length trees == length catalog.tables) CertCount certificates.0) in
+    same_number (length trees) (length catalog.tables)
+    (counted (length trees == length catalog.tables) CertCount certificates.0) in
     record {
       one_owner = λ number. table_there catalog plan (takes_what_passes catalog plan own) number
           (slice_get catalog.tables number) refl

@@ -14,7 +14,7 @@ pub RowHasOneOwner-prop : (catalog : CatalogOf Expr) (table : ℕ) (row : List D
     → IsProp (RowHasOneOwner catalog table row)
 RowHasOneOwner-prop catalog table row = λ one other.
     let Alone : ℕ → Type 0 = λ owner. (passes catalog owner table row ≡ true)
-        × ((another : ℕ) → passes catalog another table row ≡ true → another ≡ owner) in
+    × ((another : ℕ) → passes catalog another table row ≡ true → another ≡ owner) in
     let alone : (owner : ℕ) → IsProp (Alone owner) = λ owner. Prim.hlevel props in
     ap (λ (t : (owner : ℕ) × Alone owner). record { owner = t.0; takes_it = t.1.0; no_other = t.1.1 })
     (Σ_prop_path alone (other.no_other one.owner one.takes_it))

@@ -39,7 +39,7 @@ known_found : (columns : List Column) (row : List Datum) (term : Term) (path : P
 known_found columns row term path value valid agrees is =
     let known = known_in_domain columns term row value valid is in
     value_found (kind_at columns (column_of term)) term path known.value known.in_domain
-        (value_left row term known.value path agrees known.is)
+    (value_left row term known.value path agrees known.is)
 
 -- a row on which the column isn't null
 some_found : (columns : List Column) (row : List Datum) (term : Term) (path : Path) (value : Datum)
@@ -55,14 +55,14 @@ empty_is : (columns : List Column) (row : List Datum) (term : Term) (path : Path
     → Agrees row path → is_empty columns term path ≡ true → ⊥
 empty_is columns row term path valid agrees h =
     let both = both_true (is_present columns (column_of term) path)
-        (is_null (column_of term) path || not (has_value (kind_at columns (column_of term)) term path)) h in
+    (is_null (column_of term) path || not (has_value (kind_at columns (column_of term)) term path)) h in
     let present : value_at row (column_of term) ≡ Missing → ⊥ =
-        present_is columns row (column_of term) path valid agrees both.0 in
+    present_is columns row (column_of term) path valid agrees both.0 in
     by_either (is_null (column_of term) path) (not (has_value (kind_at columns (column_of term)) term path)) both.1
     (λ null. present (null_is row (column_of term) path agrees null))
     (λ none. clash (has_value (kind_at columns (column_of term)) term path)
-        (some_found columns row term path (value_at row (column_of term)) valid agrees present refl)
-        (not_true _ none))
+    (some_found columns row term path (value_at row (column_of term)) valid agrees present refl)
+    (not_true _ none))
 
 -- a test that decides whether there is a refusal
 passed : (b : Bool) (error : CheckError) → (if b then None else Some error) ≡ None → b ≡ true
@@ -154,7 +154,7 @@ owner_sound : (subject : Subject) (path : Path) (node owner : ℕ) (found : Opti
 owner_sound subject path node owner None e h = absurd cc
 owner_sound subject path node owner (Some share) e h =
     let both = owner_passed (must_take share path)
-        (second_refusal subject node (second_owner owner 0 subject.shares path)) (NotOwner subject.table node) h in
+    (second_refusal subject node (second_owner owner 0 subject.shares path)) (NotOwner subject.table node) h in
     let alone = no_refusal subject node (second_owner owner 0 subject.shares path) both.1 in
     let is : share_in subject.shares owner ≡ share = get_or_from_slice_get subject.shares owner share Nothing e in
     record {
@@ -202,12 +202,12 @@ split_sound : (subject : Subject) (path : Path) (node : ℕ) (found : Option Ato
 split_sound subject path node None if_true if_false if_null at_true at_false at_null h = absurd cc
 split_sound subject path node (Some atom) if_true if_false if_null at_true at_false at_null h =
     let both = first_none (if_true (path ++ (atom, True) ∷ []))
-        (first_of (if_false (path ++ (atom, False) ∷ [])) (if_null (path ++ (atom, Null) ∷ []))) h in
+    (first_of (if_false (path ++ (atom, False) ∷ [])) (if_null (path ++ (atom, Null) ∷ []))) h in
     let rest = first_none (if_false (path ++ (atom, False) ∷ [])) (if_null (path ++ (atom, Null) ∷ [])) both.1 in
     record {
       one_owner = λ row valid agrees. one_branch subject.columns subject.shares path atom
           (at_true (path ++ (atom, True) ∷ []) both.0) (at_false (path ++ (atom, False) ∷ []) rest.0)
-              (at_null (path ++ (atom, Null) ∷ []) rest.1)
+          (at_null (path ++ (atom, Null) ∷ []) rest.1)
           row (atom_meaning atom row) valid agrees refl;
     }
 

@@ -69,7 +69,7 @@ lets_alike : (table : Table) (filter : Option Expr) (one other : List Datum)
 lets_alike table None one other e h = refl
 lets_alike table (Some filter) one other e h =
     ap is_true ((determined_by_columns filter (distinct_columns filter) refl).same_meaning one other
-        (agrees (distinct_columns filter) (identity_columns table) one other e h))
+    (agrees (distinct_columns filter) (identity_columns table) one other e h))
 
 entry_alike : (tables : List Table) (number : ℕ) (table : Table) (entry : EntryOf Expr) (one other : List Datum)
     → slice_get tables number ≡ Some table
@@ -77,9 +77,9 @@ entry_alike : (tables : List Table) (number : ℕ) (table : Table) (entry : Entr
     → entry_is_covered tables entry ≡ true → entry_carries number one entry ≡ entry_carries number other entry
 entry_alike tables number table entry one other there e h = by_test (entry.table == number)
     (λ same. let found : slice_get tables entry.table ≡ Some table =
-        ap (slice_get tables) (same_number entry.table number same) ∙ there in
+    ap (slice_get tables) (same_number entry.table number same) ∙ there in
     ap (λ b. (entry.table == number) && b)
-        (lets_alike table entry.filter one other e (subst (λ f. is_covered_by f entry.filter ≡ true) found h)))
+    (lets_alike table entry.filter one other e (subst (λ f. is_covered_by f entry.filter ≡ true) found h)))
     (λ differs. rw differs refl)
 
 entries_alike : (tables : List Table) (number : ℕ) (table : Table) (entries : List (EntryOf Expr))
@@ -91,9 +91,9 @@ entries_alike tables number table [] one other there e h = refl
 entries_alike tables number table (entry ∷ entries) one other there e h =
     let both = both_true (entry_is_covered tables entry) (list_all (entry_is_covered tables) entries) h in
     ap (λ b. b || list_any (entry_carries number one) entries)
-        (entry_alike tables number table entry one other there e both.0)
+    (entry_alike tables number table entry one other there e both.0)
     ∙ ap (λ b. entry_carries number other entry || b)
-        (entries_alike tables number table entries one other there e both.1)
+    (entries_alike tables number table entries one other there e both.1)
 
 abbrev onto : Option (PublicationOf Expr) → List (PublicationOf Expr) → List (PublicationOf Expr)
 onto None rest = rest
@@ -111,7 +111,7 @@ one_alike : (tables : List Table) (number : ℕ) (table : Table) (found : Option
 one_alike tables number table None rest one other there e covered later = later
 one_alike tables number table (Some publication) rest one other there e covered later =
     ap (λ b. b || list_any (carries number one) rest)
-        (entries_alike tables number table publication.entries one other there e covered)
+    (entries_alike tables number table publication.entries one other there e covered)
     ∙ ap (λ b. carries number other publication || b) later
 
 listed_alike : (catalog : CatalogOf Expr) (number : ℕ) (table : Table) (numbers : List ℕ) (one other : List Datum)
@@ -119,14 +119,14 @@ listed_alike : (catalog : CatalogOf Expr) (number : ℕ) (table : Table) (number
     → values_at (identity_columns table) one ≡ values_at (identity_columns table) other
     → ((n : ℕ) → has numbers n ≡ true → AllCovered catalog.tables (slice_get catalog.publications n))
     → list_any (carries number one) (filter_map (slice_get catalog.publications) numbers)
-        ≡ list_any (carries number other) (filter_map (slice_get catalog.publications) numbers)
+    ≡ list_any (carries number other) (filter_map (slice_get catalog.publications) numbers)
 listed_alike catalog number table [] one other there e covered = refl
 listed_alike catalog number table (n ∷ numbers) one other there e covered =
     one_alike catalog.tables number table (slice_get catalog.publications n)
-        (filter_map (slice_get catalog.publications) numbers) one other there e
+    (filter_map (slice_get catalog.publications) numbers) one other there e
     (covered n (left_true (n == n) (has numbers n) (number_itself n)))
     (listed_alike catalog number table numbers one other there e
-        (λ m h. covered m (right_true (n == m) (has numbers m) h)))
+    (λ m h. covered m (right_true (n == m) (has numbers m) h)))
 
 -- what a subscription lists is taken
 listed_is_taken : (subscriptions : List Subscription) (place : ℕ) (subscription : Subscription)
@@ -135,21 +135,21 @@ listed_is_taken : (subscriptions : List Subscription) (place : ℕ) (subscriptio
 listed_is_taken [] place subscription there n h = absurd cc
 listed_is_taken (first ∷ subscriptions) zero subscription there n h =
     let same : first ≡ subscription = cc in
-        left_true (is_listed n first) (is_taken subscriptions n) (subst (λ s. is_listed n s ≡ true) (sym same) h)
+    left_true (is_listed n first) (is_taken subscriptions n) (subst (λ s. is_listed n s ≡ true) (sym same) h)
 listed_is_taken (first ∷ subscriptions) (suc place) subscription there n h =
     right_true (is_listed n first) (is_taken subscriptions n)
-        (listed_is_taken subscriptions place subscription there n h)
+    (listed_is_taken subscriptions place subscription there n h)
 
 passes_alike : (catalog : CatalogOf Expr) → IsSound catalog
     → (subscriber number : ℕ) (table : Table) (found : Option Subscription) (one other : List Datum)
     → slice_get catalog.subscriptions subscriber ≡ found → slice_get catalog.tables number ≡ Some table
     → values_at (identity_columns table) one ≡ values_at (identity_columns table) other
     → list_any (carries number one) (listed_by catalog.publications found)
-        ≡ list_any (carries number other) (listed_by catalog.publications found)
+    ≡ list_any (carries number other) (listed_by catalog.publications found)
 passes_alike catalog sound subscriber number table None one other at there e = refl
 passes_alike catalog sound subscriber number table (Some subscription) one other at there e =
     listed_alike catalog number table subscription.publications one other there e
-        (λ n h. sound.covered n (listed_is_taken catalog.subscriptions subscriber subscription at n h))
+    (λ n h. sound.covered n (listed_is_taken catalog.subscriptions subscriber subscription at n h))
 
 -- under FULL rows with one identity are one row; else they have one value in each column of the identity
 by_identity : {P : Type 0} (identity : Identity) (table : Table) (one other : List Datum)
@@ -172,7 +172,7 @@ takes_alike catalog plan sound own subscriber number (Some table) one other ther
     (λ same. ap (takes (share_at plan subscriber number)) same)
     (λ some. own.same subscriber number within one
     ∙ passes_alike catalog sound subscriber number table (slice_get catalog.subscriptions subscriber) one other refl
-        there some
+    there some
     ∙ sym (own.same subscriber number within other))
 
 -- ---- blanked rows
@@ -191,16 +191,16 @@ values_kept : (columns part : List ℕ) (row : List Datum)
 values_kept columns [] row within = refl
 values_kept columns (column ∷ part) row within =
     let here : has columns column ≡ true =
-        within column (left_true (column == column) (has part column) (number_itself column)) in
+    within column (left_true (column == column) (has part column) (number_itself column)) in
     ap (λ value. value ∷ values_at part (blanked_from columns 0 row))
-        (value_kept columns 0 row column (subst (λ n. has columns n ≡ true) (sym (zero_more column)) here))
+    (value_kept columns 0 row column (subst (λ n. has columns n ≡ true) (sym (zero_more column)) here))
     ∙ ap (λ values. value_at row column ∷ values)
-        (values_kept columns part row
-        (λ another h. within another (right_true (column == another) (has part another) h)))
+    (values_kept columns part row
+    (λ another h. within another (right_true (column == another) (has part another) h)))
 
 blanked_as : (identity : Identity) (table : Table) (row : List Datum)
     → identity_by (recorded_as identity) table (blanked_by (recorded_as identity) table row)
-        ≡ identity_by (recorded_as identity) table row
+    ≡ identity_by (recorded_as identity) table row
 blanked_as Default table row = values_kept (identity_columns table) (identity_columns table) row (λ column h. h)
 blanked_as (Index number) table row = values_kept (identity_columns table) (identity_columns table) row (λ column h. h)
 blanked_as Full table row = refl
@@ -250,9 +250,9 @@ valid_of_fits : (catalog : CatalogOf Expr) (plan : PlanOf) (number : ℕ) (table
     → fits (setting_of catalog plan) number row ≡ true → IsValid table.columns row
 valid_of_fits catalog plan number table row there h =
     let both = both_true (nat_lt number (length catalog.tables))
-        (is_none (fault_in (slice_get catalog.tables number) row)) h in
+    (is_none (fault_in (slice_get catalog.tables number) row)) h in
     valid_from_no_fault table.columns row
-        (no_fault (row_fault table.columns row) (subst (λ found. is_none (fault_in found row) ≡ true) there both.1))
+    (no_fault (row_fault table.columns row) (subst (λ found. is_none (fault_in found row) ≡ true) there both.1))
 
 value_there : (found : Option Column) (value : Datum) → IfSome found (λ column. Fits column value)
     → takes_no_null found ≡ true → is_null value ≡ false
@@ -266,7 +266,7 @@ no_null_in columns row valid [] h = refl
 no_null_in columns row valid (number ∷ numbers) h =
     let both = both_true (takes_no_null (slice_get columns number)) (take_no_null columns numbers) h in
     let here : is_null (value_at row number) ≡ false =
-        value_there (slice_get columns number) (value_at row number) (valid.fits number) both.0 in
+    value_there (slice_get columns number) (value_at row number) (valid.fits number) both.0 in
     let later : list_any is_null (values_at numbers row) ≡ false = no_null_in columns row valid numbers both.1 in
     rw (here, later) refl
 
@@ -298,9 +298,9 @@ was_there : (catalog : CatalogOf Expr) (plan : PlanOf) (tables : Tables) (comman
     → holds (setting_of catalog plan).keys tables number row ≡ true
 was_there catalog plan tables command leaves number table there columns none row held null =
     is_new_or_old (setting_of catalog plan) (has_primary_keys catalog plan) tables command leaves.accepted
-        leaves.before number row held
+    leaves.before number row held
     (λ fit. absurd (let whole =
-        no_null_in table.columns row (valid_of_fits catalog plan number table row there fit) columns none in cc))
+    no_null_in table.columns row (valid_of_fits catalog plan number table row there fit) columns none in cc))
     (λ old. old)
 
 apart_by_index : (catalog : CatalogOf Expr) (plan : PlanOf) (tables : Tables) (command : Command)
@@ -315,7 +315,7 @@ apart_by_index catalog plan tables command leaves number table there one other b
     (λ null. leaves.apart number one other
     (was_there catalog plan tables command leaves number table there index.columns none one both.first null)
     (was_there catalog plan tables command leaves number table there index.columns none other both.second
-        (subst (λ values. list_any is_null values ≡ true) same null))
+    (subst (λ values. list_any is_null values ≡ true) same null))
     both.same)
     (λ whole.
     let keys = (has_table catalog plan number table there).indexed place index at in
@@ -360,11 +360,11 @@ apart_by : (catalog : CatalogOf Expr) (plan : PlanOf) (tables : Tables) (command
     → identity_by (recorded_as identity) table one ≡ identity_by (recorded_as identity) table other → one ≡ other
 apart_by catalog plan tables command leaves number table there one other both Default is tells same =
     apart_by_key catalog plan tables command leaves number table there one other both
-        (by_columns Default table one other is same)
+    (by_columns Default table one other is same)
 apart_by catalog plan tables command leaves number table there one other both (Index place) is tells same =
     by_found table one other (slice_get table.indexes place) tells (by_columns (Index place) table one other is same)
     (λ index at none values. apart_by_index catalog plan tables command leaves number table there one other both place
-        index at none values)
+    index at none values)
 apart_by catalog plan tables command leaves number table there one other both Full is tells same = same
 apart_by catalog plan tables command leaves number table there one other both Nothing is tells same = absurd cc
 
@@ -382,7 +382,7 @@ pub keeps_apart : (catalog : CatalogOf Expr) (plan : PlanOf) → IsSound catalog
 keeps_apart catalog plan sound = record {
   kept = λ tables command accepted before apart number one other h k e.
       apart_in catalog plan tables command (record { accepted = accepted; before = before; apart = apart }) number one
-          other
+      other
       (record { first = h; second = k; same = e }) (slice_get catalog.tables number) refl (sound.identified number) e;
 }
 
@@ -412,17 +412,17 @@ one_of_fitting catalog plan own number within None row there h sound =
     absurd (is_there catalog.tables number within there)
 one_of_fitting catalog plan own number within (Some table) row there h sound =
     one_owner catalog plan own number within row
-        (sound row (typed_of_valid table.columns row
-        (valid_from_no_fault table.columns row (no_fault (row_fault table.columns row) h))))
+    (sound row (typed_of_valid table.columns row
+    (valid_from_no_fault table.columns row (no_fault (row_fault table.columns row) h))))
 
 pub setting_sound : (catalog : CatalogOf Expr) (plan : PlanOf) → IsSound catalog → TakesWhatPasses catalog plan
     → DividesRows (setting_of catalog plan)
 setting_sound catalog plan sound own = record {
   one_owner = λ table row h.
       let both = both_true (nat_lt table (length catalog.tables))
-          (is_none (fault_in (slice_get catalog.tables table) row)) h in
+      (is_none (fault_in (slice_get catalog.tables table) row)) h in
       one_of_fitting catalog plan own table (ltb-true table (length catalog.tables) both.0)
-          (slice_get catalog.tables table) row refl both.1 (sound.one_owner table);
+      (slice_get catalog.tables table) row refl both.1 (sound.one_owner table);
 }
 
 -- ---- of a plan that is the catalog's own

@@ -42,9 +42,11 @@ pub adds_pushed : (old new : List Step) (number : ℕ) (step : Step) → new ≡
 adds_pushed old new number step e n = record {
   there = subst (λ (steps : List Step). slice_get steps number ≡ Some step) (sym e)
       (subst (λ k. slice_get (old ++ step ∷ []) k ≡ Some step) (sym n) (got_last old step));
-  extends = record { each =
-      λ k found h. subst (λ (steps : List Step). slice_get steps k ≡ Some found) (sym e)
-      (got_before old found step k h) };
+  extends = record {
+    each =
+        λ k found h. subst (λ (steps : List Step). slice_get steps k ≡ Some found) (sym e)
+        (got_before old found step k h);
+  };
   ordered = λ before parts. subst (λ (steps : List Step). IsOrdered steps) (sym e) (record {
     each = λ k found h.
         elim (got_among old step found k h) [
@@ -69,12 +71,26 @@ stands_more atoms old new more number (e.Const known) h = more.each _ _ h
 stands_more atoms old new more number (e.Atom atom) h = (h.0, (more.each _ _ h.1.0, h.1.1))
 stands_more atoms old new more number (e.Not part) h =
     (h.0, (more.each _ _ h.1.0, stands_more atoms old new more h.0 part h.1.1))
-stands_more atoms old new more number (e.And left right) h =
-    (h.0, (h.1.0, (more.each _ _ h.1.1.0,
-        (stands_more atoms old new more h.0 left h.1.1.1.0, stands_more atoms old new more h.1.0 right h.1.1.1.1))))
-stands_more atoms old new more number (e.Or left right) h =
-    (h.0, (h.1.0, (more.each _ _ h.1.1.0,
-        (stands_more atoms old new more h.0 left h.1.1.1.0, stands_more atoms old new more h.1.0 right h.1.1.1.1))))
+stands_more atoms old new more number (e.And left right) h = (
+  h.0,
+  (
+    h.1.0,
+    (
+      more.each _ _ h.1.1.0,
+      (stands_more atoms old new more h.0 left h.1.1.1.0, stands_more atoms old new more h.1.0 right h.1.1.1.1),
+    ),
+  ),
+)
+stands_more atoms old new more number (e.Or left right) h = (
+  h.0,
+  (
+    h.1.0,
+    (
+      more.each _ _ h.1.1.0,
+      (stands_more atoms old new more h.0 left h.1.1.1.0, stands_more atoms old new more h.1.0 right h.1.1.1.1),
+    ),
+  ),
+)
 stands_more atoms old new more number (e.Is test part) h =
     (h.0, (more.each _ _ h.1.0, stands_more atoms old new more h.0 part h.1.1))
 
@@ -107,20 +123,30 @@ module _ (atoms : List AtomOf) (old new : List Step) (number : ℕ) where
   pub compiled_const : (known : Bool) → Adds old new number (Const known)
       → Compiles atoms old new number (e.Const known)
   compiled_const known added =
-      record { there = record { stands = added.there }; extends = added.extends; ordered =
-      λ before. added.ordered before tt }
+      record {
+        there = record { stands = added.there };
+        extends = added.extends;
+        ordered =
+            λ before. added.ordered before tt;
+      }
 
   pub compiled_atom : (place : ℕ) (atom : AtomOf) → slice_get atoms place ≡ Some atom
       → Adds old new number (Atom place) → Compiles atoms old new number (e.Atom atom)
   compiled_atom place atom named added =
-      record { there = record { stands = (place, (added.there, named)) }; extends = added.extends; ordered =
-          λ before. added.ordered before tt }
+      record {
+        there = record { stands = (place, (added.there, named)) };
+        extends = added.extends;
+        ordered =
+            λ before. added.ordered before tt;
+      }
 
   module _ (middle : List Step) (first : ℕ) (part : Expr) (compiled : Compiles atoms old middle first part) where
     pub compiled_not : Adds middle new number (Not first) → Compiles atoms old new number (e.Not part)
     compiled_not added = record {
-      there = record { stands =
-          (first, (added.there, stands_more atoms middle new added.extends first part compiled.there.stands)) };
+      there = record {
+        stands =
+            (first, (added.there, stands_more atoms middle new added.extends first part compiled.there.stands));
+      };
       extends = extends_on old middle new compiled.extends added.extends;
       ordered = λ before. added.ordered (compiled.ordered before)
           (filter_within atoms middle first part compiled.there);
@@ -129,8 +155,10 @@ module _ (atoms : List AtomOf) (old new : List Step) (number : ℕ) where
     pub compiled_is : (test : Test) → Adds middle new number (Is test first)
         → Compiles atoms old new number (e.Is test part)
     compiled_is test added = record {
-      there = record { stands =
-          (first, (added.there, stands_more atoms middle new added.extends first part compiled.there.stands)) };
+      there = record {
+        stands =
+            (first, (added.there, stands_more atoms middle new added.extends first part compiled.there.stands));
+      };
       extends = extends_on old middle new compiled.extends added.extends;
       ordered = λ before. added.ordered (compiled.ordered before)
           (filter_within atoms middle first part compiled.there);
@@ -139,9 +167,11 @@ module _ (atoms : List AtomOf) (old new : List Step) (number : ℕ) where
   module _ (one two : List Step) (first second : ℕ) (left right : Expr) (at_left : Compiles atoms old one first left)
       (at_right : Compiles atoms one two second right) where
     parts_within : (first < length two) × (second < length two)
-    parts_within = (filter_within atoms two first left
-        (filter_more atoms one two first left at_right.extends at_left.there),
-        filter_within atoms two second right at_right.there)
+    parts_within = (
+      filter_within atoms two first left
+          (filter_more atoms one two first left at_right.extends at_left.there),
+      filter_within atoms two second right at_right.there,
+    )
 
     left_there : Extends two new → Stands atoms new first left
     left_there more = stands_more atoms two new more first left
@@ -149,18 +179,36 @@ module _ (atoms : List AtomOf) (old new : List Step) (number : ℕ) where
 
     pub compiled_and : Adds two new number (And first second) → Compiles atoms old new number (e.And left right)
     compiled_and added = record {
-      there = record { stands =
-          (first, (second, (added.there,
-          (left_there added.extends, stands_more atoms two new added.extends second right at_right.there.stands)))) };
+      there = record {
+        stands = (
+          first,
+          (
+            second,
+            (
+              added.there,
+              (left_there added.extends, stands_more atoms two new added.extends second right at_right.there.stands),
+            ),
+          ),
+        );
+      };
       extends = extends_on old one new at_left.extends (extends_on one two new at_right.extends added.extends);
       ordered = λ before. added.ordered (at_right.ordered (at_left.ordered before)) parts_within;
     }
 
     pub compiled_or : Adds two new number (Or first second) → Compiles atoms old new number (e.Or left right)
     compiled_or added = record {
-      there = record { stands =
-          (first, (second, (added.there,
-          (left_there added.extends, stands_more atoms two new added.extends second right at_right.there.stands)))) };
+      there = record {
+        stands = (
+          first,
+          (
+            second,
+            (
+              added.there,
+              (left_there added.extends, stands_more atoms two new added.extends second right at_right.there.stands),
+            ),
+          ),
+        );
+      };
       extends = extends_on old one new at_left.extends (extends_on one two new at_right.extends added.extends);
       ordered = λ before. added.ordered (at_right.ordered (at_left.ordered before)) parts_within;
     }
@@ -194,8 +242,8 @@ filters_more atoms shares old new root share before compiled pushed = record {
   ordered = compiled.ordered before.ordered;
   filters = subst (λ roots. AreFilters atoms new.steps.list.items roots (shares ++ share ∷ [])) (sym pushed)
       (filters_then atoms new.steps.list.items old.roots.items shares root share
-          (filters_kept atoms old.steps.list.items new.steps.list.items compiled.extends old.roots.items shares
-          before.filters) compiled.there);
+      (filters_kept atoms old.steps.list.items new.steps.list.items compiled.extends old.roots.items shares
+      before.filters) compiled.there);
 }
 
 pub none_compiled : (atoms : List AtomOf) (formulas : Formulas) → formulas.steps.list.items ≡ []
@@ -212,7 +260,7 @@ module _ {A : _} (atoms : List AtomOf) (shares : List (Bor (Share A))) (count : 
       → IsCompiled atoms (shares_view (take (count + 1) shares)) formulas
   next_compiled compiled within is = subst (λ (found : List ShareOf). IsCompiled atoms found formulas)
       (ap (λ (last : Bor (Share A)). shares_view (take count shares) ++ share_view last.now ∷ []) is
-          ∙ sym (map_more (λ (s : Bor (Share A)). share_view s.now) shares count share within)) compiled
+      ∙ sym (map_more (λ (s : Bor (Share A)). share_view s.now) shares count share within)) compiled
 
   pub all_compiled : IsCompiled atoms (shares_view (take count shares)) formulas → length shares ≤ count
       → IsCompiled atoms (shares_view shares) formulas

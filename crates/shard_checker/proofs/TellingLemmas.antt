@@ -51,7 +51,7 @@ module _ {A B : Type 0} (catalog : CatalogOf Expr) (plan : PlanOf) (trees : List
   refused_by_any h test tells =
       subst (λ (refusal : Option CheckError). Checks refusal result) (sharding_by_any test tells catalog plan trees)
       (subst (Checks (sharding_refusal is_empty catalog plan trees)) (sym told)
-          (subst (Checks (sharding_refusal is_empty catalog plan trees)) fails h))
+      (subst (Checks (sharding_refusal is_empty catalog plan trees)) fails h))
 
   pub refused_memory : (Fact : Type 0) → NeedsMemoryOnlyIf OutOfMemory Fact given
       → NeedsMemoryOnlyIf OutOfMemory Fact result
@@ -62,6 +62,6 @@ module _ {A B : Type 0} (catalog : CatalogOf Expr) (plan : PlanOf) (trees : List
       → IfRefused result (ShardingIsWrong catalog plan trees)
   refused_wrong known h =
       let refused : found ≢ OutOfMemory → sharding_refusal is_empty catalog plan trees ≡ Some found =
-          subst (Checks (sharding_refusal is_empty catalog plan trees)) fails h in
+      subst (Checks (sharding_refusal is_empty catalog plan trees)) fails h in
       subst (λ (result : Result B CheckError). IfRefused result (ShardingIsWrong catalog plan trees)) (sym told)
       (λ other. sharding_wrong catalog plan trees found known (refused other))

@@ -70,15 +70,15 @@ nodes_of_read line (text ∷ texts) h =
     let both = none_first (fault_at line (certificate_of text.now)) (text_fault (line + 1) (texts_view texts)) h in
     ap (λ lists. (nodes_in text.now).nodes ∷ lists) (nodes_of_read (line + 1) texts both.1)
     ∙ first_nodes line (certificate_of text.now) (nodes_in text.now) (trees_in (texts_view texts))
-        (nodes_of_texts text.now) both.0
+    (nodes_of_texts text.now) both.0
 
 pub sharding_by_texts : (test : Test) (catalog : CatalogOf Expr) (plan : PlanOf) (texts : List (Bor (List ℕ)))
     → text_fault 1 (texts_view texts) ≡ None
     → refusal_by_nodes test catalog plan (map (λ text. (nodes_in text.now).nodes) texts)
-        ≡ sharding_refusal test catalog plan (trees_in (texts_view texts))
+    ≡ sharding_refusal test catalog plan (trees_in (texts_view texts))
 sharding_by_texts test catalog plan texts h =
     ap (refusal_by_nodes test catalog plan) (nodes_of_read 1 texts h)
-        ∙ sharding_by_nodes test catalog plan (trees_in (texts_view texts))
+    ∙ sharding_by_nodes test catalog plan (trees_in (texts_view texts))
 
 -- ---- what is answered
 
@@ -109,7 +109,7 @@ one_fault : (texts : List (List ℕ)) (line : ℕ) (found : Result Tree CertErro
 one_fault texts line (Ok tree) later error h more first = more h first
 one_fault texts line (Err fault) later error h more first =
     let same : Text line fault ≡ error = cc in
-        subst (OfFault texts) same (first ∙ ap (λ (error : TextError). Some error) (sym same))
+    subst (OfFault texts) same (first ∙ ap (λ (error : TextError). Some error) (sym same))
 
 some_fault : (texts : List (List ℕ)) (line : ℕ) (left : List (List ℕ)) (error : TextError)
     → text_fault line left ≡ Some error → text_fault 1 texts ≡ Some error → OfFault texts error
@@ -157,7 +157,7 @@ module _ {A B : Type 0} (catalog : CatalogOf Expr) (plan : PlanOf) (texts : List
   refused_by_any read h test tells =
       let one : ChecksText {A = B} (text_refusal test catalog plan texts) (Err (Check found)) =
       λ other. text_by_any test tells catalog plan texts (Some found) read
-          (found_by h (λ same. other (ap Check same))) in
+      (found_by h (λ same. other (ap Check same))) in
       subst (ChecksText (text_refusal test catalog plan texts)) (sym told) one
 
   pub refused_read : text_fault 1 texts ≡ None → AreRead texts result
@@ -167,11 +167,11 @@ module _ {A B : Type 0} (catalog : CatalogOf Expr) (plan : PlanOf) (texts : List
       → IfTextRefused result (ShardingIsWrong catalog plan (trees_in texts))
   refused_wrong known h =
       subst (λ (result : Result B TextError). IfTextRefused result (ShardingIsWrong catalog plan (trees_in texts)))
-          (sym told)
+      (sym told)
       (λ other. sharding_wrong catalog plan (trees_in texts) found known (found_by h other))
 
   pub refused_memory : NeedsMemoryOnlyIf OutOfMemory (declared_refusal catalog ≡ None) given
       → TextNeedsMemoryOnlyIf (declared_refusal catalog ≡ None) result
   refused_memory h =
       subst (TextNeedsMemoryOnlyIf (declared_refusal catalog ≡ None)) (sym told)
-          (subst (NeedsMemoryOnlyIf OutOfMemory (declared_refusal catalog ≡ None)) fails h)
+      (subst (NeedsMemoryOnlyIf OutOfMemory (declared_refusal catalog ≡ None)) fails h)

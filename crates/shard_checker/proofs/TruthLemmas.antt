@@ -42,7 +42,7 @@ never_null_wrong : (subject : Subject) (path : Path) (node : ℕ) (found : Optio
 never_null_wrong subject path node None error h = same_some (BadIndex subject.table node) error h
 never_null_wrong subject path node (Some atom) error h =
     let both = failed (is_never_null subject.columns atom path) (MayBeNull subject.table node) error h in
-        (both.1, both.0)
+    (both.1, both.0)
 
 -- ---- owners
 
@@ -73,16 +73,16 @@ least_before owner number share shares path place first least (suc earlier) belo
 found_by : (owner number : ℕ) (share : ShareOf) (path : Path) (rest : Option ℕ) (second : ℕ)
     → (if is_second owner number share path then Some number else rest) ≡ Some second
     → ((is_second owner number share path ≡ true) × (number ≡ second)) ⊎
-        ((is_second owner number share path ≡ false) × (rest ≡ Some second))
+    ((is_second owner number share path ≡ false) × (rest ≡ Some second))
 found_by owner number share path rest second h = by_test (is_second owner number share path)
     (λ here. let found : Some number ≡ Some second = rw here at h in let same : number ≡ second = cc in
-        inl (here, same))
+    inl (here, same))
     (λ there. let found : rest ≡ Some second = rw there at h in inr (there, found))
 
 found_in : (owner number : ℕ) (share : ShareOf) (shares : List ShareOf) (path : Path) (second : ℕ)
     → (second_owner owner (number + 1) shares path ≡ Some second → IsFound owner (number + 1) second shares path)
     → ((is_second owner number share path ≡ true) × (number ≡ second)) ⊎
-        ((is_second owner number share path ≡ false) × (second_owner owner (number + 1) shares path ≡ Some second))
+    ((is_second owner number share path ≡ false) × (second_owner owner (number + 1) shares path ≡ Some second))
     → IsFound owner number second (share ∷ shares) path
 found_in owner number share shares path second later (inl here) =
     let is = second_is owner number share path here.0 in
@@ -126,8 +126,12 @@ others_wrong : (subject : Subject) (path : Path) (node owner : ℕ) (error : Che
     → second_refusal subject node found ≡ Some error → HasSecond subject path node owner error
 others_wrong subject path node owner error None e h = absurd cc
 others_wrong subject path node owner error (Some second) e h =
-    record { second = second; is = same_some (SecondOwner subject.table node second) error h; least =
-        least_other owner second subject.shares path e }
+    record {
+      second = second;
+      is = same_some (SecondOwner subject.table node second) error h;
+      least =
+          least_other owner second subject.shares path e;
+    }
 
 owner_wrong : (subject : Subject) (path : Path) (node owner : ℕ) (found : Option ShareOf) (error : CheckError)
     → owner_refusal subject path node owner found ≡ Some error
@@ -166,10 +170,10 @@ split_wrong subject path node None error if_true if_false if_null true_wrong fal
 split_wrong subject path node (Some atom) error if_true if_false if_null true_wrong false_wrong null_wrong at_true
     at_false at_null h =
     of_three (if_true (path ++ (atom, True) ∷ [])) (if_false (path ++ (atom, False) ∷ []))
-        (if_null (path ++ (atom, Null) ∷ [])) error
+    (if_null (path ++ (atom, Null) ∷ [])) error
     (at_true (path ++ (atom, True) ∷ [])) (at_false (path ++ (atom, False) ∷ [])) (at_null (path ++ (atom, Null) ∷ []))
     (first_some (if_true (path ++ (atom, True) ∷ []))
-        (first_of (if_false (path ++ (atom, False) ∷ [])) (if_null (path ++ (atom, Null) ∷ []))) error h)
+    (first_of (if_false (path ++ (atom, False) ∷ [])) (if_null (path ++ (atom, Null) ∷ []))) error h)
 
 refusal_true : (subject : Subject) (tree : Tree) (path : Path) (node : ℕ) (error : CheckError)
     → refusal is_empty subject tree path node ≡ Some error → IsWrong subject tree path node error
@@ -184,7 +188,7 @@ refusal_true subject (Split index if_true if_false if_null) path node error h =
     (λ longer. refusal_true subject if_true longer (later node 1) error)
     (λ longer. refusal_true subject if_false longer (later (later node 1) (nodes if_true)) error)
     (λ longer. refusal_true subject if_null longer (later (later (later node 1) (nodes if_true)) (nodes if_false))
-        error)
+    error)
     h
 refusal_true subject (Owner subscriber) path node error h =
     owner_wrong subject path node subscriber (slice_get subject.shares subscriber) error h

@@ -20,7 +20,7 @@ none_due is_empty subject (node ∷ nodes) number = refl
 pub over_passes : (is_empty : Test) (subject : Subject) (node : Node) (over : Bool) (path : Path) (number : ℕ)
     → over ≡ true
     → Passes is_empty subject (node ∷ []) (place_at (path_unless over path) number) []
-        (place_at (path_unless over path) number)
+    (place_at (path_unless over path) number)
 over_passes is_empty subject node true path number e =
     record { each = λ more. sym (none_due is_empty subject more number) }
 over_passes is_empty subject node false path number e = absurd cc
@@ -34,7 +34,7 @@ node_passes is_empty subject node true path number found next e passed goes coun
 node_passes is_empty subject node false path number found next e passed goes counts = record {
   each = λ more.
       ap (λ refusal. first_of refusal (walk is_empty subject more (path_after subject node path) (later number 1)))
-          passed
+      passed
       ∙ ap (λ found. walk is_empty subject more found (later number 1)) (sym goes)
       ∙ ap (walk is_empty subject more found) (sym counts);
 }
@@ -47,7 +47,7 @@ node_stops is_empty subject node true path number error e refused = absurd cc
 node_stops is_empty subject node false path number error e refused = record {
   each = λ more.
       ap (λ refusal. first_of refusal (walk is_empty subject more (path_after subject node path) (later number 1)))
-          refused;
+      refused;
 }
 
 pub ruleset steps = (over_passes, node_passes, node_stops)
@@ -59,20 +59,26 @@ module _ (is_empty : Test) (subject : Subject) (one two : List Node) (old middle
   pub both_pass : (new : Place) → Passes is_empty subject two middle [] new
       → Passes is_empty subject (one ++ two) old [] new
   both_pass new second =
-      record { each = λ more. ap (λ nodes. walk_from is_empty subject nodes old) (append_assoc one two more)
-      ∙ first.each (two ++ more) ∙ second.each more }
+      record {
+        each = λ more. ap (λ nodes. walk_from is_empty subject nodes old) (append_assoc one two more)
+            ∙ first.each (two ++ more) ∙ second.each more;
+      }
 
   pub second_stops : (error : CheckError) → Stops is_empty subject two middle error
       → Stops is_empty subject (one ++ two) old error
   second_stops error second =
-      record { each = λ more. ap (λ nodes. walk_from is_empty subject nodes old) (append_assoc one two more)
-      ∙ first.each (two ++ more) ∙ second.each more }
+      record {
+        each = λ more. ap (λ nodes. walk_from is_empty subject nodes old) (append_assoc one two more)
+            ∙ first.each (two ++ more) ∙ second.each more;
+      }
 
 pub first_stops : (is_empty : Test) (subject : Subject) (one two : List Node) (old : Place) (error : CheckError)
     → Stops is_empty subject one old error → Stops is_empty subject (one ++ two) old error
 first_stops is_empty subject one two old error first =
-    record { each = λ more. ap (λ nodes. walk_from is_empty subject nodes old) (append_assoc one two more)
-    ∙ first.each (two ++ more) }
+    record {
+      each = λ more. ap (λ nodes. walk_from is_empty subject nodes old) (append_assoc one two more)
+          ∙ first.each (two ++ more);
+    }
 
 -- a split's node, and its branches
 module _ (is_empty : Test) (subject : Subject) (node : Node) (nodes : List Node) (old : Place) where
@@ -105,14 +111,18 @@ module _ (is_empty : Test) (subject : Subject) (nodes : List Node) (old : Place)
   pub fewer_left : (node : Node) (rest : List Node) (new : Place) → left ≡ node ∷ rest
       → Passes is_empty subject (node ∷ []) here [] new → Passes is_empty subject nodes old rest new
   fewer_left node rest new e step =
-      record { each = λ more. so_far.each more ∙ ap (λ left. walk_from is_empty subject (left ++ more) here) e
-      ∙ step.each (rest ++ more) }
+      record {
+        each = λ more. so_far.each more ∙ ap (λ left. walk_from is_empty subject (left ++ more) here) e
+            ∙ step.each (rest ++ more);
+      }
 
   pub stops_there : (node : Node) (rest : List Node) (error : CheckError) → left ≡ node ∷ rest
       → Stops is_empty subject (node ∷ []) here error → Stops is_empty subject nodes old error
   stops_there node rest error e step =
-      record { each = λ more. so_far.each more ∙ ap (λ left. walk_from is_empty subject (left ++ more) here) e
-      ∙ step.each (rest ++ more) }
+      record {
+        each = λ more. so_far.each more ∙ ap (λ left. walk_from is_empty subject (left ++ more) here) e
+            ∙ step.each (rest ++ more);
+      }
 
 pub ruleset texts = (all_left, none_left, fewer_left, stops_there)
 

@@ -28,8 +28,8 @@ abbrev pub missing_operation : Operations → Option Operation
 missing_operation publishes =
     if publishes.insert
     then (if publishes.update then
-        (if publishes.delete then (if publishes.truncate then None else Some Truncate) else Some Delete)
-        else Some Update)
+    (if publishes.delete then (if publishes.truncate then None else Some Truncate) else Some Delete)
+    else Some Update)
     else Some Insert
 
 abbrev pub missing_by : ℕ → Option Operation → Option CheckError
@@ -45,7 +45,7 @@ abbrev pub publishing_refusal : List Subscription → ℕ → List (PublicationO
 publishing_refusal subscriptions number [] = None
 publishing_refusal subscriptions number (publication ∷ publications) =
     first_of (publication_refusal subscriptions number publication.publishes)
-        (publishing_refusal subscriptions (number + 1) publications)
+    (publishing_refusal subscriptions (number + 1) publications)
 
 -- ---- what is recorded of old rows
 
@@ -64,7 +64,7 @@ abbrev pub column_refusal : ℕ → ℕ → Table → List ℕ → Option CheckE
 column_refusal publication number table [] = None
 column_refusal publication number table (column ∷ columns) =
     if is_covered table column then
-        column_refusal publication number table columns else Some (NotCovered publication number column)
+    column_refusal publication number table columns else Some (NotCovered publication number column)
 
 abbrev pub filter_refusal : ℕ → ℕ → Table → Option Expr → Option CheckError
 filter_refusal publication number table None = None
@@ -94,7 +94,7 @@ abbrev pub covering_refusal : List Table → List Subscription → ℕ → List 
 covering_refusal tables subscriptions number [] = None
 covering_refusal tables subscriptions number (publication ∷ publications) =
     first_of (taken_refusal tables subscriptions number publication.entries)
-        (covering_refusal tables subscriptions (number + 1) publications)
+    (covering_refusal tables subscriptions (number + 1) publications)
 
 -- ---- certificates, where a test tells which terms have no value
 
@@ -113,7 +113,7 @@ certificate_refusal is_empty plan subscriptions number table tree =
 abbrev pub certificates_refusal : Test → PlanOf → List Subscription → ℕ → List Table → List Tree → Option CheckError
 certificates_refusal is_empty plan subscriptions number (table ∷ tables) (tree ∷ trees) =
     first_of (certificate_refusal is_empty plan subscriptions number table tree)
-        (certificates_refusal is_empty plan subscriptions (number + 1) tables trees)
+    (certificates_refusal is_empty plan subscriptions (number + 1) tables trees)
 certificates_refusal is_empty plan subscriptions number tables trees = None
 
 abbrev pub count_refusal : ℕ → ℕ → Option CheckError
@@ -130,10 +130,10 @@ abbrev pub catalog_refusal : CatalogOf Expr → Option CheckError
 catalog_refusal catalog =
     first_of (publishing_refusal catalog.subscriptions 0 catalog.publications)
     (first_of (identity_refusal 0 catalog.tables)
-        (covering_refusal catalog.tables catalog.subscriptions 0 catalog.publications))
+    (covering_refusal catalog.tables catalog.subscriptions 0 catalog.publications))
 
 abbrev pub sharding_refusal : Test → CatalogOf Expr → PlanOf → List Tree → Option CheckError
 sharding_refusal is_empty catalog plan trees =
     first_of (catalog_refusal catalog)
     (first_of (count_refusal (length catalog.tables) (length trees))
-        (certificates_refusal is_empty plan catalog.subscriptions 0 catalog.tables trees))
+    (certificates_refusal is_empty plan catalog.subscriptions 0 catalog.tables trees))

@@ -36,7 +36,7 @@ abbrev pub AreBefore : List AtomOf → Path → List Before → Path → Type 0
 AreBefore atoms done [] [] = Unit {0}
 AreBefore atoms done (before ∷ befores) (entry ∷ path) =
     ((slice_get atoms before.number ≡ Some entry.0) × (before.mask ≡ atom_mask done entry.0))
-        × AreBefore atoms (done ++ entry ∷ []) befores path
+    × AreBefore atoms (done ++ entry ∷ []) befores path
 AreBefore atoms done befores path = ⊥
 
 -- an entry of the path has the atom of the number, and the value null

@@ -39,8 +39,14 @@ subject_of table columns shares = numbered_subject table columns shares (numbere
 -- a subject of the code
 abbrev pub subject_view : {A : _} → d.Subject A → Subject
 subject_view subject =
-    record { table = subject.table; columns = subject.columns.now; shares = shares_view subject.shares.now; atoms =
-        atoms_view subject.atoms.now; terms = subject.terms.now }
+    record {
+      table = subject.table;
+      columns = subject.columns.now;
+      shares = shares_view subject.shares.now;
+      atoms =
+          atoms_view subject.atoms.now;
+      terms = subject.terms.now;
+    }
 
 -- the number of a node that comes so many nodes later; the numbers end at the greatest of 64 bits, which all later
 -- nodes have
@@ -86,7 +92,7 @@ abbrev pub split_refusal : Subject → Path → ℕ → Option AtomOf → (Path 
 split_refusal subject path node None if_true if_false if_null = Some (BadIndex subject.table node)
 split_refusal subject path node (Some atom) if_true if_false if_null =
     first_of (if_true (path ++ (atom, True) ∷ []))
-        (first_of (if_false (path ++ (atom, False) ∷ [])) (if_null (path ++ (atom, Null) ∷ [])))
+    (first_of (if_false (path ++ (atom, False) ∷ [])) (if_null (path ++ (atom, Null) ∷ [])))
 
 -- the first refusal in a tree at the end of a path, whose first node has this number, where a test tells which terms
 -- have no value

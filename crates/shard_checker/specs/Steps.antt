@@ -33,12 +33,12 @@ Stands atoms steps number (e.Not part) = (first : ℕ)
     × ((slice_get steps number ≡ Some (Not first)) × Stands atoms steps first part)
 Stands atoms steps number (e.And left right) =
     (first : ℕ) × ((second : ℕ)
-        × ((slice_get steps number ≡ Some (And first second))
-        × (Stands atoms steps first left × Stands atoms steps second right)))
+    × ((slice_get steps number ≡ Some (And first second))
+    × (Stands atoms steps first left × Stands atoms steps second right)))
 Stands atoms steps number (e.Or left right) =
     (first : ℕ) × ((second : ℕ)
-        × ((slice_get steps number ≡ Some (Or first second))
-        × (Stands atoms steps first left × Stands atoms steps second right)))
+    × ((slice_get steps number ≡ Some (Or first second))
+    × (Stands atoms steps first left × Stands atoms steps second right)))
 Stands atoms steps number (e.Is test part) = (first : ℕ)
     × ((slice_get steps number ≡ Some (Is test first)) × Stands atoms steps first part)
 

@@ -81,7 +81,7 @@ walk is_empty subject [] path node = None
 walk is_empty subject (first ∷ nodes) None node = None
 walk is_empty subject (first ∷ nodes) (Some path) node =
     first_of (node_refusal is_empty subject first path node)
-        (walk is_empty subject nodes (path_after subject first path) (later node 1))
+    (walk is_empty subject nodes (path_after subject first path) (later node 1))
 
 abbrev pub walk_from : Test → Subject → List Node → Place → Option CheckError
 walk_from is_empty subject nodes place = walk is_empty subject nodes place.path place.node
@@ -103,7 +103,7 @@ abbrev pub refusal_by_nodes : Test → CatalogOf Expr → PlanOf → List (List 
 refusal_by_nodes is_empty catalog plan certificates =
     first_of (catalog_refusal catalog)
     (first_of (count_refusal (length catalog.tables) (length certificates))
-        (tables_refusal is_empty plan catalog.subscriptions 0 catalog.tables certificates))
+    (tables_refusal is_empty plan catalog.subscriptions 0 catalog.tables certificates))
 
 -- ---- the code's walk
 
@@ -125,8 +125,8 @@ pub record Passes (is_empty : Test) (subject : Subject) (nodes : List Node) (old
 
 -- nodes are refused by this error, whatever comes after them
 pub record Stops (is_empty : Test) (subject : Subject) (nodes : List Node) (old : Place) (error : CheckError) : Type 0
-    where
-  pub each : (more : List Node) → walk_from is_empty subject (nodes ++ more) old ≡ Some error
+  where
+    pub each : (more : List Node) → walk_from is_empty subject (nodes ++ more) old ≡ Some error
 
 -- the result of a walk over nodes from one place to another; want of memory may come in place of any other error
 abbrev pub Walks : {A : Type 0} → Test → Subject → List Node → Place → Place → Result A CheckError → Type 0

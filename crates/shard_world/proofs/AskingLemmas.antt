@@ -35,7 +35,7 @@ module _ (source : Source) (now : ℕ) where
   hears_asked peer c more still none = by_test (nat_le (asking_length source peer.position) (c.heard + more))
       (λ whole. absurd (
       let start = hears_start source now peer c more still
-          (leb-true (asking_length source peer.position) (c.heard + more) whole) in
+      (leb-true (asking_length source peer.position) (c.heard + more) whole) in
       let is : (heard_of source now peer c more).start ≡ Some start.at = start.is in
       cc))
       (λ part. leb-false (asking_length source peer.position) (c.heard + more) part)
@@ -130,12 +130,12 @@ step_asked checked most world now (On subscriber event) answer next steps all =
           (with_peer world subscriber (step_in checked world subscriber now event).1) moves.next_is
           (peer_changes checked world subscriber (step_in checked world subscriber now event).1 all
           (peer_asked (source_in checked world subscriber) now event (world.peers subscriber)
-              (world.peers subscriber).connection refl (all subscriber)))
+          (world.peers subscriber).connection refl (all subscriber)))
       | inr breaks ↦ same_asked checked next
           (with_peer world subscriber (broken_in checked world subscriber now event breaks.some)) breaks.next_is
           (peer_changes checked world subscriber (broken_in checked world subscriber now event breaks.some) all
           (broken_asked (source_in checked world subscriber) now event (world.peers subscriber) breaks.some
-              (world.peers subscriber).connection (all subscriber)))
+          (world.peers subscriber).connection (all subscriber)))
     ]
 
 pub leads_asked : (checked : CheckedOf) (most : ℕ) (events : List (ℕ × Event)) (world last : World)
@@ -143,7 +143,7 @@ pub leads_asked : (checked : CheckedOf) (most : ℕ) (events : List (ℕ × Even
 leads_asked checked most [] world last leads all = same_asked checked last world leads all
 leads_asked checked most (event ∷ events) world last leads all =
     leads_asked checked most events leads.1 last leads.3
-        (step_asked checked most world event.0 event.1 leads.0 leads.1 leads.2 all)
+    (step_asked checked most world event.0 event.1 leads.0 leads.1 leads.2 all)
 
 -- a position that counts so many commits, and isn't 0, is where the last of them ends
 pub end_of_count : (position count : ℕ) → IsEnd position → count_before position ≡ count → 1 ≤ position
@@ -158,17 +158,17 @@ subscribers_catch_up checked most publisher events times world leads subscriber 
     let source : Source = source_in checked world subscriber in
     let sayable = can_be_said checked most publisher events times world leads in
     let good = good_at checked publisher.covered publisher.apart most events (all_timed events times) world leads
-        sayable in
+    sayable in
     let public = published checked publisher.covered publisher.apart world good in
     let caught = catches_up source public sayable now timed (world.peers subscriber) c is
     (subst (IsAskedAt checked subscriber (world.peers subscriber).position) is
-        (leads_asked checked most events first_world world leads (λ other. tt) subscriber))
+    (leads_asked checked most events first_world world leads (λ other. tt) subscriber))
     (good.peers subscriber) in
     end_of_count (position_now source (caught_up source now (world.peers subscriber))) (length world.transactions)
     (now_end source (caught_up source now (world.peers subscriber)) caught.good
     (all_ends source public sayable (world.peers subscriber) (good.peers subscriber)
     (ends_at checked publisher.covered publisher.apart most events (all_timed events times) world leads sayable
-        subscriber)))
+    subscriber)))
     caught.counts caught.some
   where
     all_ends : (source : Source) → IsPublished source.checked source.transactions
@@ -176,7 +176,7 @@ subscribers_catch_up checked most publisher events times world leads subscriber 
         → IsEnd (caught_up source now peer).position
     all_ends source public sayable peer good h =
         let heard_good = peer_good source public sayable now timed (Hear (sent_by source peer peer.connection)) peer
-            peer.connection refl good in
+        peer.connection refl good in
         let heard_end = peer_end source now (Hear (sent_by source peer peer.connection)) peer peer.connection good h in
         let taken_good = take_many_good source public sayable now timed (length source.transactions)
         (next_peer source now (Hear (sent_by source peer peer.connection)) peer) heard_good in

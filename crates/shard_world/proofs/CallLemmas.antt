@@ -46,8 +46,8 @@ pub is_not_open : (checked : CheckedOf) (now : ℕ) (event : PeerEvent) (book : 
 is_not_open checked now event book old other none case stands =
     let shut = is_shut case (book_slots book) old stands.peer none in
     made_by case event w.NotOpen book old
-        (steps_to case event w.NotOpen (book_slots book) old None shut.none (answer_is event other)
-        (peer_is event other))
+    (steps_to case event w.NotOpen (book_slots book) old None shut.none (answer_is event other)
+    (peer_is event other))
   where
     answer_is : (its : PeerEvent) → its ≢ Open → w.NotOpen ≡ (w.shut_step its (peer_of case)).0
     answer_is Open apart = absurd (apart refl)
@@ -75,7 +75,7 @@ pub is_already_open : (checked : CheckedOf) (now : ℕ) (book : Book) (old : Pee
 is_already_open checked now book old link some case stands =
     let here = is_open case (book_slots book) old link stands.peer some in
     made_by case Open w.AlreadyOpen book old
-        (steps_to case Open w.AlreadyOpen (book_slots book) old (Some here.c) here.some refl stands.peer)
+    (steps_to case Open w.AlreadyOpen (book_slots book) old (Some here.c) here.some refl stands.peer)
 
 pub opens_one : (checked : CheckedOf) (now : ℕ) (book : Book) (old : PeerOf) (link : Link) (after : Subscriber)
     → old.link ≡ None → IsNewLink link checked → Opens old.subscriber after
@@ -83,7 +83,7 @@ pub opens_one : (checked : CheckedOf) (now : ℕ) (book : Book) (old : PeerOf) (
 opens_one checked now book old link after none new opened case stands =
     made_by case Open w.Opened book (record { link = Some link; subscriber = after })
     (opens case stands.is (book_slots book) old link after stands.peer none
-        (subst (IsNewLink link) (sym stands.checked_is) new) opened)
+    (subst (IsNewLink link) (sym stands.checked_is) new) opened)
 
 -- ---- with a connection
 
@@ -97,17 +97,17 @@ pub hears_some : (checked : CheckedOf) (now : ℕ) (before after : Book) (old : 
     (subscriber : Subscriber) (count : ℕ) (heard : h.Heard) → old.link ≡ Some link
     → Ok heard ≡ hear_answer (link_ear link) before (front_of count (sub_output old.subscriber)) (link_sent link)
     → HearLeaves (ear_phase (link_ear link)) (link_ear link) (link_ear new) before after
-        (front_of count (sub_output old.subscriber)) (link_sent link) (Ok heard)
+    (front_of count (sub_output old.subscriber)) (link_sent link) (Ok heard)
     → HearSays link new (link_heard link before (front_of count (sub_output old.subscriber))) now (Ok heard)
     → Passes old.subscriber (length (front_of count (sub_output old.subscriber))) subscriber
     → Makes checked now (Hear count) before after old (record { link = Some new; subscriber = subscriber })
-        (w.Heard (length (front_of count (sub_output old.subscriber))))
+    (w.Heard (length (front_of count (sub_output old.subscriber))))
 hears_some checked now before after old link new subscriber count heard some answer leaves says passes case stands =
     let done : HearsOn case count (length (front_of count (sub_output old.subscriber))) before after
-        (record { link = Some new; subscriber = subscriber }) =
+    (record { link = Some new; subscriber = subscriber }) =
     hears_step case stands.is before after old link count stands.log stands.peer some new subscriber heard answer leaves
     (subst (λ clock. HearSays link new (link_heard link before (front_of count (sub_output old.subscriber))) clock
-        (Ok heard)) (sym stands.now_is) says) passes in
+    (Ok heard)) (sym stands.now_is) says) passes in
     record { steps = done.steps; own = done.own }
 
 pub hears_piece : (checked : CheckedOf) (now : ℕ) (before after : Book) (old : PeerOf) (link new : Link)
@@ -115,65 +115,65 @@ pub hears_piece : (checked : CheckedOf) (now : ℕ) (before after : Book) (old :
     → piece ≡ front_of count (sub_output old.subscriber)
     → hear_answer (link_ear link) before piece (link_sent link) ≡ Ok heard
     → HearLeaves (ear_phase (link_ear link)) (link_ear link) (link_ear new) before after piece (link_sent link)
-        (Ok heard)
+    (Ok heard)
     → HearSays link new (link_heard link before piece) now (Ok heard) → Passes old.subscriber (length piece) subscriber
     → Makes checked now (Hear count) before after old (record { link = Some new; subscriber = subscriber })
-        (w.Heard (length piece))
+    (w.Heard (length piece))
 hears_piece checked now before after old link new subscriber count heard piece some is answer leaves says passes =
     subst (λ p. hear_answer (link_ear link) before p (link_sent link) ≡ Ok heard
     → HearLeaves (ear_phase (link_ear link)) (link_ear link) (link_ear new) before after p (link_sent link) (Ok heard)
     → HearSays link new (link_heard link before p) now (Ok heard) → Passes old.subscriber (length p) subscriber
     → Makes checked now (Hear count) before after old (record { link = Some new; subscriber = subscriber })
-        (w.Heard (length p))) (sym is)
+    (w.Heard (length p))) (sym is)
     (λ its. hears_some checked now before after old link new subscriber count heard some (sym its)) answer leaves says
-        passes
+    passes
 
 pub takes_one : (checked : CheckedOf) (now : ℕ) (book : Book) (old : PeerOf) (link new : Link) (found : Taken)
     → old.link ≡ Some link
     → Ok found ≡ next_answer (link_checked link) (link_stage link) (book_log book)
     → LinkSays link new (next_bytes (link_checked link) (link_stage link) (book_log book) now)
-        (next_stage (link_checked link) (link_stage link) (book_log book) now)
+    (next_stage (link_checked link) (link_stage link) (book_log book) now)
     → Makes checked now Take book book old (record { link = Some new; subscriber = old.subscriber }) (answer_of found)
 takes_one checked now book old link new found some answer says case stands =
     made_by case Take (answer_of found) book (record { link = Some new; subscriber = old.subscriber })
     (takes case (book_slots book) old link new stands.peer some
     (subst (λ log. LinkSays link new (next_bytes (link_checked link) (link_stage link) log case.now)
-        (next_stage (link_checked link) (link_stage link) log case.now)) stands.log.log_is
+    (next_stage (link_checked link) (link_stage link) log case.now)) stands.log.log_is
     (subst (λ clock. LinkSays link new (next_bytes (link_checked link) (link_stage link) (book_log book) clock)
-        (next_stage (link_checked link) (link_stage link) (book_log book) clock)) (sym stands.now_is) says))
+    (next_stage (link_checked link) (link_stage link) (book_log book) clock)) (sym stands.now_is) says))
     found (answer ∙ ap (next_answer (link_checked link) (link_stage link)) stands.log.log_is))
 
 pub keeps_one : (checked : CheckedOf) (now : ℕ) (book : Book) (old : PeerOf) (link new : Link) (want said : Bool)
     → old.link ≡ Some link → Ok said ≡ keep_answer (link_stage link)
     → LinkSays link new (kept_bytes (link_stage link) now want) (link_stage link)
     → Makes checked now (Keep want) book book old (record { link = Some new; subscriber = old.subscriber })
-        (kept_or_not said)
+    (kept_or_not said)
 keeps_one checked now book old link new want said some answer says case stands =
     made_by case (Keep want) (kept_or_not said) book (record { link = Some new; subscriber = old.subscriber })
     (keeps case (book_slots book) old link new want stands.peer some
     (subst (λ clock. LinkSays link new (kept_bytes (link_stage link) clock want) (link_stage link))
-        (sym stands.now_is) says) said answer)
+    (sym stands.now_is) says) said answer)
 
 pub delivers_some : (checked : CheckedOf) (now : ℕ) (book : Book) (old : PeerOf) (link new : Link)
     (after : Subscriber) (count : ℕ) → old.link ≡ Some link
     → Feeds old.subscriber (front_of count (link_output link)) after
     → LinkPasses link new (length (front_of count (link_output link)))
     → Makes checked now (Deliver count) book book old (record { link = Some new; subscriber = after })
-        (w.Delivered (length (front_of count (link_output link))))
+    (w.Delivered (length (front_of count (link_output link))))
 delivers_some checked now book old link new after count some fed passes case stands =
     made_by case (Deliver count) (w.Delivered (length (front_of count (link_output link)))) book
-        (record { link = Some new; subscriber = after })
+    (record { link = Some new; subscriber = after })
     (delivers_on case stands.is (book_slots book) old link new after count stands.peer some fed passes)
 
 pub delivers_piece : (checked : CheckedOf) (now : ℕ) (book : Book) (old : PeerOf) (link new : Link)
     (after : Subscriber) (count : ℕ) (piece : List ℕ) → old.link ≡ Some link
     → piece ≡ front_of count (link_output link) → Feeds old.subscriber piece after → LinkPasses link new (length piece)
     → Makes checked now (Deliver count) book book old (record { link = Some new; subscriber = after })
-        (w.Delivered (length piece))
+    (w.Delivered (length piece))
 delivers_piece checked now book old link new after count piece some is =
     subst (λ p. Feeds old.subscriber p after → LinkPasses link new (length p)
     → Makes checked now (Deliver count) book book old (record { link = Some new; subscriber = after })
-        (w.Delivered (length p))) (sym is)
+    (w.Delivered (length p))) (sym is)
     (delivers_some checked now book old link new after count some)
 
 pub reports_one : (checked : CheckedOf) (now : ℕ) (book : Book) (old : PeerOf) (link : Link) (after : Subscriber)
@@ -182,7 +182,7 @@ pub reports_one : (checked : CheckedOf) (now : ℕ) (book : Book) (old : PeerOf)
 reports_one checked now book old link after want some reported case stands =
     made_by case (Report want) w.Reported book (record { link = old.link; subscriber = after })
     (reports case stands.is (book_slots book) old link after want stands.peer some
-        (subst (λ clock. Reports old.subscriber clock want after) (sym stands.now_is) reported))
+    (subst (λ clock. Reports old.subscriber clock want after) (sym stands.now_is) reported))
 
 pub loses_one : (checked : CheckedOf) (now : ℕ) (before after : Book) (old : PeerOf) (link new : Link)
     (subscriber : Subscriber) → old.link ≡ Some link → LinkLoses link new before after
@@ -190,7 +190,7 @@ pub loses_one : (checked : CheckedOf) (now : ℕ) (before after : Book) (old : P
     → Makes checked now Lose before after old (record { link = None; subscriber = subscriber }) w.Lost
 loses_one checked now before after old link new subscriber some lost_link lost_subscriber case stands =
     let done : LosesOn case before after (record { link = None; subscriber = subscriber }) =
-        loses_on case before after old link new subscriber stands.peer some lost_link lost_subscriber in
+    loses_on case before after old link new subscriber stands.peer some lost_link lost_subscriber in
     record { steps = done.steps; own = done.own }
 
 pub drops_lose : (checked : CheckedOf) (now : ℕ) (before after : Book) (old new : PeerOf) (link : Link)
@@ -199,7 +199,7 @@ pub drops_lose : (checked : CheckedOf) (now : ℕ) (before after : Book) (old ne
 drops_lose checked now before after old new link some drops case stands =
     let lost : LosesLink link before after = subst (λ its. LosesIfThere its before after) some drops.link in
     subst (λ its. Made case Lose w.Lost before after (record { link = its; subscriber = new.subscriber }))
-        (sym drops.none)
+    (sym drops.none)
     (loses_one checked now before after old link lost.lost new.subscriber some lost.loses drops.subscriber case stands)
 
 pub drops_lose_so : (checked : CheckedOf) (now : ℕ) (before after : Book) (old new : PeerOf) → is_some old.link ≡ true

@@ -24,7 +24,7 @@ module _ (case : Case) (is : IsCase case) where
   pub case_published : IsPublished case.checked case.world.transactions
   case_published = published case.checked is.publisher.covered is.publisher.apart case.world
       (good_at case.checked is.publisher.covered is.publisher.apart case.most case.events
-          (all_timed case.events is.times) case.world is.leads case_sayable)
+      (all_timed case.events is.times) case.world is.leads case_sayable)
 
   pub case_good : IsGood (source_of case) (peer_of case)
   case_good = (good_at case.checked is.publisher.covered is.publisher.apart case.most case.events
@@ -43,8 +43,12 @@ module _ (case : Case) (is : IsCase case) where
   pub case_asks : IsAsking case.checked.catalog case.number
   case_asks =
       subscribers_can_ask case.checked.catalog case.number is.publisher.limited is.publisher.named
-      (omega (arith, is.there, ap length is.publisher.own,
-          length-map case.checked.catalog.subscriptions (shares_for case.checked.catalog)))
+      (omega (
+        arith,
+        is.there,
+        ap length is.publisher.own,
+        length-map case.checked.catalog.subscriptions (shares_for case.checked.catalog),
+      ))
 
   pub now_small : position_now (source_of case) (peer_of case) < 2 ^ 64
   now_small = small_position (position_now (source_of case) (peer_of case))
@@ -76,10 +80,10 @@ pub is_shut : (case : Case) (slots : List Slot) (code : PeerOf) → StandsIn cas
     → Shut case slots code.subscriber
 is_shut case slots code stands none = shut_at case slots code.subscriber (peer_of case).connection refl
     (subst (λ link. IsAt (source_of case) slots link code.subscriber (peer_of case) (peer_of case).connection) none
-        stands.at)
+    stands.at)
 
 pub is_open : (case : Case) (slots : List Slot) (code : PeerOf) (link : Link) → StandsIn case slots code
     → code.link ≡ Some link → Open case slots link code.subscriber
 is_open case slots code link stands some = open_at case slots code.subscriber link (peer_of case).connection refl
     (subst (λ its. IsAt (source_of case) slots its code.subscriber (peer_of case) (peer_of case).connection) some
-        stands.at)
+    stands.at)

@@ -29,7 +29,7 @@ pub start_stays : (now start : ℕ) (ups : List Up) (session : Session) → sess
 start_stays now start [] session h = h
 start_stays now start (Asks position ∷ ups) session h =
     start_stays now start ups (record session { start = start_at session.start position session.confirmed })
-        (ap (λ o. start_at o position session.confirmed) h)
+    (ap (λ o. start_at o position session.confirmed) h)
 start_stays now start (Says status ∷ ups) session h = start_stays now start ups (hear_up now session (Says status)) h
 
 pub record HasStart (start : Option ℕ) : Type 0 where
@@ -69,21 +69,21 @@ hears_start source now peer c more still whole = by_start c.start refl
     }
     by_start None e =
         subst (λ b. HasStart (fold (hear_up now)
-            (record { confirmed = peer.confirmed; start = c.start; moves = c.moves })
+        (record { confirmed = peer.confirmed; start = c.start; moves = c.moves })
         (drop (length (if_whole b (Asks peer.position)
-            (whole_up source.checked source.number (c.heard - asking_length source peer.position)
-            (map Says c.reports))))
+        (whole_up source.checked source.number (c.heard - asking_length source peer.position)
+        (map Says c.reports))))
         (whole_up source.checked source.number (c.heard + more) (ups_of peer c)))).start)
         (sym (lt-leb (asking_length source peer.position) c.heard (still e)))
         (subst (λ b. HasStart
-            (fold (hear_up now) (record { confirmed = peer.confirmed; start = c.start; moves = c.moves })
+        (fold (hear_up now) (record { confirmed = peer.confirmed; start = c.start; moves = c.moves })
         (if_whole b (Asks peer.position)
-            (whole_up source.checked source.number (c.heard + more - asking_length source peer.position)
-            (map Says c.reports)))).start)
+        (whole_up source.checked source.number (c.heard + more - asking_length source peer.position)
+        (map Says c.reports)))).start)
         (sym (le-leb (asking_length source peer.position) (c.heard + more) whole))
         (starts_by now peer.position
-            (whole_up source.checked source.number (c.heard + more - asking_length source peer.position)
-            (map Says c.reports))
+        (whole_up source.checked source.number (c.heard + more - asking_length source peer.position)
+        (map Says c.reports))
         (record { confirmed = peer.confirmed; start = c.start; moves = c.moves })))
 
 -- ---- commits are taken up
@@ -93,7 +93,7 @@ module _ (source : Source) (accepted : AreAccepted (setting_in source.checked) n
   take_counts : (place : Place) (found : Option CommitOf) → slice_get (log_in source) place.done ≡ found
       → count_before place.sent ≡ place.done
       → count_before (taken_place (telling_of source.checked) place found).sent
-          ≡ (taken_place (telling_of source.checked) place found).done
+      ≡ (taken_place (telling_of source.checked) place found).done
   take_counts place None e counts = counts
   take_counts place (Some commit) e counts =
       let entry = entry_at (setting_in source.checked) no_rows 1 source.transactions place.done commit accepted e in
@@ -102,13 +102,13 @@ module _ (source : Source) (accepted : AreAccepted (setting_in source.checked) n
 
   move_counts : (place : Place) (move : Move) → count_before place.sent ≡ place.done
       → count_before (moved (telling_of source.checked) (log_in source) place move).sent
-          ≡ (moved (telling_of source.checked) (log_in source) place move).done
+      ≡ (moved (telling_of source.checked) (log_in source) place move).done
   move_counts place (s.Take clock) counts = take_counts place (slice_get (log_in source) place.done) refl counts
   move_counts place (s.Keep clock want) counts = counts
 
   moves_count : (moves : List Move) (place : Place) → count_before place.sent ≡ place.done
       → count_before (all_moved (telling_of source.checked) (log_in source) place moves).sent
-          ≡ (all_moved (telling_of source.checked) (log_in source) place moves).done
+      ≡ (all_moved (telling_of source.checked) (log_in source) place moves).done
   moves_count [] place counts = counts
   moves_count (move ∷ moves) place counts =
       moves_count moves (moved (telling_of source.checked) (log_in source) place move) (move_counts place move counts)
@@ -137,7 +137,7 @@ moves_sent checked log (move ∷ moves) place sent =
 place_sent : (source : Source) (start : ℕ) (moves : List Move) → 1 ≤ (place_of source start moves).sent
 place_sent source start moves =
     moves_sent source.checked (log_in source) moves
-        (place_at source.number (length source.checked.catalog.tables) start) (first_some start)
+    (place_at source.number (length source.checked.catalog.tables) start) (first_some start)
   where
     not_zero : (p : ℕ) → (p == 0) ≡ false → 1 ≤ p
     not_zero zero h = absurd (let same : (0 == 0) ≡ true = refl in cc)
@@ -154,8 +154,8 @@ whole_all : (items : List Item) → whole_in (length (flat_map spelled items)) i
 whole_all [] = refl
 whole_all (item ∷ items) =
     ap (λ b. if_whole b item
-        (whole_in (length (spelled item ++ flat_map spelled items) - length (spelled item)) items))
-        (le-leb (length (spelled item)) (length (spelled item ++ flat_map spelled items)) first_fits)
+    (whole_in (length (spelled item ++ flat_map spelled items) - length (spelled item)) items))
+    (le-leb (length (spelled item)) (length (spelled item ++ flat_map spelled items)) first_fits)
     ∙ ap (λ n. item ∷ whole_in n items) left_is ∙ ap (λ others. item ∷ others) (whole_all items)
   where
     first_fits : length (spelled item) ≤ length (spelled item ++ flat_map spelled items)
@@ -197,11 +197,11 @@ module _ (source : Source) (published : IsPublished source.checked source.transa
   take_next start count peer h =
       subst (IsLeft source start count)
       (sym (as_step Take peer h.running.c h.running.is
-          ∙ ap (λ from. (take_step source now peer h.running.c from).1) h.running.start_is))
+      ∙ ap (λ from. (take_step source now peer h.running.c from).1) h.running.start_is))
       (by_found (slice_get (log_in source) (place_of source start h.running.c.moves).done) refl
       (subst (IsGood source)
       (as_step Take peer h.running.c h.running.is
-          ∙ ap (λ from. (take_step source now peer h.running.c from).1) h.running.start_is)
+      ∙ ap (λ from. (take_step source now peer h.running.c from).1) h.running.start_is)
       (next_good Take peer h.running.good)))
     where
       by_found : (found : Option CommitOf)
@@ -209,11 +209,11 @@ module _ (source : Source) (published : IsPublished source.checked source.transa
           → IsGood source (takes source.checked now peer h.running.c (place_of source start h.running.c.moves)
           (slice_get (log_in source) (place_of source start h.running.c.moves).done)).1
           → IsLeft source start count
-              (takes source.checked now peer h.running.c (place_of source start h.running.c.moves)
+          (takes source.checked now peer h.running.c (place_of source start h.running.c.moves)
           (slice_get (log_in source) (place_of source start h.running.c.moves).done)).1
       by_found None e good =
           subst (λ found. IsLeft source start count
-              (takes source.checked now peer h.running.c (place_of source start h.running.c.moves) found).1) (sym e)
+          (takes source.checked now peer h.running.c (place_of source start h.running.c.moves) found).1) (sym e)
           (record {
             running = h.running;
             left = let end = past_end (log_in source) (place_of source start h.running.c.moves).done e in
@@ -221,7 +221,7 @@ module _ (source : Source) (published : IsPublished source.checked source.transa
           })
       by_found (Some commit) e good =
           subst (λ found. IsLeft source start count
-              (takes source.checked now peer h.running.c (place_of source start h.running.c.moves) found).1) (sym e)
+          (takes source.checked now peer h.running.c (place_of source start h.running.c.moves) found).1) (sym e)
           (record {
             running = record {
               c = record h.running.c { moves = h.running.c.moves ++ s.Take now ∷ [] };
@@ -233,11 +233,11 @@ module _ (source : Source) (published : IsPublished source.checked source.transa
             };
             left =
                 let further : (place_of source start (h.running.c.moves ++ s.Take now ∷ [])).done
-                    ≡ (place_of source start h.running.c.moves).done + 1 =
+                ≡ (place_of source start h.running.c.moves).done + 1 =
                 ap (λ (at : Place). at.done)
-                    (moved_append (telling_of source.checked) (log_in source)
-                    (place_at source.number (length source.checked.catalog.tables) start) h.running.c.moves
-                    (s.Take now)
+                (moved_append (telling_of source.checked) (log_in source)
+                (place_at source.number (length source.checked.catalog.tables) start) h.running.c.moves
+                (s.Take now)
                 ∙ ap (taken_place (telling_of source.checked) (place_of source start h.running.c.moves)) e) in
                 omega (arith, further, h.left);
           })
@@ -271,7 +271,7 @@ module _ (source : Source) (published : IsPublished source.checked source.transa
   pub reaches_end : (start : ℕ) (position : ℕ) (c : Connection) → c.start ≡ Some start
       → length (log_in source) ≤ (place_of source start c.moves).done + 0
       → (delivered : ℕ) → delivered ≤ length
-          (flat_map spelled (down_items source c.start (c.moves ++ s.Keep now false ∷ [])))
+      (flat_map spelled (down_items source c.start (c.moves ++ s.Keep now false ∷ [])))
       → CountsAll (position_after position (whole_in
       (delivered + as_many (length (down_bytes source c.start (c.moves ++ s.Keep now false ∷ [])))
       (length (down_bytes source c.start (c.moves ++ s.Keep now false ∷ []))) delivered)
@@ -279,7 +279,7 @@ module _ (source : Source) (published : IsPublished source.checked source.transa
   reaches_end start position c start_is left delivered within =
       let before : List Item = down_items source (Some start) c.moves in
       subst CountsAll (sym (ap (position_after position)
-          (whole (down_items source c.start (c.moves ++ s.Keep now false ∷ [])) delivered within ∙ items_are)
+      (whole (down_items source c.start (c.moves ++ s.Keep now false ∷ [])) delivered within ∙ items_are)
       ∙ after_one position before (keep_item (place_of source start c.moves) now false)))
       (record { all = at_least (position_after position before); some = at_some (position_after position before) })
     where
@@ -287,12 +287,12 @@ module _ (source : Source) (published : IsPublished source.checked source.transa
           ≡ down_items source (Some start) c.moves ++ keep_item (place_of source start c.moves) now false ∷ []
       items_are = ap (λ from. down_items source from (c.moves ++ s.Keep now false ∷ [])) start_is
           ∙ ap (λ items. Response ∷ items)
-              (items_append (telling_of source.checked) (log_in source)
-              (place_at source.number (length source.checked.catalog.tables) start) c.moves (s.Keep now false))
+          (items_append (telling_of source.checked) (log_in source)
+          (place_at source.number (length source.checked.catalog.tables) start) c.moves (s.Keep now false))
 
       whole : (items : List Item) (done : ℕ) → done ≤ length (flat_map spelled items)
           → whole_in (done + as_many (length (flat_map spelled items)) (length (flat_map spelled items)) done) items
-              ≡ items
+          ≡ items
       whole items done h = subst (λ n. whole_in n items ≡ items)
           (sym (all_of (length (flat_map spelled items)) done h)) (whole_all items)
         where
@@ -331,12 +331,15 @@ module _ (source : Source) (published : IsPublished source.checked source.transa
       let start = hears_start source now peer c
       (as_many (length (up_bytes source peer c)) (length (up_bytes source peer c)) c.heard) still
       (all_of (length (up_bytes source peer c)) (asking_length source peer.position) c.heard
-      (omega (arith, length-append (spelled_up source.checked source.number (Asks peer.position))
-          (flat_map (spelled_up source.checked source.number) (map Says c.reports))))) in
+      (omega (
+        arith,
+        length-append (spelled_up source.checked source.number (Asks peer.position))
+            (flat_map (spelled_up source.checked source.number) (map Says c.reports)),
+      ))) in
       let count : length (log_in source) ≡ length source.transactions =
-          entries_length (setting_in source.checked) no_rows 1 source.transactions in
+      entries_length (setting_in source.checked) no_rows 1 source.transactions in
       let first : IsLeft source start.at (length source.transactions)
-          (next_peer source now (Hear (sent_by source peer peer.connection)) peer) =
+      (next_peer source now (Hear (sent_by source peer peer.connection)) peer) =
       subst (IsLeft source start.at (length source.transactions)) (sym (hears_all peer c is)) (record {
         running = record {
           c = _;
@@ -347,12 +350,12 @@ module _ (source : Source) (published : IsPublished source.checked source.transa
         left = omega (arith, count);
       }) in
       let taken = take_all start.at (length source.transactions)
-          (next_peer source now (Hear (sent_by source peer peer.connection)) peer) first in
+      (next_peer source now (Hear (sent_by source peer peer.connection)) peer) first in
       let final_good : IsGood source (caught_up source now peer) =
-          next_good (Deliver _) _ (next_good (Keep false) _ taken.running.good) in
+      next_good (Deliver _) _ (next_good (Keep false) _ taken.running.good) in
       both (caught_up source now peer) count
       (lower (take_many source now (length source.transactions)
-          (next_peer source now (Hear (sent_by source peer peer.connection)) peer)) start.at taken)
+      (next_peer source now (Hear (sent_by source peer peer.connection)) peer)) start.at taken)
       final_good (good_follows source published sayable (caught_up source now peer) final_good).within
     where
       all_of : (total first heard : ℕ) → first ≤ total → first ≤ heard + as_many total total heard
@@ -366,9 +369,9 @@ module _ (source : Source) (published : IsPublished source.checked source.transa
           subst (λ q. CountsAll (position_now source q))
           (sym (ap (delivered_all source now) kept
           ∙ delivers_on (moves_on at taken.running.c (s.Keep now false))
-              (record taken.running.c { moves = taken.running.c.moves ++ s.Keep now false ∷ [] }) refl))
+          (record taken.running.c { moves = taken.running.c.moves ++ s.Keep now false ∷ [] }) refl))
           (reaches_end start at.position taken.running.c taken.running.start_is taken.left taken.running.c.delivered
-              kept_good.connected.1.delivered)
+          kept_good.connected.1.delivered)
 
       both : (final : Peer) → length (log_in source) ≡ length source.transactions
           → CountsAll (position_now source final)

@@ -36,14 +36,14 @@ at_one P xs number x all is = subst (λ found. IfSome found (P number)) is (all 
 
 module _ (checked : CheckedOf) (world : w.World) (shown : View)
     (each : AllAt (λ number subscriber. ShowsSubscriber (source_in checked world number) (world.peers number)
-        subscriber) shown.subscribers.items)
+    subscriber) shown.subscribers.items)
     (count_is : length shown.subscribers.items ≡ length checked.plan) (count : ℕ)
     (all_applied : AllAt (λ number subscriber. subscriber.applied ≡ count) shown.subscribers.items) where
   shown_at : (number : ℕ) (subscriber : SubscriberView) → slice_get shown.subscribers.items number ≡ Some subscriber
       → ShowsSubscriber (source_in checked world number) (world.peers number) subscriber
   shown_at number subscriber is =
       at_one (λ n one. ShowsSubscriber (source_in checked world n) (world.peers n) one) shown.subscribers.items number
-          subscriber each is
+      subscriber each is
 
   applied_at : (number : ℕ) (subscriber : SubscriberView) → slice_get shown.subscribers.items number ≡ Some subscriber
       → subscriber.applied ≡ count
@@ -74,23 +74,23 @@ module _ (checked : CheckedOf) (world : w.World) (shown : View)
   rows_at number table subscriber rows is of_table =
       let its = shown_at number subscriber is in
       subst (λ n. AreRows (in_shard (setting_in checked) number (tables_after checked world.transactions n) table)
-          rows) (applied_at number subscriber is) (listed its)
+      rows) (applied_at number subscriber is) (listed its)
     where
       listed : ShowsSubscriber (source_in checked world number) (world.peers number) subscriber
           → AreRows (in_shard (setting_in checked) number (tables_after checked world.transactions subscriber.applied)
-              table) rows
+          table) rows
       listed its =
           let there = get_there subscriber.rows.items table
           (subst (λ n. table < n) (length-map subscriber.rows.items (λ one. one.items))
-              (slice_get_within (shown_rows subscriber) table rows of_table)) in
+          (slice_get_within (shown_rows subscriber) table rows of_table)) in
           subst (AreRows (in_shard (setting_in checked) number
-              (tables_after checked world.transactions subscriber.applied) table))
+          (tables_after checked world.transactions subscriber.applied) table))
           (same_Some (there.0).items rows
-              (sym (slice_get-map (λ one. one.items) subscriber.rows.items table
-              ∙ ap (option_map (λ one. one.items)) there.1) ∙ of_table))
+          (sym (slice_get-map (λ one. one.items) subscriber.rows.items table
+          ∙ ap (option_map (λ one. one.items)) there.1) ∙ of_table))
           (at_one (λ n one. AreRows
-              (in_shard (setting_in checked) number (tables_after checked world.transactions subscriber.applied) n)
-              one.items) subscriber.rows.items table there.0 its.rows there.1)
+          (in_shard (setting_in checked) number (tables_after checked world.transactions subscriber.applied) n)
+          one.items) subscriber.rows.items table there.0 its.rows there.1)
 
   -- what it has is shown, and nothing else
   shows_it : (number table : ℕ) (row : List Datum) → number < length checked.plan
@@ -136,7 +136,7 @@ module _ (checked : CheckedOf) (world : w.World) (shown : View)
         };
     nothing_else = λ number table row shows.
         (and_parts (holds (setting_in checked).keys (tables_after checked world.transactions count) table row)
-            ((setting_in checked).passes number table row)
+        ((setting_in checked).passes number table row)
         (has_it number table row shows)).0;
   }
     where
@@ -145,8 +145,8 @@ module _ (checked : CheckedOf) (world : w.World) (shown : View)
 
       has_as : (number : ℕ) → number < length checked.plan → (table : ℕ) (row : List Datum)
           → has_row checked world number table row
-              ≡ in_shard (setting_in checked) number (tables_after checked world.transactions count) table row
+          ≡ in_shard (setting_in checked) number (tables_after checked world.transactions count) table row
       has_as number one table row =
           (worlds_hold_exactly checked most publisher events times world leads number table).each row
           ∙ ap (λ n. in_shard (setting_in checked) number (tables_after checked world.transactions n) table row)
-              (have_applied number one)
+          (have_applied number one)

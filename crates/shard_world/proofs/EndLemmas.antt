@@ -78,7 +78,7 @@ items_end : (position : ℕ) (items : List Item) → All ItemTellsEnd items → 
 items_end position [] tells h = h
 items_end position (item ∷ items) tells h =
     items_end (raised_by position item) items (All-tail ItemTellsEnd item items tells)
-        (item_end position item (All-head ItemTellsEnd item items tells) h)
+    (item_end position item (All-head ItemTellsEnd item items tells) h)
 
 if_end : (whole : Bool) (item : Item) (others : List Item) → ItemTellsEnd item → All ItemTellsEnd others
     → All ItemTellsEnd (if_whole whole item others)
@@ -89,7 +89,7 @@ whole_end : (count : ℕ) (items : List Item) → All ItemTellsEnd items → All
 whole_end count [] tells = All-nil ItemTellsEnd
 whole_end count (item ∷ items) tells =
     if_end (nat_le (length (spelled item)) count) item (whole_in (count - length (spelled item)) items)
-        (All-head ItemTellsEnd item items tells)
+    (All-head ItemTellsEnd item items tells)
     (whole_end (count - length (spelled item)) items (All-tail ItemTellsEnd item items tells))
 
 -- ---- messages of a commit
@@ -109,7 +109,7 @@ module _ (P : ℕ → Type 0) where
   relations_by tables told [] = All-nil (TellsBy P)
   relations_by tables told (number ∷ numbers) =
       All-append (TellsBy P) (introduced tables (slice_index_or told number false) number)
-          (relations_of tables (told_one told number) numbers)
+      (relations_of tables (told_one told number) numbers)
       (once_by tables (slice_index_or told number false) number) (relations_by tables (told_one told number) numbers)
 
   own_by : (change : r.ChangeOf) → All (TellsBy P) (message_of change)
@@ -133,9 +133,9 @@ module _ (P : ℕ → Type 0) where
   said_by checked subscriber told [] = All-nil (TellsBy P)
   said_by checked subscriber told (change ∷ changes) =
       All-append (TellsBy P) (said checked.catalog.tables told (got (setting_in checked) subscriber change))
-          (said_each checked subscriber (told_by told (got (setting_in checked) subscriber change)) changes)
+      (said_each checked subscriber (told_by told (got (setting_in checked) subscriber change)) changes)
       (change_by checked.catalog.tables told (got (setting_in checked) subscriber change))
-          (said_by checked subscriber (told_by told (got (setting_in checked) subscriber change)) changes)
+      (said_by checked subscriber (told_by told (got (setting_in checked) subscriber change)) changes)
 
   enclosed_by : (commit : CommitOf) → P (end_of commit.number) → (messages : List Msg) → All (TellsBy P) messages
       → All (TellsBy P) (enclosed commit messages)
@@ -143,7 +143,7 @@ module _ (P : ℕ → Type 0) where
   enclosed_by commit here (first ∷ others) all =
       All-cons (TellsBy P) (begin_of commit) ((first ∷ others) ++ commit_of commit ∷ []) tt
       (All-append (TellsBy P) (first ∷ others) (commit_of commit ∷ []) all
-          (All-cons (TellsBy P) (commit_of commit) [] here (All-nil (TellsBy P))))
+      (All-cons (TellsBy P) (commit_of commit) [] here (All-nil (TellsBy P))))
 
   pub messages_tell : (checked : CheckedOf) (subscriber : ℕ) (told : List Bool) (commit : CommitOf)
       → P (end_of commit.number) → All (TellsBy P) (messages_for checked subscriber told commit)
@@ -158,18 +158,18 @@ carried_end : (number clock : ℕ) (messages : List Msg) (rest : List Item) → 
 carried_end number clock [] rest all later = later
 carried_end number clock (message ∷ messages) rest all later =
     All-cons ItemTellsEnd (Carries (head_of number clock) message)
-        (map (Carries (head_of number clock)) messages ++ rest) (All-head TellsEnd message messages all)
+    (map (Carries (head_of number clock)) messages ++ rest) (All-head TellsEnd message messages all)
     (carried_end number clock messages rest (All-tail TellsEnd message messages all) later)
 
 module _ (checked : CheckedOf) (log : List CommitOf) where
   take_end : (moves : List Move) (place : Place) (clock : ℕ) (found : Option CommitOf) → IsEnd place.sent
       → ((at : Place) → IsEnd at.sent → All ItemTellsEnd (all_items (telling_of checked) log at moves))
       → All ItemTellsEnd (take_items (telling_of checked) place found clock
-          ++ all_items (telling_of checked) log (taken_place (telling_of checked) place found) moves)
+      ++ all_items (telling_of checked) log (taken_place (telling_of checked) place found) moves)
   take_end moves place clock None sent later = later place sent
   take_end moves place clock (Some commit) sent later =
       carried_end commit.number clock (messages_for checked place.slot place.told commit)
-          (all_items (telling_of checked) log (place_after (telling_of checked) place commit) moves)
+      (all_items (telling_of checked) log (place_after (telling_of checked) place commit) moves)
       (messages_tell IsEnd checked place.slot place.told commit (end_is commit.number))
       (later (place_after (telling_of checked) place commit) (end_is commit.number))
 
@@ -180,7 +180,7 @@ module _ (checked : CheckedOf) (log : List CommitOf) where
       take_end moves place clock (slice_get log place.done) sent (λ at tells. moves_end moves at tells)
   moves_end (s.Keep clock want ∷ moves) place sent =
       All-cons ItemTellsEnd (keep_item place clock want) (all_items (telling_of checked) log place moves) sent
-          (moves_end moves place sent)
+      (moves_end moves place sent)
 
 first_end : (position : ℕ) → IsEnd position → IsEnd (if position == 0 then 64 else position)
 first_end position h = by_test (position == 0)
@@ -191,7 +191,7 @@ first_end position h = by_test (position == 0)
 pub stream_end : (checked : CheckedOf) (log : List CommitOf) (subscriber start : ℕ) (moves : List Move)
     (count position : ℕ) → IsEnd start → IsEnd position
     → IsEnd (position_after position (whole_in count
-        (stream_items (telling_of checked) log subscriber (length checked.catalog.tables) start moves)))
+    (stream_items (telling_of checked) log subscriber (length checked.catalog.tables) start moves)))
 stream_end checked log subscriber start moves count position begins h =
     let place : Place = place_at subscriber (length checked.catalog.tables) start in
     let items : List Item = all_items (telling_of checked) log place moves in

@@ -95,21 +95,21 @@ module _ (source : Source) (public : IsPublished source.checked source.transacti
   broken_end event peer some None is good h = h
   broken_end event peer some (Some c) is good h =
       now_end source (in_part source now event peer some c)
-          (in_part_good source public sayable now timed event peer some c is good) (in_part_end event peer some c h)
+      (in_part_good source public sayable now timed event peer some c is good) (in_part_end event peer some c h)
 
   pub take_many_end : (count : ℕ) (peer : Peer) → IsGood source peer → IsEnd peer.position
       → IsEnd (take_many source now count peer).position
   take_many_end zero peer good h = h
   take_many_end (suc count) peer good h =
       take_many_end count (next_peer source now Take peer)
-          (peer_good source public sayable now timed Take peer peer.connection refl good)
+      (peer_good source public sayable now timed Take peer peer.connection refl good)
       (peer_end source now Take peer peer.connection good h)
 
   pub take_many_good : (count : ℕ) (peer : Peer) → IsGood source peer → IsGood source (take_many source now count peer)
   take_many_good zero peer good = good
   take_many_good (suc count) peer good =
       take_many_good count (next_peer source now Take peer)
-          (peer_good source public sayable now timed Take peer peer.connection refl good)
+      (peer_good source public sayable now timed Take peer peer.connection refl good)
 
 -- ---- the world
 
@@ -123,9 +123,9 @@ peer_ends : (world : World) (subscriber : ℕ) (peer : Peer) → AllEnd world �
     → AllEnd (with_peer world subscriber peer)
 peer_ends world subscriber peer all new other = by_test (other == subscriber)
     (λ same. subst (λ (one : Peer). IsEnd one.position) (sym (ap (λ b. if b then peer else world.peers other) same))
-        new)
+    new)
     (λ differ. subst (λ (one : Peer). IsEnd one.position)
-        (sym (ap (λ b. if b then peer else world.peers other) differ)) (all other))
+    (sym (ap (λ b. if b then peer else world.peers other) differ)) (all other))
 
 module _ (checked : CheckedOf) (covered : Covered (setting_in checked)) (keeps : KeepsApart (setting_in checked)) where
   step_end : (most : ℕ) (world : World) (now : ℕ) (event : Event) (answer : Answer) (next : World) → now < 2 ^ 64
@@ -145,12 +145,12 @@ module _ (checked : CheckedOf) (covered : Covered (setting_in checked)) (keeps :
             moves.next_is
             (peer_ends world subscriber (step_in checked world subscriber now event).1 all
             (peer_end (source_in checked world subscriber) now event (world.peers subscriber)
-                (world.peers subscriber).connection (good.peers subscriber) (all subscriber)))
+            (world.peers subscriber).connection (good.peers subscriber) (all subscriber)))
         | inr breaks ↦ same_end next
             (with_peer world subscriber (broken_in checked world subscriber now event breaks.some)) breaks.next_is
             (peer_ends world subscriber (broken_in checked world subscriber now event breaks.some) all
             (broken_end (source_in checked world subscriber) (published checked covered keeps world good) sayable now
-                timed event (world.peers subscriber) breaks.some (world.peers subscriber).connection refl
+            timed event (world.peers subscriber) breaks.some (world.peers subscriber).connection refl
             (good.peers subscriber) (all subscriber)))
       ]
 

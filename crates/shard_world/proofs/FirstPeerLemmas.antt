@@ -64,8 +64,14 @@ first_at publications (subscription ∷ subscriptions) (peer ∷ peers) zero are
     record { subscription = subscription; at = refl; peer = peer; peer_at = refl; is = are.0 }
 first_at publications (subscription ∷ subscriptions) (peer ∷ peers) (suc number) are within =
     let later = first_at publications subscriptions peers number are.1 (omega (arith, within)) in
-    record { subscription = later.subscription; at = later.at; peer = later.peer; peer_at = later.peer_at; is =
-        later.is }
+    record {
+      subscription = later.subscription;
+      at = later.at;
+      peer = later.peer;
+      peer_at = later.peer_at;
+      is =
+          later.is;
+    }
 
 got_replicated : (count number : ℕ) (slot : Slot) → number < count → slice_get (replicate count slot) number ≡ Some slot
 got_replicated zero number slot within = absurd (omega (arith, within))
@@ -75,7 +81,7 @@ got_replicated (suc count) (suc number) slot within = got_replicated count numbe
 module _ (publisher : Checked) (most : ℕ) (book : Book) (peers : List PeerOf)
     (new : IsNew book (checked_view publisher) most)
     (are : AreFirstPeers (catalog_view publisher.catalog).publications (catalog_view publisher.catalog).subscriptions
-        peers) where
+    peers) where
   abbrev checked : CheckedOf
   checked = checked_view publisher
 
@@ -87,24 +93,28 @@ module _ (publisher : Checked) (most : ℕ) (book : Book) (peers : List PeerOf)
       slot = there.is.slot ∙ ap w.subscription_name (sym there.at);
       publications = there.is.takes
           ∙ ap (λ subscription. map
-              (λ publication. w.publication_name (slice_get checked.catalog.publications publication))
-              (w.publications_taken subscription)) (sym there.at);
+          (λ publication. w.publication_name (slice_get checked.catalog.publications publication))
+          (w.publications_taken subscription)) (sym there.at);
     };
     at = subst (λ link. IsAt (source_in checked first_world number) (book_slots book) link there.peer.subscriber
         first_peer None) (sym there.is.none) (record {
-      machine = record { position = there.is.machine.position; kept = there.is.machine.kept; rows =
-          there.is.machine.rows };
-      slot = ap (λ slots. slice_get slots number) new.slots
-          ∙ got_replicated (length checked.catalog.subscriptions) number (record { confirmed = 0; taken = false })
-          within;
-    });
+          machine = record {
+            position = there.is.machine.position;
+            kept = there.is.machine.kept;
+            rows =
+                there.is.machine.rows;
+          };
+          slot = ap (λ slots. slice_get slots number) new.slots
+              ∙ got_replicated (length checked.catalog.subscriptions) number (record { confirmed = 0; taken = false })
+              within;
+        });
   }
 
   pub first_is : most ≤ 1000000000 → IsWorldBy (checked_view publisher) most book peers [] first_world
   first_is few =
       let known : IsPublisher checked most = checked_publish publisher most few in
       let planned : length checked.plan ≡ length checked.catalog.subscriptions = ap length known.own
-          ∙ length-map checked.catalog.subscriptions (shares_for checked.catalog) in
+      ∙ length-map checked.catalog.subscriptions (shares_for checked.catalog) in
       record {
         publisher = known;
         times = All-nil IsTimedEvent;
@@ -117,5 +127,5 @@ module _ (publisher : Checked) (most : ℕ) (book : Book) (peers : List PeerOf)
             let here : number < length checked.catalog.subscriptions = subst (λ n. number < n) planned within in
             let there = first_at checked.catalog.publications checked.catalog.subscriptions peers number are here in
             subst (PeerAt (source_in checked first_world number) (book_slots book) first_peer) (sym there.peer_at)
-                (peer_stands number here there);
+            (peer_stands number here there);
       }

@@ -43,7 +43,7 @@ output_by case link moves delivered None silent within = silent.output ∙ nothi
 output_by case link moves delivered (Some start) streams within =
     let all = down_bytes (source_of case) (Some start) moves in
     sym (drop_at (take delivered all) (link_output link) delivered (length-take-le delivered all within))
-        ∙ ap (drop delivered) streams.says.bytes
+    ∙ ap (drop delivered) streams.says.bytes
 
 -- ---- what a piece does
 
@@ -55,7 +55,7 @@ pub record Connected (case : Case) (c : Connection) : Type 0 where
 pub connected : (case : Case) → IsCase case → (c : Connection) → (peer_of case).connection ≡ Some c → Connected case c
 connected case is c some =
     let at : IsConnectedAt (source_of case) (peer_of case) (Some c) =
-        subst (IsConnectedAt (source_of case) (peer_of case)) some (case_good case is).connected in
+    subst (IsConnectedAt (source_of case) (peer_of case)) some (case_good case is).connected in
     record { reached = at.0; is = at.1 }
 
 module _ (case : Case) (is : IsCase case) (c : Connection) (some : (peer_of case).connection ≡ Some c) where
@@ -68,7 +68,7 @@ module _ (case : Case) (is : IsCase case) (c : Connection) (some : (peer_of case
   fine delivered within =
       let c_is = connected case is c some in
       (delivered_followed (source_of case) (case_published case is) (case_sayable case is) (peer_of case).position
-          (peer_of case).machine (case_good case is).follows c.start c_is.is.started
+      (peer_of case).machine (case_good case is).follows c.start c_is.is.started
       c.moves c_is.is.clocked delivered within).no_fault
 
   pub down_piece : (more : ℕ) → c.delivered + more ≤ length downs
@@ -78,7 +78,7 @@ module _ (case : Case) (is : IsCase case) (c : Connection) (some : (peer_of case
       pieces_are_cut frame_in limit (down_items (source_of case) c.start c.moves) downs c.delivered more
       (item_frames (down_items (source_of case) c.start c.moves)
       (down_sent (source_of case) (case_published case is) (case_sayable case is) (peer_of case).position
-          (peer_of case).machine (case_good case is).follows c.start c_is.is.started c.moves c_is.is.clocked))
+      (peer_of case).machine (case_good case is).follows c.start c_is.is.started c.moves c_is.is.clocked))
       refl within
 
   -- what a subscriber makes of a piece that comes after what was delivered
@@ -105,20 +105,20 @@ module _ (case : Case) (is : IsCase case) (c : Connection) (some : (peer_of case
         ≡ hear_cut (cut limit (rest_of whole ++ piece)) (hear_cut whole (opened (peer_of case).machine)).machine
     on = ap (λ all. hear_cut all (opened (peer_of case).machine)) (down_piece more within).all_cut
         ∙ hears_more piece (cut limit (take c.delivered downs)) (opened (peer_of case).machine)
-            (fine c.delivered (omega (arith, within)))
+        (fine c.delivered (omega (arith, within)))
 
     pub makes : (subscriber : Subscriber) → sub_held subscriber ≡ rest_of whole
         → AlikeBut (sub_machine subscriber) (hear_cut whole (opened (peer_of case).machine)).machine
         → Makes more subscriber (hear_cut (cut limit (sub_held subscriber ++ piece)) (sub_machine subscriber))
     makes subscriber held alike =
         let same : HeardBut (hear_cut (cut limit (sub_held subscriber ++ piece)) (sub_machine subscriber))
-            (hear_cut (cut limit (take (c.delivered + more) downs)) (opened (peer_of case).machine)) =
+        (hear_cut (cut limit (take (c.delivered + more) downs)) (opened (peer_of case).machine)) =
         subst (HeardBut (hear_cut (cut limit (sub_held subscriber ++ piece)) (sub_machine subscriber))) (sym on)
         (subst (λ bytes. HeardBut (hear_cut (cut limit (bytes ++ piece)) (sub_machine subscriber))
-            (hear_cut (cut limit (rest_of whole ++ piece)) (hear_cut whole (opened (peer_of case).machine)).machine))
-            (sym held)
+        (hear_cut (cut limit (rest_of whole ++ piece)) (hear_cut whole (opened (peer_of case).machine)).machine))
+        (sym held)
         (cut_but (cut limit (rest_of whole ++ piece)) (sub_machine subscriber)
-            (hear_cut whole (opened (peer_of case).machine)).machine alike)) in
+        (hear_cut whole (opened (peer_of case).machine)).machine alike)) in
         record {
           fault = same.fault ∙ fine (c.delivered + more) within;
           machine = same.machine;
@@ -142,24 +142,24 @@ delivers_on case is slots old link new after count stands some feeds passes =
     let more = as_many count (length downs) c.delivered in
     let within : c.delivered + more ≤ length downs = stays_within count (length downs) c.delivered linked.delivered in
     let out : link_output link ≡ drop c.delivered downs =
-        output_by case link c.moves c.delivered c.start linked.speaks linked.delivered in
+    output_by case link c.moves c.delivered c.start linked.speaks linked.delivered in
     let waits : length (link_output link) ≡ length downs - c.delivered = ap length out
-        ∙ length-drop c.delivered downs in
+    ∙ length-drop c.delivered downs in
     let piece_is : front_of count (link_output link) ≡ take more (drop c.delivered downs) =
     ap (front_of count) out ∙ ap (λ n. take (min count n) (drop c.delivered downs)) (length-drop c.delivered downs) in
     let long : length (front_of count (link_output link)) ≡ more =
     length-take-le (min count (length (link_output link))) (link_output link) (omega arith) ∙ ap (min count) waits in
     let fed = makes case is c here.some more within old.subscriber linked.held linked.machine in
     let is_heard : fed_heard old.subscriber (front_of count (link_output link))
-        ≡ hear_cut (cut limit (sub_held old.subscriber ++ take more (drop c.delivered downs)))
-        (sub_machine old.subscriber) =
+    ≡ hear_cut (cut limit (sub_held old.subscriber ++ take more (drop c.delivered downs)))
+    (sub_machine old.subscriber) =
     hears_open (sub_machine old.subscriber).phase (fed_cut old.subscriber (front_of count (link_output link)))
-        (sub_machine old.subscriber)
+    (sub_machine old.subscriber)
     (while_open (sub_machine old.subscriber).phase (fed_cut old.subscriber (front_of count (link_output link)))
-        (sub_machine old.subscriber) feeds.fault)
+    (sub_machine old.subscriber) feeds.fault)
     ∙ ap (λ bytes. hear_cut (cut limit (sub_held old.subscriber ++ bytes)) (sub_machine old.subscriber)) piece_is in
     steps_to case (w.Deliver count) (w.Delivered (length (front_of count (link_output link)))) slots
-        (record { link = Some new; subscriber = after }) (Some c) here.some
+    (record { link = Some new; subscriber = after }) (Some c) here.some
     (ap w.Delivered long) (record {
       named = still_named case old.subscriber after stands.named feeds.names;
       at = record {
@@ -207,8 +207,8 @@ delivers_on case is slots old link new after count stands some feeds passes =
         nothing (suc n) = refl
     passes_by case link new moves delivered more (Some start) passes out streams =
         subst (λ passed. IsStreaming new (record (run_of (source_of case) start moves delivered) { passed = passed })
-            (place_of (source_of case) start moves))
+        (place_of (source_of case) start moves))
         (ap (λ bytes. take delivered (down_bytes (source_of case) (Some start) moves) ++ take more bytes) out
         ∙ sym (take-add delivered more (down_bytes (source_of case) (Some start) moves)))
         (passes_on link new (run_of (source_of case) start moves delivered) (place_of (source_of case) start moves)
-            more streams passes)
+        more streams passes)

@@ -33,11 +33,11 @@ module _ (checked : CheckedOf) (number : ℕ) where
   -- statuses among statuses
   says_whole : (count : ℕ) (statuses : List Status)
       → whole_by (up_frame checked number) count (map Says statuses)
-          ≡ map Says (whole_by (λ status. up_frame checked number (Says status)) count statuses)
+      ≡ map Says (whole_by (λ status. up_frame checked number (Says status)) count statuses)
   says_whole count [] = refl
   says_whole count (status ∷ statuses) =
       ap (if_whole (nat_le (length (spelled_up checked number (Says status))) count) (Says status))
-          (says_whole (count - length (spelled_up checked number (Says status))) statuses)
+      (says_whole (count - length (spelled_up checked number (Says status))) statuses)
       ∙ if_says (nat_le (length (spelled_up checked number (Says status))) count) status _
     where
       if_says : (whole : Bool) (status : Status) (others : List Status)
@@ -49,10 +49,16 @@ pub ups_are_frames : (case : Case) → IsCase case → (c : Connection)
     → AreFrames 65536 (map (up_frame case.checked case.number) (ups_of (peer_of case) c))
 ups_are_frames case is c = (
   record {
-    within = omega (arith, (case_asks case is).fits (peer_of case).position (opened_small case is),
-        length-append (start_of case.checked.catalog case.number (peer_of case).position) (0 ∷ []));
-    signed = omega (arith, (case_asks case is).fits (peer_of case).position (opened_small case is),
-        length-append (start_of case.checked.catalog case.number (peer_of case).position) (0 ∷ []));
+    within = omega (
+      arith,
+      (case_asks case is).fits (peer_of case).position (opened_small case is),
+      length-append (start_of case.checked.catalog case.number (peer_of case).position) (0 ∷ []),
+    );
+    signed = omega (
+      arith,
+      (case_asks case is).fits (peer_of case).position (opened_small case is),
+      length-append (start_of case.checked.catalog case.number (peer_of case).position) (0 ∷ []),
+    );
   },
   says_frames case.checked case.number c.reports,
 )
@@ -105,27 +111,27 @@ module _ (case : Case) (c : Connection) (more : ℕ) where
   new_by None before = by_test (nat_le asking (c.heard + more))
       (λ whole. Command refl (leb-true asking (c.heard + more) whole) (c.heard + more - asking)
       (ap (λ few. drop (length few)
-          (whole_by (up_frame case.checked case.number) (c.heard + more) (ups_of (peer_of case) c)))
-          (none_asked c.heard before)
+      (whole_by (up_frame case.checked case.number) (c.heard + more) (ups_of (peer_of case) c)))
+      (none_asked c.heard before)
       ∙ asked_whole (c.heard + more) (leb-true asking (c.heard + more) whole)
       ∙ ap (λ ups. Asks (peer_of case).position ∷ ups)
-          (says_whole case.checked case.number (c.heard + more - asking) c.reports)))
+      (says_whole case.checked case.number (c.heard + more - asking) c.reports)))
       (λ part. Nothing refl (leb-false asking (c.heard + more) part)
       (ap (λ few. drop (length few)
-          (whole_by (up_frame case.checked case.number) (c.heard + more) (ups_of (peer_of case) c)))
-          (none_asked c.heard before)
+      (whole_by (up_frame case.checked case.number) (c.heard + more) (ups_of (peer_of case) c)))
+      (none_asked c.heard before)
       ∙ none_asked (c.heard + more) (leb-false asking (c.heard + more) part)))
   new_by (Some at) after =
       Statuses at refl (omega (arith, after)) (length (reports_whole (c.heard - asking))) (c.heard + more - asking)
       (ap (λ few. drop (length few)
-          (whole_by (up_frame case.checked case.number) (c.heard + more) (ups_of (peer_of case) c)))
-          (asked_whole c.heard after)
+      (whole_by (up_frame case.checked case.number) (c.heard + more) (ups_of (peer_of case) c)))
+      (asked_whole c.heard after)
       ∙ ap (drop (suc (length (reports_whole (c.heard - asking)))))
-          (asked_whole (c.heard + more) (omega (arith, after)))
+      (asked_whole (c.heard + more) (omega (arith, after)))
       ∙ ap (drop (length (reports_whole (c.heard - asking))))
-          (says_whole case.checked case.number (c.heard + more - asking) c.reports)
+      (says_whole case.checked case.number (c.heard + more - asking) c.reports)
       ∙ map_drop Says (length (reports_whole (c.heard - asking)))
-          (whole_by (λ status. up_frame case.checked case.number (Says status)) (c.heard + more - asking) c.reports))
+      (whole_by (λ status. up_frame case.checked case.number (Says status)) (c.heard + more - asking) c.reports))
 
   pub what_is_new : IsAsked c.heard asking c.start
       → NewOf case.checked case.number (peer_of case).position c.reports asking (c.heard + more) c.start
@@ -144,14 +150,14 @@ whole_all : (P : Status → Type 0) (frame : Status → Frame) (count : ℕ) (st
 whole_all P frame count [] all = All-nil P
 whole_all P frame count (status ∷ statuses) all =
     if_all P (nat_le (length (framed (frame status))) count) status
-        (whole_by frame (count - length (framed (frame status))) statuses) (All-head P status statuses all)
+    (whole_by frame (count - length (framed (frame status))) statuses) (All-head P status statuses all)
     (whole_all P frame (count - length (framed (frame status))) statuses (All-tail P status statuses all))
 
 pub some_all : (checked : CheckedOf) (number : ℕ) (P : Status → Type 0) (done count : ℕ) (statuses : List Status)
     → All P statuses → All P (some_of checked number done count statuses)
 some_all checked number P done count statuses all =
     All-drop P done (whole_by (λ status. up_frame checked number (Says status)) count statuses)
-        (whole_all P (λ status. up_frame checked number (Says status)) count statuses all)
+    (whole_all P (λ status. up_frame checked number (Says status)) count statuses all)
 
 -- ---- what the new frames do
 
@@ -215,13 +221,19 @@ module _ (case : Case) (is : IsCase case) (c : Connection) (commits : ℕ) (h : 
 
     session_before : session_of case.number case.now c.moves h ≡ first_session
     session_before =
-        ap (λ (confirmed : ℕ). record
-            { confirmed = confirmed; start = start_in h.started; moves =
-            c.moves ++ replicate h.heard.replies (Keep case.now false) })
+        ap (λ (confirmed : ℕ). record {
+          confirmed = confirmed;
+          start = start_in h.started;
+          moves =
+              c.moves ++ replicate h.heard.replies (Keep case.now false);
+        })
         (confirmed_is h.slots case.number (peer_of case).confirmed (is_some c.start) before.slot)
-        ∙ ap (λ (start : Option ℕ). record
-            { confirmed = (peer_of case).confirmed; start = start; moves =
-            c.moves ++ replicate h.heard.replies (Keep case.now false) })
+        ∙ ap (λ (start : Option ℕ). record {
+          confirmed = (peer_of case).confirmed;
+          start = start;
+          moves =
+              c.moves ++ replicate h.heard.replies (Keep case.now false);
+        })
         (ap start_in before.started ∙ start_in_stream case.number c.start)
         ∙ ap (λ (moves : List Move). record { confirmed = (peer_of case).confirmed; start = c.start; moves = moves })
         (ap (λ n. c.moves ++ replicate n (Keep case.now false)) before.replies ∙ append-nil c.moves)
@@ -253,7 +265,7 @@ module _ (case : Case) (is : IsCase case) (c : Connection) (commits : ℕ) (h : 
     statuses_come : (at : ℕ) → c.start ≡ Some at → (statuses : List Status)
         → All (IsWithin (min h.sent (end_after commits))) statuses
         → Comes (map Says statuses)
-            (frames_heard served_of h (map (up_frame case.checked case.number) (map Says statuses)))
+        (frames_heard served_of h (map (up_frame case.checked case.number) (map Says statuses)))
     statuses_come at start statuses within =
         let started : h.started ≡ Some (case.number, at) = before.started ∙ ap (stream_of case.number) start in
         let last = frames_heard served_of h (map (up_frame case.checked case.number) (map Says statuses)) in
@@ -261,8 +273,8 @@ module _ (case : Case) (is : IsCase case) (c : Connection) (commits : ℕ) (h : 
         let goes = statuses_go served_of case.number at case.now c.moves statuses h hearing started within in
         let still : start_in last.started ≡ c.start =
         ap (λ (session : Session). session.start) heard.session_is
-            ∙ start_stays_so statuses (session_of case.number case.now c.moves h)
-            ∙ ap (λ (session : Session). session.start) session_before in
+        ∙ start_stays_so statuses (session_of case.number case.now c.moves h)
+        ∙ ap (λ (session : Session). session.start) session_before in
         record {
           hears = heard.hearing;
           session_is = heard.session_is
@@ -276,47 +288,47 @@ module _ (case : Case) (is : IsCase case) (c : Connection) (commits : ℕ) (h : 
     free none =
         ap (λ found. slot_fault found (end_after commits) (peer_of case).position) before.slot
         ∙ ap (λ start. slot_fault (Some (record { confirmed = (peer_of case).confirmed; taken = is_some start }))
-            (end_after commits) (peer_of case).position) none
+        (end_after commits) (peer_of case).position) none
         ∙ ap (λ b. if b then Some Ahead else None) (le-ltb (end_after commits) (peer_of case).position
         (omega (arith, (case_good case is).follows.within, before.commits_is)))
 
     command_comes : c.start ≡ None → (statuses : List Status)
         → All (IsWithin (min (first_sent (peer_of case).position) (end_after commits))) statuses
         → Comes (Asks (peer_of case).position ∷ map Says statuses)
-            (frames_heard served_of h
-            (map (up_frame case.checked case.number) (Asks (peer_of case).position ∷ map Says statuses)))
+        (frames_heard served_of h
+        (map (up_frame case.checked case.number) (Asks (peer_of case).position ∷ map Says statuses)))
     unfolding frames_heard
     command_comes none statuses within =
         let position = (peer_of case).position in
         let idle : h.started ≡ None = before.started ∙ ap (stream_of case.number) none in
         let begun_at : max position (confirmed_at h.slots case.number) ≡ position =
         ap (max position) (confirmed_is h.slots case.number (peer_of case).confirmed (is_some c.start) before.slot)
-            ∙ greater position (peer_of case).confirmed (before.starts none) in
+        ∙ greater position (peer_of case).confirmed (before.starts none) in
         let first = frame_heard served_of h (up_frame case.checked case.number (Asks position)) in
         let step : first ≡ begun (Begins case.number position) h =
         start_step served_of case.number position (case_asks case is).subscription h (case_asks case is).asks
-            (opened_small case is) (free none) before.goes_on idle
-            ∙ ap (λ at. begun (Begins case.number at) h) begun_at in
+        (opened_small case is) (free none) before.goes_on idle
+        ∙ ap (λ at. begun (Begins case.number at) h) begun_at in
         let one = starts_are_heard served_of case.number position case.now (case_asks case is).subscription c.moves h
-            (case_asks case is).asks (opened_small case is) (free none) hearing idle in
+        (case_asks case is).asks (opened_small case is) (free none) hearing idle in
         let started : first.started ≡ Some (case.number, position) = ap (λ (its : HearingOf). its.started) step in
         let sent : first.sent ≡ first_sent position = ap (λ (its : HearingOf). its.sent) step in
         let slots : first.slots ≡ change_at h.slots case.number (with_stream true) =
-            ap (λ (its : HearingOf). its.slots) step in
+        ap (λ (its : HearingOf). its.slots) step in
         let low : All (IsWithin (min first.sent (end_after commits))) statuses =
-            subst (λ n. All (IsWithin (min n (end_after commits))) statuses) (sym sent) within in
+        subst (λ n. All (IsWithin (min n (end_after commits))) statuses) (sym sent) within in
         let heard = statuses_are_heard served_of case.number position case.now c.moves statuses first one.0.hearing
-            started low in
+        started low in
         let goes = statuses_go served_of case.number position case.now c.moves statuses first one.0.hearing started
-            low in
+        low in
         let last = frames_heard served_of first (map (up_frame case.checked case.number) (map Says statuses)) in
         let same_session : fold (hear_up case.now) (session_of case.number case.now c.moves first) (map Says statuses)
-            ≡ fold (hear_up case.now) first_session (Asks position ∷ map Says statuses) =
+        ≡ fold (hear_up case.now) first_session (Asks position ∷ map Says statuses) =
         ap (λ session. fold (hear_up case.now) session (map Says statuses))
-            (one.0.session_is ∙ ap (λ session. hear_up case.now session (Asks position)) session_before) in
+        (one.0.session_is ∙ ap (λ session. hear_up case.now session (Asks position)) session_before) in
         let has_start : start_in last.started ≡ Some position =
         ap (λ (session : Session). session.start) heard.session_is
-            ∙ start_stays_so statuses (session_of case.number case.now c.moves first) ∙ ap start_in started in
+        ∙ start_stays_so statuses (session_of case.number case.now c.moves first) ∙ ap start_in started in
         record {
           hears = heard.hearing;
           session_is = heard.session_is ∙ same_session;
@@ -324,7 +336,7 @@ module _ (case : Case) (is : IsCase case) (c : Connection) (commits : ℕ) (h : 
               ∙ others_stay h.slots case.number other (with_stream true) apart;
           taken = subst (λ start. HasSlotBy last.slots case.number (is_some start)) (sym has_start)
               (goes.own (peer_of case).confirmed true
-                  (subst (λ its. HasSlot its case.number (peer_of case).confirmed true) (sym slots)
+              (subst (λ its. HasSlot its case.number (peer_of case).confirmed true) (sym slots)
               (streams_slot h.slots case.number (peer_of case).confirmed (is_some c.start) true before.slot)));
         }
       where
@@ -353,12 +365,12 @@ module _ (case : Case) (is : IsCase case) (c : Connection) (commits : ℕ) (h : 
         (command_comes none (some_of case.checked case.number 0 count c.reports)
         (some_within 0 count (min (first_sent (peer_of case).position) (end_after commits))
         (before.low (first_sent (peer_of case).position)
-            (ap (λ start. sent_limit start (peer_of case).position h.sent) none))))
+        (ap (λ start. sent_limit start (peer_of case).position h.sent) none))))
     new_comes (Statuses at start long done count e) =
         comes_by (map Says (some_of case.checked case.number done count c.reports)) e
         (statuses_come at start (some_of case.checked case.number done count c.reports)
         (some_within done count (min h.sent (end_after commits))
-            (before.low h.sent (ap (λ start. sent_limit start (peer_of case).position h.sent) start))))
+        (before.low h.sent (ap (λ start. sent_limit start (peer_of case).position h.sent) start))))
 
     -- what was heard is as in the world
     pub record After : Type 0 where
@@ -378,10 +390,10 @@ module _ (case : Case) (is : IsCase case) (c : Connection) (commits : ℕ) (h : 
     heard_after =
         let comes = new_comes (what_is_new case c more before.asked) in
         let start : start_in heard_now.started ≡ (heard_of (source_of case) case.now (peer_of case) c more).start =
-            ap (λ (session : Session). session.start) comes.session_is in
+        ap (λ (session : Session). session.start) comes.session_is in
         let confirmed : comes.taken.confirmed ≡ (heard_of (source_of case) case.now (peer_of case) c more).confirmed =
         sym (confirmed_is heard_now.slots case.number comes.taken.confirmed (is_some (start_in heard_now.started))
-            comes.taken.has) ∙ ap (λ (session : Session). session.confirmed) comes.session_is in
+        comes.taken.has) ∙ ap (λ (session : Session). session.confirmed) comes.session_is in
         record {
           hears = comes.hears;
           session_is = comes.session_is;
@@ -391,6 +403,6 @@ module _ (case : Case) (is : IsCase case) (c : Connection) (commits : ℕ) (h : 
           slot = subst (λ n. HasSlot heard_now.slots case.number n
               (is_some (heard_of (source_of case) case.now (peer_of case) c more).start)) confirmed
               (subst (λ its. HasSlot heard_now.slots case.number comes.taken.confirmed (is_some its)) start
-                  comes.taken.has);
+              comes.taken.has);
           moves_are = sym (ap (λ (session : Session). session.moves) comes.session_is);
         }

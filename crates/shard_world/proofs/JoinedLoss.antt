@@ -37,28 +37,34 @@ loses_on case before after old link new subscriber stands some lost_link lost_su
     let linked = here.linked in
     let slots_are : book_slots after ≡ slots_without (stream_of case.number here.c.start) (book_slots before) =
     lost_link.ear.book.slots_are
-        ∙ ap (λ its. slots_after_loss its (ear_started (link_ear link)) (book_slots before)) linked.hears.phase_is
+    ∙ ap (λ its. slots_after_loss its (ear_started (link_ear link)) (book_slots before)) linked.hears.phase_is
     ∙ ap (λ its. slots_without its (book_slots before)) linked.hears.started in
     record {
       steps = steps_to case w.Lose w.Lost (book_slots after) (record { link = None; subscriber = subscriber })
           (Some here.c) here.some refl (record {
-        named = still_named case old.subscriber subscriber stands.named lost_subscriber.cleared.names;
-        at = record {
-          machine = record {
-            position = lost_subscriber.machine.position ∙ linked.machine.position
-                ∙ ap (λ (machine : Machine). machine.position) (now_is here.c here.some);
-            kept = λ oid. lost_subscriber.machine.kept oid ∙ linked.machine.kept oid
-                ∙ ap (λ (machine : Machine). machine.kept oid) (now_is here.c here.some);
-            rows = λ oid key. lost_subscriber.machine.rows oid key ∙ linked.machine.rows oid key
-                ∙ ap (λ (machine : Machine). machine.rows oid key) (now_is here.c here.some);
-          };
-          slot = subst (λ slots. HasSlot slots case.number (peer_of case).confirmed false) (sym slots_are)
-              (without_slot (book_slots before) case.number (peer_of case).confirmed here.c.start linked.slot);
-        };
-      });
+            named = still_named case old.subscriber subscriber stands.named lost_subscriber.cleared.names;
+            at = record {
+              machine = record {
+                position = lost_subscriber.machine.position ∙ linked.machine.position
+                    ∙ ap (λ (machine : Machine). machine.position) (now_is here.c here.some);
+                kept = λ oid. lost_subscriber.machine.kept oid ∙ linked.machine.kept oid
+                    ∙ ap (λ (machine : Machine). machine.kept oid) (now_is here.c here.some);
+                rows = λ oid key. lost_subscriber.machine.rows oid key ∙ linked.machine.rows oid key
+                    ∙ ap (λ (machine : Machine). machine.rows oid key) (now_is here.c here.some);
+              };
+              slot = subst (λ slots. HasSlot slots case.number (peer_of case).confirmed false) (sym slots_are)
+                  (without_slot (book_slots before) case.number (peer_of case).confirmed here.c.start linked.slot);
+            };
+          });
       own = record {
-        book = record { checked = lost_link.ear.book.checked; limit = lost_link.ear.book.limit; rows =
-            lost_link.ear.book.rows; log = lost_link.ear.book.log; slots_are = refl };
+        book = record {
+          checked = lost_link.ear.book.checked;
+          limit = lost_link.ear.book.limit;
+          rows =
+              lost_link.ear.book.rows;
+          log = lost_link.ear.book.log;
+          slots_are = refl;
+        };
         others = λ other apart. ap (λ slots. slice_get slots other) slots_are
             ∙ others_without (book_slots before) case.number other here.c.start apart;
       };

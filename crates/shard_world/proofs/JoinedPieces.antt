@@ -65,8 +65,8 @@ log_numbered : (case : Case) → IsCase case → (place : ℕ) (commit : CommitO
     → slice_get (log_in (source_of case)) place ≡ Some commit → commit.number ≡ 1 + place
 log_numbered case is place commit at =
     ap (λ (one : CommitOf). one.number)
-        (entry_at (setting_in case.checked) no_rows 1 case.world.transactions place commit
-        (case_published case is).accepted at).is
+    (entry_at (setting_in case.checked) no_rows 1 case.world.transactions place commit
+    (case_published case is).accepted at).is
 
 -- ---- statuses say no more than what was sent
 
@@ -87,10 +87,10 @@ module _ (case : Case) (is : IsCase case) (c : Connection) (some : (peer_of case
   sent_by at None sent none is_sent =
       let here : (peer_of case).position ≡ at.reached =
       sym (ap (λ start. position_after (peer_of case).position
-          (whole_in c.delivered (down_items (source_of case) start c.moves))) none) ∙ at.is.reached_is in
+      (whole_in c.delivered (down_items (source_of case) start c.moves))) none) ∙ at.is.reached_is in
       subst (λ n. n ≤ min (first_sent (peer_of case).position) (end_after (length case.world.transactions))) here
       (both (peer_of case).position (first_sent (peer_of case).position) (end_after (length case.world.transactions))
-          (first_reached (peer_of case).position) (omega (arith, (case_good case is).follows.within)))
+      (first_reached (peer_of case).position) (omega (arith, (case_good case is).follows.within)))
   sent_by at (Some begin) sent start is_sent =
       let from : begin ≡ (peer_of case).position = subst (StartsAt (peer_of case).position) start at.is.started in
       let log = log_in (source_of case) in
@@ -98,16 +98,16 @@ module _ (case : Case) (is : IsCase case) (c : Connection) (some : (peer_of case
       let low : at.reached ≤ (place_of (source_of case) (peer_of case).position c.moves).sent =
       subst (λ n. n ≤ (place_of (source_of case) (peer_of case).position c.moves).sent)
       (ap (λ its. position_after (peer_of case).position
-          (whole_in c.delivered (down_items (source_of case) its c.moves))) (ap Some (sym from) ∙ sym start)
-          ∙ at.is.reached_is)
+      (whole_in c.delivered (down_items (source_of case) its c.moves))) (ap Some (sym from) ∙ sym start)
+      ∙ at.is.reached_is)
       (reached_is_sent case.checked log (log_numbered case is) case.number (peer_of case).position c.moves
-          c.delivered) in
+      c.delivered) in
       let ends = sent_is_there case.checked log (log_numbered case is) case.number (peer_of case).position c.moves there
       (omega (arith, (case_good case is).follows.within, log_long case)) in
       let sent_here : sent ≡ (place_of (source_of case) (peer_of case).position c.moves).sent =
       is_sent begin refl ∙ ap (λ n. (place_of (source_of case) n c.moves).sent) from in
       both at.reached sent (end_after (length case.world.transactions))
-          (subst (λ n. at.reached ≤ n) (sym sent_here) low)
+      (subst (λ n. at.reached ≤ n) (sym sent_here) low)
       (omega (arith, low, ends, log_long case))
 
   statuses_within : (limit reached : ℕ) → reached < 2 ^ 64 → reached ≤ limit → (statuses : List Status)
@@ -123,7 +123,7 @@ module _ (case : Case) (is : IsCase case) (c : Connection) (some : (peer_of case
         clock = same.timed;
         reached = omega (arith, flushed, low);
       }) (statuses_within limit reached small low statuses (All-tail (IsReported reached) status statuses said)
-          (All-tail IsOneStatus status statuses one))
+      (All-tail IsOneStatus status statuses one))
 
 -- ---- what is heard
 
@@ -147,7 +147,7 @@ record SpeaksOn (case : Case) (new : Link) (c : Connection) (session : Session) 
 streams_on : (case : Case) (new : Link) (start : ℕ) (moves extra : List Move) (delivered : ℕ) (passed : List ℕ)
     (place : Place) → length passed ≡ delivered
     → IsStreaming new (with_moves (record (run_of (source_of case) start moves delivered) { passed = passed }) extra)
-        place
+    place
     → (take delivered (down_bytes (source_of case) (Some start) (moves ++ extra)) ≡ passed)
     × Speaks (source_of case) new (moves ++ extra) delivered (Some start)
 streams_on case new start moves extra delivered passed place long streams =
@@ -165,7 +165,7 @@ streams_within : (case : Case) (new : Link) (start : ℕ) (moves extra : List Mo
     → length passed ≤ length (down_bytes (source_of case) (Some start) (moves ++ extra))
 streams_within case new start moves extra passed place streams =
     subst (λ bytes. length passed ≤ length bytes) streams.says.bytes
-        (omega (arith, length-append passed (link_output new)))
+    (omega (arith, length-append passed (link_output new)))
 
 -- before the start nothing was delivered
 pub none_delivered : (case : Case) (c : Connection) → c.start ≡ None
@@ -180,7 +180,7 @@ module _ (case : Case) (is : IsCase case) (slots : List Slot) (link new : Link) 
     (c : Connection)
     (linked : IsLinked (source_of case) slots link subscriber (peer_of case) c) (h : HearingOf) (heard : Heard)
     (says : HearSays link new h case.now (Ok heard)) (goes_on : h.heard.ended ≡ None) (session : Session)
-        (started : h.started ≡ stream_of case.number session.start)
+    (started : h.started ≡ stream_of case.number session.start)
     (moves_are : session.moves ≡ c.moves ++ replicate h.heard.replies (Keep case.now false)) where
   -- what is so of a start and moves is so of those of the session
   to_session : (start : Option ℕ) (moves : List Move) → session.start ≡ start → session.moves ≡ moves
@@ -206,25 +206,25 @@ module _ (case : Case) (is : IsCase case) (slots : List Slot) (link new : Link) 
       let within : c.delivered ≤ length (down_bytes (source_of case) (Some start) c.moves) =
       subst (λ its. c.delivered ≤ length (down_bytes (source_of case) its c.moves)) before linked.delivered in
       let long : length passed ≡ c.delivered =
-          length-take-le c.delivered (down_bytes (source_of case) (Some start) c.moves) within in
+      length-take-le c.delivered (down_bytes (source_of case) (Some start) c.moves) within in
       let streams : IsStreaming link (run_of (source_of case) start c.moves c.delivered)
-          (place_of (source_of case) start c.moves) =
+      (place_of (source_of case) start c.moves) =
       subst (Speaks (source_of case) link c.moves c.delivered) before linked.speaks in
       let next = hears link new (run_of (source_of case) start c.moves c.delivered)
-          (place_of (source_of case) start c.moves) h heard case.now
+      (place_of (source_of case) start c.moves) h heard case.now
       (Goes_on streams) goes_on says in
       let on = streams_on case new start c.moves kept c.delivered passed (place_of (source_of case) start c.moves)
-          long next in
+      long next in
       let low = streams_within case new start c.moves kept passed (place_of (source_of case) start c.moves) next in
       to_session (Some start) (c.moves ++ kept) after moves_are
-          (subst (λ n. n ≤ length (down_bytes (source_of case) (Some start) (c.moves ++ kept))) long low)
+      (subst (λ n. n ≤ length (down_bytes (source_of case) (Some start) (c.moves ++ kept))) long low)
       (on.0 ∙ ap (λ its. take c.delivered (down_bytes (source_of case) its c.moves)) (sym before)) on.1
 
   -- the stream starts
   begins : (start : ℕ) → c.start ≡ None → session.start ≡ Some start → SpeaksOn case new c session
   begins start before after =
       let silent : IsSilent link c.moves =
-          subst (Speaks (source_of case) link c.moves c.delivered) before linked.speaks in
+      subst (Speaks (source_of case) link c.moves c.delivered) before linked.speaks in
       let zero_is : c.delivered ≡ 0 = none_delivered case c before linked.delivered in
       let run = first_run case.checked (log_in (source_of case)) (case.number, start) in
       let next = hears link new run (first_place (started_at case.checked (case.number, start))) h heard case.now
@@ -237,7 +237,7 @@ module _ (case : Case) (is : IsCase case) (slots : List Slot) (link new : Link) 
         place_is = ap (λ checked. first_place (started_at checked (case.number, start))) (sym linked.checked_is);
       })) goes_on says in
       let on = streams_on case new start [] kept 0 [] (first_place (started_at case.checked (case.number, start)))
-          refl next in
+      refl next in
       to_session (Some start) kept after (moves_are ∙ ap (λ its. its ++ kept) silent.none) (omega (arith, zero_is))
       (ap (λ n. take n (down_bytes (source_of case) (Some start) kept)) zero_is ∙ on.0
       ∙ sym (ap (λ n. take n (down_of (source_of case) c)) zero_is))
@@ -247,7 +247,7 @@ module _ (case : Case) (is : IsCase case) (slots : List Slot) (link new : Link) 
   still_waits : c.start ≡ None → session.start ≡ None → h.heard.replies ≡ 0 → SpeaksOn case new c session
   still_waits before after replies =
       let silent : IsSilent link c.moves =
-          subst (Speaks (source_of case) link c.moves c.delivered) before linked.speaks in
+      subst (Speaks (source_of case) link c.moves c.delivered) before linked.speaks in
       let idle : h.started ≡ None = started ∙ ap (stream_of case.number) after in
       let nothing : concat (frames_said (link_checked link) (link_stage link) h case.now) ≡ [] =
       ap (λ stage. concat (frames_said (link_checked link) stage h case.now)) silent.stage_is
@@ -259,7 +259,7 @@ module _ (case : Case) (is : IsCase case) (slots : List Slot) (link new : Link) 
       ∙ ap (λ its. stage_by (link_checked link) voices.NotStarted its h.heard) idle
       ∙ ap (λ its. ended_stage its voices.NotStarted) goes_on in
       to_session None c.moves after
-          (moves_are ∙ ap (λ n. c.moves ++ replicate n (Keep case.now false)) replies ∙ append-nil c.moves)
+      (moves_are ∙ ap (λ n. c.moves ++ replicate n (Keep case.now false)) replies ∙ append-nil c.moves)
       (subst (λ its. c.delivered ≤ length (down_bytes (source_of case) its c.moves)) before linked.delivered)
       (ap (λ its. take c.delivered (down_bytes (source_of case) its c.moves)) (sym before))
       (record {
@@ -327,7 +327,7 @@ module _ (case : Case) (is : IsCase case) (before after : Book) (old : PeerOf) (
       → link_sent link ≡ (place_of (source_of case) begin connection.moves).sent
   sent_is begin e =
       let streams : IsStreaming link (run_of (source_of case) begin connection.moves connection.delivered)
-          (place_of (source_of case) begin connection.moves) =
+      (place_of (source_of case) begin connection.moves) =
       subst (Speaks (source_of case) link connection.moves connection.delivered) e linked.speaks in
       ap (λ stage. unwrap_or (sent_of stage) 0) streams.stage_is
 
@@ -343,8 +343,8 @@ module _ (case : Case) (is : IsCase case) (before after : Book) (old : PeerOf) (
     low = λ limit e. statuses_within case is connection here.some (min limit (end_after commits)) at.reached
         (reached_small case is connection here.some at)
         (subst (λ n. at.reached ≤ min n (end_after commits)) e
-            (subst (λ n. at.reached ≤ min (sent_limit connection.start (peer_of case).position (link_sent link))
-            (end_after n)) (sym commits_are)
+        (subst (λ n. at.reached ≤ min (sent_limit connection.start (peer_of case).position (link_sent link))
+        (end_after n)) (sym commits_are)
         (sent_by case is connection here.some at connection.start (link_sent link) refl sent_is)))
         connection.reports at.is.reports linked.hears.statuses;
   }
@@ -352,7 +352,7 @@ module _ (case : Case) (is : IsCase case) (before after : Book) (old : PeerOf) (
       unstarted : connection.start ≡ None → at.reached ≡ (peer_of case).position
       unstarted none = sym at.is.reached_is
           ∙ ap (λ start. position_after (peer_of case).position
-              (whole_in connection.delivered (down_items (source_of case) start connection.moves))) none
+          (whole_in connection.delivered (down_items (source_of case) start connection.moves))) none
 
   abbrev pub heard_all : HearingOf
   heard_all = frames_heard (served_of case is connection commits start_view) start_view
@@ -363,21 +363,21 @@ module _ (case : Case) (is : IsCase case) (before after : Book) (old : PeerOf) (
   heard_is =
       let bytes = take more (drop connection.heard ups) in
       let served_is : served_by (link_ear link).session before ≡ served_of case is connection commits start_view =
-          ap (λ checked. record { checked = checked; commits = commits }) linked.hears.checked_is in
+      ap (λ checked. record { checked = checked; commits = commits }) linked.hears.checked_is in
       let cut_is : cut (link_ear link).frames.limit ((link_ear link).frames.bytes ++ piece)
-          ≡ after_frames (map (up_frame case.checked case.number)
-          (newly (source_of case) (peer_of case) connection more)) (Rest cuts.rest) =
+      ≡ after_frames (map (up_frame case.checked case.number)
+      (newly (source_of case) (peer_of case) connection more)) (Rest cuts.rest) =
       ap (λ limit. cut limit ((link_ear link).frames.bytes ++ piece)) ready.limit
-          ∙ ap (λ held. cut 65536 (held ++ piece)) linked.hears.held
+      ∙ ap (λ held. cut 65536 (held ++ piece)) linked.hears.held
       ∙ ap (λ its. cut 65536 (rest_of (cut 65536 (take connection.heard ups)) ++ its)) piece_is ∙ cuts.cuts in
       let frames = map (up_frame case.checked case.number) (newly (source_of case) (peer_of case) connection more) in
       ap (λ served. bytes_heard served (link_ear link).frames.limit ((link_ear link).frames.bytes ++ piece)
-          start_view) served_is
+      start_view) served_is
       ∙ ap (λ its. then_fault (fault_of its)
-          (frames_heard (served_of case is connection commits start_view) start_view (frames_of its))) cut_is
+      (frames_heard (served_of case is connection commits start_view) start_view (frames_of its))) cut_is
       ∙ ap (λ fault. then_fault fault
-          (frames_heard (served_of case is connection commits start_view) start_view
-          (frames_of (after_frames frames (Rest cuts.rest))))) (no_fault_after frames cuts.rest)
+      (frames_heard (served_of case is connection commits start_view) start_view
+      (frames_of (after_frames frames (Rest cuts.rest))))) (no_fault_after frames cuts.rest)
       ∙ ap (frames_heard (served_of case is connection commits start_view) start_view) (frames_before frames cuts.rest)
 
   -- a stream that has started stays so, and one starts where the command is heard
@@ -407,22 +407,22 @@ module _ (case : Case) (is : IsCase case) (before after : Book) (old : PeerOf) (
           (asking_length (source_of case) (peer_of case).position) (connection.heard + more) connection.start
           (newly (source_of case) (peer_of case) connection more)
           → IsAsked (connection.heard + more) (asking_length (source_of case) (peer_of case).position)
-              (heard_of (source_of case) case.now (peer_of case) connection more).start
+          (heard_of (source_of case) case.now (peer_of case) connection more).start
       by_new (Nothing none short e) =
           subst (IsAsked (connection.heard + more) (asking_length (source_of case) (peer_of case).position))
           (sym (ap (λ new. (fold (hear_up case.now)
-              (record { confirmed = (peer_of case).confirmed; start = connection.start; moves = connection.moves })
-              new).start) e ∙ none)) short
+          (record { confirmed = (peer_of case).confirmed; start = connection.start; moves = connection.moves })
+          new).start) e ∙ none)) short
       by_new (Command none long count e) =
           some_start (heard_of (source_of case) case.now (peer_of case) connection more).start
           (subst (λ new. HasStart
-              (fold (hear_up case.now)
-              (record { confirmed = (peer_of case).confirmed; start = connection.start; moves = connection.moves })
-              new).start) (sym e)
+          (fold (hear_up case.now)
+          (record { confirmed = (peer_of case).confirmed; start = connection.start; moves = connection.moves })
+          new).start) (sym e)
           (starts_by case.now (peer_of case).position
-              (map Says (some_of case.checked case.number 0 count connection.reports))
-              (record { confirmed = (peer_of case).confirmed; start = connection.start; moves = connection.moves })))
-              long
+          (map Says (some_of case.checked case.number 0 count connection.reports))
+          (record { confirmed = (peer_of case).confirmed; start = connection.start; moves = connection.moves })))
+          long
       by_new (Statuses begin start long done count e) =
           subst (IsAsked (connection.heard + more) (asking_length (source_of case) (peer_of case).position))
           (sym (start_kept begin start)) long
@@ -440,23 +440,23 @@ module _ (case : Case) (is : IsCase case) (before after : Book) (old : PeerOf) (
       by_new (Nothing idle short e) = nothing_heard e
       by_new (Command idle long count e) = absurd (
           let has = starts_by case.now (peer_of case).position
-              (map Says (some_of case.checked case.number 0 count connection.reports))
-              (record { confirmed = (peer_of case).confirmed; start = connection.start; moves = connection.moves }) in
+          (map Says (some_of case.checked case.number 0 count connection.reports))
+          (record { confirmed = (peer_of case).confirmed; start = connection.start; moves = connection.moves }) in
           let both = sym still ∙ ap
-              (λ new. (fold (hear_up case.now)
-              (record { confirmed = (peer_of case).confirmed; start = connection.start; moves = connection.moves })
-              new).start) e ∙ has.is in
+          (λ new. (fold (hear_up case.now)
+          (record { confirmed = (peer_of case).confirmed; start = connection.start; moves = connection.moves })
+          new).start) e ∙ has.is in
           none_some has.at both)
       by_new (Statuses begin start long done count e) = absurd (none_some begin (sym none ∙ start))
 
   -- the piece was heard, and answered
   module _ (new : Link) (subscriber : Subscriber) (heard : Heard)
       (answer : Ok heard ≡ hear_answer (link_ear link) before (front_of count (sub_output old.subscriber))
-          (link_sent link))
+      (link_sent link))
       (leaves : HearLeaves (ear_phase (link_ear link)) (link_ear link) (link_ear new) before after
-          (front_of count (sub_output old.subscriber)) (link_sent link) (Ok heard))
+      (front_of count (sub_output old.subscriber)) (link_sent link) (Ok heard))
       (says : HearSays link new (link_heard link before (front_of count (sub_output old.subscriber))) case.now
-          (Ok heard))
+      (Ok heard))
       (passes : Passes old.subscriber (length (front_of count (sub_output old.subscriber))) subscriber) where
     known : After case is connection commits start_view heard_before more
     known = heard_after case is connection commits start_view heard_before more
@@ -470,7 +470,7 @@ module _ (case : Case) (is : IsCase case) (before after : Book) (old : PeerOf) (
     same_heard : heard ≡ heard_told heard_all.heard
     same_heard = ok_of heard (heard_told heard_all.heard)
         (answer ∙ ap (λ phase. answer_in phase (link_heard link before piece)) linked.hears.phase_is
-            ∙ ap answer_of heard_is ∙ not_over heard_all known.hears.goes_on)
+        ∙ ap answer_of heard_is ∙ not_over heard_all known.hears.goes_on)
 
     says_all : HearSays link new heard_all case.now (Ok heard)
     says_all = subst (λ h. HearSays link new h case.now (Ok heard)) heard_is says
@@ -482,13 +482,13 @@ module _ (case : Case) (is : IsCase case) (before after : Book) (old : PeerOf) (
             → SpeaksOn case new connection session
         by_start (Some start) e then f =
             went_on case is (book_slots before) link new old.subscriber connection linked heard_all heard says_all
-                goes_on session known.started known.moves_are start e (start_kept start e)
+            goes_on session known.started known.moves_are start e (start_kept start e)
         by_start None e (Some start) f =
             begins case is (book_slots before) link new old.subscriber connection linked heard_all heard says_all
-                goes_on session known.started known.moves_are start e f
+            goes_on session known.started known.moves_are start e f
         by_start None e None f =
             still_waits case is (book_slots before) link new old.subscriber connection linked heard_all heard says_all
-                goes_on session known.started known.moves_are e f (silent_still e f)
+            goes_on session known.started known.moves_are e f (silent_still e f)
 
     ear_leaves : HearsPiece (link_ear link) (link_ear new) before after piece (link_sent link) (Ok heard)
     ear_leaves = subst (λ phase. HearLeaves phase (link_ear link) (link_ear new) before after piece (link_sent link)
@@ -510,7 +510,7 @@ module _ (case : Case) (is : IsCase case) (before after : Book) (old : PeerOf) (
         ∙ ap (λ its. rest_of (cut 65536 (rest_of (cut 65536 (take connection.heard ups)) ++ its))) piece_is
         ∙ ap rest_of cuts.cuts
         ∙ rest_after (map (up_frame case.checked case.number) (newly (source_of case) (peer_of case) connection more))
-            (Rest cuts.rest) ∙ sym cuts.held
+        (Rest cuts.rest) ∙ sym cuts.held
 
     pub hears_on : HearsOn case count (length (front_of count (sub_output old.subscriber))) before after
         (record { link = Some new; subscriber = subscriber })
@@ -528,8 +528,8 @@ module _ (case : Case) (is : IsCase case) (before after : Book) (old : PeerOf) (
               machine = subst (λ bytes. AlikeBut (sub_machine subscriber)
                   (hear_cut (cut limit bytes) (opened (peer_of case).machine)).machine) (sym speaks_on.same)
                   (subst (λ machine. AlikeBut machine
-                      (hear_cut (cut limit (take connection.delivered (down_of (source_of case) connection)))
-                      (opened (peer_of case).machine)).machine)
+                  (hear_cut (cut limit (take connection.delivered (down_of (source_of case) connection)))
+                  (opened (peer_of case).machine)).machine)
                   (sym passes.machine) linked.machine);
               checked_is = says_all.checked ∙ linked.checked_is;
               hears = record {
@@ -546,8 +546,14 @@ module _ (case : Case) (is : IsCase case) (before after : Book) (old : PeerOf) (
             };
           });
       own = record {
-        book = record { checked = left.book.checked; limit = left.book.limit; rows = left.book.rows; log =
-            left.book.log; slots_are = refl };
+        book = record {
+          checked = left.book.checked;
+          limit = left.book.limit;
+          rows = left.book.rows;
+          log =
+              left.book.log;
+          slots_are = refl;
+        };
         others = λ other apart. ap (λ slots. slice_get slots other) left.book.slots_are ∙ known.others other apart;
       };
     }

@@ -74,16 +74,16 @@ query_fits text fits = by_test (nat_lt 65531 (length text))
 pub asked_bytes : (case : Case) → IsCase case → (before : Subscriber) → IsNamed case.checked case.number before
     → StaysAlike (sub_machine before) (peer_of case).machine
     → start_query (sub_slot before) (sub_publications before) (sub_machine before).position
-        ≡ Ok (spelled_up case.checked case.number (w.Asks (peer_of case).position))
+    ≡ Ok (spelled_up case.checked case.number (w.Asks (peer_of case).position))
 asked_bytes case is before named stays =
     let at : (sub_machine before).position ≡ (peer_of case).position = stays.position
-        ∙ (case_good case is).follows.position_is in
+    ∙ (case_good case is).follows.position_is in
     ap (λ slot. start_query slot (sub_publications before) (sub_machine before).position) named.slot
     ∙ ap (λ names. start_query (w.subscription_name (slice_get case.checked.catalog.subscriptions case.number)) names
-        (sub_machine before).position) named.publications
+    (sub_machine before).position) named.publications
     ∙ ap (λ position. query_of (start_of case.checked.catalog case.number position)) at
     ∙ query_fits (start_of case.checked.catalog case.number (peer_of case).position)
-        ((case_asks case is).fits (peer_of case).position (opened_small case is))
+    ((case_asks case is).fits (peer_of case).position (opened_small case is))
 
 asks_ok : (answer : Result (List ℕ) SubFault) (bytes old new : List ℕ) → answer ≡ Ok bytes → Asks answer old new
     → new ≡ old ++ bytes
@@ -105,13 +105,13 @@ opens case is slots old link after stands none new opened_is =
         held = opened_is.held ∙ sym (ap rest_of (cut_nothing limit));
         machine = subst (λ all. AlikeBut (sub_machine after) (hear_cut all (opened (peer_of case).machine)).machine)
             (sym (cut_nothing limit)) (record {
-          phase = opened_is.machine.phase;
-          position = opened_is.machine.position ∙ apart.machine.position;
-          kept = λ oid. opened_is.machine.kept oid ∙ apart.machine.kept oid;
-          known = λ oid. opened_is.machine.known oid;
-          rows = λ oid key. opened_is.machine.rows oid key ∙ apart.machine.rows oid key;
-          work = λ oid key. opened_is.machine.work oid key ∙ apart.machine.rows oid key;
-        });
+              phase = opened_is.machine.phase;
+              position = opened_is.machine.position ∙ apart.machine.position;
+              kept = λ oid. opened_is.machine.kept oid ∙ apart.machine.kept oid;
+              known = λ oid. opened_is.machine.known oid;
+              rows = λ oid key. opened_is.machine.rows oid key ∙ apart.machine.rows oid key;
+              work = λ oid key. opened_is.machine.work oid key ∙ apart.machine.rows oid key;
+            });
         checked_is = new.checked_is;
         hears = record {
           checked_is = new.heard_by;
@@ -131,14 +131,14 @@ opens case is slots old link after stands none new opened_is =
 -- what a status adds to what is sent
 ups_more : (case : Case) (c : Connection) (status : Status)
     → up_bytes (source_of case) (peer_of case) (record c { reports = c.reports ++ status ∷ [] })
-        ≡ up_bytes (source_of case) (peer_of case) c ++ spelled_up case.checked case.number (w.Says status)
+    ≡ up_bytes (source_of case) (peer_of case) c ++ spelled_up case.checked case.number (w.Says status)
 ups_more case c status =
     ap (λ ups. flat_map (spelled_up case.checked case.number) (w.Asks (peer_of case).position ∷ ups))
-        (map-append w.Says c.reports (status ∷ []))
+    (map-append w.Says c.reports (status ∷ []))
     ∙ flat_map-append (spelled_up case.checked case.number) (w.Asks (peer_of case).position ∷ map w.Says c.reports)
-        (w.Says status ∷ [])
+    (w.Says status ∷ [])
     ∙ ap (λ more. up_bytes (source_of case) (peer_of case) c ++ more)
-        (append-nil (spelled_up case.checked case.number (w.Says status)))
+    (append-nil (spelled_up case.checked case.number (w.Says status)))
 
 pub reports : ReportsStep
 reports case is slots old link after want stands some reported_is =
@@ -147,55 +147,58 @@ reports case is slots old link after want stands some reported_is =
     let c = here.c in
     let at : (sub_machine old.subscriber).position ≡ position_now (source_of case) (peer_of case) =
     linked.machine.position
-        ∙ ap (λ connection. (w.machine_in (source_of case) (peer_of case) connection).position) (sym here.some)
-        ∙ (case_follows case is).position_is in
+    ∙ ap (λ connection. (w.machine_in (source_of case) (peer_of case) connection).position) (sym here.some)
+    ∙ (case_follows case is).position_is in
     let status : Status = status_at (position_now (source_of case) (peer_of case)) case.now want in
     let more = ups_more case c status in
     steps_to case (w.Report want) Reported slots (record { link = old.link; subscriber = after }) (Some c) here.some
-        refl (record {
+    refl (record {
       named = still_named case old.subscriber after stands.named reported_is.names;
       at = subst (λ its. IsAt (source_of case) slots its after
           (with_connection (peer_of case) (record c { reports = c.reports ++ status ∷ [] }))
           (Some (record c { reports = c.reports ++ status ∷ [] }))) (sym some) (record {
-        heard = subst (λ bytes. c.heard ≤ length bytes) (sym more)
-            (omega (arith, linked.heard,
-                length-append (up_bytes (source_of case) (peer_of case) c)
-                (spelled_up case.checked case.number (w.Says status))));
-        delivered = linked.delivered;
-        sends = reported_is.output
-            ∙ ap (λ position. sub_output old.subscriber
+            heard = subst (λ bytes. c.heard ≤ length bytes) (sym more)
+                (omega (
+                  arith,
+                  linked.heard,
+                  length-append (up_bytes (source_of case) (peer_of case) c)
+                      (spelled_up case.checked case.number (w.Says status)),
+                ));
+            delivered = linked.delivered;
+            sends = reported_is.output
+                ∙ ap (λ position. sub_output old.subscriber
                 ++ spelled_up case.checked case.number (w.Says (status_at position case.now want))) at
-            ∙ ap (λ bytes. bytes ++ spelled_up case.checked case.number (w.Says status)) linked.sends
-            ∙ sym (drop-append-le c.heard (up_bytes (source_of case) (peer_of case) c)
+                ∙ ap (λ bytes. bytes ++ spelled_up case.checked case.number (w.Says status)) linked.sends
+                ∙ sym (drop-append-le c.heard (up_bytes (source_of case) (peer_of case) c)
                 (spelled_up case.checked case.number (w.Says status)) linked.heard)
-            ∙ ap (drop c.heard) (sym more);
-        held = reported_is.held ∙ linked.held;
-        machine = record {
-          phase = reported_is.machine.phase ∙ linked.machine.phase;
-          position = reported_is.machine.position ∙ linked.machine.position;
-          kept = λ oid. reported_is.machine.kept oid ∙ linked.machine.kept oid;
-          known = λ oid. reported_is.machine.known oid ∙ linked.machine.known oid;
-          rows = λ oid key. reported_is.machine.rows oid key ∙ linked.machine.rows oid key;
-          work = λ oid key. reported_is.machine.work oid key ∙ linked.machine.work oid key;
-        };
-        checked_is = linked.checked_is;
-        hears = record {
-          checked_is = linked.hears.checked_is;
-          phase_is = linked.hears.phase_is;
-          started = linked.hears.started;
-          asked = linked.hears.asked;
-          statuses = All-append IsOneStatus c.reports (status ∷ []) linked.hears.statuses
-              (All-cons IsOneStatus status [] (record { written = refl; applied = refl; timed = is.timed })
+                ∙ ap (drop c.heard) (sym more);
+            held = reported_is.held ∙ linked.held;
+            machine = record {
+              phase = reported_is.machine.phase ∙ linked.machine.phase;
+              position = reported_is.machine.position ∙ linked.machine.position;
+              kept = λ oid. reported_is.machine.kept oid ∙ linked.machine.kept oid;
+              known = λ oid. reported_is.machine.known oid ∙ linked.machine.known oid;
+              rows = λ oid key. reported_is.machine.rows oid key ∙ linked.machine.rows oid key;
+              work = λ oid key. reported_is.machine.work oid key ∙ linked.machine.work oid key;
+            };
+            checked_is = linked.checked_is;
+            hears = record {
+              checked_is = linked.hears.checked_is;
+              phase_is = linked.hears.phase_is;
+              started = linked.hears.started;
+              asked = linked.hears.asked;
+              statuses = All-append IsOneStatus c.reports (status ∷ []) linked.hears.statuses
+                  (All-cons IsOneStatus status [] (record { written = refl; applied = refl; timed = is.timed })
                   (All-nil IsOneStatus));
-          held = linked.hears.held
-              ∙ ap (λ bytes. rest_of (cut 65536 bytes))
-              (sym (ap (take c.heard) more
-              ∙ take-append-le c.heard (up_bytes (source_of case) (peer_of case) c)
-              (spelled_up case.checked case.number (w.Says status)) linked.heard));
-        };
-        speaks = linked.speaks;
-        slot = linked.slot;
-      });
+              held = linked.hears.held
+                  ∙ ap (λ bytes. rest_of (cut 65536 bytes))
+                  (sym (ap (take c.heard) more
+                  ∙ take-append-le c.heard (up_bytes (source_of case) (peer_of case) c)
+                  (spelled_up case.checked case.number (w.Says status)) linked.heard));
+            };
+            speaks = linked.speaks;
+            slot = linked.slot;
+          });
     })
 
 -- ---- what is said
@@ -234,13 +237,13 @@ moves_linked : (case : Case) (slots : List Slot) (old new : Link) (subscriber : 
     → IsSameEar (link_ear old) (link_ear new) → link_checked new ≡ case.checked
     → Speaks (source_of case) new (c.moves ++ move ∷ []) c.delivered (Some start)
     → IsLinked (source_of case) slots new subscriber (moves_on (peer_of case) c move)
-        (record c { moves = c.moves ++ move ∷ [] })
+    (record c { moves = c.moves ++ move ∷ [] })
 moves_linked case slots old new subscriber c move start at linked same checked_is speaks =
     let grown = stream_grows case c.start c.moves move in
     let first : take c.delivered (down_bytes (source_of case) c.start (c.moves ++ move ∷ []))
-        ≡ take c.delivered (down_of (source_of case) c) =
+    ≡ take c.delivered (down_of (source_of case) c) =
     ap (take c.delivered) grown.is
-        ∙ take-append-le c.delivered (down_of (source_of case) c) grown.more linked.delivered in
+    ∙ take-append-le c.delivered (down_of (source_of case) c) grown.more linked.delivered in
     record {
       heard = linked.heard;
       delivered = subst (λ bytes. c.delivered ≤ length bytes) (sym grown.is)
@@ -272,7 +275,7 @@ run_more case start moves delivered move within =
     let grown = stream_grows case (Some start) moves move in
     ap (λ passed. record (run_of (source_of case) start (moves ++ move ∷ []) delivered) { passed = passed })
     (sym (ap (take delivered) grown.is
-        ∙ take-append-le delivered (down_bytes (source_of case) (Some start) moves) grown.more within))
+    ∙ take-append-le delivered (down_bytes (source_of case) (Some start) moves) grown.more within))
 
 -- where a connection with a start is
 pub record Streaming (case : Case) (link : Link) (c : Connection) (start : ℕ) : Type 0 where
@@ -305,8 +308,8 @@ moved_peer case slots old link new c move start named at linked same checked_is 
   named = named;
   at = moves_linked case slots link new old.subscriber c move start at linked same checked_is
       (subst (λ run. IsStreaming new run (place_of (source_of case) start (c.moves ++ move ∷ [])))
-          (run_more case start c.moves c.delivered move
-          (streaming case slots link old.subscriber c start at linked).within) streams);
+      (run_more case start c.moves c.delivered move
+      (streaming case slots link old.subscriber c start at linked).within) streams);
 }
 
 still_linked : (case : Case) (slots : List Slot) (link new : Link) (subscriber : Subscriber) (c : Connection)
@@ -337,11 +340,11 @@ keeps_by case slots old link new c want None named some at linked says said answ
     let silent : IsSilent link c.moves = subst (Speaks (source_of case) link c.moves c.delivered) at linked.speaks in
     let not : said ≡ false = ok_of said false (answer ∙ ap keep_answer silent.stage_is) in
     let nothing : kept_bytes (link_stage link) case.now want ≡ [] =
-        ap (λ stage. kept_bytes stage case.now want) silent.stage_is in
+    ap (λ stage. kept_bytes stage case.now want) silent.stage_is in
     steps_to case (w.Keep want) (kept_or_not said) slots (with_link old new) (Some c) some
     (ap kept_or_not not ∙ sym (ap (λ its. (keep_step case.now want (peer_of case) c its).0) at))
     (subst (λ its. PeerIs (source_of case) slots (with_link old new) (keep_step case.now want (peer_of case) c its).1)
-        (sym at) (record {
+    (sym at) (record {
       named = named;
       at = subst (IsAt (source_of case) slots (Some new) old.subscriber (peer_of case)) (sym some)
           (still_linked case slots link new old.subscriber c linked says.ear (says.voice.checked ∙ linked.checked_is)
@@ -358,14 +361,14 @@ keeps_by case slots old link new c want (Some start) named some at linked says s
     steps_to case (w.Keep want) (kept_or_not said) slots (with_link old new) (Some c) some
     (ap kept_or_not does ∙ sym (ap (λ its. (keep_step case.now want (peer_of case) c its).0) at))
     (subst (λ its. PeerIs (source_of case) slots (with_link old new) (keep_step case.now want (peer_of case) c its).1)
-        (sym at)
+    (sym at)
     (moved_peer case slots old link new c (s.Keep case.now want) start named at linked says.ear
-        (says.voice.checked ∙ linked.checked_is)
+    (says.voice.checked ∙ linked.checked_is)
     (subst (IsStreaming new _)
-        (sym (moved_append (telling_of case.checked) (log_in (source_of case))
-        (place_at case.number (length case.checked.catalog.tables) start) c.moves (s.Keep case.now want)))
+    (sym (moved_append (telling_of case.checked) (log_in (source_of case))
+    (place_at case.number (length case.checked.catalog.tables) start) c.moves (s.Keep case.now want)))
     (keeps_on link new (run_of (source_of case) start c.moves c.delivered) (place_of (source_of case) start c.moves)
-        case.now want streams.streams says))))
+    case.now want streams.streams says))))
 
 pub keeps : KeepsStep
 keeps case slots old link new want stands some says said answer =
@@ -384,7 +387,7 @@ takes_by : (case : Case) (slots : List Slot) (old : PeerOf) (link new : Link) (c
     → (peer_of case).connection ≡ Some c → c.start ≡ Some start
     → IsLinked (source_of case) slots link old.subscriber (peer_of case) c
     → LinkSays link new (next_bytes (link_checked link) (link_stage link) (log_in (source_of case)) case.now)
-        (next_stage (link_checked link) (link_stage link) (log_in (source_of case)) case.now)
+    (next_stage (link_checked link) (link_stage link) (log_in (source_of case)) case.now)
     → (found : Taken) → Ok found ≡ next_answer (link_checked link) (link_stage link) (log_in (source_of case))
     → (next : Option CommitOf)
     → slice_get (log_in (source_of case)) (place_of (source_of case) start c.moves).done ≡ next
@@ -394,25 +397,25 @@ takes_by case slots old link new c start named some at linked says found answer 
     let place = place_of (source_of case) start c.moves in
     let streams = streaming case slots link old.subscriber c start at linked in
     let goes = takes_on link new (run_of (source_of case) start c.moves c.delivered) place case.now streams.streams
-        says in
+    says in
     let told : Ok found ≡ found_answer case.checked place next =
     answer ∙ ap (λ checked. next_answer checked (link_stage link) log) linked.checked_is
-        ∙ ap (λ stage. next_answer case.checked stage log) streams.streams.stage_is
+    ∙ ap (λ stage. next_answer case.checked stage log) streams.streams.stage_is
     ∙ ap (found_answer case.checked place) is in
     steps_to case w.Take (answer_of found) slots (with_link old new) (Some c) some
     (answered next told ∙ sym
-        (ap (λ its. (take_step (source_of case) case.now (peer_of case) c its).0) at
-        ∙ ap (λ its. (w.takes case.checked case.now (peer_of case) c place its).0) is))
+    (ap (λ its. (take_step (source_of case) case.now (peer_of case) c its).0) at
+    ∙ ap (λ its. (w.takes case.checked case.now (peer_of case) c place its).0) is))
     (subst (λ its. PeerIs (source_of case) slots (with_link old new)
-        (take_step (source_of case) case.now (peer_of case) c its).1) (sym at)
+    (take_step (source_of case) case.now (peer_of case) c its).1) (sym at)
     (subst (λ its. PeerIs (source_of case) slots (with_link old new)
-        (w.takes case.checked case.now (peer_of case) c place its).1) (sym is)
+    (w.takes case.checked case.now (peer_of case) c place its).1) (sym is)
     (left next is goes)))
   where
     answered : (its : Option CommitOf)
         → Ok found ≡ found_answer case.checked (place_of (source_of case) start c.moves) its
         → answer_of found ≡ (w.takes case.checked case.now (peer_of case) c (place_of (source_of case) start c.moves)
-            its).0
+        its).0
     answered None e = ap answer_of (ok_of found taken.Idle e)
     answered (Some commit) e =
         let place = place_of (source_of case) start c.moves in
@@ -422,41 +425,41 @@ takes_by case slots old link new c start named some at linked says found answer 
     left : (its : Option CommitOf)
         → slice_get (log_in (source_of case)) (place_of (source_of case) start c.moves).done ≡ its
         → IsStreaming new (with_moves (run_of (source_of case) start c.moves c.delivered)
-            (links.took (slice_get (log_in (source_of case)) (place_of (source_of case) start c.moves).done)
-            case.now))
+        (links.took (slice_get (log_in (source_of case)) (place_of (source_of case) start c.moves).done)
+        case.now))
         (moved (telling_of case.checked) (log_in (source_of case)) (place_of (source_of case) start c.moves)
-            (s.Take case.now))
+        (s.Take case.now))
         → PeerIs (source_of case) slots (with_link old new)
-            (w.takes case.checked case.now (peer_of case) c (place_of (source_of case) start c.moves) its).1
+        (w.takes case.checked case.now (peer_of case) c (place_of (source_of case) start c.moves) its).1
     left None e goes = record {
       named = named;
       at = subst (IsAt (source_of case) slots (Some new) old.subscriber (peer_of case)) (sym some)
           (still_linked case slots link new old.subscriber c linked says.ear (says.voice.checked ∙ linked.checked_is)
           (subst (Speaks (source_of case) new c.moves c.delivered) (sym at)
           (subst (λ moves. IsStreaming new
-              (record (run_of (source_of case) start c.moves c.delivered) { moves = moves })
-              (place_of (source_of case) start c.moves)) (append-nil c.moves)
+          (record (run_of (source_of case) start c.moves c.delivered) { moves = moves })
+          (place_of (source_of case) start c.moves)) (append-nil c.moves)
           (subst (λ found. IsStreaming new
-              (with_moves (run_of (source_of case) start c.moves c.delivered) (links.took found case.now))
-              (taken_place (telling_of case.checked) (place_of (source_of case) start c.moves) found)) e goes))));
+          (with_moves (run_of (source_of case) start c.moves c.delivered) (links.took found case.now))
+          (taken_place (telling_of case.checked) (place_of (source_of case) start c.moves) found)) e goes))));
     }
     left (Some commit) e goes =
         moved_peer case slots old link new c (s.Take case.now) start named at linked says.ear
-            (says.voice.checked ∙ linked.checked_is)
+        (says.voice.checked ∙ linked.checked_is)
         (subst (IsStreaming new _)
-            (sym (moved_append (telling_of case.checked) (log_in (source_of case))
-            (place_at case.number (length case.checked.catalog.tables) start) c.moves (s.Take case.now)))
+        (sym (moved_append (telling_of case.checked) (log_in (source_of case))
+        (place_at case.number (length case.checked.catalog.tables) start) c.moves (s.Take case.now)))
         (subst (λ found. IsStreaming new
-            (with_moves (run_of (source_of case) start c.moves c.delivered) (links.took found case.now))
+        (with_moves (run_of (source_of case) start c.moves c.delivered) (links.took found case.now))
         (moved (telling_of case.checked) (log_in (source_of case)) (place_of (source_of case) start c.moves)
-            (s.Take case.now))) e goes))
+        (s.Take case.now))) e goes))
 
 takes_before : (case : Case) (slots : List Slot) (old : PeerOf) (link new : Link) (c : Connection)
     → IsNamed case.checked case.number old.subscriber
     → (peer_of case).connection ≡ Some c → c.start ≡ None
     → IsLinked (source_of case) slots link old.subscriber (peer_of case) c
     → LinkSays link new (next_bytes (link_checked link) (link_stage link) (log_in (source_of case)) case.now)
-        (next_stage (link_checked link) (link_stage link) (log_in (source_of case)) case.now)
+    (next_stage (link_checked link) (link_stage link) (log_in (source_of case)) case.now)
     → (found : Taken) → Ok found ≡ next_answer (link_checked link) (link_stage link) (log_in (source_of case))
     → StepsTo case w.Take (answer_of found) slots (with_link old new)
 takes_before case slots old link new c named some at linked says found answer =
@@ -464,10 +467,10 @@ takes_before case slots old link new c named some at linked says found answer =
     let silent : IsSilent link c.moves = subst (Speaks (source_of case) link c.moves c.delivered) at linked.speaks in
     steps_to case w.Take (answer_of found) slots (with_link old new) (Some c) some
     (ap answer_of (ok_of found taken.NotStarted
-        (answer ∙ ap (λ stage. next_answer (link_checked link) stage log) silent.stage_is))
-        ∙ sym (ap (λ its. (take_step (source_of case) case.now (peer_of case) c its).0) at))
+    (answer ∙ ap (λ stage. next_answer (link_checked link) stage log) silent.stage_is))
+    ∙ sym (ap (λ its. (take_step (source_of case) case.now (peer_of case) c its).0) at))
     (subst (λ its. PeerIs (source_of case) slots (with_link old new)
-        (take_step (source_of case) case.now (peer_of case) c its).1) (sym at) (record {
+    (take_step (source_of case) case.now (peer_of case) c its).1) (sym at) (record {
       named = named;
       at = subst (IsAt (source_of case) slots (Some new) old.subscriber (peer_of case)) (sym some)
           (still_linked case slots link new old.subscriber c linked says.ear (says.voice.checked ∙ linked.checked_is)

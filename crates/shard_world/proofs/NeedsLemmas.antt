@@ -45,7 +45,7 @@ module _ (case : Case) (slots : List Slot) (old : PeerOf) (link : Link) where
       → AsksMemory (stepped case (Keep want)).0
   keep_needs want stands some started =
       let here = is_open case slots old link stands some in
-          needs_by case (Keep want) (Some here.c) here.some (by_start here.c here.c.start here.linked.speaks)
+      needs_by case (Keep want) (Some here.c) here.some (by_start here.c here.c.start here.linked.speaks)
     where
       by_start : (c : Connection) (start : Option ℕ) → Speaks (source_of case) link c.moves c.delivered start
           → AsksMemory (keep_step case.now want (peer_of case) c start).0
@@ -56,7 +56,7 @@ module _ (case : Case) (slots : List Slot) (old : PeerOf) (link : Link) where
       → HasNext (link_stage link) (log_in (source_of case)) → AsksMemory (stepped case Take).0
   take_needs stands some next =
       let here = is_open case slots old link stands some in
-          needs_by case Take (Some here.c) here.some (by_start here.c here.c.start here.linked.speaks)
+      needs_by case Take (Some here.c) here.some (by_start here.c here.c.start here.linked.speaks)
     where
       took_asks : (number : ℕ) (messages : List Msg) → AsksMemory (took number messages)
       took_asks number [] = tt

@@ -31,11 +31,11 @@ module _ {X : Type 0} (frame : X → Frame) where
   firsts_are_whole [] others = none_whole others
   firsts_are_whole (x ∷ first) others =
       let long : length (bytes_by frame (x ∷ first)) ≡ length (framed (frame x)) + length (bytes_by frame first) =
-          length-append (framed (frame x)) (bytes_by frame first) in
+      length-append (framed (frame x)) (bytes_by frame first) in
       let rest : length (bytes_by frame (x ∷ first)) - length (framed (frame x)) ≡ length (bytes_by frame first) =
-          omega (arith, long) in
+      omega (arith, long) in
       ap (λ b. if_whole b x
-          (whole_by frame (length (bytes_by frame (x ∷ first)) - length (framed (frame x))) (first ++ others)))
+      (whole_by frame (length (bytes_by frame (x ∷ first)) - length (framed (frame x))) (first ++ others)))
       (le-leb (length (framed (frame x))) (length (bytes_by frame (x ∷ first))) (omega (arith, long)))
       ∙ ap (λ n. x ∷ whole_by frame n (first ++ others)) rest ∙ ap (λ xs. x ∷ xs) (firsts_are_whole first others)
 
@@ -47,12 +47,16 @@ module _ {X : Type 0} (frame : X → Frame) where
       let fits : length (framed (frame x)) ≤ count = leb-true (length (framed (frame x))) count whole in
       let later = whole_fits (count - length (framed (frame x))) xs in
       subst (λ b. length (bytes_by frame (if_whole b x (whole_by frame (count - length (framed (frame x))) xs))) ≤
-          count) (sym whole)
-      (omega (arith, fits, later,
-          length-append (framed (frame x)) (bytes_by frame (whole_by frame (count - length (framed (frame x))) xs)))))
+      count) (sym whole)
+      (omega (
+        arith,
+        fits,
+        later,
+        length-append (framed (frame x)) (bytes_by frame (whole_by frame (count - length (framed (frame x))) xs)),
+      )))
       (λ part. subst (λ b. length
-          (bytes_by frame (if_whole b x (whole_by frame (count - length (framed (frame x))) xs))) ≤ count) (sym part)
-          (omega arith))
+      (bytes_by frame (if_whole b x (whole_by frame (count - length (framed (frame x))) xs))) ≤ count) (sym part)
+      (omega arith))
 
   first_is : (x y : X) (xs ys : List X) → x ∷ xs ≡ y ∷ ys → x ≡ y
   first_is x y xs ys e = cc
@@ -69,20 +73,24 @@ module _ {X : Type 0} (frame : X → Frame) where
       (λ whole.
       let fits : length (framed (frame y)) ≤ count = leb-true (length (framed (frame y))) count whole in
       let here : whole_by frame count (y ∷ ys) ≡ y ∷ whole_by frame (count - length (framed (frame y))) ys =
-          ap (λ b. if_whole b y (whole_by frame (count - length (framed (frame y))) ys)) whole in
+      ap (λ b. if_whole b y (whole_by frame (count - length (framed (frame y))) ys)) whole in
       let later = next_is_more (count - length (framed (frame y))) x ys others
-          (ap (drop 1) (sym (ap (λ xs. xs ++ x ∷ others) here) ∙ same)) in
+      (ap (drop 1) (sym (ap (λ xs. xs ++ x ∷ others) here) ∙ same)) in
       subst (λ xs. count < length (bytes_by frame xs) + length (framed (frame x))) (sym here)
-      (omega (arith, fits, later,
-          length-append (framed (frame y)) (bytes_by frame (whole_by frame (count - length (framed (frame y))) ys)))))
+      (omega (
+        arith,
+        fits,
+        later,
+        length-append (framed (frame y)) (bytes_by frame (whole_by frame (count - length (framed (frame y))) ys)),
+      )))
       (λ part.
       let none : whole_by frame count (y ∷ ys) ≡ [] =
-          ap (λ b. if_whole b y (whole_by frame (count - length (framed (frame y))) ys)) part in
+      ap (λ b. if_whole b y (whole_by frame (count - length (framed (frame y))) ys)) part in
       let is_y : x ≡ y = first_is x y others ys (sym (ap (λ xs. xs ++ x ∷ others) none) ∙ same) in
       subst (λ xs. count < length (bytes_by frame xs) + length (framed (frame x))) (sym none)
       (let less : count < length (framed (frame x)) =
-          subst (λ z. count < length (framed (frame z))) (sym is_y) (leb-false (length (framed (frame y))) count part)
-          in omega (arith, less)))
+      subst (λ z. count < length (framed (frame z))) (sym is_y) (leb-false (length (framed (frame y))) count part)
+      in omega (arith, less)))
 
   -- ---- the first frames of a piece
 
@@ -99,7 +107,7 @@ module _ {X : Type 0} (frame : X → Frame) where
   whole_begin count [] = record { others = []; is = refl }
   whole_begin count (x ∷ xs) =
       begin_with (nat_le (length (framed (frame x))) count) x (whole_by frame (count - length (framed (frame x))) xs)
-          xs (whole_begin (count - length (framed (frame x))) xs)
+      xs (whole_begin (count - length (framed (frame x))) xs)
 
   -- what is whole in so many bytes and more, and wasn't before
   abbrev pub new_in : List X → ℕ → ℕ → List X
@@ -125,8 +133,8 @@ module _ {X : Type 0} (frame : X → Frame) where
         let others = (whole_begin (done + more) all).others in
         append_assoc few part (drop count new ++ others)
         ∙ ap (λ xs. few ++ xs)
-            (sym (append_assoc part (drop count new) others) ∙ ap (λ xs. (xs ++ drop count new) ++ others) (sym e)
-            ∙ ap (λ xs. xs ++ others) (take-append-drop count new))
+        (sym (append_assoc part (drop count new) others) ∙ ap (λ xs. (xs ++ drop count new) ++ others) (sym e)
+        ∙ ap (λ xs. xs ++ others) (take-append-drop count new))
         ∙ sym (append_assoc few new others) ∙ ap (λ xs. xs ++ others) (whole_more_by frame done more all)
         ∙ (whole_begin (done + more) all).is
 
@@ -139,9 +147,13 @@ module _ {X : Type 0} (frame : X → Frame) where
     part_fits part e =
         let many : (few ++ part) ++ drop count new ≡ whole_by frame (done + more) all =
         append_assoc few part (drop count new) ∙ ap (λ xs. few ++ (xs ++ drop count new)) (sym e)
-            ∙ ap (λ xs. few ++ xs) (take-append-drop count new) ∙ whole_more_by frame done more all in
-        omega (arith, whole_fits (done + more) all, ap (λ xs. length (bytes_by frame xs)) many,
-            bytes_more (few ++ part) (drop count new))
+        ∙ ap (λ xs. few ++ xs) (take-append-drop count new) ∙ whole_more_by frame done more all in
+        omega (
+          arith,
+          whole_fits (done + more) all,
+          ap (λ xs. length (bytes_by frame xs)) many,
+          bytes_more (few ++ part) (drop count new),
+        )
 
     part_by : (part : List X) → take count new ≡ part → IsPart all done more count
     part_by [] e = record {
@@ -158,13 +170,13 @@ module _ {X : Type 0} (frame : X → Frame) where
         let passes : done < length (bytes_by frame few) + length (framed (frame x)) =
         next_is_more done x all (xs ++ (drop count new ++ (whole_begin (done + more) all).others))
         (sym (append_assoc few (x ∷ xs) (drop count new ++ (whole_begin (done + more) all).others))
-            ∙ split (x ∷ xs) e) in
+        ∙ split (x ∷ xs) e) in
         let long : done < end =
-            omega (arith, passes, bytes_more few (x ∷ xs), length-append (framed (frame x)) (bytes_by frame xs)) in
+        omega (arith, passes, bytes_more few (x ∷ xs), length-append (framed (frame x)) (bytes_by frame xs)) in
         let at_end : done + (end - done) ≡ end = omega (arith, long) in
         let whole : whole_by frame end all ≡ few ++ x ∷ xs =
         ap (whole_by frame end) (sym (split (x ∷ xs) e))
-            ∙ firsts_are_whole (few ++ x ∷ xs) (drop count new ++ (whole_begin (done + more) all).others) in
+        ∙ firsts_are_whole (few ++ x ∷ xs) (drop count new ++ (whole_begin (done + more) all).others) in
         record {
           some = end - done;
           within = omega (arith, fits);

@@ -44,11 +44,11 @@ one_answer source now event (answer ∷ other ∷ more) peer last runs goes = ab
 
 -- the first of several
 record FirstRuns (source : Source) (now : ℕ) (event : PeerEvent) (events : List PeerEvent) (peer last : Peer) : Type 0
-    where
-  goes : GoesOn (peer_step source now event peer peer.connection).0
-  others : List Answer
-  runs : PeerRuns source now events others (next_peer source now event peer) last
-  all : All GoesOn others
+  where
+    goes : GoesOn (peer_step source now event peer peer.connection).0
+    others : List Answer
+    runs : PeerRuns source now events others (next_peer source now event peer) last
+    all : All GoesOn others
 
 first_answer : (source : Source) (now : ℕ) (event : PeerEvent) (events : List PeerEvent) (answers : List Answer)
     (peer last : Peer)
@@ -84,12 +84,15 @@ module _ (source : Source) (published : IsPublished source.checked source.transa
       let total : ℕ = length (up_bytes source peer c) in
       let start = hears_start source now peer c (as_many all_bytes total c.heard) asked
       (reaches_first (asking_length source peer.position) total c.heard
-      (omega (arith, length-append (spelled_up source.checked source.number (Asks peer.position))
-          (flat_map (spelled_up source.checked source.number) (map Says c.reports)))) goes) in
+      (omega (
+        arith,
+        length-append (spelled_up source.checked source.number (Asks peer.position))
+            (flat_map (spelled_up source.checked source.number) (map Says c.reports)),
+      )) goes) in
       let heard : next (Hear all_bytes) peer ≡ hears source now peer c (as_many all_bytes total c.heard) =
       as_step source published sayable now timed (Hear all_bytes) peer c is in
       let count : length (log_in source) ≡ length source.transactions =
-          entries_length (setting_in source.checked) no_rows 1 source.transactions in
+      entries_length (setting_in source.checked) no_rows 1 source.transactions in
       record {
         start = start.at;
         left = subst (Left start.at (length source.transactions)) (sym heard) (record {
@@ -124,7 +127,7 @@ module _ (source : Source) (published : IsPublished source.checked source.transa
   takes_many start count (suc times) (answer ∷ answers) peer last runs left =
       takes_many start count times answers (next Take peer) last runs.1
       (take_next source published sayable now timed start (count + times) peer
-          (record { running = left.running; left = omega (arith, left.left) }))
+      (record { running = left.running; left = omega (arith, left.left) }))
   takes_many start count zero (answer ∷ answers) peer last runs left = absurd runs
   takes_many start count (suc times) [] peer last runs left = absurd runs
 
@@ -145,9 +148,9 @@ module _ (source : Source) (published : IsPublished source.checked source.transa
       let c : Connection = left.running.c in
       let place : Place = place_of source start c.moves in
       let step : peer_step source now Take peer peer.connection
-          ≡ takes source.checked now peer c place (slice_get (log_in source) place.done) =
+      ≡ takes source.checked now peer c place (slice_get (log_in source) place.done) =
       ap (λ connection. peer_step source now Take peer connection) left.running.is
-          ∙ ap (take_step source now peer c) left.running.start_is in
+      ∙ ap (take_step source now peer c) left.running.start_is in
       let none = none_found peer c place (slice_get (log_in source) place.done) (idle ∙ ap (λ both. both.0) step) in
       subst (Left start 0) (sym (ap (λ both. both.1) step ∙ none.1)) (record {
         running = left.running;
@@ -165,7 +168,7 @@ module _ (source : Source) (published : IsPublished source.checked source.transa
   takes_idle start count (suc times) (first ∷ earlier) peer last runs left =
       takes_idle start count times earlier (next Take peer) last runs.1
       (take_next source published sayable now timed start count peer
-          (record { running = left.running; left = omega (arith, left.left) }))
+      (record { running = left.running; left = omega (arith, left.left) }))
 
   pub takes_all : (start times : ℕ) (answers : List Answer) (peer last : Peer)
       → PeerRuns source now (replicate times Take) answers peer last
@@ -189,41 +192,41 @@ module _ (source : Source) (published : IsPublished source.checked source.transa
       → length (log_in source) ≤ (place_of source start c.moves).done + 0
       → as_many all_bytes (length (down_bytes source c.start (c.moves ++ s.Keep now false ∷ []))) c.delivered < 2 ^ 63
       → PastAll (position_now source
-          (next (Hear all_bytes)
-          (next (Report false) (next (Deliver all_bytes) (moves_on peer c (s.Keep now false))))))
+      (next (Hear all_bytes)
+      (next (Report false) (next (Deliver all_bytes) (moves_on peer c (s.Keep now false))))))
   tells_with start peer c is start_is good left few =
       let total : ℕ = length (down_bytes source c.start (c.moves ++ s.Keep now false ∷ [])) in
       let kept_is = keeps_on source published sayable now timed start peer c is start_is in
       let kept : IsGood source (moves_on peer c (s.Keep now false)) =
       subst (IsGood source) kept_is (next_good source published sayable now timed (Keep false) peer good) in
       let delivered = next_good source published sayable now timed (Deliver all_bytes)
-          (moves_on peer c (s.Keep now false)) kept in
+      (moves_on peer c (s.Keep now false)) kept in
       let reported = next_good source published sayable now timed (Report false)
-          (next (Deliver all_bytes) (moves_on peer c (s.Keep now false))) delivered in
+      (next (Deliver all_bytes) (moves_on peer c (s.Keep now false))) delivered in
       subst PastAll (sym (hears_stay source now timed
-          (next (Report false) (next (Deliver all_bytes) (moves_on peer c (s.Keep now false)))) _ _ reported))
+      (next (Report false) (next (Deliver all_bytes) (moves_on peer c (s.Keep now false)))) _ _ reported))
       (subst (λ more. PastAll
-          (position_in source peer
-          (Some (record c { moves = c.moves ++ s.Keep now false ∷ []; delivered = c.delivered + more }))))
+      (position_in source peer
+      (Some (record c { moves = c.moves ++ s.Keep now false ∷ []; delivered = c.delivered + more }))))
       (sym (all_waiting total c.delivered few))
       (reaches_end source published sayable now timed start peer.position c start_is left c.delivered
-          kept.connected.1.delivered))
+      kept.connected.1.delivered))
 
   tells_more : (start : ℕ) (peer last : Peer) (left : Left start 0 peer) (answers : List Answer)
       → PeerRuns source now (Deliver all_bytes ∷ Report false ∷ Hear all_bytes ∷ []) answers
-          (moves_on peer left.running.c (s.Keep now false)) last → All GoesOn answers
+      (moves_on peer left.running.c (s.Keep now false)) last → All GoesOn answers
       → PastAll (position_now source last)
   tells_more start peer last left answers runs goes =
       let kept : Peer = moves_on peer left.running.c (s.Keep now false) in
       let delivers = first_answer source now (Deliver all_bytes) (Report false ∷ Hear all_bytes ∷ []) answers kept
-          last runs goes in
+      last runs goes in
       let reports = first_answer source now (Report false) (Hear all_bytes ∷ []) delivers.others
-          (next (Deliver all_bytes) kept) last delivers.runs delivers.all in
+      (next (Deliver all_bytes) kept) last delivers.runs delivers.all in
       let hears = one_answer source now (Hear all_bytes) reports.others
-          (next (Report false) (next (Deliver all_bytes) kept)) last reports.runs reports.all in
+      (next (Report false) (next (Deliver all_bytes) kept)) last reports.runs reports.all in
       subst (λ peer. PastAll (position_now source peer)) (sym hears.1)
       (tells_with start peer left.running.c left.running.is left.running.start_is left.running.good left.left
-          delivers.goes)
+      delivers.goes)
 
   pub tells_all : (start : ℕ) (peer last : Peer) (answers : List Answer)
       → PeerRuns source now (Keep false ∷ Deliver all_bytes ∷ Report false ∷ Hear all_bytes ∷ []) answers peer last
@@ -231,9 +234,9 @@ module _ (source : Source) (published : IsPublished source.checked source.transa
       → Left start 0 peer → PastAll (position_now source last)
   tells_all start peer last answers runs goes left =
       let keeps = first_answer source now (Keep false) (Deliver all_bytes ∷ Report false ∷ Hear all_bytes ∷ [])
-          answers peer last runs goes in
+      answers peer last runs goes in
       let kept_is = keeps_on source published sayable now timed start peer left.running.c left.running.is
-          left.running.start_is in
+      left.running.start_is in
       tells_more start peer last left keeps.others
       (subst (λ kept. PeerRuns source now (Deliver all_bytes ∷ Report false ∷ Hear all_bytes ∷ []) keeps.others kept
-          last) kept_is keeps.runs) keeps.all
+      last) kept_is keeps.runs) keeps.all

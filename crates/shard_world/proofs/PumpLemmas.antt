@@ -109,9 +109,9 @@ module _ (now subscriber : ℕ) where
     runs = subst (λ asked. RunsOn before after asked ((walks.answers ++ then.answers) ++ answer ∷ []))
         (on_append events then.done)
         (subst (RunsOn before after (on events ++ on then.done))
-            (sym (append_assoc walks.answers then.answers (answer ∷ [])))
+        (sym (append_assoc walks.answers then.answers (answer ∷ [])))
         (runs_then before between after (on events) (on then.done) walks.answers (then.answers ++ answer ∷ [])
-            walks.runs then.runs));
+        walks.runs then.runs));
   }
 
   -- and others would follow
@@ -143,7 +143,7 @@ module _ (now subscriber : ℕ) where
       → WalksAll before after now subscriber (replicate (suc takes) Take)
   takes_more before between after takes answer walks goes steps =
       subst (WalksAll before after now subscriber) (one_more_take takes)
-          (walks_more before between after (replicate takes Take) Take answer walks goes steps)
+      (walks_more before between after (replicate takes Take) Take answer walks goes steps)
 
   pub takes_idle : (before between after : World) (takes : ℕ)
       → WalksAll before between now subscriber (replicate takes Take)
@@ -155,9 +155,9 @@ module _ (now subscriber : ℕ) where
       go_on = one_more walks.answers Idle walks.go_on tt;
       runs = subst (λ events. RunsOn before after (on events) (walks.answers ++ Idle ∷ [])) (one_more_take takes)
           (subst (λ asked. RunsOn before after asked (walks.answers ++ Idle ∷ []))
-              (on_append (replicate takes Take) (Take ∷ []))
+          (on_append (replicate takes Take) (Take ∷ []))
           (runs_more before between after (on (replicate takes Take)) walks.answers now (w.On subscriber Take) Idle
-              walks.runs steps));
+          walks.runs steps));
     };
     enough = inl (record { earlier = walks.answers; are = refl });
   }
@@ -218,8 +218,8 @@ module _ (now subscriber : ℕ) where
       (hears : WalksAll before between now subscriber (Hear all_bytes ∷ []))
       (takes : TakesAll between later now subscriber)
       (walks : WalksAll later after now subscriber last_events)
-          → (pump_goes_through before between later after hears takes walks).answers ≡ hears.answers
-          ++ (takes.walks.answers ++ walks.answers)
+      → (pump_goes_through before between later after hears takes walks).answers ≡ hears.answers
+      ++ (takes.walks.answers ++ walks.answers)
   unfolding walks_then pump_goes_through
   pump_answers before between later after hears takes walks =
       append_assoc hears.answers takes.walks.answers walks.answers

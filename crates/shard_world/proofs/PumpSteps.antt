@@ -80,7 +80,7 @@ module _ (source : Source) (now : ℕ) where
       → HasConnection (next_peer source now event peer)
   next_keeps event peer keeps has =
       subst (λ connection. HasConnection (peer_step source now event peer connection).1) (sym has.is)
-          (open_keeps event peer has.c keeps has)
+      (open_keeps event peer has.c keeps has)
 
   -- no answer of its own says that there is none
   took_on : (number : ℕ) (messages : List Msg) → EndsWalk (took number messages) → ⊥
@@ -136,8 +136,11 @@ module _ (checked : CheckedOf) (most subscriber now : ℕ) (there : subscriber <
       → Runs checked most (map (on_clock now subscriber) events) answers world next
       → RunsAs (source_in checked world subscriber) now events answers (world.peers subscriber) next
   runs_as [] [] world next goes runs =
-      record { transactions_are = ap (λ (its : World). its.transactions) runs; runs =
-      ap (λ (its : World). its.peers subscriber) runs }
+      record {
+        transactions_are = ap (λ (its : World). its.transactions) runs;
+        runs =
+            ap (λ (its : World). its.peers subscriber) runs;
+      }
   runs_as (event ∷ events) (answer ∷ answers) world next goes runs =
       let made = is_made world runs.0 event answer (All-head GoesOn answer answers goes) runs.1 in
       let later = runs_as events answers runs.0 next (All-tail GoesOn answer answers goes) runs.2 in
@@ -148,7 +151,7 @@ module _ (checked : CheckedOf) (most subscriber now : ℕ) (there : subscriber <
           subst (λ peer. PeerRuns (source_in checked world subscriber) now events answers peer
               (next.peers subscriber)) made.peer_is
               (subst (λ its. PeerRuns (record { checked = checked; transactions = its; number = subscriber }) now
-                  events answers (runs.0.peers subscriber) (next.peers subscriber)) made.transactions_are later.runs),
+              events answers (runs.0.peers subscriber) (next.peers subscriber)) made.transactions_are later.runs),
         );
       }
   runs_as [] (answer ∷ answers) world next goes runs = absurd runs
@@ -163,16 +166,16 @@ module _ (checked : CheckedOf) (most subscriber now : ℕ) (there : subscriber <
   last_answer [] (first ∷ answers) answer world next keeps goes ends runs c is = absurd runs
   last_answer (event ∷ events) [] answer world next keeps goes ends runs c is =
       elim (step_there world runs.0 event answer runs.1) [
-    | inl moves ↦ absurd (open_on (source_in checked world subscriber) now event (world.peers subscriber) c
-        (subst (λ connection. EndsWalk
+        | inl moves ↦ absurd (open_on (source_in checked world subscriber) now event (world.peers subscriber) c
+            (subst (λ connection. EndsWalk
             (peer_step (source_in checked world subscriber) now event (world.peers subscriber) connection).0) is
             (subst EndsWalk moves.answer_is ends)))
-    | inr breaks ↦ breaks.answer_is
-  ]
+        | inr breaks ↦ breaks.answer_is
+      ]
   last_answer (event ∷ events) (first ∷ answers) answer world next keeps goes ends runs c is =
       let made = is_made world runs.0 event first (All-head GoesOn first answers goes) runs.1 in
       let kept = next_keeps (source_in checked world subscriber) now event (world.peers subscriber)
-          (All-head KeepsOpen event events keeps) (record { c = c; is = is }) in
+      (All-head KeepsOpen event events keeps) (record { c = c; is = is }) in
       last_answer events answers answer runs.0 next (All-tail KeepsOpen event events keeps)
-          (All-tail GoesOn first answers goes) ends runs.2 kept.c
+      (All-tail GoesOn first answers goes) ends runs.2 kept.c
       (ap (λ (peer : Peer). peer.connection) made.peer_is ∙ kept.is)

@@ -36,7 +36,7 @@ pump_open takes =
     (All-cons KeepsOpen (Keep false) (Deliver all_bytes ∷ Report false ∷ Hear all_bytes ∷ []) tt
     (All-cons KeepsOpen (Deliver all_bytes) (Report false ∷ Hear all_bytes ∷ []) tt
     (All-cons KeepsOpen (Report false) (Hear all_bytes ∷ []) tt
-        (All-cons KeepsOpen (Hear all_bytes) [] tt (All-nil KeepsOpen))))))
+    (All-cons KeepsOpen (Hear all_bytes) [] tt (All-nil KeepsOpen))))))
 
 first_open : (done others : List PeerEvent) → All KeepsOpen (done ++ others) → All KeepsOpen done
 first_open [] others all = All-nil KeepsOpen
@@ -51,7 +51,7 @@ wants_memory before after now subscriber answer pumps there most events world is
     let into = part.runs most events world is in
     last_answer (world_checked before) most subscriber now there part.done part.answers answer world into.next
     (first_open part.done part.others (subst (All KeepsOpen) (sym part.are) (pump_open pumps.takes))) part.go_on
-        part.ends into.runs c connected
+    part.ends into.runs c connected
 
 -- ---- the end of the log
 
@@ -61,7 +61,7 @@ pub end_of_log : (before after : World) (subscriber position : ℕ) → ReachesE
 end_of_log before after subscriber position reaches at there most events world is =
     let end = reaches there most events world is in
     at (subst (λ (c : CheckedOf). subscriber < length c.plan) (sym end.checked) there) most end.events end.world
-        end.is ∙ end.position_is
+    end.is ∙ end.position_is
 
 -- a position that counts all commits, and isn't 0
 record IsPast (source : Source) (peer : Peer) : Type 0 where
@@ -76,18 +76,18 @@ past_is_end code subscriber most events world is past =
     let checked : CheckedOf = world_checked code in
     let sayable = can_be_said checked most is.publisher events is.times world is.leads in
     let good = good_at checked is.publisher.covered is.publisher.apart most events (all_timed events is.times) world
-        is.leads sayable in
+    is.leads sayable in
     let public = published checked is.publisher.covered is.publisher.apart world good in
     let end = now_end (source_in checked world subscriber) (world.peers subscriber) (good.peers subscriber)
     (ends_at checked is.publisher.covered is.publisher.apart most events (all_timed events is.times) world is.leads
-        sayable subscriber) in
+    sayable subscriber) in
     let follows = good_follows (source_in checked world subscriber) public sayable (world.peers subscriber)
-        (good.peers subscriber) in
+    (good.peers subscriber) in
     let count : length (log_of checked world.transactions) ≡ length world.transactions =
-        entries_length (setting_in checked) no_rows 1 world.transactions in
+    entries_length (setting_in checked) no_rows 1 world.transactions in
     end_of_count (position_of checked world subscriber) (length world.transactions) end
     (all_counted (position_of checked world subscriber) (length world.transactions)
-        (length (log_of checked world.transactions)) count past.all follows.within) past.some
+    (length (log_of checked world.transactions)) count past.all follows.within) past.some
   where
     all_counted : (position count logged : ℕ) → logged ≡ count → logged ≤ count_before position
         → count_before position ≤ count → count_before position ≡ count
@@ -117,9 +117,9 @@ module _ (before between later after : World) (now subscriber : ℕ) (timed : no
     | inl idle ↦ inl idle
     | inr many ↦ inr (
         let log = log_there (world_checked between) most (world_book between) (world_peers between) events world is
-            subscriber now in
+        subscriber now in
         let count : length (book_log (world_book between)) ≡ length world.transactions = ap length log.log_is
-            ∙ entries_length (setting_in (world_checked between)) no_rows 1 world.transactions in
+        ∙ entries_length (setting_in (world_checked between)) no_rows 1 world.transactions in
         let all : length world.transactions ≡ length transactions = ap length same in
         omega (arith, many, count, all))
   ]
@@ -131,43 +131,43 @@ module _ (before between later after : World) (now subscriber : ℕ) (timed : no
       → (taken : RunsInto between later most (events ++ hearing) heard.next taking takes.walks.answers)
       → (told : RunsInto later after most ((events ++ hearing) ++ taking) taken.next telling tells.answers)
       → IsPast (source_in (world_checked before) world subscriber) (told.next.peers subscriber)
-          × (told.next.transactions ≡ world.transactions)
+      × (told.next.transactions ≡ world.transactions)
   told_past most events world there is heard taken told =
       let checked : CheckedOf = world_checked before in
       let transactions : List Transaction = world.transactions in
       let sayable = can_be_said checked most is.publisher events is.times world is.leads in
       let good = good_at checked is.publisher.covered is.publisher.apart most events (all_timed events is.times) world
-          is.leads sayable in
+      is.leads sayable in
       let public = published checked is.publisher.covered is.publisher.apart world good in
       let heard_as : RunsAs (source_in checked world subscriber) now (Hear all_bytes ∷ []) hears.answers
-          (world.peers subscriber) heard.next =
+      (world.peers subscriber) heard.next =
       runs_as checked most subscriber now there (Hear all_bytes ∷ []) hears.answers world heard.next hears.go_on
-          heard.runs in
+      heard.runs in
       let taken_as : RunsAs (source_in checked heard.next subscriber) now (replicate takes.takes Take)
-          takes.walks.answers (heard.next.peers subscriber) taken.next =
+      takes.walks.answers (heard.next.peers subscriber) taken.next =
       runs_as checked most subscriber now there (replicate takes.takes Take) takes.walks.answers heard.next taken.next
-          takes.walks.go_on
+      takes.walks.go_on
       (subst (λ its. Runs its most taking takes.walks.answers heard.next taken.next) heard.checked taken.runs) in
       let told_as : RunsAs (source_in checked taken.next subscriber) now last_events tells.answers
-          (taken.next.peers subscriber) told.next =
+      (taken.next.peers subscriber) told.next =
       runs_as checked most subscriber now there last_events tells.answers taken.next told.next tells.go_on
       (subst (λ its. Runs its most telling tells.answers taken.next told.next) (taken.checked ∙ heard.checked)
-          told.runs) in
+      told.runs) in
       let same_taken : taken.next.transactions ≡ transactions = taken_as.transactions_are ∙ heard_as.transactions_are in
       let started = hears_all (source_in checked world subscriber) public sayable now timed hears.answers
-          (world.peers subscriber) (heard.next.peers subscriber) heard_as.runs hears.go_on
+      (world.peers subscriber) (heard.next.peers subscriber) heard_as.runs hears.go_on
       (leads_asked checked most events first_world world is.leads (λ other. tt) subscriber) (good.peers subscriber) in
       let left = takes_all (source_in checked world subscriber) public sayable now timed started.start takes.takes
-          takes.walks.answers (heard.next.peers subscriber) (taken.next.peers subscriber)
+      takes.walks.answers (heard.next.peers subscriber) (taken.next.peers subscriber)
       (subst (λ its. PeerRuns (record { checked = checked; transactions = its; number = subscriber }) now
-          (replicate takes.takes Take) takes.walks.answers (heard.next.peers subscriber)
-          (taken.next.peers subscriber)) heard_as.transactions_are taken_as.runs)
+      (replicate takes.takes Take) takes.walks.answers (heard.next.peers subscriber)
+      (taken.next.peers subscriber)) heard_as.transactions_are taken_as.runs)
       (enough most (events ++ hearing) heard.next heard.is transactions heard_as.transactions_are) started.left in
       let past = tells_all (source_in checked world subscriber) public sayable now timed started.start
-          (taken.next.peers subscriber) (told.next.peers subscriber) tells.answers
+      (taken.next.peers subscriber) (told.next.peers subscriber) tells.answers
       (subst (λ its. PeerRuns (record { checked = checked; transactions = its; number = subscriber }) now last_events
-          tells.answers (taken.next.peers subscriber) (told.next.peers subscriber)) same_taken told_as.runs)
-          tells.go_on left in
+      tells.answers (taken.next.peers subscriber) (told.next.peers subscriber)) same_taken told_as.runs)
+      tells.go_on left in
       (record { all = past.all; some = past.some }, told_as.transactions_are ∙ same_taken)
 
   pub reaches_end_of_log : ReachesEnd before after subscriber
@@ -185,7 +185,7 @@ module _ (before between later after : World) (now subscriber : ℕ) (timed : no
         position_is = past_is_end after subscriber most (((events ++ hearing) ++ taking) ++ telling) told.next told.is
             (subst (λ its. IsPast (source_in its told.next subscriber) (told.next.peers subscriber)) (sym same)
             (subst (λ its. IsPast (record { checked = world_checked before; transactions = its; number = subscriber })
-                (told.next.peers subscriber)) (sym past.1) past.0))
+            (told.next.peers subscriber)) (sym past.1) past.0))
             ∙ ap end_of (ap length past.1);
       }
 
@@ -196,9 +196,9 @@ module _ (before between later after : World) (now subscriber : ℕ) (timed : no
       let heard = hears.runs most events world is in
       let taken = takes.walks.runs most (events ++ hearing) heard.next heard.is in
       let heard_as : RunsAs (source_in (world_checked before) world subscriber) now (Hear all_bytes ∷ [])
-          hears.answers (world.peers subscriber) heard.next =
+      hears.answers (world.peers subscriber) heard.next =
       runs_as (world_checked before) most subscriber now there (Hear all_bytes ∷ []) hears.answers world heard.next
-          hears.go_on heard.runs in
+      hears.go_on heard.runs in
       record {
         heard = hears.answers;
         taken = takes.walks.answers;
@@ -224,10 +224,15 @@ module _ (before between later after : World) (now subscriber : ℕ) (timed : no
       as_many_answers checked most (event ∷ asked) [] world last runs = absurd runs
 
   pub pumps_through : PumpsAll before after now subscriber × ReachesEnd before after subscriber
-  pumps_through = (record
-      { takes = takes.takes; all =
-      pump_goes_through now subscriber before between later after hears takes tells; enough = takes_enough },
-      reaches_end_of_log)
+  pumps_through = (
+    record {
+      takes = takes.takes;
+      all =
+          pump_goes_through now subscriber before between later after hears takes tells;
+      enough = takes_enough;
+    },
+    reaches_end_of_log,
+  )
 
 -- as the last events are answered
 pub pumped_by : (before between later after : World) (now subscriber : ℕ) → now < 2 ^ 64

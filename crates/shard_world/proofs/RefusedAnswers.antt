@@ -38,8 +38,11 @@ use Rattle.shard_world.proofs.JoinedSteps.{asked_bytes}
 pub opens_are_answered : OpensAreAnswered
 opens_are_answered case is slots old stands none =
     let shut = is_shut case slots old stands none in
-    record { value = spelled_up case.checked case.number (w.Asks (peer_of case).position); is =
-        asked_bytes case is old.subscriber stands.named shut.is_apart.machine }
+    record {
+      value = spelled_up case.checked case.number (w.Asks (peer_of case).position);
+      is =
+          asked_bytes case is old.subscriber stands.named shut.is_apart.machine;
+    }
 
 pub keeps_are_answered : KeepsAreAnswered
 keeps_are_answered case slots old link stands some =
@@ -56,7 +59,7 @@ pub takes_are_answered : TakesAreAnswered
 takes_are_answered case is slots old link stands some =
     let here = is_open case slots old link stands some in
     subst (λ checked. IsAnswered (next_answer checked (link_stage link) (log_in (source_of case))))
-        (sym here.linked.checked_is)
+    (sym here.linked.checked_is)
     (by_start here.c here.c.start here.linked.speaks)
   where
     found : (place : Place) (its : Option CommitOf) → slice_get (log_in (source_of case)) place.done ≡ its
@@ -68,8 +71,11 @@ takes_are_answered case is slots old link stands some =
     by_start : (c : Connection) (start : Option ℕ) → Speaks (source_of case) link c.moves c.delivered start
         → IsAnswered (next_answer case.checked (link_stage link) (log_in (source_of case)))
     by_start c None silent =
-        record { value = taken.NotStarted; is =
-        ap (λ stage. next_answer case.checked stage (log_in (source_of case))) silent.stage_is }
+        record {
+          value = taken.NotStarted;
+          is =
+              ap (λ stage. next_answer case.checked stage (log_in (source_of case))) silent.stage_is;
+        }
     by_start c (Some start) streams =
         let place = place_of (source_of case) start c.moves in
         subst (λ stage. IsAnswered (next_answer case.checked stage (log_in (source_of case)))) (sym streams.stage_is)
@@ -83,7 +89,7 @@ pub linked_open : (case : Case) (slots : List Slot) (link : Link) (subscriber : 
     → IsOpen (sub_machine subscriber).phase
 linked_open case slots link subscriber c linked =
     subst IsOpen (sym linked.machine.phase)
-        (cut_open (cut limit (take c.delivered (down_of (source_of case) c))) (opened (peer_of case).machine) tt)
+    (cut_open (cut limit (take c.delivered (down_of (source_of case) c))) (opened (peer_of case).machine) tt)
 
 status_answered : (phase : Phase) → IsOpen phase → IsAnswered (status_answer phase)
 status_answered Shut opens = absurd opens
@@ -94,8 +100,8 @@ status_answered (Busy begin) opens = record { value = tt; is = refl }
 pub reports_are_answered : ReportsAreAnswered
 reports_are_answered case slots old link stands some =
     let here = is_open case slots old link stands some in
-        status_answered (sub_machine old.subscriber).phase
-        (linked_open case slots link old.subscriber here.c here.linked)
+    status_answered (sub_machine old.subscriber).phase
+    (linked_open case slots link old.subscriber here.c here.linked)
 
 -- ---- hear
 
@@ -104,10 +110,10 @@ hears_are_answered case is book old link count log stands some =
     let all = heard_all case is book book old link count log stands some in
     let at = is_open case (book_slots book) old link stands some in
     let known = heard_after case is (connection case is book book old link count log stands some)
-        (commits case is book book old link count log stands some)
+    (commits case is book book old link count log stands some)
     (start_view case is book book old link count log stands some)
-        (heard_before case is book book old link count log stands some)
-        (more case is book book old link count log stands some) in
+    (heard_before case is book book old link count log stands some)
+    (more case is book book old link count log stands some) in
     record {
       value = heard_told all.heard;
       is = ap (λ phase. answer_in phase

@@ -46,7 +46,7 @@ stays_after : (frames : List Frame) (rest : List ℕ) (machine new : Machine) �
 stays_after [] rest machine new stays = stays
 stays_after (frame ∷ frames) rest machine new stays =
     stays_on machine new (hear_frame frame machine) frames (after_frames frames (Rest rest))
-        (λ next later. stays_after frames rest next new later) stays
+    (λ next later. stays_after frames rest next new later) stays
 
 -- ---- deliver
 
@@ -83,18 +83,18 @@ module _ (case : Case) (is : IsCase case) (slots : List Slot) (old : PeerOf) (li
   no_fault : (fed_heard old.subscriber (front_of count (link_output link))).fault ≡ None
   no_fault =
       ap (λ (heard : Heard). heard.fault)
-          (hears_open (sub_machine old.subscriber).phase (fed_cut old.subscriber (front_of count (link_output link)))
-          (sub_machine old.subscriber)
+      (hears_open (sub_machine old.subscriber).phase (fed_cut old.subscriber (front_of count (link_output link)))
+      (sub_machine old.subscriber)
       (linked_open case slots link old.subscriber c linked))
       ∙ ap (λ bytes. (hear_cut (cut limit (sub_held old.subscriber ++ bytes)) (sub_machine old.subscriber)).fault)
-          piece_is
+      piece_is
       ∙ (makes case is c is_there more within old.subscriber linked.held linked.machine).fault
 
   -- the frames of a part of the piece
   cuts : (some : ℕ) (inside : c.delivered + some ≤ length downs)
       → cut limit (sub_held old.subscriber ++ take some (drop c.delivered downs))
       ≡ after_frames (map frame_in (new_in frame_in items c.delivered some))
-          (Rest (down_piece case is c is_there some inside).rest)
+      (Rest (down_piece case is c is_there some inside).rest)
   cuts some inside = ap (λ held. cut limit (held ++ take some (drop c.delivered downs))) linked.held
       ∙ (down_piece case is c is_there some inside).cuts
 
@@ -107,23 +107,23 @@ module _ (case : Case) (is : IsCase case) (slots : List Slot) (old : PeerOf) (li
       let inside : c.delivered + part.some ≤ length downs = omega (arith, within, part.within) in
       let part_is : new_in frame_in items c.delivered part.some ≡ first.items =
       part.new_is ∙ ap (take (length first.items)) (sym first.is)
-          ∙ take_at first.items first.others (length first.items) refl in
+      ∙ take_at first.items first.others (length first.items) refl in
       let made = makes case is c is_there part.some inside old.subscriber linked.held linked.machine in
       let all_cut = cuts part.some inside
-          ∙ ap (λ its. after_frames (map frame_in its) (Rest (down_piece case is c is_there part.some inside).rest))
-          part_is in
+      ∙ ap (λ its. after_frames (map frame_in its) (Rest (down_piece case is c is_there part.some inside).rest))
+      part_is in
       let alike : Alike (sub_machine after)
-          (stopped (hear_cut (cut limit (sub_held old.subscriber ++ take part.some (drop c.delivered downs)))
-          (sub_machine old.subscriber)).machine) =
+      (stopped (hear_cut (cut limit (sub_held old.subscriber ++ take part.some (drop c.delivered downs)))
+      (sub_machine old.subscriber)).machine) =
       subst (λ all. Alike (sub_machine after) (stopped (hear_cut all (sub_machine old.subscriber)).machine))
-          (sym all_cut)
+      (sym all_cut)
       (stays_after (map frame_in first.items) (down_piece case is c is_there part.some inside).rest
-          (sub_machine old.subscriber) (sub_machine after)
+      (sub_machine old.subscriber) (sub_machine after)
       (subst (λ its. StaysOf (hear_frames its (sub_machine old.subscriber)) (sub_machine after)) first.frames_are
-          stays)) in
+      stays)) in
       halts_with case (w.Deliver count) slots (record { link = old.link; subscriber = after }) c part.some is_there
       (subst (λ n. IsHalf case slots old.link after (delivers (peer_of case) c n))
-          (sym (as_part part.some count (length downs) c.delivered part.within)) (record {
+      (sym (as_part part.some count (length downs) c.delivered part.within)) (record {
         named = still_named case old.subscriber after stands.named names;
         machine = record {
           position = alike.position ∙ made.machine.position;
@@ -136,8 +136,8 @@ module _ (case : Case) (is : IsCase case) (slots : List Slot) (old : PeerOf) (li
 
   stopped_by : (after : Subscriber) → SameNames old.subscriber after → (fault : Option SubFault)
       → StopsFor fault (fed_heard old.subscriber (front_of count (link_output link)))
-          (fed_cut old.subscriber (front_of count (link_output link))) (sub_machine old.subscriber)
-          (sub_machine after)
+      (fed_cut old.subscriber (front_of count (link_output link))) (sub_machine old.subscriber)
+      (sub_machine after)
       → Halts case (w.Deliver count) slots (record { link = old.link; subscriber = after })
   stopped_by after names (Some fault) stops = absurd (
       let none : (fed_heard old.subscriber (front_of count (link_output link))).fault ≡ None = no_fault in
@@ -145,10 +145,10 @@ module _ (case : Case) (is : IsCase case) (slots : List Slot) (old : PeerOf) (li
       cc)
   stopped_by after names None stops =
       halted after names stops.frames
-          (first_frames stops.frames stops.rest (new_in frame_in items c.delivered more)
-          (down_piece case is c is_there more within).rest
+      (first_frames stops.frames stops.rest (new_in frame_in items c.delivered more)
+      (down_piece case is c is_there more within).rest
       (stops.first ∙ ap (λ bytes. cut limit (sub_held old.subscriber ++ bytes)) piece_is ∙ cuts more within))
-          stops.stays
+      stops.stays
 
 pub deliver_halts : DeliverHalts
 deliver_halts case is slots old link after count error stands some stops =

@@ -62,12 +62,12 @@ same_down : (case : Case) (c : Connection) (session : Session) (extra : List Mov
     → c.delivered ≤ length (down_of (source_of case) c)
     → ((start : ℕ) → c.start ≡ Some start → session.start ≡ Some start) → session.moves ≡ c.moves ++ extra
     → take c.delivered (down_bytes (source_of case) session.start session.moves)
-        ≡ take c.delivered (down_of (source_of case) c)
+    ≡ take c.delivered (down_of (source_of case) c)
 same_down case c session extra within goes_on moves_are = by_start c.start refl
   where
     by_start : (start : Option ℕ) → c.start ≡ start
         → take c.delivered (down_bytes (source_of case) session.start session.moves)
-            ≡ take c.delivered (down_of (source_of case) c)
+        ≡ take c.delivered (down_of (source_of case) c)
     by_start None e =
         let zero_is : c.delivered ≡ 0 = none_delivered case c e within in
         ap (λ n. take n (down_bytes (source_of case) session.start session.moves)) zero_is
@@ -107,15 +107,15 @@ module _ (case : Case) (is : IsCase case) (before after : Book) (old : PeerOf) (
       let linked = ear.linked case is before after old link count log stands some in
       let cuts = ear.cuts case is before after old link count log stands some in
       ap (λ limit. frames_of (cut limit ((link_ear link).frames.bytes ++ piece)))
-          (ear.ready case is before after old link count log stands some).limit
+      (ear.ready case is before after old link count log stands some).limit
       ∙ ap (λ held. frames_of (cut 65536 (held ++ piece))) linked.hears.held
       ∙ ap (λ its. frames_of
-          (cut 65536 (rest_of (cut 65536 (take c.heard (ear.ups case is before after old link count log stands some)))
-          ++ its)))
+      (cut 65536 (rest_of (cut 65536 (take c.heard (ear.ups case is before after old link count log stands some)))
+      ++ its)))
       (ear.piece_is case is before after old link count log stands some)
       ∙ ap frames_of cuts.cuts
       ∙ frames_before (map (up_frame case.checked case.number) (newly (source_of case) (peer_of case) c more))
-          cuts.rest
+      cuts.rest
 
   -- so many of the first frames are those of so many bytes
   part : (frames : ℕ) → IsPart (up_frame case.checked case.number) (ups_of (peer_of case) c) c.heard more frames
@@ -131,14 +131,14 @@ module _ (case : Case) (is : IsCase case) (before after : Book) (old : PeerOf) (
   part_is frames =
       let linked = ear.linked case is before after old link count log stands some in
       let served_is : served_by (link_ear link).session before ≡ served_of case is c commits start_view =
-          ap (λ checked. record { checked = checked; commits = commits }) linked.hears.checked_is in
+      ap (λ checked. record { checked = checked; commits = commits }) linked.hears.checked_is in
       ap (λ served. frames_heard served start_view (take frames (held_frames (fed (link_ear link).frames piece))))
-          served_is
+      served_is
       ∙ ap (λ its. frames_heard (served_of case is c commits start_view) start_view (take frames its)) frames_are
       ∙ ap (frames_heard (served_of case is c commits start_view) start_view)
-          (take-map (up_frame case.checked case.number) frames (newly (source_of case) (peer_of case) c more))
+      (take-map (up_frame case.checked case.number) frames (newly (source_of case) (peer_of case) c more))
       ∙ ap (λ ups. frames_heard (served_of case is c commits start_view) start_view
-          (map (up_frame case.checked case.number) ups)) (sym (part frames).new_is)
+      (map (up_frame case.checked case.number) ups)) (sym (part frames).new_is)
 
   known : (bytes : ℕ) → After case is c commits start_view
       (ear.heard_before case is before after old link count log stands some) bytes
@@ -172,12 +172,12 @@ module _ (case : Case) (is : IsCase case) (before after : Book) (old : PeerOf) (
       machine =
           let alike = (ear.linked case is before after old link count log stands some).machine in
           subst (λ bytes. StaysAlike (sub_machine old.subscriber)
-              (hear_cut (cut limit bytes) (opened (peer_of case).machine)).machine) (sym same)
+          (hear_cut (cut limit bytes) (opened (peer_of case).machine)).machine) (sym same)
           (record { position = alike.position; kept = alike.kept; rows = alike.rows });
       stream = has_stream (book_slots after) case.number session.confirmed new session.start phase.Closed
           (left.started ∙ (known some_heard).started) leaves.phase_is closed_apart
           (subst (λ slots. HasSlot slots case.number session.confirmed (is_some session.start))
-              (sym left.book.slots_are) (known some_heard).slot);
+          (sym left.book.slots_are) (known some_heard).slot);
     }
 
     pub heard_halts : HaltsOn case (w.Hear count) before after (record { link = Some new; subscriber = old.subscriber })
@@ -186,12 +186,18 @@ module _ (case : Case) (is : IsCase case) (before after : Book) (old : PeerOf) (
           (record { link = Some new; subscriber = old.subscriber }) c some_heard
           (is_open case (book_slots before) old link stands some).some
           (subst (λ n. IsHalf case (book_slots after) (Some new) old.subscriber
-              (hears (source_of case) case.now (peer_of case) c n))
+          (hears (source_of case) case.now (peer_of case) c n))
           (sym (as_part some_heard count (length (ear.ups case is before after old link count log stands some))
-              c.heard (part leaves.leaves.0).within)) half);
+          c.heard (part leaves.leaves.0).within)) half);
       own = record {
-        book = record { checked = left.book.checked; limit = left.book.limit; rows = left.book.rows; log =
-            left.book.log; slots_are = refl };
+        book = record {
+          checked = left.book.checked;
+          limit = left.book.limit;
+          rows = left.book.rows;
+          log =
+              left.book.log;
+          slots_are = refl;
+        };
         others = λ other apart. ap (λ slots. slice_get slots other) left.book.slots_are
             ∙ (known some_heard).others other apart;
       };
@@ -200,10 +206,10 @@ module _ (case : Case) (is : IsCase case) (before after : Book) (old : PeerOf) (
 pub hear_halts : HearHalts
 hear_halts case is before after old link count log stands some new error tells leaves =
     let memory : error ≡ OutOfMemory =
-        only_memory error _ tells (hears_are_answered case is before old link count log stands some) in
+    only_memory error _ tells (hears_are_answered case is before old link count log stands some) in
     let linked = ear.linked case is before after old link count log stands some in
     heard_halts case is before after old link count log stands some new
     (subst (λ phase. HearLeaves phase (link_ear link) (link_ear new) before after
-        (front_of count (sub_output old.subscriber)) (link_sent link) (Err OutOfMemory)) linked.hears.phase_is
+    (front_of count (sub_output old.subscriber)) (link_sent link) (Err OutOfMemory)) linked.hears.phase_is
     (subst (λ (its : LinkFault). HearLeaves (ear_phase (link_ear link)) (link_ear link) (link_ear new) before after
-        (front_of count (sub_output old.subscriber)) (link_sent link) (Err its)) memory leaves))
+    (front_of count (sub_output old.subscriber)) (link_sent link) (Err its)) memory leaves))

@@ -85,9 +85,12 @@ pub halts_with : (case : Case) (event : PeerEvent) (slots : List Slot) (code : P
     → IsHalf case slots code.link code.subscriber (before_loss case event some (peer_of case) (Some c))
     → Halts case event slots code
 halts_with case event slots code c some is half =
-    record { some = some; half =
-        subst (λ connection. IsHalf case slots code.link code.subscriber
-        (before_loss case event some (peer_of case) connection)) (sym is) half }
+    record {
+      some = some;
+      half =
+          subst (λ connection. IsHalf case slots code.link code.subscriber
+          (before_loss case event some (peer_of case) connection)) (sym is) half;
+    }
 
 pub take_halts : TakeHalts
 take_halts case slots old link new stands some closes =
@@ -102,7 +105,7 @@ pub keep_halts : KeepHalts
 keep_halts case slots old link new want stands some closes =
     let here = is_open case slots old link stands some in
     halts_with case (w.Keep want) slots (record { link = Some new; subscriber = old.subscriber }) here.c 0 here.some
-        (record {
+    (record {
       named = stands.named;
       machine = stays_now case here.c here.some (sub_machine old.subscriber) here.linked.machine;
       stream = stream_closes case slots link old.subscriber here.c here.linked new closes.ear;
@@ -139,8 +142,10 @@ open_breaks case slots old after stands none loses =
     breaks_without case slots (record { link = None; subscriber = after }) shut.none (record {
       named = still_named case old.subscriber after stands.named loses.cleared.names;
       at = subst (IsAt (source_of case) slots None after (peer_of case)) (sym shut.none)
-          (record { machine = stays_lost old.subscriber after (peer_of case).machine shut.is_apart.machine loses;
-              slot = shut.is_apart.slot });
+          (record {
+            machine = stays_lost old.subscriber after (peer_of case).machine shut.is_apart.machine loses;
+            slot = shut.is_apart.slot;
+          });
     })
 
 -- ---- the loss
@@ -188,8 +193,11 @@ module _ (case : Case) (event : PeerEvent) (some : ℕ) (before after : List Slo
       let stays = stays_lost old new (machine_now (source_of case) its) half.machine loses in
       record {
         named = still_named case old new half.named loses.cleared.names;
-        at = record { machine = record { position = stays.position; kept = stays.kept; rows = stays.rows }; slot =
-            slot };
+        at = record {
+          machine = record { position = stays.position; kept = stays.kept; rows = stays.rows };
+          slot =
+              slot;
+        };
       }
 
 pub loss_breaks : LossBreaks
@@ -197,11 +205,11 @@ loss_breaks case event before after code link new subscriber halts some lost_lin
     let half = halts.half in
     let its = before_loss case event halts.some (peer_of case) (peer_of case).connection in
     let stream : HasStream (book_slots before) case.number its.confirmed link =
-        subst (HasStreamBy (book_slots before) case.number its.confirmed) some half.stream in
+    subst (HasStreamBy (book_slots before) case.number its.confirmed) some half.stream in
     let slots_are : book_slots after ≡ slots_without (ear_started (link_ear link)) (book_slots before) =
     lost_link.ear.book.slots_are
-        ∙ not_lost_before case.number (book_slots before) (ear_phase (link_ear link)) (ear_started (link_ear link))
-        stream.not_lost in
+    ∙ not_lost_before case.number (book_slots before) (ear_phase (link_ear link)) (ear_started (link_ear link))
+    stream.not_lost in
     let slot : HasSlot (book_slots after) case.number its.confirmed false =
     subst (λ slots. HasSlot slots case.number its.confirmed false) (sym slots_are)
     (given_back case.number (book_slots before) its.confirmed (ear_started (link_ear link)) stream.own stream.slot) in
@@ -212,8 +220,14 @@ loss_breaks case event before after code link new subscriber halts some lost_lin
             subscriber lost_subscriber (peer_of case).connection refl half slot;
       };
       own = record {
-        book = record { checked = lost_link.ear.book.checked; limit = lost_link.ear.book.limit; rows =
-            lost_link.ear.book.rows; log = lost_link.ear.book.log; slots_are = refl };
+        book = record {
+          checked = lost_link.ear.book.checked;
+          limit = lost_link.ear.book.limit;
+          rows =
+              lost_link.ear.book.rows;
+          log = lost_link.ear.book.log;
+          slots_are = refl;
+        };
         others = λ other apart. ap (λ slots. slice_get slots other) slots_are
             ∙ others_kept case.number (book_slots before) other (ear_started (link_ear link)) stream.own apart;
       };

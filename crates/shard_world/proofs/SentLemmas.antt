@@ -45,7 +45,7 @@ items_within : (most position : ℕ) (items : List Item) → All (IsWithinItem m
 items_within most position [] all h = h
 items_within most position (item ∷ items) all h =
     items_within most (raised_by position item) items (All-tail (IsWithinItem most) item items all)
-        (item_within most position item (All-head (IsWithinItem most) item items all) h)
+    (item_within most position item (All-head (IsWithinItem most) item items all) h)
 
 if_within : (P : Item → Type 0) (whole : Bool) (item : Item) (others : List Item) → P item → All P others
     → All P (if_whole whole item others)
@@ -56,7 +56,7 @@ whole_within : (P : Item → Type 0) (count : ℕ) (items : List Item) → All P
 whole_within P count [] all = All-nil P
 whole_within P count (item ∷ items) all =
     if_within P (nat_le (length (framed (frame_in item))) count) item
-        (whole_in (count - length (framed (frame_in item))) items) (All-head P item items all)
+    (whole_in (count - length (framed (frame_in item))) items) (All-head P item items all)
     (whole_within P (count - length (framed (frame_in item))) items (All-tail P item items all))
 
 -- ---- places
@@ -97,22 +97,22 @@ module _ (checked : CheckedOf) (log : List CommitOf)
   carried_within most number clock [] rest all later = later
   carried_within most number clock (message ∷ messages) rest all later =
       All-cons (IsWithinItem most) (Carries (head_of number clock) message)
-          (map (Carries (head_of number clock)) messages ++ rest)
-          (All-head (TellsBy (λ end. end ≤ most)) message messages all)
+      (map (Carries (head_of number clock)) messages ++ rest)
+      (All-head (TellsBy (λ end. end ≤ most)) message messages all)
       (carried_within most number clock messages rest (All-tail (TellsBy (λ end. end ≤ most)) message messages all)
-          later)
+      later)
 
   take_within : (most : ℕ) (moves : List Move) (place : Place) (clock : ℕ) (found : Option CommitOf)
       → (taken_place (telling_of checked) place found).sent ≤ most
       → All (IsWithinItem most)
-          (all_items (telling_of checked) log (taken_place (telling_of checked) place found) moves)
+      (all_items (telling_of checked) log (taken_place (telling_of checked) place found) moves)
       → All (IsWithinItem most)
-          (take_items (telling_of checked) place found clock
-          ++ all_items (telling_of checked) log (taken_place (telling_of checked) place found) moves)
+      (take_items (telling_of checked) place found clock
+      ++ all_items (telling_of checked) log (taken_place (telling_of checked) place found) moves)
   take_within most moves place clock None low later = later
   take_within most moves place clock (Some commit) low later =
       carried_within most commit.number clock (messages_for checked place.slot place.told commit)
-          (all_items (telling_of checked) log (place_after (telling_of checked) place commit) moves)
+      (all_items (telling_of checked) log (place_after (telling_of checked) place commit) moves)
       (messages_tell (λ end. end ≤ most) checked place.slot place.told commit low) later
 
   moves_within : (most : ℕ) (moves : List Move) (place : Place) → IsSentPlace place
@@ -123,24 +123,24 @@ module _ (checked : CheckedOf) (log : List CommitOf)
       let here = next_place place (s.Take clock) sent in
       let later = all_sent moves (moved (telling_of checked) log place (s.Take clock)) here.sent in
       take_within most moves place clock (slice_get log place.done) (omega (arith, later.more, low))
-          (moves_within most moves (moved (telling_of checked) log place (s.Take clock)) here.sent low)
+      (moves_within most moves (moved (telling_of checked) log place (s.Take clock)) here.sent low)
   moves_within most (s.Keep clock want ∷ moves) place sent low =
       let later = all_sent moves place sent in
       All-cons (IsWithinItem most) (keep_item place clock want) (all_items (telling_of checked) log place moves)
-          (omega (arith, later.more, low))
+      (omega (arith, later.more, low))
       (moves_within most moves place sent low)
 
 first_sent_place : (number tables position : ℕ) → IsSentPlace (place_at number tables position)
 first_sent_place number tables position = by_test (position == 0)
     (λ zero. subst (λ n. n ≤ end_of (count_before position)) (sym (ap (λ b. if b then 64 else position) zero))
-        (omega arith))
+    (omega arith))
     (λ more. subst (λ n. n ≤ end_of (count_before position)) (sym (ap (λ b. if b then 64 else position) more))
-        (omega arith))
+    (omega arith))
 
 pub first_reached : (position : ℕ) → position ≤ (if position == 0 then 64 else position)
 first_reached position = by_test (position == 0)
     (λ zero. subst (λ n. position ≤ n) (sym (ap (λ b. if b then 64 else position) zero))
-        (omega (arith, eqb-true position 0 zero)))
+    (omega (arith, eqb-true position 0 zero)))
     (λ more. subst (λ n. position ≤ n) (sym (ap (λ b. if b then 64 else position) more)) (omega arith))
 
 -- what a subscriber reaches is sent
@@ -148,8 +148,8 @@ pub reached_is_sent : (checked : CheckedOf) (log : List CommitOf)
     → ((place : ℕ) (commit : CommitOf) → slice_get log place ≡ Some commit → commit.number ≡ 1 + place)
     → (subscriber position : ℕ) (moves : List Move) (count : ℕ)
     → position_after position (whole_in count
-        (stream_items (telling_of checked) log subscriber (length checked.catalog.tables) position moves)) ≤
-        (all_moved (telling_of checked) log (place_at subscriber (length checked.catalog.tables) position) moves).sent
+    (stream_items (telling_of checked) log subscriber (length checked.catalog.tables) position moves)) ≤
+    (all_moved (telling_of checked) log (place_at subscriber (length checked.catalog.tables) position) moves).sent
 reached_is_sent checked log numbered subscriber position moves count =
     let place = place_at subscriber (length checked.catalog.tables) position in
     let items : List Item = all_items (telling_of checked) log place moves in
@@ -159,7 +159,7 @@ reached_is_sent checked log numbered subscriber position moves count =
     items_within most position (whole_in count (Response ∷ items))
     (whole_within (IsWithinItem most) count (Response ∷ items)
     (All-cons (IsWithinItem most) Response items tt
-        (moves_within checked log numbered most moves place first (omega arith))))
+    (moves_within checked log numbered most moves place first (omega arith))))
     (omega (arith, first_reached position, last.more))
 
 -- ---- within the log
@@ -184,9 +184,9 @@ pub sent_is_there : (checked : CheckedOf) (log : List CommitOf)
     → AllThere (telling_of checked) log (place_at subscriber (length checked.catalog.tables) position) moves
     → count_before position ≤ length log
     → (all_moved (telling_of checked) log (place_at subscriber (length checked.catalog.tables) position) moves).sent ≤
-        end_of (length log)
+    end_of (length log)
 sent_is_there checked log numbered subscriber position moves there low =
     let place = place_at subscriber (length checked.catalog.tables) position in
     let last = all_sent checked log numbered moves place
-        (first_sent_place subscriber (length checked.catalog.tables) position) in
+    (first_sent_place subscriber (length checked.catalog.tables) position) in
     omega (arith, last.sent, done_within checked log moves place there low)

@@ -48,8 +48,11 @@ pub open_is_refused : (checked : CheckedOf) (now : ℕ) (book : Book) (old : Pee
 open_is_refused checked now book old after none loses case stands = record {
   needed = open_needs case (book_slots book) old stands.peer none;
   stopped = subst (λ link. IsStopped case Open book book (record { link = link; subscriber = after }) link) (sym none)
-      (record { breaks = open_breaks case (book_slots book) old after stands.peer none loses; own =
-          kept_own case.number book });
+      (record {
+        breaks = open_breaks case (book_slots book) old after stands.peer none loses;
+        own =
+            kept_own case.number book;
+      });
 }
 
 -- ---- with a connection
@@ -67,11 +70,11 @@ take_stops checked now book old link new error some closes told memory case stan
   needed =
       let answered = takes_are_answered case stands.is (book_slots book) old link stands.peer some in
       let wanted = memory (only_memory error
-          (next_answer (link_checked link) (link_stage link) (log_in (source_of case)))
+      (next_answer (link_checked link) (link_stage link) (log_in (source_of case)))
       (subst (λ log. TellsFault (told_fault error) (next_answer (link_checked link) (link_stage link) log))
-          stands.log.log_is told) answered) in
+      stands.log.log_is told) answered) in
       take_needs case (book_slots book) old link stands.peer some
-          (subst (HasNext (link_stage link)) stands.log.log_is wanted);
+      (subst (HasNext (link_stage link)) stands.log.log_is wanted);
   stopped = halts_so case Take book (record { link = Some new; subscriber = old.subscriber })
       (take_halts case (book_slots book) old link new stands.peer some closes);
 }
@@ -84,7 +87,7 @@ pub keep_stops : (checked : CheckedOf) (now : ℕ) (book : Book) (old : PeerOf) 
 keep_stops checked now book old link new want error some closes told memory case stands = record {
   needed = keep_needs case (book_slots book) old link want stands.peer some
       (memory (only_memory error (keep_answer (link_stage link)) told
-          (keeps_are_answered case (book_slots book) old link stands.peer some)));
+      (keeps_are_answered case (book_slots book) old link stands.peer some)));
   stopped = halts_so case (Keep want) book (record { link = Some new; subscriber = old.subscriber })
       (keep_halts case (book_slots book) old link new want stands.peer some closes);
 }
@@ -96,7 +99,7 @@ report_stops checked now book old link after want some loses case stands = recor
   needed = report_needs case (book_slots book) old link want stands.peer some;
   stopped = subst (IsStopped case (Report want) book book (record { link = old.link; subscriber = after })) (sym some)
       (halts_so case (Report want) book (record { link = old.link; subscriber = after })
-          (report_halts case (book_slots book) old link after want stands.peer some loses));
+      (report_halts case (book_slots book) old link after want stands.peer some loses));
 }
 
 pub hear_stops : (checked : CheckedOf) (now : ℕ) (before after : Book) (old : PeerOf) (link new : Link) (count : ℕ)
@@ -104,14 +107,14 @@ pub hear_stops : (checked : CheckedOf) (now : ℕ) (before after : Book) (old : 
     → piece ≡ front_of count (sub_output old.subscriber)
     → TellsFault (told_fault error) (hear_answer (link_ear link) before piece (link_sent link))
     → HearLeaves (ear_phase (link_ear link)) (link_ear link) (link_ear new) before after piece (link_sent link)
-        (Err error)
+    (Err error)
     → Stops checked now (Hear count) before after old (record { link = Some new; subscriber = old.subscriber })
 hear_stops checked now before after old link new count error piece some is told leaves case stands = record {
   needed = hear_needs case (book_slots before) old link count stands.peer some;
   stopped = hear_halts case stands.is before after old link count stands.log stands.peer some new error
       (subst (λ p. TellsFault (told_fault error) (hear_answer (link_ear link) before p (link_sent link))) is told)
       (subst (λ p. HearLeaves (ear_phase (link_ear link)) (link_ear link) (link_ear new) before after p
-          (link_sent link) (Err error)) is leaves);
+      (link_sent link) (Err error)) is leaves);
 }
 
 pub deliver_stops : (checked : CheckedOf) (now : ℕ) (book : Book) (old : PeerOf) (link : Link) (after : Subscriber)
@@ -123,7 +126,7 @@ deliver_stops checked now book old link after count error piece some is fed case
   stopped = halts_so case (Deliver count) book (record { link = Some link; subscriber = after })
       (subst (λ its. Halts case (Deliver count) (book_slots book) (record { link = its; subscriber = after })) some
       (deliver_halts case stands.is (book_slots book) old link after count error stands.peer some
-          (subst (λ p. FeedStops old.subscriber p error after) is fed)));
+      (subst (λ p. FeedStops old.subscriber p error after) is fed)));
 }
 
 -- ---- the connection is dropped
@@ -171,16 +174,16 @@ module _ (case : Case) (event : PeerEvent) (before between after : Book) (subscr
           some = stopped.breaks.some;
           peer_is = subst (λ slots. PeerIs (source_of case) slots (record { link = None; subscriber = subscriber })
               (broken (source_of case) case.now event (peer_of case) stopped.breaks.some (peer_of case).connection))
-                  (sym kept.slots_are)
+              (sym kept.slots_are)
               (is_apart case (book_slots between) old subscriber loses
               (broken (source_of case) case.now event (peer_of case) stopped.breaks.some (peer_of case).connection)
-                  stopped.breaks.peer_is);
+              stopped.breaks.peer_is);
         };
         own = own_then case.number before between after stopped.own (own_of_kept case.number between after kept);
       }
   breaks_dropped (Some link) old stopped loses lost =
       let broke = loss_breaks case event between after (record { link = Some link; subscriber = old }) link lost.lost
-          subscriber stopped.halts refl lost.loses loses in
+      subscriber stopped.halts refl lost.loses loses in
       record { breaks = broke.breaks; own = own_then case.number before between after stopped.own broke.own }
 
 pub drops_connection : (checked : CheckedOf) (now : ℕ) (event : PeerEvent) (before between after : Book)
@@ -192,7 +195,7 @@ drops_connection checked now event before between after old middle new stops dro
   on = subst (λ link. BreaksOn case event before after (record { link = link; subscriber = new.subscriber }))
       (sym drops.none)
       (breaks_dropped case event before between after new.subscriber middle.link middle.subscriber
-          (stops case stands).stopped drops.subscriber drops.link);
+      (stops case stands).stopped drops.subscriber drops.link);
 })
 
 pub makes_moves : (checked : CheckedOf) (now : ℕ) (event : PeerEvent) (before after : Book) (old new : PeerOf)

@@ -29,7 +29,7 @@ still_long slots number (Some slot) change = length-set slots number (change slo
 
 one_later : (slot : Slot) (slots : List Slot) (number : ℕ) (found : Option Slot) (change : Slot → Slot)
     → slice_get (changed (slot ∷ slots) (suc number) found change) (suc number)
-        ≡ slice_get (changed slots number found change) number
+    ≡ slice_get (changed slots number found change) number
 one_later slot slots number None change = refl
 one_later slot slots number (Some other) change = refl
 
@@ -39,7 +39,7 @@ raised_at [] number position less = absurd (omega (arith, less))
 raised_at (slot ∷ slots) zero position less = refl
 raised_at (slot ∷ slots) (suc number) position less =
     ap confirmed_of (one_later slot slots number (slice_get slots number) (raised position))
-        ∙ raised_at slots number position (omega (arith, less))
+    ∙ raised_at slots number position (omega (arith, less))
 
 kept_at : (slots : List Slot) (number : ℕ) → confirmed_at (started slots number) number ≡ confirmed_at slots number
 kept_at [] number = refl
@@ -54,7 +54,7 @@ session confirmed start moves = record { confirmed = confirmed; start = start; m
 
 replies_more : (wants : Bool) (replies now : ℕ) (moves : List Move)
     → moves ++ replicate (one_more wants replies) (Keep now false) ≡ (moves ++ replicate replies (Keep now false))
-        ++ replied wants now
+    ++ replied wants now
 replies_more false replies now moves = sym (append-nil (moves ++ replicate replies (Keep now false)))
 replies_more true replies now moves =
     ap (λ more. moves ++ more) (sym (replicate-append-replicate replies 1 (Keep now false)))
@@ -69,22 +69,22 @@ module _ (served : Served) (subscriber start now : ℕ) (moves : List Move) wher
       → frame_heard served h (up_frame served.checked subscriber (Says status)) ≡ after status h
   status_step status h goes_on is within =
       let reached : nat_lt (min h.sent (end_after served.commits)) status.flushed ≡ false =
-          grind (arith, nat_tests, within.reached) in
+      grind (arith, nat_tests, within.reached) in
       ap (λ over. unless_over over h
-          (next_heard served (up_frame served.checked subscriber (Says status)) h.started h)) goes_on
+      (next_heard served (up_frame served.checked subscriber (Says status)) h.started h)) goes_on
       ∙ ap (λ begun. next_heard served (up_frame served.checked subscriber (Says status)) begun h) is
       ∙ ap (λ found. event_heard served subscriber (read_event found) h)
-          (status_is_read status within.written within.flushed within.applied within.clock)
+      (status_is_read status within.written within.flushed within.applied within.clock)
       ∙ ap (λ ahead. confirmed_by ahead subscriber status h) reached
 
   status_session : (status : Status) (h : HearingOf) → subscriber < length h.slots
       → session_of subscriber now moves (after status h) ≡ hear_up now (session_of subscriber now moves h) (Says status)
   status_session status h there =
       ap (λ confirmed. session confirmed (start_in h.started)
-          (moves ++ replicate (one_more status.wants_reply h.heard.replies) (Keep now false)))
-          (raised_at h.slots subscriber status.flushed there)
+      (moves ++ replicate (one_more status.wants_reply h.heard.replies) (Keep now false)))
+      (raised_at h.slots subscriber status.flushed there)
       ∙ ap (session (max (confirmed_at h.slots subscriber) status.flushed) (start_in h.started))
-          (replies_more status.wants_reply h.heard.replies now moves)
+      (replies_more status.wants_reply h.heard.replies now moves)
 
   still_hearing : (status : Status) (h : HearingOf) → IsHearing subscriber h → IsHearing subscriber (after status h)
   still_hearing status h hearing = record {
@@ -97,23 +97,23 @@ module _ (served : Served) (subscriber start now : ℕ) (moves : List Move) wher
   all_heard : (statuses : List Status) (h : HearingOf) → IsHearing subscriber h → h.started ≡ Some (subscriber, start)
       → All (IsWithin (min h.sent (end_after served.commits))) statuses
       → IsHeard subscriber now moves
-          (frames_heard served h (map (up_frame served.checked subscriber) (map Says statuses)))
+      (frames_heard served h (map (up_frame served.checked subscriber) (map Says statuses)))
       (fold (hear_up now) (session_of subscriber now moves h) (map Says statuses))
   unfolding frames_heard
   all_heard [] h hearing is within = record { hearing = hearing; session_is = refl }
   all_heard (status ∷ statuses) h hearing is within =
       let step = status_step status h hearing.goes_on is
-          (All-head (IsWithin (min h.sent (end_after served.commits))) status statuses within) in
+      (All-head (IsWithin (min h.sent (end_after served.commits))) status statuses within) in
       let same = status_session status h hearing.is_there in
       let later = all_heard statuses (after status h) (still_hearing status h hearing) is
-          (All-tail (IsWithin (min h.sent (end_after served.commits))) status statuses within) in
+      (All-tail (IsWithin (min h.sent (end_after served.commits))) status statuses within) in
       subst (λ next. IsHeard subscriber now moves
-          (frames_heard served next (map (up_frame served.checked subscriber) (map Says statuses)))
+      (frames_heard served next (map (up_frame served.checked subscriber) (map Says statuses)))
       (fold (hear_up now) (hear_up now (session_of subscriber now moves h) (Says status)) (map Says statuses)))
-          (sym step)
+      (sym step)
       (subst (λ its. IsHeard subscriber now moves
-          (frames_heard served (after status h) (map (up_frame served.checked subscriber) (map Says statuses)))
-          (fold (hear_up now) its (map Says statuses))) same later)
+      (frames_heard served (after status h) (map (up_frame served.checked subscriber) (map Says statuses)))
+      (fold (hear_up now) its (map Says statuses))) same later)
 
 pub statuses_are_heard : StatusesAreHeard
 statuses_are_heard served subscriber start now moves statuses h hearing is within =
@@ -125,10 +125,10 @@ pub start_step : (served : Served) (subscriber position : ℕ) (subscription : S
     → CanAsk served.checked.catalog subscriber subscription → position < 2 ^ 64
     → start_fault h.slots (end_after served.commits) subscriber position ≡ None → is_over h ≡ false → h.started ≡ None
     → frame_heard served h (up_frame served.checked subscriber (Asks position))
-        ≡ begun (Begins subscriber (max position (confirmed_at h.slots subscriber))) h
+    ≡ begun (Begins subscriber (max position (confirmed_at h.slots subscriber))) h
 start_step served subscriber position subscription h can small free goes_on none =
     ap (λ over. unless_over over h
-        (next_heard served (up_frame served.checked subscriber (Asks position)) h.started h)) goes_on
+    (next_heard served (up_frame served.checked subscriber (Asks position)) h.started h)) goes_on
     ∙ ap (λ its. next_heard served (up_frame served.checked subscriber (Asks position)) its h) none
     ∙ ap (λ begins. begun begins h) (starts_are_answered served h.slots subscriber position subscription can small free)
 
@@ -138,20 +138,20 @@ starts_are_heard served subscriber position now subscription moves h can small f
     let step = start_step served subscriber position subscription h can small free hearing.goes_on none in (
       subst (λ next. IsHeard subscriber now moves next
           (hear_up now (session_of subscriber now moves h) (Asks position))) (sym step) (record {
-        hearing = record {
-          own = refl;
-          is_there = subst (λ n. subscriber < n)
-              (sym (still_long h.slots subscriber (slice_get h.slots subscriber) (with_stream true)))
-              hearing.is_there;
-          goes_on = hearing.goes_on;
-        };
-        session_is =
-            ap (λ confirmed. session confirmed (Some from) (moves ++ replicate h.heard.replies (Keep now false)))
+            hearing = record {
+              own = refl;
+              is_there = subst (λ n. subscriber < n)
+                  (sym (still_long h.slots subscriber (slice_get h.slots subscriber) (with_stream true)))
+                  hearing.is_there;
+              goes_on = hearing.goes_on;
+            };
+            session_is =
+                ap (λ confirmed. session confirmed (Some from) (moves ++ replicate h.heard.replies (Keep now false)))
                 (kept_at h.slots subscriber)
-            ∙ ap (λ its. session (confirmed_at h.slots subscriber)
+                ∙ ap (λ its. session (confirmed_at h.slots subscriber)
                 (start_at (start_in its) position (confirmed_at h.slots subscriber))
                 (moves ++ replicate h.heard.replies (Keep now false))) (sym none);
-      }),
+          }),
       subst (IsBegun subscriber (max position (confirmed_at h.slots subscriber))) (sym step)
           (record { started = refl; sent = refl }),
     )
@@ -191,17 +191,17 @@ module _ (served : Served) (subscriber start now : ℕ) (moves : List Move) wher
       → h.started ≡ Some (subscriber, start)
       → All (IsWithin (min h.sent (end_after served.commits))) statuses
       → SlotsGo subscriber h.slots
-          (frames_heard served h (map (up_frame served.checked subscriber) (map Says statuses))).slots
+      (frames_heard served h (map (up_frame served.checked subscriber) (map Says statuses))).slots
   unfolding frames_heard
   statuses_go [] h hearing is within = slots_stay subscriber h.slots
   statuses_go (status ∷ statuses) h hearing is within =
       let step = status_step served subscriber start now moves status h hearing.goes_on is
-          (All-head (IsWithin (min h.sent (end_after served.commits))) status statuses within) in
+      (All-head (IsWithin (min h.sent (end_after served.commits))) status statuses within) in
       let next = confirmed_by false subscriber status h in
       subst (λ its. SlotsGo subscriber h.slots
-          (frames_heard served its (map (up_frame served.checked subscriber) (map Says statuses))).slots) (sym step)
+      (frames_heard served its (map (up_frame served.checked subscriber) (map Says statuses))).slots) (sym step)
       (slots_both subscriber h.slots next.slots
-          (frames_heard served next (map (up_frame served.checked subscriber) (map Says statuses))).slots
+      (frames_heard served next (map (up_frame served.checked subscriber) (map Says statuses))).slots
       (slots_rise subscriber h.slots next.slots status.flushed refl)
       (statuses_go statuses next (still_hearing served subscriber start now moves status h hearing) is
       (All-tail (IsWithin (min h.sent (end_after served.commits))) status statuses within)))

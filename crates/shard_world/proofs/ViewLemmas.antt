@@ -45,8 +45,8 @@ pub are_rows : (key_of : List Datum → List Datum) (found : List Datum → Opti
     → ListsFound found listed → IsInOrder listed rows → AreRows test rows
 are_rows key_of found test listed rows finds lists in_order =
     let are : AreRowsOf found rows =
-        rows_in_order found listed rows (λ row. Some (key_of row)) (λ key row is. ap Some (finds.keyed key row is))
-        lists in_order in
+    rows_in_order found listed rows (λ row. Some (key_of row)) (λ key row is. ap Some (finds.keyed key row is))
+    lists in_order in
     record {
       all = λ row is. are.all (key_of row) row (row_found (found (key_of row)) row (finds.each row ∙ is));
       only = λ row has.
@@ -78,10 +78,10 @@ module _ (checked : CheckedOf) (book : Book) (transactions : List Transaction)
     (checked_is : book_checked book ≡ checked) (stands : StandsFor book transactions) where
   holding : (table : ℕ) (row : List Datum)
       → holds (setting_in checked).keys (book_rows book) table row
-          ≡ holds (setting_in checked).keys (after (setting_in checked) transactions) table row
+      ≡ holds (setting_in checked).keys (after (setting_in checked) transactions) table row
   holding table row = (are_alike (setting_in checked) (book_rows book) (after (setting_in checked) transactions)
       (subst (λ its. SameTables (book_rows book) (after (setting_in its) transactions)) checked_is
-          stands.rows)).holding table row
+      stands.rows)).holding table row
 
   stands_keyed : Stands (setting_in checked).keys (book_rows book)
   stands_keyed = subst (λ its. Stands (setting_in its).keys (book_rows book)) checked_is
@@ -99,17 +99,17 @@ module _ (checked : CheckedOf) (book : Book) (transactions : List Transaction)
       → AreRows (holds (setting_in checked).keys (after (setting_in checked) transactions) table) rows
   publisher_rows table rows lists in_order =
       let are : AreRowsOf (book_rows book table 0) rows =
-          listed_are_rows book transactions table rows stands lists in_order in
+      listed_are_rows book transactions table rows stands lists in_order in
       record {
         all = λ row is.
             let here = held_by table row (key_at (setting_in checked).keys table 0 row)
             (row_found (found_at (book_rows book table 0) (key_at (setting_in checked).keys table 0 row)) row
-                (holding table row ∙ is)) in
+            (holding table row ∙ is)) in
             are.all here.0 row here.1;
         only = λ row has.
             let here = are.only row has in
             sym (holding table row)
-                ∙ is_it (found_at (book_rows book table 0) (key_at (setting_in checked).keys table 0 row)) row
+            ∙ is_it (found_at (book_rows book table 0) (key_at (setting_in checked).keys table 0 row)) row
             (ap (found_at (book_rows book table 0)) (stands_keyed.keyed table 0 here.0 row here.1) ∙ here.1);
         ascending = are.ascending;
       }
@@ -146,10 +146,10 @@ module _ (checked : CheckedOf) (most : ℕ) (book : Book) (peers : List PeerOf) 
           → StaysAlike (sub_machine code.subscriber) (machine_of checked world number)
       by_link None None e at =
           subst (λ its. StaysAlike (sub_machine code.subscriber)
-              (machine_in (source_in checked world number) (world.peers number) its)) (sym e) at.machine
+          (machine_in (source_in checked world number) (world.peers number) its)) (sym e) at.machine
       by_link (Some link) (Some c) e at =
           subst (λ its. StaysAlike (sub_machine code.subscriber)
-              (machine_in (source_in checked world number) (world.peers number) its)) (sym e)
+          (machine_in (source_in checked world number) (world.peers number) its)) (sym e)
           (record { position = at.machine.position; kept = at.machine.kept; rows = at.machine.rows })
       by_link None (Some c) e at = absurd at
       by_link (Some link) None e at = absurd at
@@ -173,23 +173,23 @@ module _ (checked : CheckedOf) (most : ℕ) (book : Book) (peers : List PeerOf) 
   follows_at number =
       let sayable = can_be_said checked most is.publisher events is.times world is.leads in
       let good = good_at checked is.publisher.covered is.publisher.apart most events (all_timed events is.times) world
-          is.leads sayable in
+      is.leads sayable in
       good_follows (source_in checked world number)
-          (published checked is.publisher.covered is.publisher.apart world good) sayable (world.peers number)
-          (good.peers number)
+      (published checked is.publisher.covered is.publisher.apart world good) sayable (world.peers number)
+      (good.peers number)
 
   -- it has its shard after as many commits as are shown
   finds_shown : (number count table : ℕ) (code : PeerOf) → count ≡ count_before (position_of checked world number)
       → StaysAlike (sub_machine code.subscriber) (machine_of checked world number)
       → FindsRows (own_key checked table) ((sub_machine code.subscriber).rows (oid_of table))
-          (in_shard (setting_in checked) number (tables_after checked world.transactions count) table)
+      (in_shard (setting_in checked) number (tables_after checked world.transactions count) table)
   finds_shown number count table code e alike =
       subst (λ n. FindsRows (own_key checked table) ((sub_machine code.subscriber).rows (oid_of table))
-          (in_shard (setting_in checked) number (tables_after checked world.transactions n) table)) (sym e)
+      (in_shard (setting_in checked) number (tables_after checked world.transactions n) table)) (sym e)
       (finds_alike (own_key checked table) ((machine_of checked world number).rows (oid_of table))
-          ((sub_machine code.subscriber).rows (oid_of table))
+      ((sub_machine code.subscriber).rows (oid_of table))
       (in_shard (setting_in checked) number
-          (tables_after checked world.transactions (count_before (position_of checked world number))) table)
+      (tables_after checked world.transactions (count_before (position_of checked world number))) table)
       (λ key. alike.rows (oid_of table) key) ((follows_at number).rows table))
 
   -- what a subscriber's share of a table takes is what its publications let through
@@ -199,7 +199,7 @@ module _ (checked : CheckedOf) (most : ℕ) (book : Book) (peers : List PeerOf) 
       → AreRows (is_let_through checked number tables table) rows
   lets_through number tables table within rows are =
       are_rows_alike (in_shard (setting_in checked) number tables table) (is_let_through checked number tables table)
-          rows
+      rows
       (λ row. ap (λ (passes : Bool). holds (setting_in checked).keys tables table row && passes)
       (sym ((takes_what_passes checked.catalog checked.plan is.publisher.own).same number table within row))) are
 
@@ -211,16 +211,16 @@ module _ (checked : CheckedOf) (most : ℕ) (book : Book) (peers : List PeerOf) 
   shows_subscriber tables number width code shown stands seen =
       let alike = stays_at number code stands in
       let position : shown.position ≡ position_of checked world number = seen.position_is ∙ alike.position
-          ∙ (follows_at number).position_is in
+      ∙ (follows_at number).position_is in
       let shard = at_also (λ table rows. FoundBy code.subscriber table rows.items)
       (λ table rows. AreRows
-          (in_shard (setting_in checked) number (tables_after checked world.transactions shown.applied) table)
-          rows.items) shown.rows.items seen.rows
+      (in_shard (setting_in checked) number (tables_after checked world.transactions shown.applied) table)
+      rows.items) shown.rows.items seen.rows
       (λ table rows there found. are_rows (own_key checked table) ((sub_machine code.subscriber).rows (oid_of table))
       (in_shard (setting_in checked) number (tables_after checked world.transactions shown.applied) table)
-          (sub_listed code.subscriber (oid_of table)) rows.items
+      (sub_listed code.subscriber (oid_of table)) rows.items
       (finds_shown number shown.applied table code (seen.applied_is ∙ ap count_before position) alike) found.lists
-          found.in_order) in
+      found.in_order) in
       record {
         position_is = position;
         applied_is = seen.applied_is;
@@ -232,11 +232,11 @@ module _ (checked : CheckedOf) (most : ℕ) (book : Book) (peers : List PeerOf) 
             (in_shard (setting_in checked) number (tables_after checked world.transactions shown.applied) table)
             rows.items)
             (λ table rows. AreRows
-                (is_let_through checked number (tables_after checked world.transactions shown.applied) table)
-                rows.items) shown.rows.items shard
+            (is_let_through checked number (tables_after checked world.transactions shown.applied) table)
+            rows.items) shown.rows.items shard
             (λ table rows there are. lets_through number (tables_after checked world.transactions shown.applied) table
             (subst (λ n. table < n) (seen.width ∙ width) (slice_get_within shown.rows.items table rows there))
-                rows.items are);
+            rows.items are);
       }
 
   -- a subscriber that is shown is there
@@ -256,9 +256,9 @@ module _ (checked : CheckedOf) (most : ℕ) (book : Book) (peers : List PeerOf) 
     tables = seen.width ∙ width;
     rows = at_also (λ table rows. FoundIn book table rows.items)
         (λ table rows. AreRows (holds (setting_in checked).keys (after (setting_in checked) world.transactions) table)
-            rows.items) shown.rows.items seen.rows
+        rows.items) shown.rows.items seen.rows
         (λ table rows there found. publisher_rows checked book world.transactions is.checked_is is.stands table
-            rows.items found.lists found.in_order);
+        rows.items found.lists found.in_order);
     count = seen.count ∙ is.count;
     each = shows_each;
     divided = λ count applied. divides_shown checked world shown shows_each (seen.count ∙ is.count) count applied most
@@ -275,7 +275,7 @@ module _ (checked : CheckedOf) (most : ℕ) (book : Book) (peers : List PeerOf) 
           shown.subscribers.items seen.each
           (λ number subscriber there its.
           let within : number < length checked.plan =
-              within_plan number (slice_get_within shown.subscribers.items number subscriber there) in
+          within_plan number (slice_get_within shown.subscribers.items number subscriber there) in
           shows_at tables number width subscriber within (slice_get peers number) refl (is.each number within) its)
 
 -- ---- where a subscriber is
@@ -284,11 +284,11 @@ pub position_shown : (code : World) (number : ℕ) (peer : PeerOf) → slice_get
     → IsPosition code number (sub_machine peer.subscriber).position
 position_shown code number peer at there most events world is =
     let stands : PeerIs (source_in (world_checked code) world number) (book_slots (world_book code)) peer
-        (world.peers number) =
+    (world.peers number) =
     subst (PeerAt (source_in (world_checked code) world number) (book_slots (world_book code)) (world.peers number))
-        at (is.each number there) in
+    at (is.each number there) in
     (stays_at (world_checked code) most (world_book code) (world_peers code) events world is number peer
-        stands).position
+    stands).position
     ∙ (follows_at (world_checked code) most (world_book code) (world_peers code) events world is number).position_is
 
 pub nobody_shown : (code : World) (number position : ℕ) → length (world_peers code) ≤ number

@@ -44,7 +44,7 @@ module _ (wants : Bool) where
 
   change_of_wants : (shape : Option TableShape) (found : Found) (oid : ℕ) (change : Change) (machine : Machine)
       → change_of shape found oid change (with_wants wants machine)
-          ≡ then_wants wants (change_of shape found oid change machine)
+      ≡ then_wants wants (change_of shape found oid change machine)
   change_of_wants None found oid change machine = refl
   change_of_wants (Some shape) found oid change machine = staged_wants machine oid (change shape found)
 
@@ -56,7 +56,7 @@ module _ (wants : Bool) where
       → ((machine : Machine)
       → hear_truncate oids (with_wants wants machine) ≡ then_wants wants (hear_truncate oids machine))
       → empty_rest (then_wants wants outcome) (hear_truncate oids)
-          ≡ then_wants wants (empty_rest outcome (hear_truncate oids))
+      ≡ then_wants wants (empty_rest outcome (hear_truncate oids))
   rest_wants oids (Ok machine) later = later machine
   rest_wants oids (Err fault) later = refl
 
@@ -111,14 +111,27 @@ SameBut (Err one) (Err other) = one ≡ other
 SameBut one other = ⊥
 
 alike_self : (machine : Machine) → AlikeBut machine machine
-alike_self machine = record
-    { phase = refl; position = refl; kept = λ oid. refl; known = λ oid. refl; rows = λ oid key. refl; work =
-    λ oid key. refl }
+alike_self machine = record {
+  phase = refl;
+  position = refl;
+  kept = λ oid. refl;
+  known = λ oid. refl;
+  rows = λ oid key. refl;
+  work =
+      λ oid key. refl;
+}
 
 same_wants : (wants : Bool) (outcome : Outcome) → SameBut (then_wants wants outcome) outcome
 same_wants wants (Ok machine) =
-    record { phase = refl; position = refl; kept = λ oid. refl; known = λ oid. refl; rows = λ oid key. refl; work =
-    λ oid key. refl }
+    record {
+      phase = refl;
+      position = refl;
+      kept = λ oid. refl;
+      known = λ oid. refl;
+      rows = λ oid key. refl;
+      work =
+          λ oid key. refl;
+    }
 same_wants wants (Err fault) = refl
 
 pub same_then : (one other last : Outcome) → SameOutcome one other → SameBut other last → SameBut one last
@@ -147,15 +160,22 @@ keepalive_wants : (wants : Bool) (found : Option Keepalive) (machine : Machine)
     → SameBut (hear_keepalive found (with_wants wants machine)) (hear_keepalive found machine)
 keepalive_wants wants None machine = refl
 keepalive_wants wants (Some keepalive) machine =
-    record { phase = refl; position = refl; kept = λ oid. refl; known = λ oid. refl; rows = λ oid key. refl; work =
-    λ oid key. refl }
+    record {
+      phase = refl;
+      position = refl;
+      kept = λ oid. refl;
+      known = λ oid. refl;
+      rows = λ oid key. refl;
+      work =
+          λ oid key. refl;
+    }
 
 decoded_wants : (wants : Bool) (read : Result Msg MsgError) (machine : Machine)
     → SameBut (hear_decoded read (with_wants wants machine)) (hear_decoded read machine)
 decoded_wants wants (Err fault) machine = refl
 decoded_wants wants (Ok message) machine =
     subst (λ outcome. SameBut outcome (hear message machine))
-        (sym (message_wants wants machine.phase message machine)) (same_wants wants (hear message machine))
+    (sym (message_wants wants machine.phase message machine)) (same_wants wants (hear message machine))
 
 data_wants : (wants : Bool) (found : Option (XLogData × List ℕ)) (machine : Machine)
     → SameBut (hear_data found (with_wants wants machine)) (hear_data found machine)
@@ -192,8 +212,16 @@ in_wants wants (Busy begin) frame machine = stream_wants wants frame machine
 
 as_other : (one other : Machine) → AlikeBut one other → Alike one (with_wants one.wants_reply other)
 as_other one other alike =
-    record { phase = alike.phase; position = alike.position; wants_reply = refl; kept = alike.kept; known =
-        alike.known; rows = alike.rows; work = alike.work }
+    record {
+      phase = alike.phase;
+      position = alike.position;
+      wants_reply = refl;
+      kept = alike.kept;
+      known =
+          alike.known;
+      rows = alike.rows;
+      work = alike.work;
+    }
 
 pub frame_but : (frame : Frame) (one other : Machine) → AlikeBut one other
     → SameBut (hear_frame frame one) (hear_frame frame other)
@@ -222,4 +250,4 @@ cut_but (Rest bytes) one other alike = record { fault = refl; machine = alike }
 cut_but (Bad fault bytes) one other alike = record { fault = refl; machine = alike }
 cut_but (Then frame more) one other alike =
     then_but one other (hear_frame frame one) (hear_frame frame other) (hear_cut more) alike
-        (frame_but frame one other alike) (λ a b h. cut_but more a b h)
+    (frame_but frame one other alike) (λ a b h. cut_but more a b h)

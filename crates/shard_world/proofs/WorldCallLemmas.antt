@@ -80,11 +80,11 @@ module _ (source : Source) (more : List Transaction) (position : ℕ) where
   place_longer start at moves there =
       let on = log_goes_on source.checked source.transactions more in
       ap (λ log. all_moved (telling_of source.checked) log
-          (place_at source.number (length source.checked.catalog.tables) start) moves) on.is
+      (place_at source.number (length source.checked.catalog.tables) start) moves) on.is
       ∙ all_moved_longer (telling_of source.checked) (log_in source) on.others
-          (place_at source.number (length source.checked.catalog.tables) start) moves
+      (place_at source.number (length source.checked.catalog.tables) start) moves
       (subst (λ p. AllThere (telling_of source.checked) (log_in source)
-          (place_at source.number (length source.checked.catalog.tables) p) moves) (sym at) there)
+      (place_at source.number (length source.checked.catalog.tables) p) moves) (sym at) there)
 
   abbrev run_with : ℕ → List Move → List CommitOf → List ℕ → Run
   run_with start moves log passed = record (run_of source start moves 0) { log = log; passed = passed }
@@ -97,17 +97,17 @@ module _ (source : Source) (more : List Transaction) (position : ℕ) where
       let on = log_goes_on source.checked source.transactions more in
       let place : Place = place_of source start moves in
       let grown : IsStreaming link
-          (run_with start moves (log_in source ++ on.others) (take delivered (down_bytes source (Some start) moves)))
-          place =
+      (run_with start moves (log_in source ++ on.others) (take delivered (down_bytes source (Some start) moves)))
+      place =
       log_grows link (run_of source start moves delivered) place on.others speaks in
       subst (IsStreaming link (run_of (with_more source more) start moves delivered))
-          (sym (place_longer start at moves there))
+      (sym (place_longer start at moves there))
       (subst (λ bytes. IsStreaming link
-          (run_with start moves (log_of source.checked (source.transactions ++ more)) (take delivered bytes)) place)
-          (sym (bytes_longer (Some start) at moves there))
+      (run_with start moves (log_of source.checked (source.transactions ++ more)) (take delivered bytes)) place)
+      (sym (bytes_longer (Some start) at moves there))
       (subst (λ log. IsStreaming link
-          (run_with start moves log (take delivered (down_bytes source (Some start) moves))) place) (sym on.is)
-          grown))
+      (run_with start moves log (take delivered (down_bytes source (Some start) moves))) place) (sym on.is)
+      grown))
 
 module _ (source : Source) (more : List Transaction) where
   linked_longer : (slots : List Slot) (link : Link) (subscriber : Subscriber) (peer : w.Peer) (reached : ℕ)
@@ -150,5 +150,8 @@ module _ (source : Source) (more : List Transaction) where
       → PeerIs source slots code peer
       → PeerIs (with_more source more) slots code peer
   is_longer slots code peer good is =
-      record { named = is.named; at =
-      at_longer slots code.link code.subscriber peer peer.connection good.connected is.at }
+      record {
+        named = is.named;
+        at =
+            at_longer slots code.link code.subscriber peer peer.connection good.connected is.at;
+      }

@@ -29,7 +29,7 @@ ups_fair : (position reached : ℕ) (reports : List Status) → All (IsReported 
     → All (IsFair position reached) (Asks position ∷ map Says reports)
 ups_fair position reached reports low =
     All-cons (IsFair position reached) (Asks position) (map Says reports) refl
-        (All-map (IsFair position reached) Says reports low)
+    (All-map (IsFair position reached) Says reports low)
 
 if_fair : (P : Up → Type 0) (whole : Bool) (up : Up) (others : List Up) → P up → All P others
     → All P (if_whole whole up others)
@@ -41,10 +41,10 @@ whole_fair : (checked : CheckedOf) (subscriber : ℕ) (P : Up → Type 0) (count
 whole_fair checked subscriber P count [] fair = All-nil P
 whole_fair checked subscriber P count (up ∷ ups) fair =
     if_fair P (nat_le (length (spelled_up checked subscriber up)) count) up
-        (whole_up checked subscriber (count - length (spelled_up checked subscriber up)) ups)
+    (whole_up checked subscriber (count - length (spelled_up checked subscriber up)) ups)
     (All-head P up ups fair)
-        (whole_fair checked subscriber P (count - length (spelled_up checked subscriber up)) ups
-        (All-tail P up ups fair))
+    (whole_fair checked subscriber P (count - length (spelled_up checked subscriber up)) ups
+    (All-tail P up ups fair))
 
 -- ---- one command or status
 
@@ -69,7 +69,7 @@ module _ (source : Source) (position reached now : ℕ) (timed : now < 2 ^ 64) (
         (whole_in n (down_items source (Some (max position confirmed)) moves)) ≡ reached)
         (zero_is delivered connected.delivered)
         (ap (position_after position) (none_in_nothing (down_items source (Some (max position confirmed)) moves))
-            ∙ connected.reached_is);
+        ∙ connected.reached_is);
     confirmed_is = connected.confirmed_is;
     reports = connected.reports;
   }
@@ -89,10 +89,10 @@ module _ (source : Source) (position reached now : ℕ) (timed : now < 2 ^ 64) (
   replies_connected confirmed start moves true connected =
       moves_connected source position confirmed reached
       (record { start = start; moves = moves; reports = reports; heard = heard; delivered = delivered })
-          (Keep now false) connected timed tt
+      (Keep now false) connected timed tt
   replies_connected confirmed start moves false connected =
       subst (λ all. IsHeardTo (record { confirmed = confirmed; start = start; moves = all })) (sym (append-nil moves))
-          connected
+      connected
 
   says_connected : (confirmed flushed : ℕ) (start : Option ℕ) (moves : List Move) → flushed ≤ reached
       → IsHeardTo (record { confirmed = confirmed; start = start; moves = moves })
@@ -114,8 +114,12 @@ module _ (source : Source) (position reached now : ℕ) (timed : now < 2 ^ 64) (
       → IsHeardTo (hear_up now session up)
   up_connected session (Asks asked) fair connected =
       subst (λ p. IsHeardTo
-          (record { confirmed = session.confirmed; start = start_at session.start p session.confirmed; moves =
-          session.moves })) (sym fair)
+      (record {
+        confirmed = session.confirmed;
+        start = start_at session.start p session.confirmed;
+        moves =
+            session.moves;
+      })) (sym fair)
       (asks_connected session.confirmed session.start session.moves connected)
   up_connected session (Says status) fair connected =
       replies_connected (max session.confirmed status.flushed) session.start session.moves status.wants_reply
@@ -126,22 +130,26 @@ module _ (source : Source) (position reached now : ℕ) (timed : now < 2 ^ 64) (
   ups_connected [] session fair connected = connected
   ups_connected (up ∷ ups) session fair connected =
       ups_connected ups (hear_up now session up) (All-tail (IsFair position reached) up ups fair)
-          (up_connected session up (All-head (IsFair position reached) up ups fair) connected)
+      (up_connected session up (All-head (IsFair position reached) up ups fair) connected)
 
 -- where a connection hears more bytes
 heard_connected : (source : Source) (now : ℕ) → now < 2 ^ 64 → (peer : Peer) (c : Connection) (more : ℕ)
     → (good : IsGood source (record peer { connection = Some c }))
     → IsConnected source peer.position (heard_of source now peer c more).confirmed good.connected.0
-    (record c { start = (heard_of source now peer c more).start; moves =
-        (heard_of source now peer c more).moves; heard = c.heard + more })
+    (record c {
+      start = (heard_of source now peer c more).start;
+      moves =
+          (heard_of source now peer c more).moves;
+      heard = c.heard + more;
+    })
 heard_connected source now timed peer c more good =
     let fair = All-drop (IsFair peer.position good.connected.0)
-        (length (whole_up source.checked source.number c.heard (ups_of peer c)))
-        (whole_up source.checked source.number (c.heard + more) (ups_of peer c))
+    (length (whole_up source.checked source.number c.heard (ups_of peer c)))
+    (whole_up source.checked source.number (c.heard + more) (ups_of peer c))
     (whole_fair source.checked source.number (IsFair peer.position good.connected.0) (c.heard + more) (ups_of peer c)
-        (ups_fair peer.position good.connected.0 c.reports good.connected.1.reports)) in
+    (ups_fair peer.position good.connected.0 c.reports good.connected.1.reports)) in
     ups_connected source peer.position good.connected.0 now timed c.reports (c.heard + more) c.delivered
-        (newly source peer c more)
+    (newly source peer c more)
     (record { confirmed = peer.confirmed; start = c.start; moves = c.moves }) fair
     (record {
       started = good.connected.1.started;
@@ -170,18 +178,18 @@ hears_stay source now timed peer c more good =
 pub down_longer : (source : Source) (more : List Transaction) (position : ℕ) (start : Option ℕ)
     → StartsAt position start → (moves : List Move)
     → AllThere (telling_of source.checked) (log_in source)
-        (place_at source.number (length source.checked.catalog.tables) position) moves
+    (place_at source.number (length source.checked.catalog.tables) position) moves
     → down_items (with_more source more) start moves ≡ down_items source start moves
 down_longer source more position None at moves there = refl
 down_longer source more position (Some start) at moves there =
     let on = log_goes_on source.checked source.transactions more in
     let there_at = subst (λ p. AllThere (telling_of source.checked) (log_in source)
-        (place_at source.number (length source.checked.catalog.tables) p) moves) (sym at) there in
+    (place_at source.number (length source.checked.catalog.tables) p) moves) (sym at) there in
     ap (λ log. Response ∷ all_items (telling_of source.checked) log
-        (place_at source.number (length source.checked.catalog.tables) start) moves) on.is
+    (place_at source.number (length source.checked.catalog.tables) start) moves) on.is
     ∙ ap (λ items. Response ∷ items)
-        (items_longer (telling_of source.checked) (log_in source) on.others
-        (place_at source.number (length source.checked.catalog.tables) start) moves there_at)
+    (items_longer (telling_of source.checked) (log_in source) on.others
+    (place_at source.number (length source.checked.catalog.tables) start) moves there_at)
 
 longer_connected : (source : Source) (more : List Transaction) (position confirmed reached : ℕ) (c : Connection)
     → IsConnected source position confirmed reached c → IsConnected (with_more source more) position confirmed reached c
@@ -193,7 +201,7 @@ longer_connected source more position confirmed reached c connected =
       there = subst (λ log. AllThere (telling_of source.checked) log
           (place_at source.number (length source.checked.catalog.tables) position) c.moves) (sym on.is)
           (all_there_longer (telling_of source.checked) (log_in source) on.others
-              (place_at source.number (length source.checked.catalog.tables) position) c.moves connected.there);
+          (place_at source.number (length source.checked.catalog.tables) position) c.moves connected.there);
       clocked = connected.clocked;
       delivered = subst (λ items. c.delivered ≤ length (flat_map spelled items)) (sym same) connected.delivered;
       reached_is = ap (λ items. position_after position (whole_in c.delivered items)) same ∙ connected.reached_is;

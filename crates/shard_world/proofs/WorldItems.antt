@@ -30,7 +30,7 @@ pub none_in_nothing : (items : List Item) → whole_in 0 items ≡ []
 none_in_nothing [] = refl
 none_in_nothing (item ∷ items) = by_test (nat_le (length (spelled item)) 0)
     (λ fits. let short : length (spelled item) ≤ 0 = leb-true (length (spelled item)) 0 fits in
-        absurd (omega (arith, short, long_item item)))
+    absurd (omega (arith, short, long_item item)))
     (λ over. ap (λ b. if_whole b item (whole_in (0 - length (spelled item)) items)) over)
 
 -- more items change nothing of the bytes of those that are there
@@ -43,8 +43,8 @@ whole_more count [] more h = subst (λ n. whole_in n more ≡ []) (sym nothing) 
 whole_more count (item ∷ items) more h = by_test (nat_le (length (spelled item)) count)
     (λ fits. ap (λ b. if_whole b item (whole_in (count - length (spelled item)) (items ++ more))) fits
     ∙ ap (λ others. item ∷ others)
-        (whole_more (count - length (spelled item)) items more
-        (omega (arith, h, length-append (spelled item) (flat_map spelled items))))
+    (whole_more (count - length (spelled item)) items more
+    (omega (arith, h, length-append (spelled item) (flat_map spelled items))))
     ∙ ap (λ b. if_whole b item (whole_in (count - length (spelled item)) items)) (sym fits))
     (λ over. ap (λ b. if_whole b item (whole_in (count - length (spelled item)) (items ++ more))) over
     ∙ ap (λ b. if_whole b item (whole_in (count - length (spelled item)) items)) (sym over))
@@ -70,7 +70,7 @@ items_raise position [] = omega arith
 items_raise position (item ∷ items) =
     let first = item_raises position item in
     let others : raised_by position item ≤ position_after (raised_by position item) items =
-        items_raise (raised_by position item) items in
+    items_raise (raised_by position item) items in
     omega (arith, first, others)
 
 pub more_raise : (position count more : ℕ) (items : List Item) → count ≤ more
@@ -79,15 +79,15 @@ more_raise position count more [] h = omega arith
 more_raise position count more (item ∷ items) h = by_test (nat_le (length (spelled item)) count)
     (λ fits. by_test (nat_le (length (spelled item)) more)
     (λ also. subst (λ b. position_after position (if_whole b item (whole_in (count - length (spelled item)) items)) ≤
-        position_after position (whole_in more (item ∷ items))) (sym fits)
+    position_after position (whole_in more (item ∷ items))) (sym fits)
     (subst (λ b. position_after (raised_by position item) (whole_in (count - length (spelled item)) items) ≤
-        position_after position (if_whole b item (whole_in (more - length (spelled item)) items))) (sym also)
+    position_after position (if_whole b item (whole_in (more - length (spelled item)) items))) (sym also)
     (more_raise (raised_by position item) (count - length (spelled item)) (more - length (spelled item)) items
-        (omega (arith, h)))))
+    (omega (arith, h)))))
     (λ over. absurd (let small = leb-true (length (spelled item)) count fits in let big =
-        leb-false (length (spelled item)) more over in omega (arith, small, big, h))))
+    leb-false (length (spelled item)) more over in omega (arith, small, big, h))))
     (λ over. subst (λ b. position_after position (if_whole b item (whole_in (count - length (spelled item)) items)) ≤
-        position_after position (whole_in more (item ∷ items))) (sym over)
+    position_after position (whole_in more (item ∷ items))) (sym over)
     (items_raise position (whole_in more (item ∷ items))))
 
 -- ---- a longer log
@@ -98,13 +98,13 @@ with_more source more = record source { transactions = source.transactions ++ mo
 entries_append : (setting : Setting) (tables : Tables) (number : ℕ) (transactions more : List Transaction)
     → entries_from setting tables number (transactions ++ more)
     ≡ entries_from setting tables number transactions
-        ++ entries_from setting (fold (left_by setting) tables transactions) (number + length transactions) more
+    ++ entries_from setting (fold (left_by setting) tables transactions) (number + length transactions) more
 entries_append setting tables number [] more = ap (λ n. entries_from setting tables n more) (sym (add-zero number))
 entries_append setting tables number (transaction ∷ transactions) more =
     ap (λ others. log.commit_of number transaction.time (record_of setting tables transaction.commands) ∷ others)
     (entries_append setting (left_by setting tables transaction) (number + 1) transactions more
     ∙ ap (λ n. entries_from setting (left_by setting tables transaction) (number + 1) transactions
-        ++ entries_from setting (fold (left_by setting) (left_by setting tables transaction) transactions) n more)
+    ++ entries_from setting (fold (left_by setting) (left_by setting tables transaction) transactions) n more)
     (at_later number (length transactions)))
   where
     at_later : (n count : ℕ) → n + 1 + count ≡ n + suc count
@@ -131,6 +131,6 @@ sayable_first checked transactions more h =
       few = omega (arith, h.few, length-append transactions more);
       said = λ subscriber told place commit at. h.said subscriber told place commit
           (ap (λ all. slice_get all place) on.is
-              ∙ got_longer (log_of checked transactions) on.others place
-              (slice_get_within (log_of checked transactions) place commit at) ∙ at);
+          ∙ got_longer (log_of checked transactions) on.others place
+          (slice_get_within (log_of checked transactions) place commit at) ∙ at);
     }

@@ -51,9 +51,11 @@ step_grows : (checked : CheckedOf) (most : ℕ) (world : World) (now : ℕ) (eve
     (next : World) → Steps checked most world now event answer next
     → GrowsTo world.transactions next.transactions
 step_grows checked most world now (Commit commands time) answer next steps = elim steps [
-  | inl commits ↦ record
-      { more = record { commands = commands; time = time } ∷ []; is =
-      transactions_of next (with_transaction world commands time) commits.next_is }
+  | inl commits ↦ record {
+    more = record { commands = commands; time = time } ∷ [];
+    is =
+        transactions_of next (with_transaction world commands time) commits.next_is;
+  }
   | inr refuses ↦ stays world.transactions next (transactions_of next world refuses.next_is)
 ]
 step_grows checked most world now (On subscriber event) answer next steps =
@@ -73,8 +75,11 @@ leads_grow checked most [] world last leads = stays world.transactions last (tra
 leads_grow checked most (event ∷ events) world last leads =
     let first = step_grows checked most world event.0 event.1 leads.0 leads.1 leads.2 in
     let later = leads_grow checked most events leads.1 last leads.3 in
-    record { more = first.more ++ later.more; is = later.is ∙ ap (λ front. front ++ later.more) first.is
-        ∙ append_assoc world.transactions first.more later.more }
+    record {
+      more = first.more ++ later.more;
+      is = later.is ∙ ap (λ front. front ++ later.more) first.is
+          ∙ append_assoc world.transactions first.more later.more;
+    }
 
 -- ---- what is so of the world
 
@@ -95,10 +100,10 @@ module _ (checked : CheckedOf) (covered : Covered (setting_in checked)) (keeps :
     accepted = good.accepted;
     peers = λ other. by_test (other == subscriber)
         (λ same. subst (IsGood (source_in checked world other))
-            (sym (ap (λ b. if b then peer else world.peers other) same))
+        (sym (ap (λ b. if b then peer else world.peers other) same))
         (subst (λ n. IsGood (source_in checked world n) peer) (sym ((unsigned_Decides other subscriber).0 same)) new))
         (λ differ. subst (IsGood (source_in checked world other))
-            (sym (ap (λ b. if b then peer else world.peers other) differ)) (good.peers other));
+        (sym (ap (λ b. if b then peer else world.peers other) differ)) (good.peers other));
   }
 
   pub step_good : (most : ℕ) (world : World) (now : ℕ) (event : Event) (answer : Answer) (next : World) → now < 2 ^ 64
@@ -124,13 +129,13 @@ module _ (checked : CheckedOf) (covered : Covered (setting_in checked)) (keeps :
             (with_peer world subscriber (step_in checked world subscriber now event).1) moves.next_is
             (peer_changes world subscriber (step_in checked world subscriber now event).1 good
             (peer_good (source_in checked world subscriber) (published world good) sayable now timed event
-                (world.peers subscriber) (world.peers subscriber).connection refl (good.peers subscriber)))
+            (world.peers subscriber) (world.peers subscriber).connection refl (good.peers subscriber)))
         | inr breaks ↦ same_world next
             (with_peer world subscriber (broken_in checked world subscriber now event breaks.some)) breaks.next_is
             (peer_changes world subscriber (broken_in checked world subscriber now event breaks.some) good
             (broken_good (source_in checked world subscriber) (published world good) sayable now timed event
-                (world.peers subscriber) breaks.some (world.peers subscriber).connection refl
-                (good.peers subscriber)))
+            (world.peers subscriber) breaks.some (world.peers subscriber).connection refl
+            (good.peers subscriber)))
       ]
 
   leads_good : (most : ℕ) (events : List (ℕ × Event)) → All IsTimed events → (world last : World)
@@ -161,7 +166,7 @@ module _ (checked : CheckedOf) (covered : Covered (setting_in checked)) (keeps :
   hold_exactly most events timed world leads sayable subscriber =
       let good = good_at most events timed world leads sayable in
       (good_follows (source_in checked world subscriber) (published world good) sayable (world.peers subscriber)
-          (good.peers subscriber)).rows
+      (good.peers subscriber)).rows
 
   pub tables_right : (most : ℕ) (events : List (ℕ × Event)) → All IsTimed events → (world : World)
       → Leads checked most events first_world world → FitsLayouts checked world.transactions
@@ -196,15 +201,18 @@ step_timed checked most world event answer next timed steps so = by_event event.
     by_event (Commit commands time) fits step = elim step [
       | inl commits ↦ same_log checked most next.transactions (with_transaction world commands time).transactions
           (transactions_of next (with_transaction world commands time) commits.next_is) (record {
-        accepted = accepted_more (setting_in checked) no_rows world.transactions
-            (record { commands = commands; time = time }) so.accepted commits.accepted;
-        timed = All-append IsTimedTransaction world.transactions (record { commands = commands; time = time } ∷ [])
-            so.timed
-            (All-cons IsTimedTransaction (record { commands = commands; time = time }) [] fits
+            accepted = accepted_more (setting_in checked) no_rows world.transactions
+                (record { commands = commands; time = time }) so.accepted commits.accepted;
+            timed = All-append IsTimedTransaction world.transactions (record { commands = commands; time = time } ∷ [])
+                so.timed
+                (All-cons IsTimedTransaction (record { commands = commands; time = time }) [] fits
                 (All-nil IsTimedTransaction));
-        few = omega (arith, commits.room,
-            length-append world.transactions (record { commands = commands; time = time } ∷ []));
-      })
+            few = omega (
+              arith,
+              commits.room,
+              length-append world.transactions (record { commands = commands; time = time } ∷ []),
+            );
+          })
       | inr refuses ↦ stays_so (transactions_of next world refuses.next_is)
     ]
     by_event (On subscriber peer_event) fits step = by_number (nat_lt subscriber (length checked.plan)) step
@@ -237,19 +245,19 @@ pub can_be_said : (checked : CheckedOf) (most : ℕ) → IsPublisher checked mos
     → FitsLayouts checked world.transactions
 can_be_said checked most publisher events timed world leads =
     let log = leads_timed checked most events timed first_world world leads
-        (record { accepted = tt; timed = All-nil IsTimedTransaction; few = omega arith }) in
+    (record { accepted = tt; timed = All-nil IsTimedTransaction; few = omega arith }) in
     logs_fit_layouts checked publisher.covered publisher.limited world.transactions log.accepted log.timed
-        (omega (arith, log.few, publisher.most_is))
+    (omega (arith, log.few, publisher.most_is))
 
 pub worlds_hold_exactly : WorldsHoldExactly
 worlds_hold_exactly checked most publisher events timed world leads =
     hold_exactly checked publisher.covered publisher.apart most events (all_timed events timed) world leads
-        (can_be_said checked most publisher events timed world leads)
+    (can_be_said checked most publisher events timed world leads)
 
 pub worlds_start_as_asked : WorldsStartAsAsked
 worlds_start_as_asked checked most publisher events timed world leads subscriber =
     let good = good_at checked publisher.covered publisher.apart most events (all_timed events timed) world leads
-        (can_be_said checked most publisher events timed world leads) in
+    (can_be_said checked most publisher events timed world leads) in
     asked (world.peers subscriber) (world.peers subscriber).connection (good.peers subscriber).connected
   where
     asked : (peer : Peer) (connection : Option Connection)
@@ -266,9 +274,9 @@ taker_is_one checked subscriber table row h = by_test (nat_lt subscriber (length
     (λ one. ltb-true subscriber (length checked.plan) one)
     (λ past. absurd (
     let shares : slice_index_or checked.plan subscriber [] ≡ [] =
-        get_or_past checked.plan subscriber [] (ltb-false subscriber (length checked.plan) past) in
+    get_or_past checked.plan subscriber [] (ltb-false subscriber (length checked.plan) past) in
     let none : takes (share_at checked.plan subscriber table) row ≡ false =
-        ap (λ (list : List ShareOf). takes (slice_index_or list table Nothing) row) shares ∙ no_share table in
+    ap (λ (list : List ShareOf). takes (slice_index_or list table Nothing) row) shares ∙ no_share table in
     cc))
   where
     no_share : (n : ℕ) → takes (slice_index_or [] n Nothing) row ≡ false
@@ -278,8 +286,8 @@ pub worlds_divide_rows : WorldsDivideRows
 worlds_divide_rows checked most publisher sound events timed world leads count applied = record {
   somewhere = λ table row there.
       let owner = sound.one_owner table row
-          ((tables_right checked publisher.covered publisher.apart most events (all_timed events timed) world leads
-          (can_be_said checked most publisher events timed world leads) count).fit table row there) in
+      ((tables_right checked publisher.covered publisher.apart most events (all_timed events timed) world leads
+      (can_be_said checked most publisher events timed world leads) count).fit table row there) in
       let is_one = taker_is_one checked owner.owner table row owner.takes_it in
       record {
         owner = owner.owner;
@@ -298,13 +306,13 @@ worlds_divide_rows checked most publisher sound events timed world leads count a
   where
     has_as : (subscriber : ℕ) → subscriber < length checked.plan → (table : ℕ) (row : List Datum)
         → has_row checked world subscriber table row
-            ≡ in_shard (setting_in checked) subscriber (after (setting_in checked) (take count world.transactions))
-            table row
+        ≡ in_shard (setting_in checked) subscriber (after (setting_in checked) (take count world.transactions))
+        table row
     has_as subscriber is_one table row =
         (hold_exactly checked publisher.covered publisher.apart most events (all_timed events timed) world leads
-            (can_be_said checked most publisher events timed world leads) subscriber table).each row
+        (can_be_said checked most publisher events timed world leads) subscriber table).each row
         ∙ ap (λ n. in_shard (setting_in checked) subscriber (after (setting_in checked) (take n world.transactions))
-            table row) (applied subscriber is_one)
+        table row) (applied subscriber is_one)
 
     both : {p q : Bool} → p ≡ true → q ≡ true → (p && q) ≡ true
     both h k = rw (h, k) refl

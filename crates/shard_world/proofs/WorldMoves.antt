@@ -36,14 +36,14 @@ module _ (before after : World) (same : world_checked after ≡ world_checked be
       → StepsOn before after now (Commit commands time) (Committed number)
   commits_one commands time number now timed time_fits peers commits most events world is =
       let steps = commit_steps (world_checked before) most (world_book before) (world_peers before) events world is
-          (world_book after) commands time number now commits in
+      (world_book after) commands time number now commits in
       record {
         next = with_transaction world commands time;
         steps = steps;
         is = as_world most (events ++ (now, Commit commands time) ∷ []) (with_transaction world commands time)
             (world_peers before) peers
             (commit_after (world_checked before) most (world_book before) (world_peers before) events world is
-                (world_book after) commands time number now timed time_fits commits steps);
+            (world_book after) commands time number now timed time_fits commits steps);
         checked = same;
       }
 
@@ -55,13 +55,13 @@ module _ (before after : World) (same : world_checked after ≡ world_checked be
       → StepsOn before after now (Commit commands time) (Refused error)
   refuses_one commands time now error timed time_fits peers refused memory kept most events world is =
       let steps = refusal_steps (world_checked before) most (world_book before) (world_peers before) events world is
-          commands time now error refused memory in
+      commands time now error refused memory in
       record {
         next = world;
         steps = steps;
         is = as_world most (events ++ (now, Commit commands time) ∷ []) world (world_peers before) peers
             (refused_after (world_checked before) most (world_book before) (world_peers before) events world is
-                (world_book after) commands time now error timed time_fits kept steps);
+            (world_book after) commands time now error timed time_fits kept steps);
         checked = same;
       }
 
@@ -81,7 +81,7 @@ module _ (before after : World) (same : world_checked after ≡ world_checked be
               (with_peer world number (w.step_in (world_checked before) world number now event).1)
               (slice_set (world_peers before) number new) peers
               (world_after (world_checked before) most (world_book before) (world_peers before) events world is
-                  (world_book after) number now there timed new made.own event answer
+              (world_book after) number now there timed new made.own event answer
               (w.step_in (world_checked before) world number now event).1 made.steps.peer_is (made_steps made));
           checked = same;
         }
@@ -93,16 +93,23 @@ module _ (before after : World) (same : world_checked after ≡ world_checked be
               (with_peer world number (w.broken_in (world_checked before) world number now event broke.on.breaks.some))
               (slice_set (world_peers before) number new) peers
               (world_after (world_checked before) most (world_book before) (world_peers before) events world is
-                  (world_book after) number now there timed new broke.on.own event answer
+              (world_book after) number now there timed new broke.on.own event answer
               (w.broken_in (world_checked before) world number now event broke.on.breaks.some) broke.on.breaks.peer_is
-                  (broke_steps broke));
+              (broke_steps broke));
           checked = same;
         }
       ]
     where
       case : Case
-      case = record { checked = world_checked before; most = most; events = events; world = world; number =
-          number; now = now }
+      case = record {
+        checked = world_checked before;
+        most = most;
+        events = events;
+        world = world;
+        number =
+            number;
+        now = now;
+      }
 
       log : HasLog case (world_book before)
       log = log_there (world_checked before) most (world_book before) (world_peers before) events world is number now
@@ -138,9 +145,14 @@ module _ (before after : World) (same : world_checked after ≡ world_checked be
           (with_peer world number (w.broken_in (world_checked before) world number now event broke.on.breaks.some))
       broke_steps broke = subst (λ its. w.StepsOn its (world_checked before) world number now event answer
           (with_peer world number (w.broken_in (world_checked before) world number now event broke.on.breaks.some)))
-              (sym known)
-          (inr (record { needed = broke.needed; some = broke.on.breaks.some; answer_is = broke.answer_is; next_is =
-              refl }))
+          (sym known)
+          (inr (record {
+            needed = broke.needed;
+            some = broke.on.breaks.some;
+            answer_is = broke.answer_is;
+            next_is =
+                refl;
+          }))
 
   -- ---- no such subscriber
 
@@ -166,7 +178,7 @@ module _ (before after : World) (same : world_checked after ≡ world_checked be
       nobody_after : (most : ℕ) (events : List (ℕ × Event)) (world : w.World) → IsWorld before most events world
           → Steps (world_checked before) most world now (On number event) NoSubscriber world
           → IsWorldBy (world_checked before) most (world_book after) (world_peers before)
-              (events ++ (now, On number event) ∷ []) world
+          (events ++ (now, On number event) ∷ []) world
       nobody_after most events world is steps = record {
         publisher = is.publisher;
         times = one_timed (world_checked before) most (world_book before) (world_peers before) events world is now

@@ -70,7 +70,7 @@ module _ (source : Source) (published : IsPublished source.checked source.transa
   down_sent position machine follows (Some start) at moves clocked =
       subst (λ p. All IsSentItem (down_items source (Some p) moves)) (sym at)
       (stream_sent source.checked source.transactions published.accepted sayable source.number position moves
-          follows.within clocked)
+      follows.within clocked)
 
   -- and is heard with no fault
   pub delivered_followed : (position : ℕ) (machine : Machine) → FollowsIn source position machine → (start : Option ℕ)
@@ -94,13 +94,13 @@ module _ (source : Source) (published : IsPublished source.checked source.transa
       (hear_cut (cut limit (take delivered (down_bytes source (Some p) moves))) (opened machine))) (sym at)
       (by_length (length (take delivered (down_bytes source (Some position) moves))) long
       (opened_followed source.checked source.transactions published source.number (opened machine)
-          (record { waits = refl; known = λ oid. refl; work_is = λ oid key. refl }) position
+      (record { waits = refl; known = λ oid. refl; work_is = λ oid key. refl }) position
       (follows_alike source.checked source.transactions source.number position machine (opened machine) follows refl
-          (λ oid key. refl) (λ oid. refl)) moves
+      (λ oid key. refl) (λ oid. refl)) moves
       (stream_sent source.checked source.transactions published.accepted sayable source.number position moves
-          follows.within clocked)
+      follows.within clocked)
       (take delivered (down_bytes source (Some position) moves))
-          (drop delivered (down_bytes source (Some position) moves))
+      (drop delivered (down_bytes source (Some position) moves))
       (take-append-drop delivered (down_bytes source (Some position) moves))))
     where
       moved_within : delivered ≤ length (flat_map spelled (down_items source (Some position) moves))
@@ -126,7 +126,7 @@ module _ (source : Source) (published : IsPublished source.checked source.transa
   follows_at peer None follows connected = follows
   follows_at peer (Some c) follows connected =
       (delivered_followed peer.position peer.machine follows c.start connected.1.started c.moves connected.1.clocked
-          c.delivered connected.1.delivered).follows
+      c.delivered connected.1.delivered).follows
 
   pub good_follows : (peer : Peer) → IsGood source peer
       → FollowsIn source (position_now source peer) (machine_now source peer)
@@ -172,8 +172,8 @@ module _ (source : Source) (position confirmed reached : ℕ) where
   pub moves_connected : (c : Connection) (move : Move) → IsConnected source position confirmed reached c
       → IsClocked move
       → IsThere (log_in source)
-          (all_moved (telling_of source.checked) (log_in source)
-          (place_at source.number (length source.checked.catalog.tables) position) c.moves) move
+      (all_moved (telling_of source.checked) (log_in source)
+      (place_at source.number (length source.checked.catalog.tables) position) c.moves) move
       → IsConnected source position confirmed reached (record c { moves = c.moves ++ move ∷ [] })
   moves_connected c move connected clock here =
       let grown = grows source c.start c.moves move in
@@ -189,8 +189,8 @@ module _ (source : Source) (position confirmed reached : ℕ) where
             (spelled_longer (down_items source c.start c.moves) grown.more));
         reached_is = ap (λ items. position_after position (whole_in c.delivered items)) grown.is
             ∙ ap (position_after position)
-                (whole_more c.delivered (down_items source c.start c.moves) grown.more connected.delivered)
-                ∙ connected.reached_is;
+            (whole_more c.delivered (down_items source c.start c.moves) grown.more connected.delivered)
+            ∙ connected.reached_is;
         confirmed_is = connected.confirmed_is;
         reports = connected.reports;
       }
@@ -205,9 +205,9 @@ module _ (source : Source) (position confirmed reached : ℕ) where
       let items = down_items source c.start c.moves in
       let raised = more_raise position c.delivered (c.delivered + more) items (omega arith) in
       let above : reached ≤ position_after position
-          (whole_in (c.delivered + more) (down_items source c.start c.moves)) =
-          subst (λ n. n ≤ position_after position (whole_in (c.delivered + more) (down_items source c.start c.moves)))
-          connected.reached_is raised in (
+      (whole_in (c.delivered + more) (down_items source c.start c.moves)) =
+      subst (λ n. n ≤ position_after position (whole_in (c.delivered + more) (down_items source c.start c.moves)))
+      connected.reached_is raised in (
         position_after position (whole_in (c.delivered + more) (down_items source c.start c.moves)),
         record {
           started = connected.started;
@@ -227,7 +227,7 @@ module _ (source : Source) (position confirmed reached : ℕ) where
       reports_below [] further above h = All-nil (IsReported further)
       reports_below (report ∷ reports) further above h = All-cons (IsReported further) report reports
           (at_most report.flushed further above (All-head (IsReported reached) report reports h))
-              (reports_below reports further above (All-tail (IsReported reached) report reports h))
+          (reports_below reports further above (All-tail (IsReported reached) report reports h))
         where
           at_most : (n further : ℕ) → reached ≤ further → n ≤ reached → n ≤ further
           at_most n further above low = omega (arith, above, low)

@@ -77,7 +77,7 @@ module _ (checked : CheckedOf) (most : ℕ) (book : Book) (peers : List PeerOf) 
     each_after : (peer : w.Peer) → PeerIs (source_in checked world number) (book_slots after) new peer → (other : ℕ)
         → other < length checked.plan
         → PeerAt (source_in checked world other) (book_slots after) ((with_peer world number peer).peers other)
-            (slice_get (slice_set peers number new) other)
+        (slice_get (slice_set peers number new) other)
     each_after peer new_is other within = by_test (other == number)
         (λ same. at_number (sym ((unsigned_Decides other number).0 same)) same)
         (λ differ. at_other (λ e. false_is differ e) differ)
@@ -89,31 +89,31 @@ module _ (checked : CheckedOf) (most : ℕ) (book : Book) (peers : List PeerOf) 
 
         at_number : number ≡ other → other == number ≡ true
             → PeerAt (source_in checked world other) (book_slots after) ((with_peer world number peer).peers other)
-                (slice_get (slice_set peers number new) other)
+            (slice_get (slice_set peers number new) other)
         at_number e same =
             subst (λ its. PeerAt (source_in checked world other) (book_slots after)
-                (if its then peer else world.peers other) (slice_get (slice_set peers number new) other)) (sym same)
+            (if its then peer else world.peers other) (slice_get (slice_set peers number new) other)) (sym same)
             (subst (λ n. PeerAt (source_in checked world n) (book_slots after) peer
-                (slice_get (slice_set peers number new) n)) e
+            (slice_get (slice_set peers number new) n)) e
             (subst (PeerAt (source_in checked world number) (book_slots after) peer)
-                (sym (get_set_here peers number new (omega (arith, there, is.count)))) new_is))
+            (sym (get_set_here peers number new (omega (arith, there, is.count)))) new_is))
 
         at_other : other ≢ number → other == number ≡ false
             → PeerAt (source_in checked world other) (book_slots after) ((with_peer world number peer).peers other)
-                (slice_get (slice_set peers number new) other)
+            (slice_get (slice_set peers number new) other)
         at_other apart differ =
             subst (λ its. PeerAt (source_in checked world other) (book_slots after)
-                (if its then peer else world.peers other) (slice_get (slice_set peers number new) other)) (sym differ)
+            (if its then peer else world.peers other) (slice_get (slice_set peers number new) other)) (sym differ)
             (subst (PeerAt (source_in checked world other) (book_slots after) (world.peers other))
-                (sym (get_set_beside peers number other new apart))
+            (sym (get_set_beside peers number other new apart))
             (at_elsewhere (source_in checked world other) (book_slots book) (book_slots after) (world.peers other)
-                (own.others other apart) (slice_get peers other) (is.each other within)))
+            (own.others other apart) (slice_get peers other) (is.each other within)))
 
     pub world_after : (event : PeerEvent) (answer : Answer) (peer : w.Peer)
         → PeerIs (source_in checked world number) (book_slots after) new peer
         → Steps checked most world now (On number event) answer (with_peer world number peer)
         → IsWorldBy checked most after (slice_set peers number new) (events ++ (now, On number event) ∷ [])
-            (with_peer world number peer)
+        (with_peer world number peer)
     world_after event answer peer new_is steps = record {
       publisher = is.publisher;
       times = one_timed now (On number event) (timed, tt);
@@ -132,7 +132,7 @@ module _ (checked : CheckedOf) (most : ℕ) (book : Book) (peers : List PeerOf) 
       → c.Commits book after_it commands time number
       → Steps checked most world now (Commit commands time) (Committed number) (with_transaction world commands time)
       → IsWorldBy checked most after_it peers (events ++ (now, Commit commands time) ∷ [])
-          (with_transaction world commands time)
+      (with_transaction world commands time)
   commit_after after_it commands time number now timed time_fits commits steps = record {
     publisher = is.publisher;
     times = one_timed now (Commit commands time) (timed, time_fits);
@@ -146,17 +146,17 @@ module _ (checked : CheckedOf) (most : ℕ) (book : Book) (peers : List PeerOf) 
         (λ slots. PeerAt (source_in checked (with_transaction world commands time) other) slots (world.peers other)
         (slice_get peers other)) (sym commits.slots)
         (at_longer (source_in checked world other) (record { commands = commands; time = time } ∷ [])
-            (book_slots book) (world.peers other) (good_peer other) (slice_get peers other) (is.each other within));
+        (book_slots book) (world.peers other) (good_peer other) (slice_get peers other) (is.each other within));
   }
 
   alike : AreAlike (setting_in checked) (book_rows book) (after (setting_in checked) world.transactions)
   alike = are_alike (setting_in checked) (book_rows book) (after (setting_in checked) world.transactions)
       (subst (λ its. SameTables (book_rows book) (after (setting_in its) world.transactions)) is.checked_is
-          is.stands.rows)
+      is.stands.rows)
 
   first_is : (commands : List Command)
       → first_fault (setting_in checked) (after (setting_in checked) world.transactions) 1 commands
-          ≡ first_fault (book_setting book) (book_rows book) 1 commands
+      ≡ first_fault (book_setting book) (book_rows book) 1 commands
   first_is commands = sym (alike.first 1 commands)
       ∙ ap (λ its. first_fault (setting_in its) (book_rows book) 1 commands) (sym is.checked_is)
 
@@ -208,5 +208,10 @@ module _ (checked : CheckedOf) (most : ℕ) (book : Book) (peers : List PeerOf) 
       → (error ≡ e.OutOfMemory → HasRoomFor book commands)
       → Steps checked most world now (Commit commands time) (Refused error) world
   refusal_steps commands time now error refused memory =
-      inr (record { error = error; refused = refused_for commands error refused memory; answer_is = refl; next_is =
-      refl })
+      inr (record {
+        error = error;
+        refused = refused_for commands error refused memory;
+        answer_is = refl;
+        next_is =
+            refl;
+      })

@@ -44,8 +44,10 @@ module _ (source : Source) (published : IsPublished source.checked source.transa
       → IsGood source (moves_on peer c move)
   moves_good peer c move good clock here = record {
     follows = good.follows;
-    connected = (good.connected.0,
-        moves_connected source peer.position peer.confirmed good.connected.0 c move good.connected.1 clock here);
+    connected = (
+      good.connected.0,
+      moves_connected source peer.position peer.confirmed good.connected.0 c move good.connected.1 clock here,
+    );
   }
 
   takes_good : (peer : Peer) (c : Connection) (place : Place) (found : Option CommitOf)
@@ -65,7 +67,7 @@ module _ (source : Source) (published : IsPublished source.checked source.transa
   take_good peer c None e whole good = whole
   take_good peer c (Some start) e whole good =
       takes_good peer c (place_of source start c.moves)
-          (slice_get (log_in source) (place_of source start c.moves).done) refl
+      (slice_get (log_in source) (place_of source start c.moves).done) refl
       (ap (λ p. place_of source p c.moves) at) peer.connection refl whole good
     where
       at : start ≡ peer.position
@@ -82,7 +84,7 @@ module _ (source : Source) (published : IsPublished source.checked source.transa
   open_good Open peer c is good = good
   open_good (Hear count) peer c is good =
       hears_good source now timed peer c (as_many count (length (up_bytes source peer c)) c.heard)
-          (as_open peer c is good)
+      (as_open peer c is good)
   open_good Take peer c is good = take_good peer c c.start refl good (as_open peer c is good)
   open_good (Keep want) peer c is good = keep_good want peer c c.start good (as_open peer c is good)
   open_good (Deliver count) peer c is good = delivers_good peer c count (as_open peer c is good)
@@ -94,7 +96,7 @@ module _ (source : Source) (published : IsPublished source.checked source.transa
           opened_good.connected.0,
           reports_connected source peer.position peer.confirmed opened_good.connected.0 c _
               (subst (λ n. n ≤ opened_good.connected.0)
-                  (sym (ap (w.position_in source peer) is ∙ opened_good.connected.1.reached_is)) (omega arith))
+              (sym (ap (w.position_in source peer) is ∙ opened_good.connected.1.reached_is)) (omega arith))
               opened_good.connected.1,
         );
       }
@@ -135,7 +137,7 @@ module _ (source : Source) (published : IsPublished source.checked source.transa
       → IsGood source peer → IsGood source (in_part source now event peer some c)
   in_part_good (Hear count) peer some c is good =
       hears_good source now timed peer c (as_many (min some count) (length (up_bytes source peer c)) c.heard)
-          (as_open peer c is good)
+      (as_open peer c is good)
   in_part_good (Deliver count) peer some c is good = delivers_good peer c (min some count) (as_open peer c is good)
   in_part_good Open peer some c is good = good
   in_part_good Take peer some c is good = good
@@ -149,4 +151,4 @@ module _ (source : Source) (published : IsPublished source.checked source.transa
   broken_good event peer some None is good = good
   broken_good event peer some (Some c) is good =
       loses_good source published sayable (in_part source now event peer some c)
-          (in_part_good event peer some c is good)
+      (in_part_good event peer some c is good)

@@ -31,7 +31,7 @@ abbrev pub caught_up : Source → ℕ → Peer → Peer
 caught_up source now peer =
     delivered_all source now (next_peer source now (Keep false)
     (take_many source now (length source.transactions)
-        (next_peer source now (Hear (sent_by source peer peer.connection)) peer)))
+    (next_peer source now (Hear (sent_by source peer peer.connection)) peer)))
 
 -- Each subscriber with a connection, in each world that events lead to, is where the last commit of the log ends
 -- afterwards, so that it has applied all of them.
@@ -41,5 +41,5 @@ SubscribersCatchUp = (checked : CheckedOf) (most : ℕ) → IsPublisher checked 
     → (world : World) → Leads checked most events first_world world → (subscriber now : ℕ) → now < 2 ^ 64
     → (c : Connection) → (world.peers subscriber).connection ≡ Some c
     → position_now (source_in checked world subscriber)
-        (caught_up (source_in checked world subscriber) now (world.peers subscriber))
-        ≡ end_of (length world.transactions)
+    (caught_up (source_in checked world subscriber) now (world.peers subscriber))
+    ≡ end_of (length world.transactions)

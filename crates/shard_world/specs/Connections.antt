@@ -53,11 +53,11 @@ HearsStep = (case : Case) → IsCase case → (before after : Book) (old : PeerO
     → (new : Link) (subscriber : Subscriber) (heard : h.Heard)
     → Ok heard ≡ hear_answer (link_ear link) before (front_of count (sub_output old.subscriber)) (link_sent link)
     → HearLeaves (ear_phase (link_ear link)) (link_ear link) (link_ear new) before after
-        (front_of count (sub_output old.subscriber)) (link_sent link) (Ok heard)
+    (front_of count (sub_output old.subscriber)) (link_sent link) (Ok heard)
     → HearSays link new (link_heard link before (front_of count (sub_output old.subscriber))) case.now (Ok heard)
     → Passes old.subscriber (length (front_of count (sub_output old.subscriber))) subscriber
     → HearsOn case count (length (front_of count (sub_output old.subscriber))) before after
-        (record { link = Some new; subscriber = subscriber })
+    (record { link = Some new; subscriber = subscriber })
 
 -- the next commit is taken up
 abbrev pub TakesStep : Type 0
@@ -84,7 +84,7 @@ DeliversStep = (case : Case) → IsCase case
     → Feeds old.subscriber (front_of count (link_output link)) after
     → LinkPasses link new (length (front_of count (link_output link)))
     → StepsTo case (Deliver count) (Delivered (length (front_of count (link_output link)))) slots
-        (record { link = Some new; subscriber = after })
+    (record { link = Some new; subscriber = after })
 
 -- the subscriber says how far it is
 abbrev pub ReportsStep : Type 0

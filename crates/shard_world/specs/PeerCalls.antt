@@ -67,15 +67,15 @@ pub record Drops (old new : PeerOf) (before after : Book) : Type 0 where
 -- ---- the step of the world, or what want of memory leaves
 
 pub record Breaks (case : Case) (event : PeerEvent) (answer : Answer) (before after : Book) (new : PeerOf) : Type 0
-    where
-  pub needed : AsksMemory (stepped case event).0
-  pub answer_is : answer ≡ OutOfMemory
-  pub on : BreaksOn case event before after new
+  where
+    pub needed : AsksMemory (stepped case event).0
+    pub answer_is : answer ≡ OutOfMemory
+    pub on : BreaksOn case event before after new
 
 abbrev pub Moves : CheckedOf → ℕ → PeerEvent → Book → Book → PeerOf → PeerOf → Answer → Type 0
 Moves checked now event before after old new answer =
     (case : Case) → Stands checked now before old case
-        → Made case event answer before after new ⊎ Breaks case event answer before after new
+    → Made case event answer before after new ⊎ Breaks case event answer before after new
 
 -- ---- how many bytes can be heard or delivered at once
 

@@ -58,9 +58,9 @@ stepped case event = step_in case.checked case.world case.number case.now event
 
 -- it answers what the world's step answers, and leaves what matches what that leaves
 pub record StepsTo (case : Case) (event : PeerEvent) (answer : Answer) (slots : List Slot) (code : PeerOf) : Type 0
-    where
-  pub answer_is : answer ≡ (stepped case event).0
-  pub peer_is : PeerIs (source_of case) slots code (stepped case event).1
+  where
+    pub answer_is : answer ≡ (stepped case event).0
+    pub peer_is : PeerIs (source_of case) slots code (stepped case event).1
 
 -- no other slot changes, and nothing else of the book
 pub record ChangesOwn (number : ℕ) (before after : Book) : Type 0 where

@@ -40,14 +40,14 @@ pub record WalksAll (before after : World) (now subscriber : ℕ) (events : List
 
 -- the first of them happen, the last of these is answered so, and no more happens
 pub record WalksSome (before after : World) (now subscriber : ℕ) (events : List PeerEvent) (answer : Answer) : Type 0
-    where
-  pub done : List PeerEvent
-  pub others : List PeerEvent
-  pub are : done ++ others ≡ events
-  pub answers : List Answer
-  pub go_on : All GoesOn answers
-  pub ends : EndsWalk answer
-  pub runs : RunsOn before after (map (on_clock now subscriber) done) (answers ++ answer ∷ [])
+  where
+    pub done : List PeerEvent
+    pub others : List PeerEvent
+    pub are : done ++ others ≡ events
+    pub answers : List Answer
+    pub go_on : All GoesOn answers
+    pub ends : EndsWalk answer
+    pub runs : RunsOn before after (map (on_clock now subscriber) done) (answers ++ answer ∷ [])
 
 abbrev pub Walks : World → World → ℕ → ℕ → List PeerEvent → Result (Unit {0}) Answer → Type 0
 Walks before after now subscriber events (Ok done) = WalksAll before after now subscriber events
@@ -84,7 +84,7 @@ pump_events takes = Hear all_bytes
 abbrev pub IsPosition : World → ℕ → ℕ → Type 0
 IsPosition code subscriber position =
     subscriber < length (world_checked code).plan → (most : ℕ) (events : List (ℕ × Event)) (world : w.World)
-        → IsWorld code most events world
+    → IsWorld code most events world
     → position ≡ position_of (world_checked code) world subscriber
 
 -- after what was heard is answered, the answers to so many takes: the last says that there is no further commit, or
@@ -102,7 +102,7 @@ pub record TakesEnough (takes commits : ℕ) (answers : List Answer) : Type 0 wh
 abbrev pub InEach : World → ℕ → (ℕ → w.World → Type 0) → Type 0
 InEach before subscriber Holds =
     subscriber < length (world_checked before).plan → (most : ℕ) (events : List (ℕ × Event)) (world : w.World)
-        → IsWorld before most events world → Holds most world
+    → IsWorld before most events world → Holds most world
 
 pub record PumpsAll (before after : World) (now subscriber : ℕ) : Type 0 where
   pub takes : ℕ
@@ -136,7 +136,7 @@ IsEndOfLog before subscriber position =
 abbrev pub WantsMemory : World → ℕ → Answer → Type 0
 WantsMemory before subscriber answer =
     InEach before subscriber
-        (λ most world. (c : Connection) → (world.peers subscriber).connection ≡ Some c → answer ≡ OutOfMemory)
+    (λ most world. (c : Connection) → (world.peers subscriber).connection ≡ Some c → answer ≡ OutOfMemory)
 
 abbrev pub PumpsThrough : World → World → ℕ → ℕ → Result (Unit {0}) Answer → Type 0
 PumpsThrough before after now subscriber (Ok done) = PumpsAll before after now subscriber

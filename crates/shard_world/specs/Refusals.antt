@@ -29,7 +29,7 @@ abbrev pub OpensAreAnswered : Type 0
 OpensAreAnswered = (case : Case) → IsCase case → (slots : List Slot) (old : PeerOf) → StandsIn case slots old
     → old.link ≡ None
     → IsAnswered (start_query (sub_slot old.subscriber) (sub_publications old.subscriber)
-        (sub_machine old.subscriber).position)
+    (sub_machine old.subscriber).position)
 
 abbrev pub HearsAreAnswered : Type 0
 HearsAreAnswered = (case : Case) → IsCase case → (book : Book) (old : PeerOf) (link : Link) (count : ℕ)
@@ -84,9 +84,9 @@ HearHalts = (case : Case) → IsCase case → (before after : Book) (old : PeerO
     → HasLog case before → StandsIn case (book_slots before) old → old.link ≡ Some link
     → (new : Link) (error : LinkFault)
     → TellsFault (told_fault error)
-        (hear_answer (link_ear link) before (front_of count (sub_output old.subscriber)) (link_sent link))
+    (hear_answer (link_ear link) before (front_of count (sub_output old.subscriber)) (link_sent link))
     → HearLeaves (ear_phase (link_ear link)) (link_ear link) (link_ear new) before after
-        (front_of count (sub_output old.subscriber)) (link_sent link) (Err error)
+    (front_of count (sub_output old.subscriber)) (link_sent link) (Err error)
     → HaltsOn case (Hear count) before after (record { link = Some new; subscriber = old.subscriber })
 
 -- nothing is said

@@ -17,8 +17,12 @@ start_in (Some begun) = Some begun.1
 -- keepalive.
 abbrev pub session_of : ℕ → ℕ → List Move → HearingOf → Session
 session_of subscriber now moves h =
-    record { confirmed = confirmed_at h.slots subscriber; start = start_in h.started; moves =
-        moves ++ replicate h.heard.replies (Keep now false) }
+    record {
+      confirmed = confirmed_at h.slots subscriber;
+      start = start_in h.started;
+      moves =
+          moves ++ replicate h.heard.replies (Keep now false);
+    }
 
 abbrev pub IsOwn : ℕ → Option (ℕ × ℕ) → Type 0
 IsOwn subscriber None = Unit {0}
@@ -56,9 +60,9 @@ StartsAreHeard = (served : Served) (subscriber position now : ℕ) (subscription
     → start_fault h.slots (end_after served.commits) subscriber position ≡ None
     → IsHearing subscriber h → h.started ≡ None
     → IsHeard subscriber now moves (frame_heard served h (up_frame served.checked subscriber (Asks position)))
-        (hear_up now (session_of subscriber now moves h) (Asks position))
+    (hear_up now (session_of subscriber now moves h) (Asks position))
     × IsBegun subscriber (max position (confirmed_at h.slots subscriber))
-        (frame_heard served h (up_frame served.checked subscriber (Asks position)))
+    (frame_heard served h (up_frame served.checked subscriber (Asks position)))
 
 -- Statuses, which say no more than what was sent and what the log has. Each that wants a reply has one.
 abbrev pub StatusesAreHeard : Type 0
@@ -67,5 +71,5 @@ StatusesAreHeard = (served : Served) (subscriber start now : ℕ) (moves : List 
     → IsHearing subscriber h → h.started ≡ Some (subscriber, start)
     → All (IsWithin (min h.sent (end_after served.commits))) statuses
     → IsHeard subscriber now moves
-        (frames_heard served h (map (up_frame served.checked subscriber) (map Says statuses)))
+    (frames_heard served h (map (up_frame served.checked subscriber) (map Says statuses)))
     (fold (hear_up now) (session_of subscriber now moves h) (map Says statuses))

@@ -68,18 +68,18 @@ pub record IsShownOnce (shown : View) (table : ℕ) (row : List Datum) : Type 0 
 
 -- each row of the tables after so many commits is shown of exactly one subscriber, and no other row is shown of any
 pub record DividesShown (checked : CheckedOf) (transactions : List Transaction) (count : ℕ) (shown : View) : Type 0
-    where
-  pub somewhere : (table : ℕ) (row : List Datum) → table < length checked.catalog.tables
-      → holds (setting_in checked).keys (tables_after checked transactions count) table row ≡ true
-      → IsShownOnce shown table row
-  pub nothing_else : (number table : ℕ) (row : List Datum) → ShowsRow shown number table row
-      → holds (setting_in checked).keys (tables_after checked transactions count) table row ≡ true
+  where
+    pub somewhere : (table : ℕ) (row : List Datum) → table < length checked.catalog.tables
+        → holds (setting_in checked).keys (tables_after checked transactions count) table row ≡ true
+        → IsShownOnce shown table row
+    pub nothing_else : (number table : ℕ) (row : List Datum) → ShowsRow shown number table row
+        → holds (setting_in checked).keys (tables_after checked transactions count) table row ≡ true
 
 -- where all have applied so many commits, and no more
 abbrev pub ShowsDivided : CheckedOf → List Transaction → View → Type 0
 ShowsDivided checked transactions shown =
     (count : ℕ) → AllAt (λ number subscriber. subscriber.applied ≡ count) shown.subscribers.items
-        → DividesShown checked transactions count shown
+    → DividesShown checked transactions count shown
 
 -- ---- all that is shown
 

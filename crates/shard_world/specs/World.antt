@@ -161,14 +161,17 @@ replied false now = []
 abbrev pub hear_up : ℕ → Session → Up → Session
 hear_up now session (Asks position) = record session { start = start_at session.start position session.confirmed }
 hear_up now session (Says status) =
-    record session { confirmed = max session.confirmed status.flushed; moves =
-    session.moves ++ replied status.wants_reply now }
+    record session {
+      confirmed = max session.confirmed status.flushed;
+      moves =
+          session.moves ++ replied status.wants_reply now;
+    }
 
 -- what is whole in these bytes and wasn't in those heard before
 abbrev pub newly : Source → Peer → Connection → ℕ → List Up
 newly source peer c more =
     drop (length (whole_up source.checked source.number c.heard (ups_of peer c)))
-        (whole_up source.checked source.number (c.heard + more) (ups_of peer c))
+    (whole_up source.checked source.number (c.heard + more) (ups_of peer c))
 
 abbrev pub heard_of : Source → ℕ → Peer → Connection → ℕ → Session
 heard_of source now peer c more =
@@ -187,8 +190,11 @@ with_connection peer c = record peer { connection = Some c }
 abbrev pub hears : Source → ℕ → Peer → Connection → ℕ → Peer
 hears source now peer c more =
     let session = heard_of source now peer c more in
-    record peer { confirmed = session.confirmed; connection =
-        Some (record c { start = session.start; moves = session.moves; heard = c.heard + more }) }
+    record peer {
+      confirmed = session.confirmed;
+      connection =
+          Some (record c { start = session.start; moves = session.moves; heard = c.heard + more });
+    }
 
 abbrev pub delivers : Peer → Connection → ℕ → Peer
 delivers peer c more = with_connection peer (record c { delivered = c.delivered + more })
@@ -205,7 +211,7 @@ moves_on peer c move = with_connection peer (record c { moves = c.moves ++ move 
 abbrev pub place_of : Source → ℕ → List Move → Place
 place_of source start moves =
     all_moved (telling_of source.checked) (log_in source)
-        (place_at source.number (length source.checked.catalog.tables) start) moves
+    (place_at source.number (length source.checked.catalog.tables) start) moves
 
 abbrev pub took : ℕ → List Msg → Answer
 took number [] = Skipped number
@@ -220,7 +226,7 @@ abbrev pub take_step : Source → ℕ → Peer → Connection → Option ℕ →
 take_step source now peer c None = (NotStarted, peer)
 take_step source now peer c (Some start) =
     let place = place_of source start c.moves in
-        takes source.checked now peer c place (slice_get (log_in source) place.done)
+    takes source.checked now peer c place (slice_get (log_in source) place.done)
 
 abbrev pub keep_step : ℕ → Bool → Peer → Connection → Option ℕ → Answer × Peer
 keep_step now want peer c None = (NotStarted, peer)
@@ -234,9 +240,11 @@ open_step source now Take peer c = take_step source now peer c c.start
 open_step source now (Keep want) peer c = keep_step now want peer c c.start
 open_step source now (Deliver count) peer c =
     let more = as_many count (length (down_of source c)) c.delivered in (Delivered more, delivers peer c more)
-open_step source now (Report want) peer c =
-    (Reported, with_connection peer
-        (record c { reports = c.reports ++ status_at (position_now source peer) now want ∷ [] }))
+open_step source now (Report want) peer c = (
+  Reported,
+  with_connection peer
+      (record c { reports = c.reports ++ status_at (position_now source peer) now want ∷ [] }),
+)
 open_step source now Lose peer c = (Lost, loses source peer)
 
 abbrev pub shut_step : PeerEvent → Peer → Answer × Peer
@@ -286,7 +294,7 @@ RefusedFor checked most world commands e.TooManyCommands = 1000 < length command
 RefusedFor checked most world commands e.LogFull = IsTransaction commands × (length world.transactions ≡ most)
 RefusedFor checked most world commands (e.At number fault) = IsTransaction commands × (length world.transactions < most)
     × (first_fault (setting_in checked) (after (setting_in checked) world.transactions) 1 commands
-        ≡ Some (number, fault_view fault))
+    ≡ Some (number, fault_view fault))
 RefusedFor checked most world commands e.OutOfMemory = IsTransaction commands × (length world.transactions < most)
 
 -- it is accepted, or refused and nothing changes; the log takes at most so many
@@ -354,4 +362,4 @@ abbrev pub Leads : CheckedOf → ℕ → List (ℕ × Event) → World → World
 Leads checked most [] world last = last ≡ world
 Leads checked most (event ∷ events) world last =
     (answer : Answer) × (next : World) × Steps checked most world event.0 event.1 answer next
-        × Leads checked most events next last
+    × Leads checked most events next last

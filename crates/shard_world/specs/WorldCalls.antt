@@ -62,7 +62,7 @@ pub record StepsInto (before after : World) (most : ℕ) (events : List (ℕ × 
 abbrev pub StepsOn : World → World → ℕ → Event → Answer → Type 0
 StepsOn before after now event answer =
     (most : ℕ) (events : List (ℕ × Event)) (world : w.World) → IsWorld before most events world
-        → StepsInto before after most events world now event answer
+    → StepsInto before after most events world now event answer
 
 -- ---- several events
 

@@ -67,7 +67,7 @@ applied_in checked world subscriber = count_before (position_of checked world su
 abbrev pub HoldsExactly : CheckedOf → World → Type 0
 HoldsExactly checked world = (subscriber : ℕ)
     → HasShard checked subscriber (machine_of checked world subscriber)
-        (after (setting_in checked) (take (applied_in checked world subscriber) world.transactions))
+    (after (setting_in checked) (take (applied_in checked world subscriber) world.transactions))
 
 abbrev pub WorldsHoldExactly : Type 0
 WorldsHoldExactly = (checked : CheckedOf) (most : ℕ) → IsPublisher checked most → (events : List (ℕ × Event))

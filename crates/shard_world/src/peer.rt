@@ -64,12 +64,7 @@ impl Peer {
     ghost use Rattle.shard_world.specs.World.{Open, Hear, Take, Keep, Deliver, Report, Lose};
 
     /// The subscriber connects, and asks for the stream from its position on.
-    #[tactic(auto, using(
-        crate::proofs::CallLemmas::is_already_open,
-        crate::proofs::CallLemmas::opens_one,
-        crate::proofs::StopLemmas::open_stays_shut,
-        crate::proofs::StopLemmas::open_is_refused
-    ))]
+    #[tactic(auto, using(crate::proofs::CallLemmas::is_already_open, crate::proofs::CallLemmas::opens_one, crate::proofs::StopLemmas::open_stays_shut, crate::proofs::StopLemmas::open_is_refused))]
     fn open(&mut self, alloc: Global, checked: &Arc<Checked, Global>) -> Result<Answer, Halted>
         ensures { (now : ℕ) (book : BookType) → Tries (checked_view (arc_value checked.now)) now Open book book
             self.old result self.new }

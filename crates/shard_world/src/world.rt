@@ -151,13 +151,7 @@ impl World {
     }
 
     /// Each commit that is left is taken up.
-    #[tactic(auto, using(
-        crate::proofs::PumpLemmas::takes_none,
-        crate::proofs::PumpLemmas::takes_more,
-        crate::proofs::PumpLemmas::takes_idle,
-        crate::proofs::PumpLemmas::takes_enough,
-        crate::proofs::PumpLemmas::takes_end
-    ))]
+    #[tactic(auto, using(crate::proofs::PumpLemmas::takes_none, crate::proofs::PumpLemmas::takes_more, crate::proofs::PumpLemmas::takes_idle, crate::proofs::PumpLemmas::takes_enough, crate::proofs::PumpLemmas::takes_end))]
     fn take_all(&mut self, now: u64, subscriber: usize) -> Result<(), Answer>
         ensures { Takes self.old self.new now subscriber result }
     {

@@ -24,12 +24,12 @@ pub record Counts (may_open : ℕ) (kind : Kind) (here after : Here) : Type 0 wh
 count_is : (t u : Bool) (may_open : ℕ) (kind : Kind) (here : Here) (y : Unit {0} × Here)
     → (t ≡ false → here.nodes < max_nodes) → (u ≡ false → kind ≡ Split → 0 < may_open)
     → (if t then Err TooLarge else (if u then Err TooDeep else Ok (tt, at here.place (here.nodes + 1) here.rest)))
-        ≡ Ok y → Counts may_open kind here y.1
+    ≡ Ok y → Counts may_open kind here y.1
 count_is true u may_open kind here y few opens e = absurd cc
 count_is false true may_open kind here y few opens e = absurd cc
 count_is false false may_open kind here y few opens e =
     subst (λ (y : Unit {0} × Here). Counts may_open kind here y.1)
-        (ok_is (tt, at here.place (here.nodes + 1) here.rest) y e)
+    (ok_is (tt, at here.place (here.nodes + 1) here.rest) y e)
     (record { rest = refl; nodes = refl; few = let h = few refl in omega arith; opens = opens refl })
 
 deep_is : (may_open : ℕ) (kind : Kind) → is_split kind && may_open == 0 ≡ false → kind ≡ Split → 0 < may_open
@@ -74,10 +74,10 @@ pub head_takes : (may_open : ℕ) (here : Here) (y : Head × Here) → head may_
 unfolding head
 head_takes may_open here y e =
     let a = bind_ok (letter here)
-        (λ kind. count may_open kind >> space >> number >>= (λ n. pure (record { kind = kind; number = n }))) y e in
+    (λ kind. count may_open kind >> space >> number >>= (λ n. pure (record { kind = kind; number = n }))) y e in
     let kind = a.0.0 in
     let d = bind_ok ((count may_open kind >> space >> number) a.0.1) (λ n. pure (record { kind = kind; number = n }))
-        y a.2 in
+    y a.2 in
     let c = bind_ok ((count may_open kind >> space) a.0.1) (λ _. number) d.0 d.1 in
     let b = bind_ok (count may_open kind a.0.1) (λ _. space) c.0 c.1 in
     let letters = letter_takes here a.0 a.1 in
@@ -87,7 +87,7 @@ head_takes may_open here y e =
     let text : here.rest ≡ words_of kind d.0.0 ++ d.0.1.rest =
     letters.parts ∙ ap (λ r. letter_of kind ∷ r) (counts.rest ∙ spaces.parts ∙ ap (λ r. 32 ∷ r) numbers.0.parts) in
     subst (λ (y : Head × Here). TakesHead may_open here y.0 y.1)
-        (ok_is (record { kind = kind; number = d.0.0 }, d.0.1) y d.2) (record {
+    (ok_is (record { kind = kind; number = d.0.0 }, d.0.1) y d.2) (record {
       parts = text;
       nodes = omega (arith, letters.nodes, counts.nodes, spaces.nodes, numbers.0.nodes);
       few = omega (arith, counts.few, spaces.nodes, numbers.0.nodes);
@@ -103,7 +103,7 @@ space_again place nodes rest = refl
 pub head_again : (may_open : ℕ) (kind : Kind) (n place nodes : ℕ) (rest : List ℕ) → nodes < max_nodes
     → (kind ≡ Split → 0 < may_open) → n < 2 ^ 32 → EndsWord rest
     → head may_open (at place nodes (words_of kind n ++ rest))
-        ≡ Ok (record { kind = kind; number = n }, at (place + length (words_of kind n)) (nodes + 1) rest)
+    ≡ Ok (record { kind = kind; number = n }, at (place + length (words_of kind n)) (nodes + 1) rest)
 unfolding head
 head_again may_open kind n place nodes rest few opens numbers ends =
     let end : place + 1 + 1 + length (decimal n) ≡ place + length (words_of kind n) = omega arith in

@@ -70,18 +70,18 @@ count_needs_none : (may_open : ℕ) (kind : Kind) (here : Here) → NeedsNone (c
 unfolding count
 count_needs_none may_open kind here =
     within_limits (nat_le max_nodes here.nodes) (is_split kind && may_open == 0)
-        (tt, record { place = here.place; nodes = here.nodes + 1; rest = here.rest })
+    (tt, record { place = here.place; nodes = here.nodes + 1; rest = here.rest })
 
 pub head_needs_none : (may_open : ℕ) (here : Here) → NeedsNone (head may_open here)
 unfolding head
 head_needs_none may_open here =
     bind_needs_none (letter here)
-        (λ kind. count may_open kind >> space >> number >>= (λ n. pure (record { kind = kind; number = n })))
-        (letter_needs_none here) (λ kind behind.
+    (λ kind. count may_open kind >> space >> number >>= (λ n. pure (record { kind = kind; number = n })))
+    (letter_needs_none here) (λ kind behind.
     bind_needs_none ((count may_open kind >> space >> number) behind) (λ n. pure (record { kind = kind; number = n }))
     (bind_needs_none ((count may_open kind >> space) behind) (λ _. number)
     (bind_needs_none (count may_open kind behind) (λ _. space) (count_needs_none may_open kind behind)
-        (λ _ here. space_needs_none here))
+    (λ _ here. space_needs_none here))
     (λ _ here. number_needs_none here))
     (λ n here e. cc))
 

@@ -20,12 +20,12 @@ same_after one other more NeverNull here none = refl
 tree_goes_on : (n : ℕ) (more : Continues) (here : Here) (h : Head) (rest : Here) → head n here ≡ Ok (h, rest)
     → (h.kind ≡ Split → 0 < n)
     → tree_nodes n more here
-        ≡ led (node_of h.kind h.number) (after_node (branches_nodes (tree_nodes (n - 1)) 3 more) more h.kind rest)
+    ≡ led (node_of h.kind h.number) (after_node (branches_nodes (tree_nodes (n - 1)) 3 more) more h.kind rest)
 unfolding tree_nodes
 tree_goes_on zero more here h rest e opens =
     rw e (ap (λ stream. led (node_of h.kind h.number) stream)
-        (same_after (λ here. fault TooDeep) (branches_nodes (tree_nodes (0 - 1)) 3 more) more h.kind rest
-        (λ split. omega (arith, opens split))))
+    (same_after (λ here. fault TooDeep) (branches_nodes (tree_nodes (0 - 1)) 3 more) more h.kind rest
+    (λ split. omega (arith, opens split))))
 tree_goes_on (suc n) more here h rest e opens = let k : suc n - 1 ≡ n = omega arith in rw (e, k) refl
 
 tree_stops : (n : ℕ) (more : Continues) (here : Here) (error : CertError) → head n here ≡ Err error
@@ -48,7 +48,7 @@ enters_first NeverNull rest = refl
 
 enters_branch : (left : ℕ) (levels : List ℕ) (kind : Kind) (rest : Here)
     → after_node (branches_nodes (tree_nodes (max_splits - length (left ∷ levels) - 1)) 3
-        (level_nodes (left ∷ levels))) (level_nodes (left ∷ levels)) kind rest
+    (level_nodes (left ∷ levels))) (level_nodes (left ∷ levels)) kind rest
     ≡ level_nodes (entered kind (suc left ∷ levels)) rest
 enters_branch left levels Split rest =
     ap (λ k. branches_nodes (tree_nodes k) 3 (level_nodes (left ∷ levels)) rest) (omega arith)
@@ -59,7 +59,7 @@ enters_branch left levels NeverNull rest = refl
 branch_goes_on : (n : ℕ) (more : Continues) (spaced : Outcome (Unit {0})) (h : Head) (rest : Here)
     → and_then spaced (λ _. head n) ≡ Ok (h, rest) → (h.kind ≡ Split → 0 < n)
     → from_space (tree_nodes n more) spaced
-        ≡ led (node_of h.kind h.number) (after_node (branches_nodes (tree_nodes (n - 1)) 3 more) more h.kind rest)
+    ≡ led (node_of h.kind h.number) (after_node (branches_nodes (tree_nodes (n - 1)) 3 more) more h.kind rest)
 branch_goes_on n more (Ok read) h rest e opens = tree_goes_on n more read.1 h rest e opens
 branch_goes_on n more (Err error) h rest e opens = absurd cc
 

@@ -50,7 +50,7 @@ pub digits_end : (digits : List ℕ) (i value : ℕ) → length digits ≤ i
     → all_ascii_digits (drop i digits) ≡ all_ascii_digits digits
     → number_from value (drop i digits) ≡ number_from 0 digits → value < 2 ^ 32
     → Some value ≡ (if all_ascii_digits digits && nat_lt (number_from 0 digits) (2 ^ 32) then
-        Some (number_from 0 digits) else None)
+    Some (number_from 0 digits) else None)
 unfolding number_from
 digits_end digits i value over all same few =
     let none = drop_all i digits over in
@@ -62,14 +62,17 @@ digits_end digits i value over all same few =
 pub digits_over : (digits : List ℕ) (i value : ℕ) → i < length digits
     → number_from value (drop i digits) ≡ number_from 0 digits → 2 ^ 32 ≤ 10 * value + (get_or digits i 0 - 48)
     → (if all_ascii_digits digits && nat_lt (number_from 0 digits) (2 ^ 32) then
-        Some (number_from 0 digits) else None) ≡ None
+    Some (number_from 0 digits) else None) ≡ None
 unfolding number_from
 digits_over digits i value within same over =
     let grown : number_from (10 * value + (get_or digits i 0 - 48)) (drop (i + 1) digits) ≡ number_from 0 digits =
-        rw (drop_more digits i 0 within) at same in
+    rw (drop_more digits i 0 within) at same in
     no_small (all_ascii_digits digits) (number_from 0 digits)
-        (λ _ few. omega (arith, grown,
-        number_from-grows (10 * value + (get_or digits i 0 - 48)) (drop (i + 1) digits)))
+    (λ _ few. omega (
+      arith,
+      grown,
+      number_from-grows (10 * value + (get_or digits i 0 - 48)) (drop (i + 1) digits),
+    ))
 
 pub ruleset digit_turns = (digits_end, digits_over)
 
@@ -103,12 +106,12 @@ leading_zero word long first = no_small (bytes_eq word (decimal (number_from 0 w
 -- otherwise the digits are the decimal text of their number
 pub plain_number : (word : List ℕ) → 0 < length word → (get_or word 0 0 ≡ 48 → length word ≡ 1)
     → number_of word ≡ (if all_ascii_digits word && nat_lt (number_from 0 word) (2 ^ 32) then
-        Some (number_from 0 word) else None)
+    Some (number_from 0 word) else None)
 unfolding number_of
 plain_number word some plain =
     same_small _ _ (number_from 0 word) (λ few. same_tests _ _
     (λ same. rw (← is_text word (number_from 0 word) same) at (digits_decimal own (number_from 0 word) (omega arith)))
     (λ digits. (bytes_eq-Decides word (decimal (number_from 0 word))).1
-        (sym (decimal-digits_value own word digits some plain (omega arith)))))
+    (sym (decimal-digits_value own word digits some plain (omega arith)))))
 
 pub ruleset numbers = (no_word, leading_zero, plain_number)

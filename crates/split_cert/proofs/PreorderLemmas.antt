@@ -45,26 +45,26 @@ regrouped t f u rest = simp append_assoc refl
 third : (rule : Rule Tree) (branch : Continues → Continues) → Follows rule branch
     → (atom : ℕ) (t f : Tree) (more : Continues) (here : Here) (outcome : Outcome Tree) → rule here ≡ outcome
     → AreRead (and_then outcome (λ u. pure (T.Split atom t f u))) more
-        (led (Split atom) (all_led (preorder t) (all_led (preorder f) (branch more here))))
+    (led (Split atom) (all_led (preorder t) (all_led (preorder f) (branch more here))))
 third rule branch follows atom t f more here (Ok read) e =
     let last : branch more here ≡ all_led (preorder read.0) (more read.1) =
-        subst (λ (o : Outcome Tree). AreRead o more (branch more here)) e (follows more here) in
+    subst (λ (o : Outcome Tree). AreRead o more (branch more here)) e (follows more here) in
     ap (λ stream. led (Split atom) (all_led (preorder t) (all_led (preorder f) stream))) last
     ∙ ap (λ nodes. record { nodes = Split atom ∷ nodes; end = (more read.1).end })
-        (regrouped (preorder t) (preorder f) (preorder read.0) (more read.1).nodes)
+    (regrouped (preorder t) (preorder f) (preorder read.0) (more read.1).nodes)
 third rule branch follows atom t f more here (Err error) e =
     subst (λ (o : Outcome Tree). AreRead o more (branch more here)) e (follows more here)
 
 second : (rule : Rule Tree) (branch : Continues → Continues) → Follows rule branch
     → (atom : ℕ) (t : Tree) (more : Continues) (here : Here) (outcome : Outcome Tree) → rule here ≡ outcome
     → AreRead (and_then outcome (λ f. rule >>= (λ u. pure (T.Split atom t f u)))) more
-        (led (Split atom) (all_led (preorder t) (branch (branch more) here)))
+    (led (Split atom) (all_led (preorder t) (branch (branch more) here)))
 second rule branch follows atom t more here (Ok read) e =
     let last : branch (branch more) here ≡ all_led (preorder read.0) (branch more read.1) =
-        subst (λ (o : Outcome Tree). AreRead o (branch more) (branch (branch more) here)) e
-        (follows (branch more) here) in
+    subst (λ (o : Outcome Tree). AreRead o (branch more) (branch (branch more) here)) e
+    (follows (branch more) here) in
     subst (AreRead (and_then (rule read.1) (λ u. pure (T.Split atom t read.0 u))) more)
-        (ap (λ stream. led (Split atom) (all_led (preorder t) stream)) (sym last))
+    (ap (λ stream. led (Split atom) (all_led (preorder t) stream)) (sym last))
     (third rule branch follows atom t read.0 more read.1 (rule read.1) refl)
 second rule branch follows atom t more here (Err error) e =
     subst (λ (o : Outcome Tree). AreRead o (branch more) (branch (branch more) here)) e (follows (branch more) here)
@@ -72,17 +72,17 @@ second rule branch follows atom t more here (Err error) e =
 first : (rule : Rule Tree) (branch : Continues → Continues) → Follows rule branch
     → (atom : ℕ) (more : Continues) (here : Here) (outcome : Outcome Tree) → rule here ≡ outcome
     → AreRead (and_then outcome (λ t. rule >>= (λ f. rule >>= (λ u. pure (T.Split atom t f u))))) more
-        (led (Split atom) (branch (branch (branch more)) here))
+    (led (Split atom) (branch (branch (branch more)) here))
 first rule branch follows atom more here (Ok read) e =
     let last : branch (branch (branch more)) here ≡ all_led (preorder read.0) (branch (branch more) read.1) =
     subst (λ (o : Outcome Tree). AreRead o (branch (branch more)) (branch (branch (branch more)) here)) e
-        (follows (branch (branch more)) here) in
+    (follows (branch (branch more)) here) in
     subst (AreRead (and_then (rule read.1) (λ f. rule >>= (λ u. pure (T.Split atom read.0 f u)))) more)
-        (ap (led (Split atom)) (sym last))
+    (ap (led (Split atom)) (sym last))
     (second rule branch follows atom read.0 more read.1 (rule read.1) refl)
 first rule branch follows atom more here (Err error) e =
     subst (λ (o : Outcome Tree). AreRead o (branch (branch more)) (branch (branch (branch more)) here)) e
-        (follows (branch (branch more)) here)
+    (follows (branch (branch more)) here)
 
 split_read : (rule : Rule Tree) (branch : Continues → Continues) → Follows rule branch
     → (atom : ℕ) (more : Continues) (here : Here)
@@ -95,7 +95,7 @@ split_read rule branch follows atom more here = first rule branch follows atom m
 node_read : (rule : Rule Tree) (branch : Continues → Continues) → Follows rule branch
     → (kind : Kind) (number : ℕ) (more : Continues) (here : Here)
     → AreRead (text.node_of rule kind number here) more
-        (led (node_of kind number) (after_node (branch (branch (branch more))) more kind here))
+    (led (node_of kind number) (after_node (branch (branch (branch more))) more kind here))
 node_read rule branch follows k.Split number more here = split_read rule branch follows number more here
 node_read rule branch follows k.Owner number more here = refl
 node_read rule branch follows k.Empty number more here = refl
@@ -103,7 +103,7 @@ node_read rule branch follows k.NeverNull number more here = refl
 
 flat_read : (kind : Kind) (number : ℕ) (more : Continues) (here : Here)
     → AreRead (text.node_of (λ here. Err TooDeep) kind number here) more
-        (led (node_of kind number) (after_node (λ here. fault TooDeep) more kind here))
+    (led (node_of kind number) (after_node (λ here. fault TooDeep) more kind here))
 unfolding text.branches
 flat_read k.Split number more here = refl
 flat_read k.Owner number more here = refl

@@ -32,7 +32,7 @@ same_front (T.Split a t f u) (T.Split b x y z) xs ys e =
     let rest : preorder t ++ (preorder f ++ (preorder u ++ xs)) ≡ preorder x ++ (preorder y ++ (preorder z ++ ys)) =
     sym (regrouped (preorder t) (preorder f) (preorder u) xs)
     ∙ after_first (Split a) (Split b) ((preorder t ++ preorder f ++ preorder u) ++ xs)
-        ((preorder x ++ preorder y ++ preorder z) ++ ys) e
+    ((preorder x ++ preorder y ++ preorder z) ++ ys) e
     ∙ regrouped (preorder x) (preorder y) (preorder z) ys in
     let one = same_front t x (preorder f ++ (preorder u ++ xs)) (preorder y ++ (preorder z ++ ys)) rest in
     let two = same_front f y (preorder u ++ xs) (preorder z ++ ys) one.1 in
@@ -112,7 +112,7 @@ second_lacks atom t before after error grown lacks = record {
   none = λ tree rest e.
       let b = branches_of atom before.nodes tree rest e in
       let left = same_front t b.if_true after.nodes (preorder b.if_false ++ (preorder b.if_null ++ rest))
-          (sym (nodes_are before after (preorder t) grown) ∙ b.parts) in
+      (sym (nodes_are before after (preorder t) grown) ∙ b.parts) in
       lacks.none b.if_false (preorder b.if_null ++ rest) left.1;
   told = λ found h. lacks.told found (sym (end_is before after (preorder t) grown) ∙ h);
 }
@@ -124,9 +124,9 @@ third_lacks atom t f before middle after error grown more lacks = record {
   none = λ tree rest e.
       let b = branches_of atom before.nodes tree rest e in
       let left = same_front t b.if_true middle.nodes (preorder b.if_false ++ (preorder b.if_null ++ rest))
-          (sym (nodes_are before middle (preorder t) grown) ∙ b.parts) in
+      (sym (nodes_are before middle (preorder t) grown) ∙ b.parts) in
       let next = same_front f b.if_false after.nodes (preorder b.if_null ++ rest)
-          (sym (nodes_are middle after (preorder f) more) ∙ left.1) in
+      (sym (nodes_are middle after (preorder f) more) ∙ left.1) in
       lacks.none b.if_null rest next.1;
   told = λ found h. lacks.told found
       (sym (end_is middle after (preorder f) more) ∙ sym (end_is before middle (preorder t) grown) ∙ h);
@@ -138,7 +138,7 @@ pub split_grows : (atom : ℕ) (t f u : Tree) (before one two after : Stream) �
 split_grows atom t f u before one two after p q r =
     ap (led (Split atom)) (p ∙ ap (all_led (preorder t)) (q ∙ ap (all_led (preorder f)) r))
     ∙ ap (λ nodes. record { nodes = Split atom ∷ nodes; end = after.end })
-        (sym (regrouped (preorder t) (preorder f) (preorder u) after.nodes))
+    (sym (regrouped (preorder t) (preorder f) (preorder u) after.nodes))
 
 -- ---- how many nodes are left
 
@@ -160,8 +160,8 @@ whole_is : (expected : Result Tree CertError) (stream after : Stream) (t : Tree)
     → stream ≡ all_led (preorder t) after → after.end ≡ Ok tt → expected ≡ Ok t
 whole_is (Ok found) stream after t are grown ends =
     let same = same_front t found after.nodes []
-        (sym (nodes_are stream after (preorder t) grown) ∙ are.0 ∙ sym (append-nil (preorder found))) in
-        ap Ok (sym same.0)
+    (sym (nodes_are stream after (preorder t) grown) ∙ are.0 ∙ sym (append-nil (preorder found))) in
+    ap Ok (sym same.0)
 whole_is (Err error) stream after t are grown ends = let never : Err error ≡ Ok tt = sym are
     ∙ end_is stream after (preorder t) grown ∙ ends in absurd cc
 

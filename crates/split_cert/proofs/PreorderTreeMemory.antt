@@ -53,8 +53,8 @@ branches_need_none : (branch : Continues → Continues)
 branches_need_none branch keeps zero more next here = next here
 branches_need_none branch keeps (suc count) more next here =
     from_space_needs_none (branch (branches_nodes branch count more))
-        (keeps (branches_nodes branch count more) (branches_need_none branch keeps count more next)) (space here)
-        (space_needs_none here)
+    (keeps (branches_nodes branch count more) (branches_need_none branch keeps count more next)) (space here)
+    (space_needs_none here)
 
 tree_needs_none : (n : ℕ) (more : Continues) → NeedsNone more → NeedsNone (tree_nodes n more)
 unfolding tree_nodes
@@ -62,8 +62,8 @@ tree_needs_none zero more next here =
     from_head_needs_none (λ here. fault TooDeep) more (λ here e. cc) next (head zero here) (head_needs_none zero here)
 tree_needs_none (suc n) more next here =
     from_head_needs_none (branches_nodes (tree_nodes n) 3 more) more
-        (branches_need_none (tree_nodes n) (tree_needs_none n) 3 more next) next (head (suc n) here)
-        (head_needs_none (suc n) here)
+    (branches_need_none (tree_nodes n) (tree_needs_none n) 3 more next) next (head (suc n) here)
+    (head_needs_none (suc n) here)
 
 text_needs_none : (text : List ℕ) → (nodes_in text).end ≢ Err OutOfMemory
 text_needs_none text = tree_needs_none max_splits at_end end_needs_none (start text)

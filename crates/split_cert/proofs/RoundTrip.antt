@@ -45,7 +45,7 @@ split_takes : (may_open : ℕ) (rule : Rule Tree) (atom : ℕ) (here behind : He
 unfolding branches
 split_takes may_open rule atom here behind y takes begins e =
     let a = bind_ok (rule behind)
-        (λ if_true. rule >>= (λ if_false. rule >>= (λ if_null. pure (T.Split atom if_true if_false if_null)))) y e in
+    (λ if_true. rule >>= (λ if_false. rule >>= (λ if_null. pure (T.Split atom if_true if_false if_null)))) y e in
     let b = bind_ok (rule a.0.1) (λ if_false. rule >>= (λ if_null. pure (T.Split atom a.0.0 if_false if_null))) y a.2 in
     let c = bind_ok (rule b.0.1) (λ if_null. pure (T.Split atom a.0.0 b.0.0 if_null)) y b.2 in
     let t = takes behind a.0 a.1 in
@@ -54,7 +54,7 @@ split_takes may_open rule atom here behind y takes begins e =
     let text : behind.rest ≡ branch_texts (spelling_of a.0.0) (spelling_of b.0.0) (spelling_of c.0.0) c.0.1.rest =
     t.parts ∙ ap (λ r. 32 ∷ (spelling_of a.0.0 ++ r)) (f.parts ∙ ap (λ r. 32 ∷ (spelling_of b.0.0 ++ r)) u.parts) in
     subst (λ (y : Tree × Here). TakesTree (suc may_open) here (spelling_of y.0) y.0 y.1)
-        (ok_is (T.Split atom a.0.0 b.0.0 c.0.0, c.0.1) y c.2) (record {
+    (ok_is (T.Split atom a.0.0 b.0.0 c.0.0, c.0.1) y c.2) (record {
       parts = begins.parts ∙ ap (λ r. words_of Split atom ++ r) text
           ∙ regrouped (words_of Split atom) (spelling_of a.0.0) (spelling_of b.0.0) (spelling_of c.0.0) c.0.1.rest;
       nodes = omega (arith, begins.nodes, t.nodes, f.nodes, u.nodes);
@@ -127,7 +127,7 @@ tree_takes zero here y e =
 tree_takes (suc n) here y e =
     let a = bind_ok (head (suc n) here) (node (space >> tree n)) y e in
     node_takes n (space >> tree n) a.0.0.kind a.0.0.number here a.0.1 y
-        (branch_takes n (tree n) (λ here y e. tree_takes n here y e)) (head_takes (suc n) here a.0 a.1) a.2
+    (branch_takes n (tree n) (λ here y e. tree_takes n here y e)) (head_takes (suc n) here a.0 a.1) a.2
 
 if_alone : (b : Bool) (place : ℕ) (x t : Tree) → (if b then Ok x else Err (Trailing place)) ≡ Ok t → (b ≡ true)
     × (x ≡ t)
@@ -148,10 +148,11 @@ read_is_spelled text t e =
     let a = alone_takes (tree max_splits (start text)) t e in
     let takes = tree_takes max_splits (start text) a.0 a.1 in
     let whole : text ≡ spelling_of a.0.0 = takes.parts ∙ ap (λ r. spelling_of a.0.0 ++ r) a.3
-        ∙ append-nil (spelling_of a.0.0) in
-    subst (λ t. IsWithinLimits t × (text ≡ spelling_of t)) a.2
-        (record { few = omega (arith, takes.nodes, takes.few); shallow = takes.shallow; numbers = takes.numbers },
-        whole)
+    ∙ append-nil (spelling_of a.0.0) in
+    subst (λ t. IsWithinLimits t × (text ≡ spelling_of t)) a.2 (
+      record { few = omega (arith, takes.nodes, takes.few); shallow = takes.shallow; numbers = takes.numbers },
+      whole,
+    )
 
 -- ---- what is spelled so is read
 
@@ -166,13 +167,13 @@ pub tree_again : (t : Tree) (n place k : ℕ) (rest : List ℕ) → splits_deep 
 unfolding branches
 tree_again (T.Owner i) n place k rest deep few numbers ends =
     tree_opens n _ (record { kind = Owner; number = i }) _
-        (head_again n Owner i place k rest (omega arith) (λ e. absurd cc) numbers ends) (λ e. absurd cc)
+    (head_again n Owner i place k rest (omega arith) (λ e. absurd cc) numbers ends) (λ e. absurd cc)
 tree_again (T.Empty i) n place k rest deep few numbers ends =
     tree_opens n _ (record { kind = Empty; number = i }) _
-        (head_again n Empty i place k rest (omega arith) (λ e. absurd cc) numbers ends) (λ e. absurd cc)
+    (head_again n Empty i place k rest (omega arith) (λ e. absurd cc) numbers ends) (λ e. absurd cc)
 tree_again (T.NeverNull i) n place k rest deep few numbers ends =
     tree_opens n _ (record { kind = NeverNull; number = i }) _
-        (head_again n NeverNull i place k rest (omega arith) (λ e. absurd cc) numbers ends) (λ e. absurd cc)
+    (head_again n NeverNull i place k rest (omega arith) (λ e. absurd cc) numbers ends) (λ e. absurd cc)
 tree_again (T.Split atom t f u) n place k rest deep few numbers ends =
     let words = words_of Split atom in
     let third = 32 ∷ (spelling_of u ++ rest) in
@@ -187,19 +188,23 @@ tree_again (T.Split atom t f u) n place k rest deep few numbers ends =
     let opened = tree_opens n (at place k (words ++ first)) (record { kind = Split; number = atom }) (at p1 k1 first)
     (head_again n Split atom place k first (omega arith) (λ e. omega arith) numbers.0 refl) (λ e. omega arith) in
     let one = branch_again (n - 1) p1 k1 (spelling_of t ++ second) (Ok (t, at p2 k2 second))
-        (tree_again t (n - 1) (p1 + 1) k1 second (omega arith) (omega arith) numbers.1 refl) in
+    (tree_again t (n - 1) (p1 + 1) k1 second (omega arith) (omega arith) numbers.1 refl) in
     let two = branch_again (n - 1) p2 k2 (spelling_of f ++ third) (Ok (f, at p3 k3 third))
-        (tree_again f (n - 1) (p2 + 1) k2 third (omega arith) (omega arith) numbers.2 refl) in
+    (tree_again f (n - 1) (p2 + 1) k2 third (omega arith) (omega arith) numbers.2 refl) in
     let three = branch_again (n - 1) p3 k3 (spelling_of u ++ rest)
-        (Ok (u, at (p3 + 1 + length (spelling_of u)) (k3 + nodes u) rest))
-        (tree_again u (n - 1) (p3 + 1) k3 rest (omega arith) (omega arith) numbers.3 ends) in
+    (Ok (u, at (p3 + 1 + length (spelling_of u)) (k3 + nodes u) rest))
+    (tree_again u (n - 1) (p3 + 1) k3 rest (omega arith) (omega arith) numbers.3 ends) in
     let there : p3 + 1 + length (spelling_of u) ≡ place + length (spelling_of (T.Split atom t f u)) =
-    omega (arith, length-append (words ++ 32 ∷ spelling_of t ++ 32 ∷ spelling_of f) (32 ∷ spelling_of u),
-        length-append (words ++ 32 ∷ spelling_of t) (32 ∷ spelling_of f), length-append words (32 ∷ spelling_of t)) in
+    omega (
+      arith,
+      length-append (words ++ 32 ∷ spelling_of t ++ 32 ∷ spelling_of f) (32 ∷ spelling_of u),
+      length-append (words ++ 32 ∷ spelling_of t) (32 ∷ spelling_of f),
+      length-append words (32 ∷ spelling_of t),
+    ) in
     let many : k3 + nodes u ≡ k + nodes (T.Split atom t f u) = omega arith in
     let read : branches (branch (n - 1)) atom (at p1 k1 first)
-        ≡ Ok (T.Split atom t f u, at (p3 + 1 + length (spelling_of u)) (k3 + nodes u) rest) =
-        rw (one, two, three) refl in
+    ≡ Ok (T.Split atom t f u, at (p3 + 1 + length (spelling_of u)) (k3 + nodes u) rest) =
+    rw (one, two, three) refl in
     ap (λ text. tree n (at place k text)) (sym (regrouped words (spelling_of t) (spelling_of f) (spelling_of u) rest))
     ∙ opened ∙ read ∙ ap (λ p. Ok (T.Split atom t f u, at p (k3 + nodes u) rest)) there
     ∙ ap (λ m. Ok (T.Split atom t f u, at (place + length (spelling_of (T.Split atom t f u))) m rest)) many

@@ -58,7 +58,7 @@ word_takes here y e =
     let n = word_len here.rest in
     let same = unless_ended (length here.rest == 0) Ended (take n here.rest, past n here) y e in
     subst (λ (y : List ℕ × Here). Takes here y.0 y.1) same
-        (record { parts = sym (take-append-drop n here.rest); nodes = refl })
+    (record { parts = sym (take-append-drop n here.rest); nodes = refl })
 
 -- the bytes have no space, and after a word nothing comes or a space
 abbrev pub IsWord : List ℕ → Type 0
@@ -85,9 +85,12 @@ word_again : (place nodes : ℕ) (bytes rest : List ℕ) → 0 < length bytes �
 unfolding word
 word_again place nodes [] rest some is ends = absurd (omega arith)
 word_again place nodes (byte ∷ bytes) rest some is ends =
-    rw (not_zero (length (bytes ++ rest)), word_len-whole (byte ∷ bytes) rest is ends,
-        take_at (byte ∷ bytes) rest (length (byte ∷ bytes)) refl,
-        drop_at (byte ∷ bytes) rest (length (byte ∷ bytes)) refl) refl
+    rw (
+      not_zero (length (bytes ++ rest)),
+      word_len-whole (byte ∷ bytes) rest is ends,
+      take_at (byte ∷ bytes) rest (length (byte ∷ bytes)) refl,
+      drop_at (byte ∷ bytes) rest (length (byte ∷ bytes)) refl,
+    ) refl
 
 -- ---- what a word means
 
@@ -100,17 +103,17 @@ meant_is {A = A} place (Some a) here y e = let same = ok_is (a, here) y e in
 letter_is : (byte : ℕ) (kind : Kind) → kind_of_letter byte ≡ Some kind → byte ≡ letter_of kind
 letter_is byte kind e =
     by_test (byte == 115)
-        (λ t. let k : Split ≡ kind = some_is _ _ (rw t at e) in eqb-true byte 115 t ∙ ap letter_of k)
-        (λ f. let e = rw f at e in
+    (λ t. let k : Split ≡ kind = some_is _ _ (rw t at e) in eqb-true byte 115 t ∙ ap letter_of k)
+    (λ f. let e = rw f at e in
     by_test (byte == 111)
-        (λ t. let k : Owner ≡ kind = some_is _ _ (rw t at e) in eqb-true byte 111 t ∙ ap letter_of k)
-        (λ f. let e = rw f at e in
+    (λ t. let k : Owner ≡ kind = some_is _ _ (rw t at e) in eqb-true byte 111 t ∙ ap letter_of k)
+    (λ f. let e = rw f at e in
     by_test (byte == 101)
-        (λ t. let k : Empty ≡ kind = some_is _ _ (rw t at e) in eqb-true byte 101 t ∙ ap letter_of k)
-        (λ f. let e = rw f at e in
+    (λ t. let k : Empty ≡ kind = some_is _ _ (rw t at e) in eqb-true byte 101 t ∙ ap letter_of k)
+    (λ f. let e = rw f at e in
     by_test (byte == 110)
-        (λ t. let k : NeverNull ≡ kind = some_is _ _ (rw t at e) in eqb-true byte 110 t ∙ ap letter_of k)
-        (λ f. let e = rw f at e in
+    (λ t. let k : NeverNull ≡ kind = some_is _ _ (rw t at e) in eqb-true byte 110 t ∙ ap letter_of k)
+    (λ f. let e = rw f at e in
     absurd cc))))
 
 kind_is : (bytes : List ℕ) (kind : Kind) → kind_of bytes ≡ Some kind → bytes ≡ letter_of kind ∷ []
@@ -129,7 +132,7 @@ number_is bytes n e =
     let found = if_some (bytes_eq bytes (decimal m) && nat_lt m (2 ^ 32)) m n e in
     let both = and_parts (bytes_eq bytes (decimal m)) (nat_lt m (2 ^ 32)) found.0 in
     subst (λ n. (bytes ≡ decimal n) × (n < 2 ^ 32)) found.1
-        ((bytes_eq-Decides bytes (decimal m)).0 both.0, ltb-true _ _ both.1)
+    ((bytes_eq-Decides bytes (decimal m)).0 both.0, ltb-true _ _ both.1)
 
 number_text : (n : ℕ) → n < 2 ^ 32 → number_of (decimal n) ≡ Some n
 unfolding number_of
@@ -173,8 +176,10 @@ pub letter_again : (place nodes : ℕ) (kind : Kind) (rest : List ℕ) → EndsW
     → letter (at place nodes (letter_of kind ∷ rest)) ≡ Ok (kind, at (place + 1) nodes rest)
 unfolding letter
 letter_again place nodes kind rest ends =
-    rw (word_again place nodes (letter_of kind ∷ []) rest (omega arith) (letter_is_no_space kind, tt) ends,
-        letter_means kind) refl
+    rw (
+      word_again place nodes (letter_of kind ∷ []) rest (omega arith) (letter_is_no_space kind, tt) ends,
+      letter_means kind,
+    ) refl
 
 pub number_takes : (here : Here) (y : ℕ × Here) → number here ≡ Ok y → Takes here (decimal y.0) y.1 × (y.0 < 2 ^ 32)
 unfolding number
@@ -189,8 +194,11 @@ pub number_again : (place nodes n : ℕ) (rest : List ℕ) → n < 2 ^ 32 → En
     → number (at place nodes (decimal n ++ rest)) ≡ Ok (n, at (place + length (decimal n)) nodes rest)
 unfolding number
 number_again place nodes n rest few ends =
-    rw (word_again place nodes (decimal n) rest (decimal_nonempty n (omega arith))
-        (digits_are_word (decimal n) (digits_decimal own n (omega arith))) ends, number_text n few) refl
+    rw (
+      word_again place nodes (decimal n) rest (decimal_nonempty n (omega arith))
+          (digits_are_word (decimal n) (digits_decimal own n (omega arith))) ends,
+      number_text n few,
+    ) refl
 
 -- ---- a space
 

@@ -61,7 +61,7 @@ placed_strictly constant (first ∷ rest) h =
     by : (order : Ordering) → constant_cmp constant first ≡ order
         → IsStrictlySortedBy constant_cmp (placed rest constant)
         → IsStrictlySortedBy constant_cmp
-            (match_ordering order (constant ∷ first ∷ rest) (first ∷ rest) (first ∷ placed rest constant))
+        (match_ordering order (constant ∷ first ∷ rest) (first ∷ rest) (first ∷ placed rest constant))
     by Less e later = ((e, all_after constant first rest e h.0), h)
     by Equal e later = h
     by Greater e later = (placed_after first constant rest (is_after first constant e) h.0, later)
@@ -103,7 +103,7 @@ any_placed p constant (first ∷ rest) =
     by : (order : Ordering) → constant_cmp constant first ≡ order
         → list_any p (placed rest constant) ≡ (p constant || list_any p rest)
         → list_any p (match_ordering order (constant ∷ first ∷ rest) (first ∷ rest) (first ∷ placed rest constant))
-            ≡ (p constant || (p first || list_any p rest))
+        ≡ (p constant || (p first || list_any p rest))
     by Less e later = refl
     by Equal e later = or_twice (p first) (list_any p rest)
         ∙ ap (λ k. p k || (p first || list_any p rest)) (sym (constant_tie constant first e))
@@ -123,6 +123,8 @@ unfolding ascending
 any_ascending p constants = any_of_all p [] constants
 
 pub lists_ascend_law : ListsAscend
-lists_ascend_law = record
-    { strictly = ascending_strictly; members =
-    λ constant constants. any_ascending (same_constant constant) constants }
+lists_ascend_law = record {
+  strictly = ascending_strictly;
+  members =
+      λ constant constants. any_ascending (same_constant constant) constants;
+}

@@ -46,7 +46,7 @@ then-same k (Err fault) more other e = refl
 pub then-carried : {A B C D : Type 0} (h : A → B) (k : C → D) (read : Outcome A) (found : Outcome B)
     (more : A → Rule C) (other : B → Rule D) →
     found ≡ mapped h read → ((a : A) (ts : Items) → other (h a) ts ≡ mapped k (more a ts))
-        → and_then found other ≡ mapped k (and_then read more)
+    → and_then found other ≡ mapped k (and_then read more)
 then-carried h k (Ok read) found more other is e = ap (λ o. and_then o other) is ∙ e read.0 read.1
 then-carried h k (Err fault) found more other is e = ap (λ o. and_then o other) is
 
@@ -61,8 +61,8 @@ step_mapped h (Err fault) = Err fault
 after-carried : {S T : Type 0} (h : S → T) (n : ℕ) (step : Step S) (other : Step T) (s : S) (ts : Items) →
     ((x : S × Items) → at_most n other (h x.0) x.1 ≡ mapped h (at_most n step x.0 x.1)) →
     (read : Result (Option (S × Items)) Fault)
-        → after_step (step_mapped h read) (goes (at_most n other) (h s) ts)
-        ≡ mapped h (after_step read (goes (at_most n step) s ts))
+    → after_step (step_mapped h read) (goes (at_most n other) (h s) ts)
+    ≡ mapped h (after_step read (goes (at_most n step) s ts))
 after-carried h n step other s ts again (Err fault) = refl
 after-carried h n step other s ts again (Ok None) = refl
 after-carried h n step other s ts again (Ok (Some x)) =
@@ -98,14 +98,14 @@ linked-carried h read other e s (Ok (false, ts)) = refl
 
 pub link-carried : {S T : Type 0} (h : S → T) (separator : Item) (read : S → Rule S) (other : T → Rule T) →
     ((s : S) (ts : Items) → other (h s) ts ≡ mapped h (read s ts)) → (s : S) (ts : Items)
-        → link separator other (h s) ts ≡ step_mapped h (link separator read s ts)
+    → link separator other (h s) ts ≡ step_mapped h (link separator read s ts)
 unfolding link
 link-carried h separator read other e s ts = linked-carried h read other e s (next_is separator ts)
 
 guarded-carried : {S T : Type 0} (h : S → T) (read : S → Rule S) (other : T → Rule T)
     → ((s : S) (ts : Items) → other (h s) ts ≡ mapped h (read s ts)) →
     (s : S) (ts : Items) (more : Result Bool Fault)
-        → guarded other (h s) ts more ≡ step_mapped h (guarded read s ts more)
+    → guarded other (h s) ts more ≡ step_mapped h (guarded read s ts more)
 guarded-carried h read other e s ts (Err fault) = refl
 guarded-carried h read other e s ts (Ok true) = one_more-carried h (read s ts) (other (h s) ts) (e s ts)
 guarded-carried h read other e s ts (Ok false) = refl
@@ -113,6 +113,6 @@ guarded-carried h read other e s ts (Ok false) = refl
 pub each-carried : {S T : Type 0} (h : S → T) (more : Items → Result Bool Fault) (read : S → Rule S)
     (other : T → Rule T) →
     ((s : S) (ts : Items) → other (h s) ts ≡ mapped h (read s ts)) → (s : S) (ts : Items)
-        → each more other (h s) ts ≡ step_mapped h (each more read s ts)
+    → each more other (h s) ts ≡ step_mapped h (each more read s ts)
 unfolding each
 each-carried h more read other e s ts = guarded-carried h read other e s ts (more ts)

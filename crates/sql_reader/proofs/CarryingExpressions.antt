@@ -47,10 +47,10 @@ module _ {S T : Type 0} (from : Forms S) (to : Forms T) (h : S → T) (carries :
     divisor-carried first column ts =
         then-same (part_map h) (expect (i.Operator o.Percent) ts) _ _ (λ place ts2.
         then-carried (part_map h) (part_map h) (primary from columns below ts2) (primary to columns other ts2) _ _
-            (primary-carried ts2)
+        (primary-carried ts2)
         (λ right ts3. check-carried (part_map h) (remainder place first column right.operand)
-            (remainder place first column (operand_map h right.operand))
-            (remainder-carried h place first column right.operand) ts3))
+        (remainder place first column (operand_map h right.operand))
+        (remainder-carried h place first column right.operand) ts3))
 
     divisor_or_none-carried : (left : PartOf S) (ts : Items)
         → divisor_or_none to columns other (part_map h left) ts
@@ -61,10 +61,10 @@ module _ {S T : Type 0} (from : Forms S) (to : Forms T) (h : S → T) (carries :
       where
         by_divisor : (is_divided : Bool) (ts2 : Items) →
             (if is_divided then divisor to columns other left.place (dividend (operand_map h left.operand))
-                else (λ ts3. Ok (part_map h left, ts3))) ts2
+            else (λ ts3. Ok (part_map h left, ts3))) ts2
             ≡ mapped (part_map h)
-                ((if is_divided then divisor from columns below left.place (dividend left.operand)
-                else (λ ts3. Ok (left, ts3))) ts2)
+            ((if is_divided then divisor from columns below left.place (dividend left.operand)
+            else (λ ts3. Ok (left, ts3))) ts2)
         by_divisor true ts2 = rw (dividend-same h left.operand) (divisor-carried left.place (dividend left.operand) ts2)
         by_divisor false ts2 = refl
 
@@ -72,13 +72,13 @@ module _ {S T : Type 0} (from : Forms S) (to : Forms T) (h : S → T) (carries :
     unfolding term
     term-carried ts =
         then-carried (part_map h) (part_map h) (primary from columns below ts) (primary to columns other ts) _ _
-            (primary-carried ts) (λ left ts2. divisor_or_none-carried left ts2)
+        (primary-carried ts) (λ left ts2. divisor_or_none-carried left ts2)
 
     side-carried : (ts : Items) → side to columns other ts ≡ mapped (part_map h) (side from columns below ts)
     unfolding side
     side-carried ts =
         then-carried (part_map h) (part_map h) (term from columns below ts) (term to columns other ts) _ _
-            (term-carried ts)
+        (term-carried ts)
         (λ read ts2. then-same (part_map h) (no_operator ts2) _ _ (λ u ts3. refl))
 
     -- what ends a side of a comparison
@@ -90,11 +90,11 @@ module _ {S T : Type 0} (from : Forms S) (to : Forms T) (h : S → T) (carries :
     checked-carried : (verdict : Verdict (PartOf S)) (found : Verdict (PartOf T))
         → found ≡ verdict_map (part_map h) verdict → (ts : Items) →
         and_then (with_rest found ts) (λ whole ts2. and_then (no_operator ts2) (λ u ts3. Ok (whole, ts3)))
-            ≡ mapped (part_map h)
-            (and_then (with_rest verdict ts) (λ whole ts2. and_then (no_operator ts2) (λ u ts3. Ok (whole, ts3))))
+        ≡ mapped (part_map h)
+        (and_then (with_rest verdict ts) (λ whole ts2. and_then (no_operator ts2) (λ u ts3. Ok (whole, ts3))))
     checked-carried verdict found is ts =
         then-carried (part_map h) (part_map h) (with_rest verdict ts) (with_rest found ts) _ _
-            (check-carried (part_map h) verdict found is ts) ended-carried
+        (check-carried (part_map h) verdict found is ts) ended-carried
 
     right_side-carried : (left : PartOf S) (op : Op) (ts : Items)
         → right_side to columns other (part_map h left) op ts
@@ -102,10 +102,10 @@ module _ {S T : Type 0} (from : Forms S) (to : Forms T) (h : S → T) (carries :
     unfolding right_side
     right_side-carried left op ts =
         then-carried (part_map h) (part_map h) (term from columns below (rest_of ts))
-            (term to columns other (rest_of ts)) _ _ (term-carried (rest_of ts)) (λ right ts2.
+        (term to columns other (rest_of ts)) _ _ (term-carried (rest_of ts)) (λ right ts2.
         then-same (part_map h) (no_cast ts2) _ _ (λ u ts3.
         checked-carried (compared_part from (place_ahead ts) left op right)
-            (compared_part to (place_ahead ts) (part_map h left) op (part_map h right))
+        (compared_part to (place_ahead ts) (part_map h left) op (part_map h right))
         (compared_part-carried from to h carries (place_ahead ts) left op right) ts3))
 
     one_entry-carried : (others : List (OperandOf S)) (ts : Items)
@@ -116,18 +116,18 @@ module _ {S T : Type 0} (from : Forms S) (to : Forms T) (h : S → T) (carries :
         rw (length-map others (operand_map h))
         (then-same (map (operand_map h)) (room_in_list (length others) ts) _ _ (λ u ts2.
         then-carried (part_map h) (map (operand_map h)) (side from columns below ts2) (side to columns other ts2) _ _
-            (side-carried ts2)
+        (side-carried ts2)
         (λ entry ts3. ap (λ operands. Ok (operands, ts3))
-            (sym (map-append (operand_map h) others (entry.operand ∷ []))))))
+        (sym (map-append (operand_map h) others (entry.operand ∷ []))))))
 
     other_entries-carried : (ts : Items)
         → other_entries to columns other ts ≡ mapped (map (operand_map h)) (other_entries from columns below ts)
     unfolding other_entries
     other_entries-carried ts =
         repeat-carried (map (operand_map h)) (link i.Comma (one_entry from columns below))
-            (link i.Comma (one_entry to columns other))
+        (link i.Comma (one_entry to columns other))
         (link-carried (map (operand_map h)) i.Comma (one_entry from columns below) (one_entry to columns other)
-            one_entry-carried) [] ts
+        one_entry-carried) [] ts
 
     in_list-carried : (word : MembershipWord) (left : PartOf S) (ts : Items)
         → in_list to columns other word (part_map h left) ts
@@ -136,12 +136,12 @@ module _ {S T : Type 0} (from : Forms S) (to : Forms T) (h : S → T) (carries :
     in_list-carried word left ts =
         then-same (part_map h) (expect i.Open ts) _ _ (λ place ts2.
         then-carried (part_map h) (part_map h) (side from columns below ts2) (side to columns other ts2) _ _
-            (side-carried ts2) (λ first ts3.
+        (side-carried ts2) (λ first ts3.
         then-carried (map (operand_map h)) (part_map h) (other_entries from columns below ts3)
-            (other_entries to columns other ts3) _ _ (other_entries-carried ts3) (λ others ts4.
+        (other_entries to columns other ts3) _ _ (other_entries-carried ts3) (λ others ts4.
         then-same (part_map h) (expect i.Close ts4) _ _ (λ end ts5.
         checked-carried (among_part from word left first.operand others)
-            (among_part to word (part_map h left) (operand_map h first.operand) (map (operand_map h) others))
+        (among_part to word (part_map h left) (operand_map h first.operand) (map (operand_map h) others))
         (among_part-carried from to h carries word left first.operand others) ts5))))
 
     bounds-carried : (word : MembershipWord) (left : PartOf S) (ts : Items)
@@ -150,13 +150,13 @@ module _ {S T : Type 0} (from : Forms S) (to : Forms T) (h : S → T) (carries :
     unfolding bounds
     bounds-carried word left ts =
         then-carried (part_map h) (part_map h) (side from columns below ts) (side to columns other ts) _ _
-            (side-carried ts) (λ low ts2.
+        (side-carried ts) (λ low ts2.
         then-same (part_map h) (expect (i.Keyword k.And) ts2) _ _ (λ place ts3.
         then-carried (part_map h) (part_map h) (term from columns below ts3) (term to columns other ts3) _ _
-            (term-carried ts3) (λ high ts4.
+        (term-carried ts3) (λ high ts4.
         then-same (part_map h) (no_cast ts4) _ _ (λ u ts5.
         checked-carried (between_part from word left low.operand high.operand)
-            (between_part to word (part_map h left) (operand_map h low.operand) (operand_map h high.operand))
+        (between_part to word (part_map h left) (operand_map h low.operand) (operand_map h high.operand))
         (between_part-carried from to h carries word left low.operand high.operand) ts5))))
 
     member_by-carried : (left : PartOf S) (membership : Option Membership) (ts : Items)
@@ -183,7 +183,7 @@ module _ {S T : Type 0} (from : Forms S) (to : Forms T) (h : S → T) (carries :
     unfolding comparison right_side_or_none
     comparison-carried ts =
         then-carried (part_map h) (part_map h) (side from columns below ts) (side to columns other ts) _ _
-            (side-carried ts)
+        (side-carried ts)
         (λ left ts2. right_side_by-carried left (comparison_by (item_ahead ts2)) ts2)
 
     distinct_side-carried : (left : PartOf S) (words : DistinctWords) (ts : Items)
@@ -192,10 +192,10 @@ module _ {S T : Type 0} (from : Forms S) (to : Forms T) (h : S → T) (carries :
     unfolding distinct_side
     distinct_side-carried left words ts =
         then-carried (part_map h) (part_map h) (term from columns below ts) (term to columns other ts) _ _
-            (term-carried ts) (λ right ts2.
+        (term-carried ts) (λ right ts2.
         then-same (part_map h) (no_cast ts2) _ _ (λ u ts3.
         checked-carried (distinct_part from words left right.operand)
-            (distinct_part to words (part_map h left) (operand_map h right.operand))
+        (distinct_part to words (part_map h left) (operand_map h right.operand))
         (distinct_part-carried from to h carries words left right.operand) ts3))
 
     tested_by-carried : (left : PartOf S) (asking : Option TestAhead) (ts : Items)
@@ -203,7 +203,7 @@ module _ {S T : Type 0} (from : Forms S) (to : Forms T) (h : S → T) (carries :
         ≡ mapped (part_map h) (tested_by from columns below left asking ts)
     tested_by-carried left (Some (b.Truth test)) ts =
         check-carried (part_map h) (tested_part from test left) (tested_part to test (part_map h left))
-            (tested_part-carried from to h carries test left) ts
+        (tested_part-carried from to h carries test left) ts
     tested_by-carried left (Some (b.Distinct words)) ts = distinct_side-carried left words ts
     tested_by-carried left None ts = refl
 
@@ -217,7 +217,7 @@ module _ {S T : Type 0} (from : Forms S) (to : Forms T) (h : S → T) (carries :
     unfolding predicate
     predicate-carried ts =
         then-carried (part_map h) (part_map h) (comparison from columns below ts) (comparison to columns other ts) _ _
-            (comparison-carried ts) (λ asked_part ts2. tested-carried asked_part ts2)
+        (comparison-carried ts) (λ asked_part ts2. tested-carried asked_part ts2)
 
     negation-carried : (ts : Items)
         → negation to columns other ts ≡ mapped (part_map h) (negation from columns below ts)
@@ -232,23 +232,23 @@ module _ {S T : Type 0} (from : Forms S) (to : Forms T) (h : S → T) (carries :
     one_more_negation-carried left ts =
         then-carried h (part_map h) (with_rest (wanted from left) ts) (with_rest (wanted to (part_map h left)) ts) _ _
         (check-carried h (wanted from left) (wanted to (part_map h left)) (wanted-carried from to h carries left) ts)
-            (λ filter ts2.
+        (λ filter ts2.
         then-carried (part_map h) (part_map h) (negation from columns below ts2) (negation to columns other ts2) _ _
-            (negation-carried ts2)
+        (negation-carried ts2)
         (λ right ts3. check-carried (part_map h) (joined from from.both left.place filter right)
-            (joined to to.both left.place (h filter) (part_map h right))
-            (joined-carried from to h carries from.both to.both carries.both left.place filter right) ts3))
+        (joined to to.both left.place (h filter) (part_map h right))
+        (joined-carried from to h carries from.both to.both carries.both left.place filter right) ts3))
 
     conjunction-carried : (ts : Items)
         → conjunction to columns other ts ≡ mapped (part_map h) (conjunction from columns below ts)
     unfolding conjunction
     conjunction-carried ts =
         then-carried (part_map h) (part_map h) (negation from columns below ts) (negation to columns other ts) _ _
-            (negation-carried ts)
+        (negation-carried ts)
         (repeat-carried (part_map h) (link (i.Keyword k.And) (one_more_negation from columns below))
-            (link (i.Keyword k.And) (one_more_negation to columns other))
+        (link (i.Keyword k.And) (one_more_negation to columns other))
         (link-carried (part_map h) (i.Keyword k.And) (one_more_negation from columns below)
-            (one_more_negation to columns other) one_more_negation-carried))
+        (one_more_negation to columns other) one_more_negation-carried))
 
     one_more_conjunction-carried : (left : PartOf S) (ts : Items)
         → one_more_conjunction to columns other (part_map h left) ts
@@ -257,23 +257,23 @@ module _ {S T : Type 0} (from : Forms S) (to : Forms T) (h : S → T) (carries :
     one_more_conjunction-carried left ts =
         then-carried h (part_map h) (with_rest (wanted from left) ts) (with_rest (wanted to (part_map h left)) ts) _ _
         (check-carried h (wanted from left) (wanted to (part_map h left)) (wanted-carried from to h carries left) ts)
-            (λ filter ts2.
+        (λ filter ts2.
         then-carried (part_map h) (part_map h) (conjunction from columns below ts2) (conjunction to columns other ts2)
-            _ _ (conjunction-carried ts2)
+        _ _ (conjunction-carried ts2)
         (λ right ts3. check-carried (part_map h) (joined from from.either left.place filter right)
-            (joined to to.either left.place (h filter) (part_map h right))
-            (joined-carried from to h carries from.either to.either carries.either left.place filter right) ts3))
+        (joined to to.either left.place (h filter) (part_map h right))
+        (joined-carried from to h carries from.either to.either carries.either left.place filter right) ts3))
 
     disjunction-carried : (ts : Items)
         → disjunction to columns other ts ≡ mapped (part_map h) (disjunction from columns below ts)
     unfolding disjunction
     disjunction-carried ts =
         then-carried (part_map h) (part_map h) (conjunction from columns below ts) (conjunction to columns other ts) _
-            _ (conjunction-carried ts)
+        _ (conjunction-carried ts)
         (repeat-carried (part_map h) (link (i.Keyword k.Or) (one_more_conjunction from columns below))
-            (link (i.Keyword k.Or) (one_more_conjunction to columns other))
+        (link (i.Keyword k.Or) (one_more_conjunction to columns other))
         (link-carried (part_map h) (i.Keyword k.Or) (one_more_conjunction from columns below)
-            (one_more_conjunction to columns other) one_more_conjunction-carried))
+        (one_more_conjunction to columns other) one_more_conjunction-carried))
 
     after_not-carried : (ts : Items)
         → after_not to columns other ts ≡ mapped (part_map h) (after_not from columns below ts)
@@ -281,9 +281,9 @@ module _ {S T : Type 0} (from : Forms S) (to : Forms T) (h : S → T) (carries :
     after_not-carried ts =
         then-same (part_map h) (expect (i.Keyword k.Not) ts) _ _ (λ place ts2.
         then-carried (part_map h) (part_map h) (negation from columns below ts2) (negation to columns other ts2) _ _
-            (negation-carried ts2)
+        (negation-carried ts2)
         (λ right ts3. check-carried (part_map h) (negated from place right) (negated to place (part_map h right))
-            (negated-carried from to h carries place right) ts3))
+        (negated-carried from to h carries place right) ts3))
 
     in_parentheses-carried : (ts : Items)
         → in_parentheses to columns other ts ≡ mapped (part_map h) (in_parentheses from columns below ts)
@@ -291,7 +291,7 @@ module _ {S T : Type 0} (from : Forms S) (to : Forms T) (h : S → T) (carries :
     in_parentheses-carried ts =
         then-same (part_map h) (expect i.Open ts) _ _ (λ place ts2.
         then-carried (part_map h) (part_map h) (disjunction from columns below ts2) (disjunction to columns other ts2)
-            _ _ (disjunction-carried ts2)
+        _ _ (disjunction-carried ts2)
         (λ inner ts3. then-same (part_map h) (expect i.Close ts3) _ _ (λ end ts4. refl)))
 
   nested-carried : (n : ℕ) → Alike (nested from columns n) (nested to columns n)
@@ -308,7 +308,7 @@ module _ {S T : Type 0} (from : Forms S) (to : Forms T) (h : S → T) (carries :
   unfolding expression
   expression-carried ts =
       then-carried (part_map h) h (disjunction from columns (nested from columns 64) ts)
-          (disjunction to columns (nested to columns 64) ts) _ _
+      (disjunction to columns (nested to columns 64) ts) _ _
       (disjunction-carried (nested from columns 64) (nested to columns 64) (nested-carried 64) ts)
       (λ whole ts2. check-carried h (wanted from whole) (wanted to (part_map h whole))
-          (wanted-carried from to h carries whole) ts2)
+      (wanted-carried from to h carries whole) ts2)

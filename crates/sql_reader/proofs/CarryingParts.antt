@@ -47,7 +47,7 @@ check-carried h (Err fault) found is ts = ap (λ v. with_rest v ts) is
 verdict_map-carried : {A B C D : Type 0} (h : A → B) (k : C → D) (f : A → C) (g : B → D) (verdict : Verdict A)
     (found : Verdict B) →
     found ≡ verdict_map h verdict → ((a : A) → g (h a) ≡ k (f a))
-        → verdict_map g found ≡ verdict_map k (verdict_map f verdict)
+    → verdict_map g found ≡ verdict_map k (verdict_map f verdict)
 verdict_map-carried h k f g (Ok a) found is e = ap (verdict_map g) is ∙ ap Ok (e a)
 verdict_map-carried h k f g (Err fault) found is e = ap (verdict_map g) is
 
@@ -74,7 +74,7 @@ divided-carried h digits first column divisor = by_test (int_eq divisor (pos 0))
 pub remainder-carried : {S T : Type 0} (h : S → T) (place first : ℕ) (column : Option FoundColumn)
     (operand : OperandOf S) →
     remainder place first column (operand_map h operand)
-        ≡ verdict_map (part_map h) (remainder place first column operand)
+    ≡ verdict_map (part_map h) (remainder place first column operand)
 unfolding remainder
 remainder-carried h place first (Some column) (OfLiteral digits (Number divisor)) =
     divided-carried h digits first column divisor
@@ -161,7 +161,7 @@ module _ {S T : Type 0} (from : Forms S) (to : Forms T) (h : S → T) (carries :
   unfolding negated
   negated-carried place right =
       verdict_map-carried h (part_map h) _ _ (wanted from right) (wanted to (part_map h right)) (wanted-carried right)
-          (λ s. ap (λ t. part place (OfFormula t)) (carries.negated s))
+      (λ s. ap (λ t. part place (OfFormula t)) (carries.negated s))
 
   pub joined-carried : (join : S → S → S) (other : T → T → T)
       → ((left right : S) → other (h left) (h right) ≡ h (join left right))
@@ -170,11 +170,11 @@ module _ {S T : Type 0} (from : Forms S) (to : Forms T) (h : S → T) (carries :
   unfolding joined
   joined-carried join other e place left right =
       verdict_map-carried h (part_map h) _ _ (wanted from right) (wanted to (part_map h right)) (wanted-carried right)
-          (λ s. ap (λ t. part place (OfFormula t)) (e left s))
+      (λ s. ap (λ t. part place (OfFormula t)) (e left s))
 
   compared-carried : (place : ℕ) (left : OperandOf S) (op : Op) (right : OperandOf S) →
       compared to place (operand_map h left) op (operand_map h right)
-          ≡ verdict_map h (compared from place left op right)
+      ≡ verdict_map h (compared from place left op right)
   unfolding compared
   compared-carried place (OfTerm term kind) op (OfTerm other other_kind) = refl
   compared-carried place (OfTerm term kind) op (OfLiteral at constant) =
@@ -196,10 +196,10 @@ module _ {S T : Type 0} (from : Forms S) (to : Forms T) (h : S → T) (carries :
 
   pub compared_part-carried : (place : ℕ) (left : PartOf S) (op : Op) (right : PartOf S) →
       compared_part to place (part_map h left) op (part_map h right)
-          ≡ verdict_map (part_map h) (compared_part from place left op right)
+      ≡ verdict_map (part_map h) (compared_part from place left op right)
   compared_part-carried place left op right =
       verdict_map-carried h (part_map h) _ _ (compared from place left.operand op right.operand)
-          (compared to place (operand_map h left.operand) op (operand_map h right.operand))
+      (compared to place (operand_map h left.operand) op (operand_map h right.operand))
       (compared-carried place left.operand op right.operand) (λ s. refl)
 
   asking-carried : (place : ℕ) (test : Test) (read : Option S) (found : Option T) → found ≡ option_map h read
@@ -238,9 +238,9 @@ module _ {S T : Type 0} (from : Forms S) (to : Forms T) (h : S → T) (carries :
   unfolding tested_part
   tested_part-carried truth_test asked_part =
       verdict_map-carried h (part_map h) _ _ (answered from truth_test.place truth_test.asked asked_part.operand)
-          (answered to truth_test.place truth_test.asked (operand_map h asked_part.operand))
+      (answered to truth_test.place truth_test.asked (operand_map h asked_part.operand))
       (answered-carried truth_test.place truth_test.asked asked_part.operand)
-          (λ s. ap (λ t. part asked_part.place (OfFormula t)) (negated_if-carried truth_test.is_negated s))
+      (λ s. ap (λ t. part asked_part.place (OfFormula t)) (negated_if-carried truth_test.is_negated s))
 
   -- one check after another, of which the first is the same
   next-carried : {A : Type 0} (verdict found : Verdict A) (more : A → Verdict S) (other : A → Verdict T)
@@ -257,39 +257,39 @@ module _ {S T : Type 0} (from : Forms S) (to : Forms T) (h : S → T) (carries :
 
   among-carried : (place : ℕ) (left first : OperandOf S) (others : List (OperandOf S)) →
       among to place (operand_map h left) (operand_map h first) (map (operand_map h) others)
-          ≡ verdict_map h (among from place left first others)
+      ≡ verdict_map h (among from place left first others)
   unfolding among
   among-carried place left first others =
       next-carried (subject_of place left) (subject_of place (operand_map h left)) _ _ (subject-same h place left)
-          (λ on.
+      (λ on.
       next-carried (beside place on.kind first) (beside place on.kind (operand_map h first)) _ _
-          (beside-same h place on.kind first) (λ constant.
+      (beside-same h place on.kind first) (λ constant.
       last-carried (all_beside place on.kind others) (all_beside place on.kind (map (operand_map h) others)) _ _
-          (all_beside-same h place on.kind others)
+      (all_beside-same h place on.kind others)
       (λ constants. carries.among on.term constant constants)))
 
   between-carried : (place : ℕ) (left low high : OperandOf S) →
       between to place (operand_map h left) (operand_map h low) (operand_map h high)
-          ≡ verdict_map h (between from place left low high)
+      ≡ verdict_map h (between from place left low high)
   unfolding between
   between-carried place left low high =
       next-carried (subject_of place left) (subject_of place (operand_map h left)) _ _ (subject-same h place left)
-          (λ on.
+      (λ on.
       next-carried (bound place on.kind low) (bound place on.kind (operand_map h low)) _ _
-          (bound-same h place on.kind low) (λ lowest.
+      (bound-same h place on.kind low) (λ lowest.
       last-carried (bound place on.kind high) (bound place on.kind (operand_map h high)) _ _
-          (bound-same h place on.kind high)
+      (bound-same h place on.kind high)
       (λ highest. carries.between on.term lowest highest)))
 
   distinct-carried : (place distinct_place : ℕ) (left right : OperandOf S) →
       distinct to place distinct_place (operand_map h left) (operand_map h right)
-          ≡ verdict_map h (distinct from place distinct_place left right)
+      ≡ verdict_map h (distinct from place distinct_place left right)
   unfolding distinct
   distinct-carried place distinct_place left right =
       next-carried (subject_of place left) (subject_of place (operand_map h left)) _ _ (subject-same h place left)
-          (λ on.
+      (λ on.
       last-carried (beside distinct_place on.kind right) (beside distinct_place on.kind (operand_map h right)) _ _
-          (beside-same h distinct_place on.kind right)
+      (beside-same h distinct_place on.kind right)
       (λ constant. carries.distinct on.term constant))
 
   formed-carried : (is_negated : Bool) (place : ℕ) (verdict : Verdict S) (found : Verdict T)
@@ -297,29 +297,29 @@ module _ {S T : Type 0} (from : Forms S) (to : Forms T) (h : S → T) (carries :
       formed to is_negated place found ≡ verdict_map (part_map h) (formed from is_negated place verdict)
   formed-carried is_negated place verdict found is =
       verdict_map-carried h (part_map h) _ _ verdict found is
-          (λ s. ap (λ t. part place (OfFormula t)) (negated_if-carried is_negated s))
+      (λ s. ap (λ t. part place (OfFormula t)) (negated_if-carried is_negated s))
 
   pub among_part-carried : (word : MembershipWord) (left : PartOf S) (first : OperandOf S)
       (others : List (OperandOf S)) →
       among_part to word (part_map h left) (operand_map h first) (map (operand_map h) others)
-          ≡ verdict_map (part_map h) (among_part from word left first others)
+      ≡ verdict_map (part_map h) (among_part from word left first others)
   among_part-carried word left first others =
       formed-carried word.is_negated left.place (among from word.place left.operand first others)
-          (among to word.place (operand_map h left.operand) (operand_map h first) (map (operand_map h) others))
+      (among to word.place (operand_map h left.operand) (operand_map h first) (map (operand_map h) others))
       (among-carried word.place left.operand first others)
 
   pub between_part-carried : (word : MembershipWord) (left : PartOf S) (low high : OperandOf S) →
       between_part to word (part_map h left) (operand_map h low) (operand_map h high)
-          ≡ verdict_map (part_map h) (between_part from word left low high)
+      ≡ verdict_map (part_map h) (between_part from word left low high)
   between_part-carried word left low high =
       formed-carried word.is_negated left.place (between from word.place left.operand low high)
-          (between to word.place (operand_map h left.operand) (operand_map h low) (operand_map h high))
+      (between to word.place (operand_map h left.operand) (operand_map h low) (operand_map h high))
       (between-carried word.place left.operand low high)
 
   pub distinct_part-carried : (words : DistinctWords) (left : PartOf S) (right : OperandOf S) →
       distinct_part to words (part_map h left) (operand_map h right)
-          ≡ verdict_map (part_map h) (distinct_part from words left right)
+      ≡ verdict_map (part_map h) (distinct_part from words left right)
   distinct_part-carried words left right =
       formed-carried words.is_negated left.place (distinct from words.place words.distinct_place left.operand right)
-          (distinct to words.place words.distinct_place (operand_map h left.operand) (operand_map h right))
+      (distinct to words.place words.distinct_place (operand_map h left.operand) (operand_map h right))
       (distinct-carried words.place words.distinct_place left.operand right)

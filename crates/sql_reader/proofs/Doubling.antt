@@ -22,7 +22,7 @@ doubled-char c rest = elim (cases_lt c 128) [
   | inl ascii ↦ rw (encode_ascii c ascii) (grind (arith, nat_tests))
   | inr big ↦
       let high : (k : ℕ) → k < length (encode_utf8 c) → 128 ≤ get_or (encode_utf8 c) k 0 =
-          λ k below. elim (cases_lt (get_or (encode_utf8 c) k 0) 128) [
+      λ k below. elim (cases_lt (get_or (encode_utf8 c) k 0) 128) [
         | inl low ↦ absurd (omega (arith, inside_one c [] (encode_utf8 c) k (sym (append-nil _)) below low))
         | inr h ↦ h
       ] in

@@ -43,7 +43,7 @@ chosen_rule-gives P false one other ts h k = k
 after-gives : {S : Type 0} (P : S → Type 0) (n : ℕ) (step : Step S) (s : S) (ts : Items) → P s →
     ((s2 : S) (ts2 : Items) → P s2 → Gives P (at_most n step s2 ts2)) →
     (read : Result (Option (S × Items)) Fault) → GivesMore P read
-        → Gives P (after_step read (goes (at_most n step) s ts))
+    → Gives P (after_step read (goes (at_most n step) s ts))
 after-gives P n step s ts p again (Err fault) h = tt
 after-gives P n step s ts p again (Ok None) h = p
 after-gives P n step s ts p again (Ok (Some x)) h =

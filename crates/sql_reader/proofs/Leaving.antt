@@ -39,7 +39,7 @@ StepKeeps P step = (s : _) (ts : Items) → P s ts → LeavesMore P (step s ts)
 after-leaves : {S : Type 0} (P : S → Items → Type 0) (n : ℕ) (step : Step S) (s : S) (ts : Items) → P s ts →
     ((s2 : S) (ts2 : Items) → P s2 ts2 → Leaves P (at_most n step s2 ts2)) →
     (read : Result (Option (S × Items)) Fault) → LeavesMore P read
-        → Leaves P (after_step read (goes (at_most n step) s ts))
+    → Leaves P (after_step read (goes (at_most n step) s ts))
 after-leaves P n step s ts p again (Err fault) h = tt
 after-leaves P n step s ts p again (Ok None) h = p
 after-leaves P n step s ts p again (Ok (Some x)) h =

@@ -54,15 +54,15 @@ module _ (P : FoundColumn → Type 0) (called : PlacedName) (ts : Items) where
 
 found_within : (number : ℕ) (called : PlacedName) (columns : List Column) (ts : Items)
     → Gives (λ (column : FoundColumn). column.number < number + length columns)
-        (with_rest (known called (found_from number called.text columns)) ts)
+    (with_rest (known called (found_from number called.text columns)) ts)
 found_within number called [] ts = tt
 found_within number called (column ∷ columns) ts =
     let same : (number + 1) + length columns ≡ number + length (column ∷ columns) = omega arith in
     either_found (λ (found : FoundColumn). found.number < number + length (column ∷ columns)) called ts
-        (bytes_eq called.text column.name)
+    (bytes_eq called.text column.name)
     (record { number = number; kind = column.kind }) (found_from (number + 1) called.text columns) (omega arith)
     (subst (λ (most : ℕ). Gives (λ (found : FoundColumn). found.number < most)
-        (with_rest (known called (found_from (number + 1) called.text columns)) ts)) same
+    (with_rest (known called (found_from (number + 1) called.text columns)) ts)) same
     (found_within (number + 1) called columns ts))
 
 pub known_column-gives : (columns : List Column) (called : PlacedName) (ts : Items)
@@ -71,7 +71,7 @@ unfolding known_column find_column
 known_column-gives columns called ts =
     let same : 0 + length columns ≡ length columns = omega arith in
     subst (λ (most : ℕ). Gives (λ (found : FoundColumn). found.number < most)
-        (with_rest (known called (found_from 0 called.text columns)) ts)) same (found_within 0 called columns ts)
+    (with_rest (known called (found_from 0 called.text columns)) ts)) same (found_within 0 called columns ts)
 
 -- ---- checks
 
@@ -179,7 +179,7 @@ module _ (count : ℕ) where
   unfolding joined
   joined-named join joins place left right one other =
       map-says Named NamedPart _ (wanted as_filter right) (wanted-named right other)
-          (λ filter n. joins left filter one n)
+      (λ filter n. joins left filter one n)
 
   abbrev NamedFound : Option FoundColumn → Type 0
   NamedFound None = Unit {0}
@@ -238,7 +238,7 @@ module _ (count : ℕ) where
       → Says NamedPart (compared_part as_filter place left op right)
   compared_part-named place left op right h r =
       map-says Named NamedPart _ (compared as_filter place left.operand op right.operand)
-          (compared-named place left.operand op right.operand h r) (λ filter n. n)
+      (compared-named place left.operand op right.operand h r) (λ filter n. n)
 
   asking-named : (place : ℕ) (test : Test) (read : Option Expr) → NamedOption read
       → Says Named (asking as_filter place test read)
@@ -274,7 +274,7 @@ module _ (count : ℕ) where
   tested_part-named truth_test asked_part h =
       map-says Named NamedPart _ (answered as_filter truth_test.place truth_test.asked asked_part.operand)
       (answered-named truth_test.place truth_test.asked asked_part.operand h)
-          (λ filter n. negated_if-named truth_test.is_negated filter n)
+      (λ filter n. negated_if-named truth_test.is_negated filter n)
 
   -- ---- IN, BETWEEN and IS DISTINCT FROM
 
@@ -299,7 +299,7 @@ module _ (count : ℕ) where
       then-says NamedSubject Named (subject_of place left) _ (subject-named place left h) (λ on n.
       any_then-says Named (beside place on.kind first) _ (λ constant.
       any_map-says Named _ (all_beside place on.kind others)
-          (λ constants. atom-named (In on.term (ascending (constant ∷ constants))) n)))
+      (λ constants. atom-named (In on.term (ascending (constant ∷ constants))) n)))
 
   between-named : (place : ℕ) (left low high : OperandOf Expr) → NamedOperand left
       → Says Named (between as_filter place left low high)
@@ -333,13 +333,13 @@ module _ (columns : List Column) where
   simple_by-fits (Some (i.Keyword k.Case)) ts = tt
   simple_by-fits _ ts =
       then-gives (λ (found : FoundColumn). found.number < length columns) Fits (column columns ts) _ (column-gives ts)
-          (λ found ts2 h. h)
+      (λ found ts2 h. h)
     where
       column-gives : (ts : Items) → Gives (λ (found : FoundColumn). found.number < length columns) (column columns ts)
       column-gives ts =
           any-gives (λ (found : FoundColumn). found.number < length columns) (name ts) _ (λ called ts2.
           any-gives (λ (found : FoundColumn). found.number < length columns) (no_call called ts2) _
-              (λ u ts3. known_column-gives columns called ts3))
+          (λ u ts3. known_column-gives columns called ts3))
 
   simple-fits : (ts : Items) → Gives Fits (simple columns ts)
   unfolding simple
@@ -366,7 +366,7 @@ module _ (columns : List Column) where
         any-gives Fits (expect (i.Operator o.Percent) ts) _ (λ place ts2.
         any-gives Fits (primary as_filter columns below ts2) _ (λ right ts3.
         check-gives Fits (remainder place first column right.operand) ts3
-            (remainder-named (length columns) place first column right.operand h)))
+        (remainder-named (length columns) place first column right.operand h)))
 
     divisor_or_none-fits : (left : PartOf Expr) (ts : Items) → Fits left
         → Gives Fits (divisor_or_none as_filter columns below left ts)
@@ -376,7 +376,7 @@ module _ (columns : List Column) where
       where
         by_divisor : (is_divided : Bool) (ts2 : Items) →
             Gives Fits ((if is_divided then
-                divisor as_filter columns below left.place (dividend left.operand) else (λ ts3. Ok (left, ts3))) ts2)
+            divisor as_filter columns below left.place (dividend left.operand) else (λ ts3. Ok (left, ts3))) ts2)
         by_divisor true ts2 =
             divisor-fits left.place (dividend left.operand) ts2 (dividend-named (length columns) left.operand h)
         by_divisor false ts2 = h
@@ -395,7 +395,7 @@ module _ (columns : List Column) where
 
     checked-fits : (verdict : Verdict (PartOf Expr)) → Says Fits verdict → (ts : Items)
         → Gives Fits (and_then (with_rest verdict ts)
-            (λ whole ts2. and_then (no_operator ts2) (λ u ts3. Ok (whole, ts3))))
+        (λ whole ts2. and_then (no_operator ts2) (λ u ts3. Ok (whole, ts3))))
     checked-fits verdict h ts = then-gives Fits Fits (with_rest verdict ts) _ (check-gives Fits verdict ts h) ended-fits
 
     right_side-fits : (left : PartOf Expr) (op : Op) (ts : Items) → Fits left
@@ -405,7 +405,7 @@ module _ (columns : List Column) where
         then-gives Fits Fits (term as_filter columns below (rest_of ts)) _ (term-fits (rest_of ts)) (λ right ts2 r.
         any-gives Fits (no_cast ts2) _ (λ u ts3.
         checked-fits (compared_part as_filter (place_ahead ts) left op right)
-            (compared_part-named (length columns) (place_ahead ts) left op right h r) ts3))
+        (compared_part-named (length columns) (place_ahead ts) left op right h r) ts3))
 
     in_list-fits : (word : MembershipWord) (left : PartOf Expr) (ts : Items) → Fits left
         → Gives Fits (in_list as_filter columns below word left ts)
@@ -417,7 +417,7 @@ module _ (columns : List Column) where
         any-gives Fits (expect i.Close ts4) _ (λ end ts5.
         checked-fits (among_part as_filter word left first.operand others)
         (formed-named (length columns) word.is_negated left.place
-            (among as_filter word.place left.operand first.operand others)
+        (among as_filter word.place left.operand first.operand others)
         (among-named (length columns) word.place left.operand first.operand others h)) ts5))))
 
     bounds-fits : (word : MembershipWord) (left : PartOf Expr) (ts : Items) → Fits left
@@ -430,7 +430,7 @@ module _ (columns : List Column) where
         any-gives Fits (no_cast ts4) _ (λ u ts5.
         checked-fits (between_part as_filter word left low.operand high.operand)
         (formed-named (length columns) word.is_negated left.place
-            (between as_filter word.place left.operand low.operand high.operand)
+        (between as_filter word.place left.operand low.operand high.operand)
         (between-named (length columns) word.place left.operand low.operand high.operand h)) ts5))))
 
     member_by-fits : (left : PartOf Expr) (membership : Option Membership) (ts : Items) → Fits left
@@ -450,7 +450,7 @@ module _ (columns : List Column) where
     unfolding comparison right_side_or_none
     comparison-fits ts =
         then-gives Fits Fits (side as_filter columns below ts) _ (side-fits ts)
-            (λ left ts2 h. right_side_by-fits left (comparison_by (item_ahead ts2)) ts2 h)
+        (λ left ts2 h. right_side_by-fits left (comparison_by (item_ahead ts2)) ts2 h)
 
     distinct_side-fits : (left : PartOf Expr) (words : DistinctWords) (ts : Items) → Fits left
         → Gives Fits (distinct_side as_filter columns below left words ts)
@@ -460,7 +460,7 @@ module _ (columns : List Column) where
         any-gives Fits (no_cast ts2) _ (λ u ts3.
         checked-fits (distinct_part as_filter words left right.operand)
         (formed-named (length columns) words.is_negated left.place
-            (distinct as_filter words.place words.distinct_place left.operand right.operand)
+        (distinct as_filter words.place words.distinct_place left.operand right.operand)
         (distinct-named (length columns) words.place words.distinct_place left.operand right.operand h)) ts3))
 
     tested_by-fits : (left : PartOf Expr) (asking : Option TestAhead) (ts : Items) → Fits left
@@ -486,11 +486,11 @@ module _ (columns : List Column) where
     unfolding one_more_negation
     one_more_negation-fits left ts h =
         then-gives (Named (length columns)) Fits (with_rest (wanted as_filter left) ts) _
-            (check-gives (Named (length columns)) (wanted as_filter left) ts (wanted-named (length columns) left h))
-            (λ filter ts2 n.
+        (check-gives (Named (length columns)) (wanted as_filter left) ts (wanted-named (length columns) left h))
+        (λ filter ts2 n.
         then-gives Fits Fits (negation as_filter columns below ts2) _ (negation-fits ts2) (λ right ts3 r.
         check-gives Fits (joined as_filter And left.place filter right) ts3
-            (joined-named (length columns) And (both-named (length columns)) left.place filter right n r)))
+        (joined-named (length columns) And (both-named (length columns)) left.place filter right n r)))
 
     conjunction-fits : (ts : Items) → Gives Fits (conjunction as_filter columns below ts)
     unfolding conjunction
@@ -504,11 +504,11 @@ module _ (columns : List Column) where
     unfolding one_more_conjunction
     one_more_conjunction-fits left ts h =
         then-gives (Named (length columns)) Fits (with_rest (wanted as_filter left) ts) _
-            (check-gives (Named (length columns)) (wanted as_filter left) ts (wanted-named (length columns) left h))
-            (λ filter ts2 n.
+        (check-gives (Named (length columns)) (wanted as_filter left) ts (wanted-named (length columns) left h))
+        (λ filter ts2 n.
         then-gives Fits Fits (conjunction as_filter columns below ts2) _ (conjunction-fits ts2) (λ right ts3 r.
         check-gives Fits (joined as_filter Or left.place filter right) ts3
-            (joined-named (length columns) Or (either-named (length columns)) left.place filter right n r)))
+        (joined-named (length columns) Or (either-named (length columns)) left.place filter right n r)))
 
     disjunction-fits : (ts : Items) → Gives Fits (disjunction as_filter columns below ts)
     unfolding disjunction
@@ -545,4 +545,4 @@ module _ (columns : List Column) where
       then-gives Fits (NamesWithin (length columns)) (disjunction as_filter columns (nested as_filter columns 64) ts) _
       (disjunction-fits (nested as_filter columns 64) (nested-fits 64) ts)
       (λ whole ts2 h. check-gives (NamesWithin (length columns)) (wanted as_filter whole) ts2
-          (wanted-named (length columns) whole h))
+      (wanted-named (length columns) whole h))

@@ -47,7 +47,7 @@ has-added c x held = by_test (has x held)
     (λ other. rw (found, other) (sym (or_false (has c held)))))
     (λ new.
     let appended : has c (held ++ x ∷ []) ≡ (has c held || (same_atom c x || false)) =
-        list_any-append (same_atom c) held (x ∷ []) in
+    list_any-append (same_atom c) held (x ∷ []) in
     rw new (appended ∙ ap (λ b. has c held || b) (or_false (same_atom c x))))
 
 length-added : (x : AtomOf) (held : List AtomOf)
@@ -80,8 +80,8 @@ counts_commute false false n = refl
 length-added-added : (held : List AtomOf) (x y : AtomOf) → same_atom y x ≡ false
     → length (added (added held x) y)
     ≡ (if has y held then
-        (if has x held then length held else length held + 1)
-        else (if has x held then length held else length held + 1) + 1)
+    (if has x held then length held else length held + 1)
+    else (if has x held then length held else length held + 1) + 1)
 length-added-added held x y unlike =
     let there : has y (added held x) ≡ has y held =
     has-added y x held ∙ ap (λ b. has y held || b) unlike ∙ or_false (has y held) in
@@ -94,7 +94,7 @@ commute held x y = by_test (same_atom y x)
     (λ same.
     let equal : y ≡ x = same_atom_is y x same in
     subst (λ z. Alike (added (added held x) z) (added (added held z) x)) (sym equal)
-        (alike_refl (added (added held x) x)))
+    (alike_refl (added (added held x) x)))
     (λ unlike. record {
       members = λ c.
           has-added c y (added held x) ∙ ap (λ b. b || same_atom c y) (has-added c x held)
@@ -153,9 +153,9 @@ both_ways xs' xs ys' ys left right held =
     let first = alike_all (with_all held xs') (with_all held xs) ys' (left held) in
     let later = right (with_all held xs) in
     let whole = alike_trans (with_all (with_all held ys') xs') (with_all (with_all held xs') ys')
-        (with_all (with_all held xs) ys) turned
+    (with_all (with_all held xs) ys) turned
     (alike_trans (with_all (with_all held xs') ys') (with_all (with_all held xs) ys') (with_all (with_all held xs) ys)
-        first later) in
+    first later) in
     subst (λ z. Alike z (with_all held (xs ++ ys))) (sym (with_all-append held ys' xs'))
     (subst (λ z. Alike (with_all (with_all held ys') xs') z) (sym (with_all-append held xs ys)) whole)
 

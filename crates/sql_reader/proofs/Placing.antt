@@ -22,17 +22,17 @@ module _ {X : Type 0} (v : X → Constant) (xs : List X) (k : Constant) where
 
     at : (order : Ordering) → constant_cmp k (v x) ≡ order → Passed index →
         placed (map v xs) k ≡ map v (take index xs)
-            ++ match_ordering order (k ∷ map v (drop index xs)) (map v (drop index xs))
-            (v x ∷ placed (map v (drop (index + 1) xs)) k)
+        ++ match_ordering order (k ∷ map v (drop index xs)) (map v (drop index xs))
+        (v x ∷ placed (map v (drop (index + 1) xs)) k)
     at order e passed =
         passed
         ∙ ap (λ rest. map v (take index xs) ++ placed (map v rest) k) here
         ∙ ap (λ o. map v (take index xs)
-            ++ match_ordering o (k ∷ v x ∷ map v (drop (index + 1) xs)) (v x ∷ map v (drop (index + 1) xs))
-            (v x ∷ placed (map v (drop (index + 1) xs)) k)) e
+        ++ match_ordering o (k ∷ v x ∷ map v (drop (index + 1) xs)) (v x ∷ map v (drop (index + 1) xs))
+        (v x ∷ placed (map v (drop (index + 1) xs)) k)) e
         ∙ ap (λ rest. map v (take index xs)
-            ++ match_ordering order (k ∷ map v rest) (map v rest) (v x ∷ placed (map v (drop (index + 1) xs)) k))
-            (sym here)
+        ++ match_ordering order (k ∷ map v rest) (map v rest) (v x ∷ placed (map v (drop (index + 1) xs)) k))
+        (sym here)
 
     pub passed_less : constant_cmp k (v x) ≡ Less → Passed index → placed (map v xs) k ≡ insert (map v xs) index k
     passed_less e passed =

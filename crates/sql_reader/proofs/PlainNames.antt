@@ -120,7 +120,7 @@ name_if : (item : Item) (written : List ℕ) (is : Bool) → is_name item ≡ is
     → (is_name item ≡ true → IsPlainName (name_meant (Some item) written)) → (place : ℕ) (rest : Items)
     → ArePlain rest → (fault : Fault)
     → Leaves NamesPlain (if is then
-        Ok (record { place = place; text = name_meant (Some item) written }, rest) else Err fault)
+    Ok (record { place = place; text = name_meant (Some item) written }, rest) else Err fault)
 name_if item written true e h place rest p fault = (h e, p)
 name_if item written false e h place rest p fault = tt
 
@@ -152,7 +152,7 @@ given-plain : (second : Keyword) (given : Constraints) (ts : Items) → ArePlain
 unfolding given_by
 given-plain second given ts h =
     any-plain Any (expect (i.Keyword second) (rest_of ts)) _
-        (expect-plain (i.Keyword second) (rest_of ts) (rest_plain (rest_of ts) (rest_plain ts h))) (λ place ts2 p. p)
+    (expect-plain (i.Keyword second) (rest_of ts) (rest_plain (rest_of ts) (rest_plain ts h))) (λ place ts2 p. p)
 
 chosen_rule : {A : Type 0} (P : A → Items → Type 0) (b : Bool) (one other : Rule A) (ts : Items) → Leaves P (one ts)
     → Leaves P (other ts) → Leaves P ((if b then one else other) ts)
@@ -163,10 +163,10 @@ constraint_by-plain : (keyed : Bool) (given : Constraints) (item : Option Item) 
     → Leaves Any (constraint_by keyed given item ts)
 constraint_by-plain keyed given (Some (i.Keyword k.Not)) ts h =
     chosen_rule Any given.not_null refuse (given_by k.Null (record given { not_null = true })) ts tt
-        (given-plain k.Null (record given { not_null = true }) ts h)
+    (given-plain k.Null (record given { not_null = true }) ts h)
 constraint_by-plain keyed given (Some (i.Keyword k.Primary)) ts h =
     chosen_rule Any (keyed || given.key) refuse (given_by k.Key (record given { key = true })) ts tt
-        (given-plain k.Key (record given { key = true }) ts h)
+    (given-plain k.Key (record given { key = true }) ts h)
 constraint_by-plain keyed given _ ts h = tt
 
 constraint-plain : (keyed : Bool) (given : Constraints) (ts : Items) → ArePlain ts
@@ -185,7 +185,7 @@ unfolding column_element
 column_element-plain parts ts h =
     then-leaves NamesPlain ColumnsPlain (name ts) _ (name-plain ts h.1) (λ called ts2 named.
     any-plain ColumnsPlain (with_rest (new_column parts called) ts2) _
-        (check-plain (new_column parts called) ts2 named.1) (λ n ts3 p.
+    (check-plain (new_column parts called) ts2 named.1) (λ n ts3 p.
     any-plain ColumnsPlain (column_type ts3) _ (column_type-plain ts3 p) (λ kind ts4 q.
     any-plain ColumnsPlain (constraints (has_key parts) ts4) _ (constraints-plain (has_key parts) ts4 q) (λ given ts5 r.
     (All-push HasPlainName parts.columns _ h.0 named.0, r)))))
@@ -195,26 +195,26 @@ required-plain : (columns : List Column) (number : ℕ) → All HasPlainName col
 required-plain [] number h = h
 required-plain (column ∷ columns) zero h =
     All-cons HasPlainName (record column { not_null = true }) columns (All-head HasPlainName column columns h)
-        (All-tail HasPlainName column columns h)
+    (All-tail HasPlainName column columns h)
 required-plain (column ∷ columns) (suc number) h =
     All-cons HasPlainName column (required columns number) (All-head HasPlainName column columns h)
-        (required-plain columns number (All-tail HasPlainName column columns h))
+    (required-plain columns number (All-tail HasPlainName column columns h))
 
 key_column-plain : (parts : Parts) (ts : Items) → ColumnsPlain parts ts → Leaves ColumnsPlain (key_column parts ts)
 unfolding key_column
 key_column-plain parts ts h =
     then-leaves NamesPlain ColumnsPlain (name ts) _ (name-plain ts h.1) (λ called ts2 named.
     any-plain ColumnsPlain (with_rest (known_column parts.columns called) ts2) _
-        (check-plain (known_column parts.columns called) ts2 named.1) (λ column ts3 p.
+    (check-plain (known_column parts.columns called) ts2 named.1) (λ column ts3 p.
     any-plain ColumnsPlain (with_rest (once_in_key parts called column) ts3) _
-        (check-plain (once_in_key parts called column) ts3 p) (λ n ts4 q.
+    (check-plain (once_in_key parts called column) ts3 p) (λ n ts4 q.
     (required-plain parts.columns column.number h.0, q))))
 
 after_comma : (parts : Parts) (ts : Items) → ColumnsPlain parts ts
     → Leaves (λ is ts2. ColumnsPlain parts (rest_of ts2)) (next_is i.Comma ts)
 after_comma parts ts h =
     let kept : (is : Outcome Bool) → Leaves (λ more ts2. ArePlain (rest_of ts2)) is
-        → Leaves (λ more ts2. ColumnsPlain parts (rest_of ts2)) is = λ is. with_columns is in
+    → Leaves (λ more ts2. ColumnsPlain parts (rest_of ts2)) is = λ is. with_columns is in
     kept (next_is i.Comma ts) (next_is-plain i.Comma ts h.1)
   where
     with_columns : (is : Outcome Bool) → Leaves (λ more ts2. ArePlain (rest_of ts2)) is
@@ -232,14 +232,14 @@ first_key-plain : (parts : Parts) (ts : Items) → ColumnsPlain parts ts → Lea
 unfolding first_key
 first_key-plain parts ts h =
     any-plain ColumnsPlain (expect (i.Keyword k.Primary) ts) _
-        (expect-plain (i.Keyword k.Primary) ts (rest_plain ts h.1)) (λ a ts2 p.
+    (expect-plain (i.Keyword k.Primary) ts (rest_plain ts h.1)) (λ a ts2 p.
     any-plain ColumnsPlain (expect (i.Keyword k.Key) ts2) _ (expect-plain (i.Keyword k.Key) ts2 (rest_plain ts2 p))
-        (λ b ts3 q.
+    (λ b ts3 q.
     any-plain ColumnsPlain (expect i.Open ts3) _ (expect-plain i.Open ts3 (rest_plain ts3 q)) (λ c ts4 r.
     then-leaves ColumnsPlain ColumnsPlain (key_columns parts ts4) _ (key_columns-plain parts ts4 (h.0, r))
-        (λ keyed ts5 s.
+    (λ keyed ts5 s.
     any-plain ColumnsPlain (expect i.Close ts5) _ (expect-plain i.Close ts5 (rest_plain ts5 s.1))
-        (λ d ts6 u. (s.0, u))))))
+    (λ d ts6 u. (s.0, u))))))
 
 key_element-plain : (parts : Parts) (ts : Items) → ColumnsPlain parts ts → Leaves ColumnsPlain (key_element parts ts)
 unfolding key_element
@@ -263,5 +263,5 @@ pub elements-plain : (ts : Items) → ArePlain ts → Leaves ColumnsPlain (eleme
 unfolding elements
 elements-plain ts h =
     then-leaves ColumnsPlain ColumnsPlain (element no_parts ts) _
-        (element-plain no_parts ts (All-nil HasPlainName, h)) (λ parts ts2 p.
+    (element-plain no_parts ts (All-nil HasPlainName, h)) (λ parts ts2 p.
     links-leave ColumnsPlain element element-plain i.Comma after_comma parts ts2 p)

@@ -69,12 +69,12 @@ first_digit bytes digits are = prefix_len_passes is_ascii_digit bytes 0 0 (omega
 number_at : (text : List ℕ) (place : ℕ) (digits : Digits) → AreDigits (drop place text) digits
     → place + digits.length < length text → EndsValue (slice_index text (place + digits.length))
     → tokens_at text place
-        ≡ Then (seen (lexeme (t.Number digits.number) place (take digits.length (drop place text))))
-        (tokens_at text (place + digits.length))
+    ≡ Then (seen (lexeme (t.Number digits.number) place (take digits.length (drop place text))))
+    (tokens_at text (place + digits.length))
 unfolding items n.number
 number_at text place digits are within ends =
     let next : slice_index (drop place text) digits.length ≡ slice_index text (place + digits.length) =
-        get_or-drop place text digits.length 0 in
+    get_or-drop place text digits.length 0 in
     let fits : nat_lt digits.number (2 ^ 63) ≡ true = lt-ltb digits.number (2 ^ 63) are.small in
     ap items (at-token text place (t.Number digits.number) digits.length (omega (arith, are.some))
     (front-digit (drop place text) (first_digit (drop place text) digits are)
@@ -107,13 +107,13 @@ minus_front (digit ∷ rest) e =
 minus_at : (text : List ℕ) (place : ℕ) (digits : Digits) → place < length text → slice_index text place ≡ 45
     → AreDigits (drop (place + 1) text) digits
     → tokens_at text place
-        ≡ Then (seen (lexeme (t.Operator Minus) place (take 1 (drop place text)))) (tokens_at text (place + 1))
+    ≡ Then (seen (lexeme (t.Operator Minus) place (take 1 (drop place text)))) (tokens_at text (place + 1))
 unfolding items front operator
 minus_at text place digits within minus are =
     ap items (at-token text place (t.Operator Minus) 1 within
     (ap front (at_byte text place 45 within minus)
-        ∙ minus_front (drop (place + 1) text) (first_digit (drop (place + 1) text) digits are)
-        ∙ rw (minus_len 48 [] refl) refl)
+    ∙ minus_front (drop (place + 1) text) (first_digit (drop (place + 1) text) digits are)
+    ∙ rw (minus_len 48 [] refl) refl)
     (omega arith) (omega arith))
 
 pub negative_is_plain : (text : List ℕ) (place : ℕ) (digits : Digits) (number : ℤ)
@@ -123,8 +123,11 @@ pub negative_is_plain : (text : List ℕ) (place : ℕ) (digits : Digits) (numbe
     → IsPlain text place (record { value = v.Int number; after = place + 1 + digits.length })
 unfolding value number_value signed_number placed_number r.number is_ahead
 negative_is_plain text place digits number e here minus are within ends = record {
-  takes = rw (e, minus_at text place digits here minus are,
-      number_at text (place + 1) digits are within (ends_is _ ends)) (record { reads = refl; fewer = omega arith });
+  takes = rw (
+    e,
+    minus_at text place digits here minus are,
+    number_at text (place + 1) digits are within (ends_is _ ends),
+  ) (record { reads = refl; fewer = omega arith });
   later = omega (arith, are.some);
   within = within;
   ends = ends;
@@ -147,7 +150,7 @@ plain_clean bytes found =
     let below : found.0 < prefix_len is_plain bytes = omega (arith, found.1, length-prefix_len is_plain bytes) in
     let passes : is_plain (get_or bytes found.0 0) ≡ true = prefix_len_passes is_plain bytes found.0 0 below in
     let zero : get_or bytes found.0 0 ≡ 0 = sym (get_or-take (prefix_len is_plain bytes) bytes found.0 0 below)
-        ∙ found.2 in
+    ∙ found.2 in
     let bad = rw zero at passes in
     cc
 
@@ -175,12 +178,12 @@ string_front : (text : List ℕ) (place count : ℕ) → count ≡ prefix_len is
 string_front text place count is opens closes within =
     let after = drop (place + 1 + count + 1) text in
     let rest : drop count (drop (place + 1) text) ≡ 39 ∷ after = drop-drop count (place + 1) text
-        ∙ at_byte text (place + 1 + count) 39 (omega arith) closes in
+    ∙ at_byte text (place + 1 + count) 39 (omega arith) closes in
     let parts : drop (place + 1) text ≡ inner text place count ++ (39 ∷ after) =
     sym (take-append-drop count (drop (place + 1) text)) ∙ ap (λ bytes. inner text place count ++ bytes) rest in
     let joined : in_quotes 39 (inner text place count) ++ after ≡ 39 ∷ (inner text place count ++ (39 ∷ after)) =
     ap (λ bytes. 39 ∷ ((bytes ++ (39 ∷ [])) ++ after)) (inner_doubled text place count is)
-        ∙ ap (λ bytes. 39 ∷ bytes) (append_assoc (inner text place count) (39 ∷ []) after) in
+    ∙ ap (λ bytes. 39 ∷ bytes) (append_assoc (inner text place count) (39 ∷ []) after) in
     at_byte text place 39 (omega arith) opens ∙ ap (λ bytes. 39 ∷ bytes) parts ∙ sym joined
 
 pub string_is_plain : (text : List ℕ) (place count : ℕ) (bytes : List ℕ) → bytes ≡ inner text place count
@@ -192,19 +195,26 @@ string_is_plain text place count bytes e is short opens closes within ends =
     let next = slice_index text (place + 1 + count + 1) in
     let rest = drop (place + 1 + count + 1 + 1) text in
     let tail : drop (place + 1 + count + 1) text ≡ next ∷ rest =
-        at_byte text (place + 1 + count + 1) next within refl in
+    at_byte text (place + 1 + count + 1) next within refl in
     let whole : drop place text ≡ in_quotes 39 (inner text place count) ++ (next ∷ rest) =
     string_front text place count is opens closes within
-        ∙ ap (λ bytes. in_quotes 39 (inner text place count) ++ bytes) tail in
+    ∙ ap (λ bytes. in_quotes 39 (inner text place count) ++ bytes) tail in
     let long : place + length (in_quotes 39 (inner text place count)) ≡ place + 1 + count + 1 =
-    omega (arith, length-append (doubled 39 (inner text place count)) (39 ∷ []),
-        ap length (inner_doubled text place count is), inner_length text place count is) in
+    omega (
+      arith,
+      length-append (doubled 39 (inner text place count)) (39 ∷ []),
+      ap length (inner_doubled text place count is),
+      inner_length text place count is,
+    ) in
     let after : tokens_at text (place + 1 + count + 1)
-        ≡ ahead (place + length (in_quotes 39 (inner text place count))) (next ∷ rest) =
+    ≡ ahead (place + length (in_quotes 39 (inner text place count))) (next ∷ rest) =
     ap (ahead (place + 1 + count + 1)) tail ∙ ap (λ p. ahead p (next ∷ rest)) (sym long) in
     let takes = string_again (inner text place count) place next rest
-        (record { no_zero = inner_clean text place count is; short =
-        omega (arith, inner_length text place count is) }) (ends_is next ends) in
+    (record {
+      no_zero = inner_clean text place count is;
+      short =
+          omega (arith, inner_length text place count is);
+    }) (ends_is next ends) in
     record {
       takes = rw (e, ap (ahead place) whole, after) takes;
       later = omega arith;
@@ -222,7 +232,7 @@ pub word_at : (text : List ℕ) (place : ℕ) (word rest : List ℕ) (starts end
 word_at text place word rest starts ends e is starts_is_true within is_end_here ends_is_true =
     let found : rest ≡ word ++ drop (length word) rest = (starts_is Decides-eqb rest word starts is).0 starts_is_true in
     let later : drop (length word) rest ≡ drop (place + length word) text = ap (drop (length word)) e
-        ∙ drop-drop (length word) place text in
+    ∙ drop-drop (length word) place text in
     record {
       is = sym e ∙ found ∙ ap (λ bytes. word ++ bytes) later;
       within = within;
@@ -244,20 +254,35 @@ word_reads cell word again text place is =
 pub null_is_plain : (text : List ℕ) (place : ℕ) → IsWord text place (codes "NULL")
     → IsPlain text place (record { value = v.Null; after = place + 4 })
 null_is_plain text place is =
-    record { takes = word_reads Missing (codes "NULL") null_again text place is; later = omega arith; within =
-    is.within; ends = is.ends }
+    record {
+      takes = word_reads Missing (codes "NULL") null_again text place is;
+      later = omega arith;
+      within =
+          is.within;
+      ends = is.ends;
+    }
 
 pub true_is_plain : (text : List ℕ) (place : ℕ) → IsWord text place (codes "TRUE")
     → IsPlain text place (record { value = v.Bool true; after = place + 4 })
 true_is_plain text place is =
-    record { takes = word_reads (Known (Truth true)) (codes "TRUE") true_again text place is; later =
-    omega arith; within = is.within; ends = is.ends }
+    record {
+      takes = word_reads (Known (Truth true)) (codes "TRUE") true_again text place is;
+      later =
+          omega arith;
+      within = is.within;
+      ends = is.ends;
+    }
 
 pub false_is_plain : (text : List ℕ) (place : ℕ) → IsWord text place (codes "FALSE")
     → IsPlain text place (record { value = v.Bool false; after = place + 5 })
 false_is_plain text place is =
-    record { takes = word_reads (Known (Truth false)) (codes "FALSE") false_again text place is; later =
-    omega arith; within = is.within; ends = is.ends }
+    record {
+      takes = word_reads (Known (Truth false)) (codes "FALSE") false_again text place is;
+      later =
+          omega arith;
+      within = is.within;
+      ends = is.ends;
+    }
 
 -- ---- rows
 
@@ -286,7 +311,7 @@ wants_next text cells cell place after next wants takes within comma same = λ m
     wants cell (tokens_at text after) takes
     ∙ ap (repeat (link i.Comma one_value) read) here
     ∙ link-goes_on i.Comma one_value read (ahead after (44 ∷ rest)) (read ++ (more ∷ [])) later
-        (comma_next after rest) read_next fewer
+    (comma_next after rest) read_next fewer
 
 -- the parenthesis after a value closes the row
 pub row_closes : (text : List ℕ) (cells : List Datum) (cell : Datum) (place after : ℕ) → Wants text cells place
@@ -296,11 +321,11 @@ pub row_closes : (text : List ℕ) (cells : List Datum) (cell : Datum) (place af
 row_closes text cells cell place after wants takes opens closes within last =
     let read = cells ++ (cell ∷ []) in
     let closed : drop after text ≡ 41 ∷ [] = at_byte text after 41 within closes
-        ∙ ap (λ bytes. 41 ∷ bytes) (drop_all (after + 1) text last) in
+    ∙ ap (λ bytes. 41 ∷ bytes) (drop_all (after + 1) text last) in
     let here : tokens_at text after ≡ closing after = ap (ahead after) closed in
     let ends : values (tokens_at text 1) ≡ Ok (read, closing after) =
     wants cell (tokens_at text after) takes ∙ ap (repeat (link i.Comma one_value) read) here
-        ∙ link-ends i.Comma one_value read (closing after) (close_next after) in
+    ∙ link-ends i.Comma one_value read (closing after) (close_next after) in
     let opened : text ≡ 40 ∷ drop 1 text = at_byte text 0 40 (omega arith) opens in
     ap row_of opened ∙ between_parentheses (drop 1 text) read after ends
 

@@ -19,7 +19,7 @@ tests_less m n h = grind (arith, nat_tests)
 turned : {S : Type 0} (n m : ℕ) (step : Step S) (s : S) (ts : Items)
     → ((x : S × Items) → size x.1 < size ts → at_most n step x.0 x.1 ≡ at_most m step x.0 x.1) →
     (read : Result (Option (S × Items)) Fault)
-        → after_step read (goes (at_most n step) s ts) ≡ after_step read (goes (at_most m step) s ts)
+    → after_step read (goes (at_most n step) s ts) ≡ after_step read (goes (at_most m step) s ts)
 turned n m step s ts again (Err f) = refl
 turned n m step s ts again (Ok None) = refl
 turned n m step s ts again (Ok (Some x)) =
@@ -50,7 +50,7 @@ pub goes_on : {S : Type 0} (step : Step S) (s : S) (ts : Items) (s2 : S) (ts2 : 
 unfolding repeat
 goes_on {S} step s ts s2 ts2 e fewer =
     let more : Result (Option (S × Items)) Fault → Outcome S =
-        λ read. after_step read (goes (at_most (size ts) step) s ts) in
+    λ read. after_step read (goes (at_most (size ts) step) s ts) in
     let less : nat_lt (size ts2) (size ts) ≡ true = tests_less (size ts2) (size ts) fewer in
     let taken : goes (at_most (size ts) step) s ts (Some (s2, ts2)) ≡ at_most (size ts) step s2 ts2 = rw less refl in
     one_turn step s ts ∙ ap more e ∙ taken ∙ enough step (size ts) (suc (size ts2)) s2 ts2 fewer (omega arith)
@@ -59,14 +59,14 @@ goes_on {S} step s ts s2 ts2 e fewer =
 pub ends : {S : Type 0} (step : Step S) (s : S) (ts : Items) → step s ts ≡ Ok None → repeat step s ts ≡ Ok (s, ts)
 ends {S} step s ts e =
     let more : Result (Option (S × Items)) Fault → Outcome S =
-        λ read. after_step read (goes (at_most (size ts) step) s ts) in
+    λ read. after_step read (goes (at_most (size ts) step) s ts) in
     one_turn step s ts ∙ ap more e
 
 -- a step that fails
 pub fails : {S : Type 0} (step : Step S) (s : S) (ts : Items) (f : Fault) → step s ts ≡ Err f → repeat step s ts ≡ Err f
 fails {S} step s ts f e =
     let more : Result (Option (S × Items)) Fault → Outcome S =
-        λ read. after_step read (goes (at_most (size ts) step) s ts) in
+    λ read. after_step read (goes (at_most (size ts) step) s ts) in
     one_turn step s ts ∙ ap more e
 
 -- ---- the same of a loop whose step is a separator and one more

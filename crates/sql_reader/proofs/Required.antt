@@ -6,7 +6,7 @@ use Rattle.sql_reader.specs.Columns.{required}
 pub required-set : (columns : List Column) (number : ℕ) (column : Column) → number < length columns
     → column ≡ slice_index_or columns number column →
     slice_set columns number (record { name = column.name; kind = column.kind; not_null = true })
-        ≡ required columns number
+    ≡ required columns number
 required-set [] number column within is = absurd (omega arith)
 required-set (first ∷ columns) zero column within is = ap (λ (c : Column). record c { not_null = true } ∷ columns) is
 required-set (first ∷ columns) (suc number) column within is =

@@ -52,14 +52,14 @@ pub null_again : (place next : ℕ) (rest : List ℕ) → EndsValue next
 unfolding value keyword_of early_keyword late_keyword
 null_again place next rest ends =
     rw (token_ahead t.Word place (codes "NULL") (next ∷ rest) (null_token place next rest ends))
-        (record { reads = refl; fewer = omega arith })
+    (record { reads = refl; fewer = omega arith })
 
 pub true_again : (place next : ℕ) (rest : List ℕ) → EndsValue next
     → ReadsValue (Known (Truth true)) (ahead place (codes "TRUE" ++ (next ∷ rest))) (ahead (place + 4) (next ∷ rest))
 unfolding value keyword_of early_keyword late_keyword
 true_again place next rest ends =
     rw (token_ahead t.Word place (codes "TRUE") (next ∷ rest) (true_token place next rest ends))
-        (record { reads = refl; fewer = omega arith })
+    (record { reads = refl; fewer = omega arith })
 
 pub false_again : (place next : ℕ) (rest : List ℕ) → EndsValue next
     → ReadsValue (Known (Truth false)) (ahead place (codes "FALSE" ++ (next ∷ rest)))
@@ -67,19 +67,19 @@ pub false_again : (place next : ℕ) (rest : List ℕ) → EndsValue next
 unfolding value keyword_of early_keyword late_keyword
 false_again place next rest ends =
     rw (token_ahead t.Word place (codes "FALSE") (next ∷ rest) (false_token place next rest ends))
-        (record { reads = refl; fewer = omega arith })
+    (record { reads = refl; fewer = omega arith })
 
 positive_again : (n place next : ℕ) (rest : List ℕ) → n < 2 ^ 63 → EndsValue next
     → ReadsValue (Known (Number (pos n))) (ahead place (decimal n ++ (next ∷ rest)))
-        (ahead (place + length (decimal n)) (next ∷ rest))
+    (ahead (place + length (decimal n)) (next ∷ rest))
 unfolding value number_value signed_number placed_number number is_ahead
 positive_again n place next rest small ends =
     rw (token_ahead (t.Number n) place (decimal n) (next ∷ rest) (number_token place n next rest small ends))
-        (record { reads = refl; fewer = omega arith })
+    (record { reads = refl; fewer = omega arith })
 
 negative_again : (k place next : ℕ) (rest : List ℕ) → suc k < 2 ^ 63 → EndsValue next
     → ReadsValue (Known (Number (negsuc k))) (ahead place (45 ∷ (decimal (suc k) ++ (next ∷ rest))))
-        (ahead (place + 1 + length (decimal (suc k))) (next ∷ rest))
+    (ahead (place + 1 + length (decimal (suc k))) (next ∷ rest))
 unfolding value number_value signed_number placed_number number is_ahead
 negative_again k place next rest small ends =
     rw (
@@ -97,13 +97,16 @@ no_cast place next rest ends =
 
 pub string_again : (text : List ℕ) (place next : ℕ) (rest : List ℕ) → IsReadable (Known (Bytes text)) → EndsValue next
     → ReadsValue (Known (Bytes text)) (ahead place (in_quotes 39 text ++ (next ∷ rest)))
-        (ahead (place + length (in_quotes 39 text)) (next ∷ rest))
+    (ahead (place + length (in_quotes 39 text)) (next ∷ rest))
 unfolding value string_value
 string_again text place next rest is ends =
     rw (token_ahead t.Text place (in_quotes 39 text) (next ∷ rest)
-        (string_token place text next rest is.no_zero is.short ends))
-    (record { reads = rw (no_cast (place + length (in_quotes 39 text)) next rest ends, string_says text) refl; fewer =
-        omega arith })
+    (string_token place text next rest is.no_zero is.short ends))
+    (record {
+      reads = rw (no_cast (place + length (in_quotes 39 text)) next rest ends, string_says text) refl;
+      fewer =
+          omega arith;
+    })
 
 -- what follows a value begins so
 record EndsText (text : List ℕ) : Type 0 where
@@ -114,7 +117,7 @@ record EndsText (text : List ℕ) : Type 0 where
 
 value_next : (cell : Datum) (place next : ℕ) (rest : List ℕ) → IsReadable cell → EndsValue next
     → ReadsValue cell (ahead place (value_text cell ++ (next ∷ rest)))
-        (ahead (place + length (value_text cell)) (next ∷ rest))
+    (ahead (place + length (value_text cell)) (next ∷ rest))
 value_next Missing place next rest is ends = null_again place next rest ends
 value_next (Known (Truth true)) place next rest is ends = true_again place next rest ends
 value_next (Known (Truth false)) place next rest is ends = false_again place next rest ends
@@ -123,7 +126,7 @@ value_next (Known (Number (pos n))) place next rest is ends =
 value_next (Known (Number (negsuc k))) place next rest is ends =
     let there : place + 1 + length (decimal (suc k)) ≡ place + length (signed_decimal (negsuc k)) = omega arith in
     subst (λ p. ReadsValue (Known (Number (negsuc k))) (ahead place (signed_decimal (negsuc k) ++ (next ∷ rest)))
-        (ahead p (next ∷ rest))) there
+    (ahead p (next ∷ rest))) there
     (negative_again k place next rest (omega (arith, ints, is.0)) ends)
 value_next (Known (Bytes text)) place next rest is ends = string_again text place next rest is ends
 
@@ -131,7 +134,7 @@ value_again : (cell : Datum) (place : ℕ) (following : List ℕ) → IsReadable
     → ReadsValue cell (ahead place (value_text cell ++ following)) (ahead (place + length (value_text cell)) following)
 value_again cell place following is ends =
     subst (λ text. ReadsValue cell (ahead place (value_text cell ++ text))
-        (ahead (place + length (value_text cell)) text)) (sym ends.is)
+    (ahead (place + length (value_text cell)) text)) (sym ends.is)
     (value_next cell place ends.next ends.rest is ends.ends)
 
 -- ---- the values of a row
@@ -146,8 +149,13 @@ others_text cells = flat_map other_text cells ++ (41 ∷ [])
 others_end : (cells : List Datum) → EndsText (others_text cells)
 others_end [] = record { next = 41; rest = []; ends = inr refl; is = refl }
 others_end (cell ∷ cells) =
-    record { next = 44; rest = 32 ∷ ((value_text cell ++ flat_map other_text cells) ++ (41 ∷ [])); ends =
-    inl refl; is = refl }
+    record {
+      next = 44;
+      rest = 32 ∷ ((value_text cell ++ flat_map other_text cells) ++ (41 ∷ []));
+      ends =
+          inl refl;
+      is = refl;
+    }
 
 -- the tokens of the closing parenthesis at a place, up to the end of the text
 abbrev pub closing : ℕ → Items
@@ -176,20 +184,20 @@ step read cell place following is ends =
     let takes = value_again cell start following is ends in
     let tokens : ahead place (44 ∷ 32 ∷ text) ≡ Then (seen (lexeme t.Comma place (44 ∷ []))) (ahead start text) =
     comma_ahead place (32 ∷ text)
-        ∙ ap (λ tokens. Then (seen (lexeme t.Comma place (44 ∷ []))) (items tokens)) (space_passes (place + 1) text)
-        in
+    ∙ ap (λ tokens. Then (seen (lexeme t.Comma place (44 ∷ []))) (items tokens)) (space_passes (place + 1) text)
+    in
     let read_next = ap (one_value read) (ap rest_of tokens)
-        ∙ one_more read cell (ahead start text) (ahead (start + length (value_text cell)) following) takes in
+    ∙ one_more read cell (ahead start text) (ahead (start + length (value_text cell)) following) takes in
     let fewer : size (ahead (start + length (value_text cell)) following) < size (ahead place (44 ∷ 32 ∷ text)) =
-        omega (arith, takes.fewer, ap size tokens) in
+    omega (arith, takes.fewer, ap size tokens) in
     let there : start + length (value_text cell) ≡ place + length (other_text cell) = omega arith in
     link-goes_on i.Comma one_value read (ahead place (44 ∷ 32 ∷ text)) (read ++ (cell ∷ []))
-        (ahead (start + length (value_text cell)) following) (comma_next place (32 ∷ text)) read_next fewer
+    (ahead (start + length (value_text cell)) following) (comma_next place (32 ∷ text)) read_next fewer
     ∙ ap (λ p. repeat (link i.Comma one_value) (read ++ (cell ∷ [])) (ahead p following)) there
 
 others_again : (cells read : List Datum) (place : ℕ) → All IsReadable cells
     → repeat (link i.Comma one_value) read (ahead place (others_text cells))
-        ≡ Ok (read ++ cells, closing (place + length (flat_map other_text cells)))
+    ≡ Ok (read ++ cells, closing (place + length (flat_map other_text cells)))
 others_again [] read place each =
     link-ends i.Comma one_value read (closing place) (close_next place) ∙ rw (append-nil read, add-zero) refl
 others_again (cell ∷ cells) read place each =
@@ -197,7 +205,7 @@ others_again (cell ∷ cells) read place each =
     let there : here + length (flat_map other_text cells) ≡ place + length (flat_map other_text (cell ∷ cells)) =
     omega (arith, length-append (other_text cell) (flat_map other_text cells)) in
     ap (λ text. repeat (link i.Comma one_value) read (ahead place text))
-        (append_assoc (other_text cell) (flat_map other_text cells) (41 ∷ []))
+    (append_assoc (other_text cell) (flat_map other_text cells) (41 ∷ []))
     ∙ step read cell place (others_text cells) (each 0 cell (omega arith)) (others_end cells)
     ∙ others_again cells (read ++ (cell ∷ [])) here (λ k d below. each (suc k) d (omega arith))
     ∙ rw (append_assoc, there) refl
@@ -206,7 +214,7 @@ others_again (cell ∷ cells) read place each =
 
 values_again : (cell : Datum) (cells : List Datum) (place : ℕ) → IsReadable cell → All IsReadable cells
     → values (ahead place (value_text cell ++ others_text cells))
-        ≡ Ok (cell ∷ cells, closing (place + length (value_text cell) + length (flat_map other_text cells)))
+    ≡ Ok (cell ∷ cells, closing (place + length (value_text cell) + length (flat_map other_text cells)))
 unfolding values
 values_again cell cells place first each =
     let one = one_more [] cell _ _ (value_again cell place (others_text cells) first (others_end cells)) in

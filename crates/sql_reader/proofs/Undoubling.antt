@@ -56,25 +56,25 @@ kept_after quote is_quote (x ∷ xs) rest small some high =
 
 char_byte : (quote : ℕ) (is_quote : Bool) (b : ℕ) (rest : List ℕ)
     → undoubled_from quote is_quote (b ∷ rest)
-        ≡ (if is_quote && b == quote then
-        undoubled_from quote false rest else b ∷ undoubled_from quote (b == quote) rest)
+    ≡ (if is_quote && b == quote then
+    undoubled_from quote false rest else b ∷ undoubled_from quote (b == quote) rest)
 unfolding undoubled_from
 char_byte quote is_quote b rest = refl
 
 pub undoubled_from-char : (quote : ℕ) (is_quote : Bool) (c : ℕ) (rest : List ℕ) → quote < 128
     → undoubled_from quote is_quote (encode_utf8 c ++ rest)
-        ≡ (if is_quote && c == quote then
-        undoubled_from quote false rest else encode_utf8 c ++ undoubled_from quote (c == quote) rest)
+    ≡ (if is_quote && c == quote then
+    undoubled_from quote false rest else encode_utf8 c ++ undoubled_from quote (c == quote) rest)
 undoubled_from-char quote is_quote c rest small = elim (cases_lt c 128) [
   | inl ascii ↦ rw (encode_ascii c ascii) (char_byte quote is_quote c rest)
   | inr big ↦
       let high : (k : ℕ) → k < length (encode_utf8 c) → 128 ≤ get_or (encode_utf8 c) k 0 =
-          λ k below. elim (cases_lt (get_or (encode_utf8 c) k 0) 128) [
+      λ k below. elim (cases_lt (get_or (encode_utf8 c) k 0) 128) [
         | inl low ↦ absurd (omega (arith, inside_one c [] (encode_utf8 c) k (sym (append-nil _)) below low))
         | inr h ↦ h
       ] in
       let e = kept_after quote is_quote (encode_utf8 c) rest small (omega (arith, length-encode c, len_utf8_bounds c))
-          high in
+      high in
       grind (arith, nat_tests)
 ]
 

@@ -33,7 +33,7 @@ IsNarrow parts = (length parts.columns ≤ 100) × AreColumns parts.columns part
 pub room-gives : (is_taken is_full : Bool) (n most : ℕ) (one other : Fault) (ts : Items)
     → (is_full ≡ false → n < most) →
     Gives (λ (u : Unit {0}). n < most)
-        (with_rest (if is_taken then Err one else (if is_full then Err other else Ok tt)) ts)
+    (with_rest (if is_taken then Err one else (if is_full then Err other else Ok tt)) ts)
 room-gives true is_full n most one other ts h = tt
 room-gives false true n most one other ts h = tt
 room-gives false false n most one other ts h = h refl
@@ -46,7 +46,7 @@ new_column-gives : (parts : Parts) (called : PlacedName) (ts : Items)
 unfolding new_column
 new_column-gives parts called ts =
     room-gives (is_some (find_column called.text parts.columns)) (nat_le 100 (length parts.columns))
-        (length parts.columns) 100 _ _ ts (below 100 (length parts.columns))
+    (length parts.columns) 100 _ _ ts (below 100 (length parts.columns))
 
 chosen_key : (is : Bool) (columns : List Column) (column : Column) (key : List ℕ) → AreColumns columns key
     → AreColumns (columns ++ column ∷ []) (if is then length columns ∷ [] else key)
@@ -68,10 +68,10 @@ unfolding column_element
 column_element-gives parts ts narrow =
     any-gives IsNarrow (name ts) _ (λ called ts2.
     then-gives (λ (u : Unit {0}). length parts.columns < 100) IsNarrow (with_rest (new_column parts called) ts2) _
-        (new_column-gives parts called ts2) (λ n ts3 room.
+    (new_column-gives parts called ts2) (λ n ts3 room.
     any-gives IsNarrow (column_type ts3) _ (λ kind ts4.
     any-gives IsNarrow (constraints (has_key parts) ts4) _
-        (λ given ts5. pushed-narrow parts called kind given room narrow))))
+    (λ given ts5. pushed-narrow parts called kind given room narrow))))
 
 length-required : (columns : List Column) (number : ℕ) → length (required columns number) ≡ length columns
 length-required [] number = refl
@@ -92,17 +92,17 @@ unfolding key_column
 key_column-gives parts ts narrow =
     any-gives IsNarrow (name ts) _ (λ called ts2.
     then-gives (λ (column : FoundColumn). column.number < length parts.columns) IsNarrow
-        (with_rest (known_column parts.columns called) ts2) _
+    (with_rest (known_column parts.columns called) ts2) _
     (known_column-gives parts.columns called ts2) (λ column ts3 within.
     any-gives IsNarrow (with_rest (once_in_key parts called column) ts3) _
-        (λ n ts4. required-narrow parts column narrow within)))
+    (λ n ts4. required-narrow parts column narrow within)))
 
 key_columns-gives : (parts : Parts) (ts : Items) → IsNarrow parts → Gives IsNarrow (key_columns parts ts)
 unfolding key_columns
 key_columns-gives parts ts narrow =
     then-gives IsNarrow IsNarrow (key_column parts ts) _ (key_column-gives parts ts narrow) (λ keyed ts2 h.
     repeat-gives IsNarrow (link i.Comma key_column) (link-gives IsNarrow i.Comma key_column key_column-gives) keyed
-        ts2 h)
+    ts2 h)
 
 first_key-gives : (parts : Parts) (ts : Items) → IsNarrow parts → Gives IsNarrow (first_key parts ts)
 unfolding first_key
@@ -135,5 +135,5 @@ pub elements-gives : (ts : Items) → Gives IsNarrow (elements ts)
 unfolding elements
 elements-gives ts =
     then-gives IsNarrow IsNarrow (element no_parts ts) _
-        (element-gives no_parts ts (omega arith, All-nil (λ (number : ℕ). number < 0))) (λ parts ts2 h.
+    (element-gives no_parts ts (omega arith, All-nil (λ (number : ℕ). number < 0))) (λ parts ts2 h.
     repeat-gives IsNarrow (link i.Comma element) (link-gives IsNarrow i.Comma element element-gives) parts ts2 h)

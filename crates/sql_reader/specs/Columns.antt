@@ -46,14 +46,14 @@ left_out = λ ts. Err (left_out_at ts)
 abbrev pub type_named : List ℕ → Option ColType
 type_named word =
     if str_eq_ignore_ascii_case word (codes "smallint") || str_eq_ignore_ascii_case word (codes "int2") then
-        Some SmallInt else
+    Some SmallInt else
     if str_eq_ignore_ascii_case word (codes "integer")
-        || (str_eq_ignore_ascii_case word (codes "int") || str_eq_ignore_ascii_case word (codes "int4")) then
-        Some Integer else
+    || (str_eq_ignore_ascii_case word (codes "int") || str_eq_ignore_ascii_case word (codes "int4")) then
+    Some Integer else
     if str_eq_ignore_ascii_case word (codes "bigint") || str_eq_ignore_ascii_case word (codes "int8") then
-        Some BigInt else
+    Some BigInt else
     if str_eq_ignore_ascii_case word (codes "boolean") || str_eq_ignore_ascii_case word (codes "bool") then
-        Some Boolean else
+    Some Boolean else
     if str_eq_ignore_ascii_case word (codes "text") then Some Text else
     None
 

@@ -81,8 +81,12 @@ within_quotes t.Text text = between_quotes text
 within_quotes _ text = text
 
 abbrev pub seen : Lexeme → Seen
-seen lexeme = record { item = item_of lexeme.kind lexeme.text; place = lexeme.place; written =
-    within_quotes lexeme.kind lexeme.text }
+seen lexeme = record {
+  item = item_of lexeme.kind lexeme.text;
+  place = lexeme.place;
+  written =
+      within_quotes lexeme.kind lexeme.text;
+}
 
 unfoldable pub items : Lexed → Items
 items (End place) = Stop place

@@ -30,5 +30,5 @@ string_meant written = undoubled 39 written
 unfoldable pub name : Rule PlacedName
 name ts =
     if name_ahead ts then
-        Ok (record { place = place_ahead ts; text = name_meant (item_ahead ts) (written_ahead ts) }, rest_of ts)
+    Ok (record { place = place_ahead ts; text = name_meant (item_ahead ts) (written_ahead ts) }, rest_of ts)
     else Err (refusal ts)

@@ -192,7 +192,7 @@ negated_if forms false s = s
 unfoldable pub tested : {S : Type 0} → Forms S → TruthTest → PartOf S → Verdict (PartOf S)
 tested forms truth_test asked_part =
     verdict_map (λ s. part asked_part.place (OfFormula (negated_if forms truth_test.is_negated s)))
-        (answered forms truth_test.place truth_test.asked asked_part.operand)
+    (answered forms truth_test.place truth_test.asked asked_part.operand)
 
 -- ---- parts of the code
 

@@ -130,11 +130,39 @@ filter_of (Or left right) = e.Or (filter_of left) (filter_of right)
 -- ---- the grammar read as expressions as they are written, and as filter trees
 
 abbrev pub as_written : Forms Written
-as_written = record { known = Told; held = Column; compared = Compared; compared_from = ComparedFrom; among =
-    Among; between = Between; distinct = Distinct; lacking = IsNull; asked = Is; negated = Negated; both =
-    And; either = Or; tree = filter_of }
+as_written = record {
+  known = Told;
+  held = Column;
+  compared = Compared;
+  compared_from = ComparedFrom;
+  among =
+      Among;
+  between = Between;
+  distinct = Distinct;
+  lacking = IsNull;
+  asked = Is;
+  negated = Negated;
+  both =
+      And;
+  either = Or;
+  tree = filter_of;
+}
 
 abbrev pub as_filter : Forms Expr
-as_filter = record { known = e.Const; held = held_expr; compared = compared_expr; compared_from =
-    compared_from_expr; among = among_expr; between = between_expr; distinct = distinct_expr; lacking =
-    lacking_expr; asked = e.Is; negated = e.Not; both = e.And; either = e.Or; tree = λ filter. filter }
+as_filter = record {
+  known = e.Const;
+  held = held_expr;
+  compared = compared_expr;
+  compared_from =
+      compared_from_expr;
+  among = among_expr;
+  between = between_expr;
+  distinct = distinct_expr;
+  lacking =
+      lacking_expr;
+  asked = e.Is;
+  negated = e.Not;
+  both = e.And;
+  either = e.Or;
+  tree = λ filter. filter;
+}

@@ -193,7 +193,9 @@ fn answered(
     ensures { Answers expr_view (spec.answered as_filter place asked (operand_view operand)) result }
 {
     match (asked, operand) {
-        (TestedValue::Null, Operand::Term(term, _)) => Ok(Filter::Atom(Atom::IsNull(term.column()))),
+        (TestedValue::Null, Operand::Term(term, _)) => Ok(Filter::Atom(Atom::IsNull(
+            term.column(),
+        ))),
         (TestedValue::Null, operand) => is_truth(alloc, place, Test::Unknown, operand),
         (TestedValue::Truth(test), operand) => is_truth(alloc, place, test, operand),
     }

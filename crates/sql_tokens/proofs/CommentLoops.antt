@@ -26,7 +26,7 @@ longer_zero (Some k) = let e : 0 + k ≡ k = omega arith in ap Some e
 -- a comment with and without its first byte, and read a byte at a time
 turns : (bytes : List ℕ)
     → ((depth b : ℕ) → block_comment depth (b ∷ bytes)
-        ≡ (if b == 0 then None else longer 1 (comment_from depth b bytes)))
+    ≡ (if b == 0 then None else longer 1 (comment_from depth b bytes)))
     × ((depth : ℕ) → block_comment depth bytes ≡ comment_from depth 0 bytes)
 unfolding block_comment comment_from
 turns [] = (λ depth b. grind (arith, nat_tests), λ depth. refl)

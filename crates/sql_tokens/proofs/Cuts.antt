@@ -20,7 +20,7 @@ quoted : (text : List ℕ) (token : Token) → IsUtf8 text → token.place + tok
 quoted text token utf8 within found two =
     let first : get_or text token.place 0 < 128 = rw (← get_or_at_drop text token.place) found.first in
     let last : get_or text (token.place + (token.length - 1)) 0 < 128 =
-        rw (← get_or-drop token.place text (token.length - 1) 0) found.last in
+    rw (← get_or-drop token.place text (token.length - 1) 0) found.last in
     record {
       quotes = two;
       starts = IsCharBoundary-after_ascii text token.place utf8 (omega arith) first;
@@ -33,7 +33,7 @@ pub cut : (text : List ℕ) (token : Token) → IsUtf8 text → token.place + to
 cut text token utf8 within found =
     let first : get_or text token.place 0 < 128 = rw (← get_or_at_drop text token.place) found.first in
     let last : get_or text (token.place + (token.length - 1)) 0 < 128 =
-        rw (← get_or-drop token.place text (token.length - 1) 0) found.last in
+    rw (← get_or-drop token.place text (token.length - 1) 0) found.last in
     record {
       some = found.some;
       within = within;
@@ -55,6 +55,6 @@ between_quotes-cut text place n two within =
     let n_is : 1 + (n - 1) ≡ n = omega arith in
     let inner : drop 1 (take n (drop place text)) ≡ take (n - 1) (drop (place + 1) text) =
     ap (λ k. drop 1 (take k (drop place text))) (sym n_is) ∙ drop-take 1 (n - 1) (drop place text)
-        ∙ ap (take (n - 1)) (drop-drop 1 place text) in
+    ∙ ap (take (n - 1)) (drop-drop 1 place text) in
     let less : place + n - 1 - (place + 1) ≡ n - 2 = omega arith in
     rw (all, inner, less) (take-take (n - 2) (n - 1) (drop (place + 1) text) (omega arith))

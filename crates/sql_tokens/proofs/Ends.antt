@@ -34,7 +34,7 @@ pub digits_last : (bytes : List ℕ) → is_of class.Digit (get_or bytes 0 0) �
 digits_last bytes e =
     let some = digits_some bytes e in
     digit_ascii _ (prefix_len_passes (is_of class.Digit) bytes (prefix_len (is_of class.Digit) bytes - 1) 0
-        (omega arith))
+    (omega arith))
 
 run_last : (bytes : List ℕ) (n : ℕ) → is_of class.Letter (get_or bytes 0 0) ≡ true
     → n ≡ prefix_len (is_of class.WordByte) (drop 1 bytes) → get_or bytes n 0 < 128

@@ -33,7 +33,7 @@ rest_at text place n some within =
     let long : n - 1 ≤ length (drop (place + 1) text) = omega (arith, length-drop (place + 1) text) in
     let e : place + 1 + (n - 1) ≡ place + n = omega arith in
     let f : drop (n - 1) (drop (place + 1) text) ≡ drop (place + n) text = drop-drop (n - 1) (place + 1) text
-        ∙ ap (λ k. drop k text) e in
+    ∙ ap (λ k. drop k text) e in
     tokens_from-skip (place + 1) (n - 1) (drop (place + 1) text) long ∙ rw (e, f) refl
 
 -- one step of `at`, by the piece there
@@ -45,11 +45,11 @@ at-blank text place n h e some within =
 pub at-token : (text : List ℕ) (place : ℕ) (kind : TokenKind) (n : ℕ) → place < length text
     → front (drop place text) ≡ Whole kind n → 0 < n → place + n ≤ length text
     → at text place ≡ Then (record { kind = kind; place = place; text = take n (drop place text) })
-        (at text (place + n))
+    (at text (place + n))
 at-token text place kind n h e some within =
     rw (at-piece text place h, e)
-        (ap (Then (record { kind = kind; place = place; text = take n (drop place text) }))
-        (rest_at text place n some within))
+    (ap (Then (record { kind = kind; place = place; text = take n (drop place text) }))
+    (rest_at text place n some within))
 
 pub at-fault : (text : List ℕ) (place : ℕ) (fault : FaultKind) → place < length text
     → front (drop place text) ≡ Faulty fault → at text place ≡ Bad place fault

@@ -57,7 +57,7 @@ pub word_utf8 : (b : ℕ) (bytes : List ℕ) → is_of class.Letter b ≡ true
 word_utf8 b bytes letter =
     let run = take (prefix_len (is_of class.WordByte) bytes) bytes in
     IsUtf8-from_ascii (str_to_ascii_lowercase (b ∷ run))
-        (IsAscii-map _ (b ∷ run) lowercase_ascii (IsAscii-cons b run (letter_low b letter) (run_ascii bytes)))
+    (IsAscii-map _ (b ∷ run) lowercase_ascii (IsAscii-cons b run (letter_low b letter) (run_ascii bytes)))
 
 -- ---- quoted names
 
@@ -68,7 +68,7 @@ inner_utf8 bytes n first utf8 within last =
     let long : 0 < length bytes = omega (arith, within, length-drop 1 bytes) in
     let after = IsCharBoundary-after_ascii bytes 0 utf8 long (omega (arith, first)) in
     IsUtf8-take (drop 1 bytes) n (IsUtf8-drop bytes 1 utf8 after)
-        (IsCharBoundary-before_ascii (drop 1 bytes) n within (omega (arith, last)))
+    (IsCharBoundary-before_ascii (drop 1 bytes) n within (omega (arith, last)))
 
 -- what is before a byte that is ASCII, and what is after it
 parted : (part : List ℕ) (b : ℕ) (text : List ℕ) → b < 128 → IsUtf8 (part ++ b ∷ text) → IsUtf8 part × IsUtf8 text
@@ -78,7 +78,7 @@ parted part b text low utf8 =
     let within : length part < length whole = omega (arith, length-append part (b ∷ text)) in
     let is_low : get_or whole (length part) 0 < 128 = omega (arith, first, low) in
     let past : drop (length part + 1) whole ≡ text = sym (drop-drop 1 (length part) whole)
-        ∙ ap (drop 1) (drop_at part (b ∷ text) (length part) refl) in (
+    ∙ ap (drop 1) (drop_at part (b ∷ text) (length part) refl) in (
       subst IsUtf8 (take_at part (b ∷ text) (length part) refl)
           (IsUtf8-take whole (length part) utf8 (IsCharBoundary-before_ascii whole (length part) within is_low)),
       subst IsUtf8 past (IsUtf8-drop whole (length part + 1) utf8
@@ -107,7 +107,7 @@ undoubled_utf8 quote (b ∷ c ∷ text) part low utf8 =
         let second = parted [] c text (omega (arith, is.1, low)) first.1 in
         let mark : IsUtf8 (quote ∷ []) = IsUtf8-from_ascii (quote ∷ []) (IsAscii-cons quote [] low IsAscii-nil) in
         IsUtf8-append part (quote ∷ undoubled quote text) first.0
-            (IsUtf8-append (quote ∷ []) (undoubled quote text) mark (one second.1))
+        (IsUtf8-append (quote ∷ []) (undoubled quote text) mark (one second.1))
     either_one false e one other =
         subst IsUtf8 (append_assoc part (b ∷ []) (undoubled quote (c ∷ text)))
-            (other (subst IsUtf8 (sym (append_assoc part (b ∷ []) (c ∷ text))) utf8))
+        (other (subst IsUtf8 (sym (append_assoc part (b ∷ []) (c ∷ text))) utf8))

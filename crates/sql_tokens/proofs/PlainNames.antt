@@ -110,9 +110,9 @@ unfolding word
 word_names bytes letter =
     let n = 1 + prefix_len (is_of class.WordByte) (drop 1 bytes) in
     either bytes (n == 1 && is_string_form (slice_index bytes 0) (slice_index bytes 1) (slice_index bytes 2))
-        (Faulty fault.StringForm) _ (λ _. tt)
+    (Faulty fault.StringForm) _ (λ _. tt)
     (λ _. either bytes (nat_lt 63 n) (Faulty fault.NameTooLong) (Whole t.Word n) (λ _. tt)
-        (λ e. plain_word bytes letter (grind (arith, nat_tests))))
+    (λ e. plain_word bytes letter (grind (arith, nat_tests))))
 
 -- ---- quoted names
 
@@ -150,8 +150,8 @@ inner_some quote q (b ∷ c ∷ bytes) =
         → (later : Option ℕ) → IfSome later (λ n. AreSome (take n bytes)) → (next : Option ℕ)
         → IfSome next (λ n. AreSome (take n (c ∷ bytes)))
         → IfSome (if is_zero then
-            None else (if is_quote then (if again then longer 2 later else Some 0) else longer 1 next))
-            (λ n. AreSome (take n (b ∷ c ∷ bytes)))
+        None else (if is_quote then (if again then longer 2 later else Some 0) else longer 1 next))
+        (λ n. AreSome (take n (b ∷ c ∷ bytes)))
     more true z is_quote e again f later h next k = tt
     more false z true e true f later h next k = two later (eqb-true b quote e) (eqb-true c quote f) h
     more false z true e false f later h next k = tt
@@ -209,7 +209,7 @@ quoted_by bytes (Some n) first utf8 h k =
     either bytes (n == 0) (Faulty fault.BadToken) _ (λ _. tt)
     (λ e. either bytes (nat_lt 63 meant) (Faulty fault.NameTooLong) (Whole t.QuotedName (n + 2)) (λ _. tt)
     (λ f. plain_quoted bytes n h.0 k (inner_utf8 bytes n first utf8 h.0 h.1) (grind (arith, nat_tests))
-        (grind (arith, nat_tests))))
+    (grind (arith, nat_tests))))
 
 quoted_names : (bytes : List ℕ) → slice_index bytes 0 ≡ 34 → IsUtf8 bytes → NamesOf bytes (quoted_name bytes)
 unfolding quoted_name
@@ -229,7 +229,7 @@ number_names bytes =
     let n = prefix_len (is_of class.Digit) bytes in
     either bytes (is_of class.Letter (slice_index bytes n)) _ _ (λ _. tt)
     (λ _. either bytes (slice_index bytes n == 46) _ _ (λ _. tt)
-        (λ _. either bytes (nat_lt (number_of (take n bytes)) 9223372036854775808) _ _ (λ _. tt) (λ _. tt)))
+    (λ _. either bytes (nat_lt (number_of (take n bytes)) 9223372036854775808) _ _ (λ _. tt) (λ _. tt)))
 
 string_by : (bytes : List ℕ) (found : Option ℕ) → NamesOf bytes (quoted 39 string_piece (drop 1 bytes) found)
 string_by bytes None = tt
@@ -253,10 +253,10 @@ operator_names bytes =
 punctuation_names : (bytes : List ℕ) (b next : ℕ) → NamesOf bytes (punctuation b next)
 punctuation_names bytes b next =
     either bytes (b == 40) _ _ (λ _. tt)
-        (λ _. either bytes (b == 41) _ _ (λ _. tt) (λ _. either bytes (b == 44) _ _ (λ _. tt)
+    (λ _. either bytes (b == 41) _ _ (λ _. tt) (λ _. either bytes (b == 44) _ _ (λ _. tt)
     (λ _. either bytes (b == 59) _ _ (λ _. tt)
-        (λ _. either bytes (b == 46) _ _ (λ _. tt)
-        (λ _. either bytes (b == 58 && next == 58) _ _ (λ _. tt) (λ _. tt))))))
+    (λ _. either bytes (b == 46) _ _ (λ _. tt)
+    (λ _. either bytes (b == 58 && next == 58) _ _ (λ _. tt) (λ _. tt))))))
 
 front_names : (bytes : List ℕ) → (slice_index bytes 0 < 128 → IsUtf8 bytes) → NamesOf bytes (front bytes)
 unfolding front
@@ -268,10 +268,10 @@ front_names bytes utf8 =
     (λ _. either bytes (is_of class.Letter b) _ _ (λ e. word_names bytes e)
     (λ _. either bytes (is_of class.Digit b) _ _ (λ _. number_names bytes)
     (λ _. either bytes (b == 34) _ _
-        (λ e. let first = eqb-true b 34 e in quoted_names bytes first (utf8 (omega (arith, first))))
+    (λ e. let first = eqb-true b 34 e in quoted_names bytes first (utf8 (omega (arith, first))))
     (λ _. either bytes (b == 39) _ _ (λ _. string_names bytes)
     (λ _. either bytes (is_of class.Sign b) _ _ (λ _. operator_names bytes)
-        (λ _. punctuation_names bytes b (slice_index bytes 1)))))))))
+    (λ _. punctuation_names bytes b (slice_index bytes 1)))))))))
 
 -- ---- the tokens of a text
 
@@ -287,7 +287,7 @@ from_plain place skip [] texts = tt
 from_plain place (suc skip) (b ∷ bytes) texts = from_plain (place + 1) skip bytes texts.1
 from_plain place zero (b ∷ bytes) texts =
     begun place (b ∷ bytes) (front (b ∷ bytes)) (front_names (b ∷ bytes) texts.0)
-        (λ n. tokens_from (place + 1) n bytes) (λ n. from_plain (place + 1) n bytes texts.1)
+    (λ n. tokens_from (place + 1) n bytes) (λ n. from_plain (place + 1) n bytes texts.1)
 
 pub are_plain : (text : List ℕ) (place : ℕ) → IsUtf8 text → AreTokensPlain (at text place)
 are_plain text place utf8 = from_plain place 0 (drop place text) (texts_from text (drop place text) place utf8 refl)

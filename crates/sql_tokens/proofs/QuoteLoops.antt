@@ -12,7 +12,7 @@ inner_from quote is_quote [] = if is_quote then Some 0 else None
 inner_from quote is_quote (b ∷ bytes) =
     if is_quote then (if b == quote then longer 2 (inner_from quote false bytes) else Some 0)
     else (if b == 0 then None
-        else (if b == quote then inner_from quote true bytes else longer 1 (inner_from quote false bytes)))
+    else (if b == quote then inner_from quote true bytes else longer 1 (inner_from quote false bytes)))
 
 -- How many bytes are left once quotes are undoubled, after a quote that may be the first of two, or after another byte.
 unfoldable pub undoubled_from : ℕ → Bool → List ℕ → ℕ
@@ -22,8 +22,8 @@ undoubled_from quote is_quote (b ∷ bytes) = if is_quote && b == quote then
 
 inner_by_byte : (quote : ℕ) (bytes : List ℕ)
     → ((b : ℕ) → inner_len quote (b ∷ bytes)
-        ≡ (if b == 0 then None
-        else (if b == quote then inner_from quote true bytes else longer 1 (inner_from quote false bytes))))
+    ≡ (if b == 0 then None
+    else (if b == quote then inner_from quote true bytes else longer 1 (inner_from quote false bytes))))
     × (inner_len quote bytes ≡ inner_from quote false bytes)
 unfolding inner_len inner_from
 inner_by_byte quote [] = (λ b. grind (arith, nat_tests), refl)
@@ -96,7 +96,7 @@ inner_len-at_quote quote (b ∷ c ∷ bytes) =
     chosen (b == 0) _ _ _ (λ _. tt)
     (λ _. chosen (b == quote) _ _ _
     (λ e. chosen (c == quote) _ _ _ (λ _. two_later quote b c bytes _ (inner_len-at_quote quote bytes))
-        (λ _. at_first e))
+    (λ _. at_first e))
     (λ _. one_later quote b (c ∷ bytes) _ (inner_len-at_quote quote (c ∷ bytes))))
 
 -- where the inner text ends there is the quote

@@ -48,8 +48,14 @@ token_here place kind (b ∷ text) rest some e =
     let back : length (b ∷ text) - 1 ≡ length text = omega arith in
     let there : place + 1 + length text ≡ place + length (b ∷ text) = omega arith in
     let long : length text ≤ length (text ++ rest) = omega (arith, length-append text rest) in
-    rw (e, back, tokens_from-skip (place + 1) (length text) (text ++ rest) long, drop_at text rest (length text) refl,
-        take_at (b ∷ text) rest (length (b ∷ text)) refl, there) refl
+    rw (
+      e,
+      back,
+      tokens_from-skip (place + 1) (length text) (text ++ rest) long,
+      drop_at text rest (length text) refl,
+      take_at (b ∷ text) rest (length (b ∷ text)) refl,
+      there,
+    ) refl
 
 pub space_passes : (place : ℕ) (rest : List ℕ) → tokens_from place 0 (32 ∷ rest) ≡ tokens_from (place + 1) 0 rest
 unfolding tokens_from front
@@ -110,8 +116,12 @@ digits_number : (digits : List ℕ) (n next : ℕ) (rest : List ℕ) → all_asc
 unfolding number
 digits_number digits n next rest digital value small ends =
     let fits : nat_lt n (2 ^ 63) ≡ true = lt-ltb n (2 ^ 63) small in
-    rw (digits_len digits next rest digital ends, take_at digits (next ∷ rest) (length digits) refl,
-        byte_after digits next rest, value)
+    rw (
+      digits_len digits next rest digital ends,
+      take_at digits (next ∷ rest) (length digits) refl,
+      byte_after digits next rest,
+      value,
+    )
     (elim ends [ inl e ↦ rw (e, fits) refl | inr e ↦ rw (e, fits) refl ])
 
 digits_front : (digits : List ℕ) (rest : List ℕ) → 0 < length digits → all_ascii_digits digits ≡ true
@@ -183,11 +193,11 @@ inner [] next rest clean ends = closing_quote next rest ends
 inner (b ∷ text) next rest clean ends =
     let more = inner text next rest (not_later b text clean) ends in
     let some : 0 < length (doubled 39 text ++ (39 ∷ next ∷ rest)) =
-        omega (arith, length-append (doubled 39 text) (39 ∷ next ∷ rest)) in
+    omega (arith, length-append (doubled 39 text) (39 ∷ next ∷ rest)) in
     by_test (b == 39)
     (λ e. rw (e, more) (ap Some (omega arith)))
     (λ e. rw (e, no_quote b (doubled 39 text ++ (39 ∷ next ∷ rest)) (not_first b text clean) e some, more)
-        (ap Some (omega arith)))
+    (ap Some (omega arith)))
 
 kept : (b : ℕ) (tail : List ℕ) → b == 39 ≡ false → undoubled 39 (b ∷ tail) ≡ b ∷ undoubled 39 tail
 unfolding undoubled
@@ -208,8 +218,12 @@ string_front : (text : List ℕ) (next : ℕ) (rest : List ℕ) → ¬ Contains 
 unfolding front string
 string_front text next rest clean short ends =
     let few : nat_lt 65535 (length text) ≡ false = grind (arith, nat_tests) in
-    rw (inner text next rest clean ends, take_at (doubled 39 text) (39 ∷ next ∷ rest) (length (doubled 39 text)) refl,
-        undoubled-doubled text, few) refl
+    rw (
+      inner text next rest clean ends,
+      take_at (doubled 39 text) (39 ∷ next ∷ rest) (length (doubled 39 text)) refl,
+      undoubled-doubled text,
+      few,
+    ) refl
 
 -- ---- the tokens
 
@@ -238,7 +252,7 @@ pub number_token : (place n next : ℕ) (rest : List ℕ) → n < 2 ^ 63 → End
     → Begins (Number n) place (decimal n) (next ∷ rest)
 number_token place n next rest small ends =
     token_here place (Number n) (decimal n) (next ∷ rest) (decimal_nonempty n (omega arith))
-        (number_front n next rest small ends)
+    (number_front n next rest small ends)
 
 pub minus_token : (place n : ℕ) (rest : List ℕ) → n < 2 ^ 63
     → Begins (Operator Minus) place (45 ∷ []) (decimal n ++ rest)
@@ -249,13 +263,13 @@ pub string_token : (place : ℕ) (text : List ℕ) (next : ℕ) (rest : List ℕ
     → EndsValue next → Begins Text place (in_quotes 39 text) (next ∷ rest)
 string_token place text next rest clean short ends =
     let whole : length (in_quotes 39 text) ≡ length (doubled 39 text) + 2 =
-        omega (arith, length-append (doubled 39 text) (39 ∷ [])) in
+    omega (arith, length-append (doubled 39 text) (39 ∷ [])) in
     token_here place Text (in_quotes 39 text) (next ∷ rest) (omega arith)
-        (rw (append_assoc, whole) (string_front text next rest clean short ends))
+    (rw (append_assoc, whole) (string_front text next rest clean short ends))
 
 -- and what it says
 pub string_says : (text : List ℕ) → undoubled 39 (between_quotes (in_quotes 39 text)) ≡ text
 string_says text =
     let inner_length : length (in_quotes 39 text) - 2 ≡ length (doubled 39 text) =
-        omega (arith, length-append (doubled 39 text) (39 ∷ [])) in
+    omega (arith, length-append (doubled 39 text) (39 ∷ [])) in
     rw (inner_length, take_at (doubled 39 text) (39 ∷ []) (length (doubled 39 text)) refl) (undoubled-doubled text)

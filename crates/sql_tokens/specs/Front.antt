@@ -24,7 +24,7 @@ abbrev pub is_string_form : ℕ → ℕ → ℕ → Bool
 is_string_form letter next after =
     let e = to_ascii_lowercase letter in
     ((e == 101 || e == 98 || e == 120 || e == 110) && next == 39)
-        || (e == 117 && next == 38 && (after == 39 || after == 34))
+    || (e == 117 && next == 38 && (after == 39 || after == 34))
 
 -- a word of `n` bytes; a name has at most 63
 abbrev pub word_piece : ℕ → List ℕ → Piece

@@ -16,7 +16,7 @@ unfoldable pub signs_len : List ℕ → ℕ
 signs_len [] = 0
 signs_len (b ∷ bytes) =
     if is_of class.Sign b && not (begins_line_comment (b ∷ bytes) || begins_block_comment (b ∷ bytes)) then
-        1 + signs_len bytes else 0
+    1 + signs_len bytes else 0
 
 -- A run drops the plus and minus characters at its end, but keeps one character, unless it has a character that lets
 -- it end so.
@@ -29,13 +29,13 @@ abbrev pub single_sign : ℕ → Option Operator
 single_sign b =
     if b == 61 then Some op.Equal else (if b == 60 then Some op.Less else (if b == 62 then Some op.Greater
     else (if b == 37 then
-        Some op.Percent else (if b == 45 then Some op.Minus else (if b == 42 then Some op.Star else None)))))
+    Some op.Percent else (if b == 45 then Some op.Minus else (if b == 42 then Some op.Star else None)))))
 
 abbrev pub double_sign : ℕ → ℕ → Option Operator
 double_sign b c =
     if b == 60 && c == 62 then Some op.NotEqual else (if b == 33 && c == 61 then Some op.NotEqual
     else (if b == 60 && c == 61 then
-        Some op.LessOrEqual else (if b == 62 && c == 61 then Some op.GreaterOrEqual else None)))
+    Some op.LessOrEqual else (if b == 62 && c == 61 then Some op.GreaterOrEqual else None)))
 
 abbrev pub operator_of : List ℕ → Option Operator
 operator_of (b ∷ []) = single_sign b

@@ -58,7 +58,7 @@ pub change_heard : (machine : Machine) (oid : ℕ) (change : Change) (shape : Ta
     → change_in oid change machine ≡ Ok (record machine { work = with_found machine.work oid found })
 change_heard machine oid change shape found known kept made =
     ap (λ table. change_of table (machine.work oid) oid change machine) (table_known machine oid shape known kept)
-        ∙ ap (staged machine oid) made
+    ∙ ap (staged machine oid) made
 
 -- ---- rows of a table
 
@@ -85,7 +85,7 @@ module _ (checked : CheckedOf) (number : ℕ) (table : Table)
       → inserted (shape_for number table) found (cells_of new) ≡ Ok (put found (own_key checked number new) (Some new))
   insert_made found new fit free =
       ap (insert_row (shape_for number table) found) (row_read new fit)
-          ∙ ap (λ key. placed found key new) (key_here new) ∙ placed_free found (own_key checked number new) new free
+      ∙ ap (λ key. placed found key new) (key_here new) ∙ placed_free found (own_key checked number new) new free
 
   delete_made : (found : Found) (old : List Datum) (tuple : OldTuple)
       → key_in (shape_for number table) tuple ≡ Ok (own_key checked number old)
@@ -104,8 +104,8 @@ module _ (checked : CheckedOf) (number : ℕ) (table : Table)
       ∙ ap (λ key. replace_row (shape_for number table) found key new) gone
       ∙ ap (λ key. replaced found (own_key checked number old) key new) (key_here new)
       ∙ ap (λ o. if is_some o then
-          placed (put found (own_key checked number old) None) (own_key checked number new) new else Ok found)
-          is_there
+      placed (put found (own_key checked number old) None) (own_key checked number new) new else Ok found)
+      is_there
       ∙ placed_free (put found (own_key checked number old) None) (own_key checked number new) new free
 
   cells_same : (part : PartOf) → cells_in (old_of part) ≡ old_cells (old_of part)
@@ -119,10 +119,10 @@ module _ (checked : CheckedOf) (number : ℕ) (table : Table)
       → key_in (shape_for number table) (old_of part) ≡ Ok (own_key checked number old)
   part_read covered old fit new part h =
       let recorded : part_in table old new ≡ Some part =
-          sym (records_parts checked.catalog checked.plan number table there old new) ∙ h in
+      sym (records_parts checked.catalog checked.plan number table there old new) ∙ h in
       ap (λ cells. key_of (shape_for number table) (read_in (shape_for number table) cells)) (cells_same part)
       ∙ ap (λ found. key_of (shape_for number table) (or_bad found))
-          (recorded_back table old (valid_row old fit) new part recorded)
+      (recorded_back table old (valid_row old fit) new part recorded)
       ∙ ap Ok (key_here (blanked_in (Some table) old)
       ∙ ap (λ found. own_key checked number (blanked_in found old)) (sym there)
       ∙ (tells_identity checked covered).blanked number old fit)
@@ -144,13 +144,13 @@ same_key checked covered number old new fit also h = by_recorded ((setting_in ch
 
     by_recorded : (as_it : Recorded) → (setting_in checked).recorded number ≡ as_it
         → part_by ((setting_in checked).recorded number) ((setting_in checked).identity number)
-            ((setting_in checked).blanked number) old (Some new) ≡ None
+        ((setting_in checked).blanked number) old (Some new) ≡ None
         → own_key checked number new ≡ own_key checked number old
     by_recorded Columns e k =
         by_columns (same_row ((setting_in checked).identity number old) ((setting_in checked).identity number new))
         refl
         (sym (ap (λ as_it. part_by as_it ((setting_in checked).identity number) ((setting_in checked).blanked number)
-            old (Some new)) e) ∙ k)
+        old (Some new)) e) ∙ k)
     by_recorded Whole e k =
         absurd (let some = sym
         (ap (λ as_it. part_by as_it ((setting_in checked).identity number) ((setting_in checked).blanked number) old
@@ -183,9 +183,9 @@ has_part checked covered number old = by_recorded ((setting_in checked).recorded
 
 module _ (checked : CheckedOf) (transactions : List Transaction) (subscriber begin position : ℕ) (outer : Machine)
     (follows : Follows checked transactions subscriber position outer) (covered : Covered (setting_in checked))
-        (before after : Tables)
+    (before after : Tables)
     (number : ℕ) (table : Table) (there : slice_get checked.catalog.tables number ≡ Some table)
-        (old new : Option (List Datum))
+    (old new : Option (List Datum))
     (steps : (copies : ℕ → Found) → FindsShard (setting_in checked) (own_key checked) subscriber copies before
     → Steps (setting_in checked) (own_key checked) subscriber copies after number old new)
     (old_fits : (row : List Datum) → old ≡ Some row → fits (setting_in checked) number row ≡ true)
@@ -194,13 +194,13 @@ module _ (checked : CheckedOf) (transactions : List Transaction) (subscriber beg
       → passing ((setting_in checked).passes subscriber number) new ≡ coming
       → (told : List Bool) (machine : Machine) → Inside checked subscriber begin outer told before machine
       → IsDone (own_key checked number) (machine.work (oid_of number)) away coming
-          (in_shard (setting_in checked) subscriber after number)
+      (in_shard (setting_in checked) subscriber after number)
   done away coming e f told machine inside =
       subst (λ o. IsDone (own_key checked number) (machine.work (oid_of number)) o coming
-          (in_shard (setting_in checked) subscriber after number)) e
+      (in_shard (setting_in checked) subscriber after number)) e
       (subst (λ o. IsDone (own_key checked number) (machine.work (oid_of number))
-          (passing ((setting_in checked).passes subscriber number) old) o
-          (in_shard (setting_in checked) subscriber after number)) f
+      (passing ((setting_in checked).passes subscriber number) old) o
+      (in_shard (setting_in checked) subscriber after number)) f
       (steps (λ t. machine.work (oid_of t)) inside.work).here)
 
   one_table : All (λ n. n < length checked.catalog.tables) (number ∷ [])
@@ -223,11 +223,11 @@ module _ (checked : CheckedOf) (transactions : List Transaction) (subscriber beg
   ends_with told machine message change found long inside is made finds stays =
       let flag = told_same told number (flag_there told long) in
       safe_heard (Follows checked transactions subscriber)
-          (λ at next. (at ≡ position) × Inside checked subscriber begin outer (told_one told number) after next)
+      (λ at next. (at ≡ position) × Inside checked subscriber begin outer (told_one told number) after next)
       position message [] machine (record machine { work = with_found machine.work (oid_of number) found })
       (good checked transactions subscriber begin position outer follows before (told_one told number) machine inside)
       (is ∙ change_heard machine (oid_of number) change (shape_for number table) found
-          (inside.knows.known number ∙ flag) (inside.knows.kept number table there flag) made) (
+      (inside.knows.known number ∙ flag) (inside.knows.kept number table there flag) made) (
         stays,
         staged_inside checked subscriber begin outer (told_one told number) before after machine number found inside
             finds
@@ -241,33 +241,33 @@ module _ (checked : CheckedOf) (transactions : List Transaction) (subscriber beg
       → Safe (Follows checked transactions subscriber) position (message ∷ []) next
       (λ at last. (at ≡ position) × Inside checked subscriber begin outer (told_one told number) after last))
       → Safe (Follows checked transactions subscriber) position
-          (relations_of checked.catalog.tables told (number ∷ []) ++ message ∷ []) machine
+      (relations_of checked.catalog.tables told (number ∷ []) ++ message ∷ []) machine
       (λ at last. (at ≡ position) × Inside checked subscriber begin outer (told_one told number) after last)
   unfolding told_all
   with_relation told machine message inside on =
       safe_both (Follows checked transactions subscriber)
-          (λ at last. (at ≡ position) × Inside checked subscriber begin outer (told_one told number) after last)
+      (λ at last. (at ≡ position) × Inside checked subscriber begin outer (told_one told number) after last)
       (Inside checked subscriber begin outer (told_one told number) before) position
-          (relations_of checked.catalog.tables told (number ∷ [])) (message ∷ []) machine
+      (relations_of checked.catalog.tables told (number ∷ [])) (message ∷ []) machine
       (relations_safe checked transactions subscriber begin position outer follows before (number ∷ []) told machine
-          one_table inside) on
+      one_table inside) on
 
   by_seen : (away coming : Option (List Datum)) → passing ((setting_in checked).passes subscriber number) old ≡ away
       → passing ((setting_in checked).passes subscriber number) new ≡ coming
       → (told : List Bool) (machine : Machine) → Inside checked subscriber begin outer told before machine
       → Safe (Follows checked transactions subscriber) position
       (said checked.catalog.tables told
-          (option_map (as_recorded (setting_in checked)) (seen_rows number away coming))) machine
+      (option_map (as_recorded (setting_in checked)) (seen_rows number away coming))) machine
       (λ at next. (at ≡ position)
-          × Inside checked subscriber begin outer
-          (told_by told (option_map (as_recorded (setting_in checked)) (seen_rows number away coming))) after next)
+      × Inside checked subscriber begin outer
+      (told_by told (option_map (as_recorded (setting_in checked)) (seen_rows number away coming))) after next)
   unfolding said told_by told_all
   by_seen None None e f told machine inside = (
     refl,
     stays_inside checked subscriber begin outer told before after machine inside
         (λ other. by_test (number == other)
         (λ same. subst (λ n. FindsRows (own_key checked n) (machine.work (oid_of n))
-            (in_shard (setting_in checked) subscriber after n)) ((unsigned_Decides number other).0 same)
+        (in_shard (setting_in checked) subscriber after n)) ((unsigned_Decides number other).0 same)
         (done None None e f told machine inside))
         (λ differ. (steps (λ t. machine.work (oid_of t)) inside.work).beside other differ)),
   )
@@ -277,7 +277,7 @@ module _ (checked : CheckedOf) (transactions : List Transaction) (subscriber beg
       (λ next reached.
       let finished = done None (Some coming) e f (told_one told number) next reached in
       ends_with told next (m.Insert (oid_of number) (cells_of coming))
-          (λ shape found. inserted shape found (cells_of coming))
+      (λ shape found. inserted shape found (cells_of coming))
       (put (next.work (oid_of number)) (own_key checked number coming) (Some coming)) inside.knows.flags reached
       (ap (λ phase. hear_in phase (m.Insert (oid_of number) (cells_of coming)) next) reached.busy)
       (insert_made checked number table there (next.work (oid_of number)) coming (new_fits coming is.0) finished.0)
@@ -286,15 +286,15 @@ module _ (checked : CheckedOf) (transactions : List Transaction) (subscriber beg
       let was = passing_some ((setting_in checked).passes subscriber number) old away e in
       let recorded = has_part checked covered number away in
       subst (λ part. Safe (Follows checked transactions subscriber) position
-          (said checked.catalog.tables told (Some (r.Delete number part))) machine
+      (said checked.catalog.tables told (Some (r.Delete number part))) machine
       (λ at next. (at ≡ position)
-          × Inside checked subscriber begin outer (told_by told (Some (r.Delete number part))) after next))
-          (sym recorded.is)
+      × Inside checked subscriber begin outer (told_by told (Some (r.Delete number part))) after next))
+      (sym recorded.is)
       (with_relation told machine (m.Delete (oid_of number) (old_of recorded.part)) inside
       (λ next reached.
       let finished = done (Some away) None e f (told_one told number) next reached in
       ends_with told next (m.Delete (oid_of number) (old_of recorded.part))
-          (λ shape found. deleted shape found (old_of recorded.part))
+      (λ shape found. deleted shape found (old_of recorded.part))
       (put (next.work (oid_of number)) (own_key checked number away) None) inside.knows.flags reached
       (ap (λ phase. hear_in phase (m.Delete (oid_of number) (old_of recorded.part)) next) reached.busy)
       (delete_made checked number table there (next.work (oid_of number)) away (old_of recorded.part)
@@ -304,23 +304,23 @@ module _ (checked : CheckedOf) (transactions : List Transaction) (subscriber beg
       let was = passing_some ((setting_in checked).passes subscriber number) old away e in
       let is = passing_some ((setting_in checked).passes subscriber number) new coming f in
       with_relation told machine
-          (m.Update (oid_of number) (maybe_old_of (part_of (setting_in checked) number away (Some coming)))
-          (cells_of coming)) inside
+      (m.Update (oid_of number) (maybe_old_of (part_of (setting_in checked) number away (Some coming)))
+      (cells_of coming)) inside
       (λ next reached.
       let finished = done (Some away) (Some coming) e f (told_one told number) next reached in
       ends_with told next (m.Update (oid_of number)
-          (maybe_old_of (part_of (setting_in checked) number away (Some coming))) (cells_of coming))
+      (maybe_old_of (part_of (setting_in checked) number away (Some coming))) (cells_of coming))
       (λ shape found. updated shape found (maybe_old_of (part_of (setting_in checked) number away (Some coming)))
-          (cells_of coming))
+      (cells_of coming))
       (put (put (next.work (oid_of number)) (own_key checked number away) None) (own_key checked number coming)
-          (Some coming)) inside.knows.flags reached
+      (Some coming)) inside.knows.flags reached
       (ap (λ phase. hear_in phase
-          (m.Update (oid_of number) (maybe_old_of (part_of (setting_in checked) number away (Some coming)))
-          (cells_of coming)) next) reached.busy)
+      (m.Update (oid_of number) (maybe_old_of (part_of (setting_in checked) number away (Some coming)))
+      (cells_of coming)) next) reached.busy)
       (update_made checked number table there (next.work (oid_of number)) away coming
-          (maybe_old_of (part_of (setting_in checked) number away (Some coming))) (new_fits coming is.0)
+      (maybe_old_of (part_of (setting_in checked) number away (Some coming))) (new_fits coming is.0)
       (gone_by (part_of (setting_in checked) number away (Some coming)) refl (old_fits away was.0)
-          (new_fits coming is.0)) finished.0 finished.1)
+      (new_fits coming is.0)) finished.0 finished.1)
       finished.2 refl)
     where
       gone_by : (part : Option PartOf) → part_of (setting_in checked) number away (Some coming) ≡ part
@@ -336,11 +336,11 @@ module _ (checked : CheckedOf) (transactions : List Transaction) (subscriber beg
       → Safe (Follows checked transactions subscriber) position
       (said checked.catalog.tables told (option_map (as_recorded (setting_in checked))
       (seen_rows number (passing ((setting_in checked).passes subscriber number) old)
-          (passing ((setting_in checked).passes subscriber number) new)))) machine
+      (passing ((setting_in checked).passes subscriber number) new)))) machine
       (λ at next. (at ≡ position)
-          × Inside checked subscriber begin outer (told_by told (option_map (as_recorded (setting_in checked))
+      × Inside checked subscriber begin outer (told_by told (option_map (as_recorded (setting_in checked))
       (seen_rows number (passing ((setting_in checked).passes subscriber number) old)
-          (passing ((setting_in checked).passes subscriber number) new)))) after next)
+      (passing ((setting_in checked).passes subscriber number) new)))) after next)
   row_change_safe told machine inside =
       by_seen (passing ((setting_in checked).passes subscriber number) old)
-          (passing ((setting_in checked).passes subscriber number) new) refl refl told machine inside
+      (passing ((setting_in checked).passes subscriber number) new) refl refl told machine inside

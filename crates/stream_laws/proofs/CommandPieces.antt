@@ -61,12 +61,12 @@ quoted_back quote [] after other = last_quote quote after other
 quoted_back quote (b ∷ text) after other =
     let more = quoted_back quote text after other in
     let some : 0 < length (doubled quote text ++ (quote ∷ after)) =
-        omega (arith, length-append (doubled quote text) (quote ∷ after)) in
+    omega (arith, length-append (doubled quote text) (quote ∷ after)) in
     by_test (b == quote)
     (λ e. rw (e, two_quotes quote (doubled quote text ++ (quote ∷ after)), more, eqb-true b quote e)
-        (ap (found_as (quote ∷ text)) (omega arith)))
+    (ap (found_as (quote ∷ text)) (omega arith)))
     (λ e. rw (e, no_quote quote b (doubled quote text ++ (quote ∷ after)) e some, more)
-        (ap (found_as (b ∷ text)) (omega arith)))
+    (ap (found_as (b ∷ text)) (omega arith)))
 
 quotes_length : (quote : ℕ) (text : List ℕ) → length (in_quotes quote text) ≡ 1 + (length (doubled quote text) + 1)
 quotes_length quote text = omega (arith, length-append (doubled quote text) (quote ∷ []))
@@ -186,14 +186,14 @@ place_token position rest tokens small more =
     let low = hex_written (position % 2 ^ 32) (omega arith) in
     let whole : position / 2 ^ 32 * 2 ^ 32 + position % 2 ^ 32 ≡ position = omega arith in
     let long : length (lsn_text position)
-        ≡ length (digits 16 true (position / 2 ^ 32)) + 1 + length (digits 16 true (position % 2 ^ 32)) =
+    ≡ length (digits 16 true (position / 2 ^ 32)) + 1 + length (digits 16 true (position % 2 ^ 32)) =
     omega (arith, length-append (digits 16 true (position / 2 ^ 32)) (47 ∷ digits 16 true (position % 2 ^ 32))) in
     token_here (Position position) (lsn_text position) (32 ∷ rest) tokens (omega (arith, long))
     (ap front (append_assoc (digits 16 true (position / 2 ^ 32)) (47 ∷ digits 16 true (position % 2 ^ 32)) (32 ∷ rest))
     ∙ first_front (digits 16 true (position / 2 ^ 32)) (47 ∷ (digits 16 true (position % 2 ^ 32) ++ (32 ∷ rest)))
-        high.some high.digital
+    high.some high.digital
     ∙ place_run (digits 16 true (position / 2 ^ 32)) (digits 16 true (position % 2 ^ 32)) rest (position / 2 ^ 32)
-        (position % 2 ^ 32) high low
+    (position % 2 ^ 32) high low
     ∙ ap (λ n. Whole (Position n)
-        (length (digits 16 true (position / 2 ^ 32)) + 1 + length (digits 16 true (position % 2 ^ 32)))) whole
+    (length (digits 16 true (position / 2 ^ 32)) + 1 + length (digits 16 true (position % 2 ^ 32)))) whole
     ∙ ap (Whole (Position position)) (sym long)) more

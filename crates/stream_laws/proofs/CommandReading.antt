@@ -38,7 +38,7 @@ unfolding tokens_from
 later_read [] = refl
 later_read (name ∷ names) =
     token_here Comma (44 ∷ []) (in_quotes 34 name ++ later_text names) (QuotedName name ∷ later_tokens names)
-        (omega arith) (comma_front (in_quotes 34 name ++ later_text names))
+    (omega arith) (comma_front (in_quotes 34 name ++ later_text names))
     (name_token name (later_text names) (later_tokens names) (no_quote_next names) (later_read names))
 
 names_read : (name : List ℕ) (names : List (List ℕ))
@@ -116,50 +116,50 @@ options_read : (text : List ℕ)
     ≡ Some (options_tokens text)
 options_read text =
     let value = space_passes _ _
-        (value_token text (codes ")") (Close ∷ []) (λ e. absurd (omega (arith, e))) close_read) in
+    (value_token text (codes ")") (Close ∷ []) (λ e. absurd (omega (arith, e))) close_read) in
     let names = space_passes _ _
-        (token_here (Word (codes "publication_names")) (codes "publication_names")
-        (32 ∷ (in_quotes 39 text ++ codes ")")) _ (omega arith) (names_front (in_quotes 39 text ++ codes ")")) value)
-        in
+    (token_here (Word (codes "publication_names")) (codes "publication_names")
+    (32 ∷ (in_quotes 39 text ++ codes ")")) _ (omega arith) (names_front (in_quotes 39 text ++ codes ")")) value)
+    in
     let comma = token_here Comma (44 ∷ []) (codes " publication_names " ++ (in_quotes 39 text ++ codes ")")) _
-        (omega arith) (comma_front (codes " publication_names " ++ (in_quotes 39 text ++ codes ")"))) names in
+    (omega arith) (comma_front (codes " publication_names " ++ (in_quotes 39 text ++ codes ")"))) names in
     let one = space_passes _ _
-        (value_token (codes "1") (codes ", publication_names " ++ (in_quotes 39 text ++ codes ")")) _
-        (λ e. absurd (omega (arith, e))) comma) in
+    (value_token (codes "1") (codes ", publication_names " ++ (in_quotes 39 text ++ codes ")")) _
+    (λ e. absurd (omega (arith, e))) comma) in
     let version = token_here (Word (codes "proto_version")) (codes "proto_version")
-        (codes " '1', publication_names " ++ (in_quotes 39 text ++ codes ")")) _ (omega arith)
+    (codes " '1', publication_names " ++ (in_quotes 39 text ++ codes ")")) _ (omega arith)
     (version_front (codes "'1', publication_names " ++ (in_quotes 39 text ++ codes ")"))) one in
     let opened = token_here Open (40 ∷ [])
-        (codes "proto_version '1', publication_names " ++ (in_quotes 39 text ++ codes ")")) _ (omega arith)
+    (codes "proto_version '1', publication_names " ++ (in_quotes 39 text ++ codes ")")) _ (omega arith)
     (open_front (codes "proto_version '1', publication_names " ++ (in_quotes 39 text ++ codes ")"))) version in
     space_passes (codes "(proto_version '1', publication_names " ++ (in_quotes 39 text ++ codes ")")) _ opened
 
 start_tokens : (slot : List ℕ) (names : List (List ℕ)) (position : ℕ) → position < 2 ^ 64
     → tokens_from 0 (start_text slot names position)
     ≡ Some (Word (codes "start_replication") ∷ Word (codes "slot") ∷ QuotedName slot ∷ Word (codes "logical")
-        ∷ Position position ∷ options_tokens (names_text names))
+    ∷ Position position ∷ options_tokens (names_text names))
 start_tokens slot names position small =
     let options : List ℕ =
-        codes "(proto_version '1', publication_names " ++ (in_quotes 39 (names_text names) ++ codes ")") in
+    codes "(proto_version '1', publication_names " ++ (in_quotes 39 (names_text names) ++ codes ")") in
     let place = space_passes (lsn_text position ++ (32 ∷ options)) _
-        (place_token position options _ small (options_read (names_text names))) in
+    (place_token position options _ small (options_read (names_text names))) in
     let logical = space_passes (codes "LOGICAL" ++ (32 ∷ (lsn_text position ++ (32 ∷ options)))) _
     (token_here (Word (codes "logical")) (codes "LOGICAL") (32 ∷ (lsn_text position ++ (32 ∷ options))) _
-        (omega arith) (logical_front (lsn_text position ++ (32 ∷ options))) place) in
+    (omega arith) (logical_front (lsn_text position ++ (32 ∷ options))) place) in
     let after : List ℕ = codes " LOGICAL " ++ (lsn_text position ++ (32 ∷ options)) in
     let name = space_passes (in_quotes 34 slot ++ after) _
-        (name_token slot after _ (λ e. absurd (omega (arith, e))) logical) in
+    (name_token slot after _ (λ e. absurd (omega (arith, e))) logical) in
     let word = space_passes (codes "SLOT" ++ (32 ∷ (in_quotes 34 slot ++ after))) _
     (token_here (Word (codes "slot")) (codes "SLOT") (32 ∷ (in_quotes 34 slot ++ after)) _ (omega arith)
-        (slot_front (in_quotes 34 slot ++ after)) name) in
+    (slot_front (in_quotes 34 slot ++ after)) name) in
     token_here (Word (codes "start_replication")) (codes "START_REPLICATION")
-        (codes " SLOT " ++ (in_quotes 34 slot ++ after)) _ (omega arith)
+    (codes " SLOT " ++ (in_quotes 34 slot ++ after)) _ (omega arith)
     (start_front (codes "SLOT " ++ (in_quotes 34 slot ++ after))) word
 
 tokens_command : (slot : List ℕ) (names : List (List ℕ)) (position : ℕ) → IsShortName slot → 0 < length names
     → All IsShortName names
     → command_in (Word (codes "start_replication") ∷ Word (codes "slot") ∷ QuotedName slot ∷ Word (codes "logical")
-        ∷ Position position ∷ options_tokens (names_text names))
+    ∷ Position position ∷ options_tokens (names_text names))
     ≡ Some (start_command slot names position)
 tokens_command slot names position named some all = rw (name_kept slot named, publications_read names some all) refl
 

@@ -34,16 +34,16 @@ free_of_insert : (setting : Setting) (tables : Tables) (table : ℕ) (row : List
     → fault_of setting tables (Insert table row) ≡ None → is_free setting.keys tables table row ≡ true
 free_of_insert setting tables table row h =
     (no_unless (is_free setting.keys tables table row) DuplicateKey None
-        (no_unfit (setting.fault table row) _ (no_unless (setting.known table) NoTable _ h).1)).0
+    (no_unfit (setting.fault table row) _ (no_unless (setting.known table) NoTable _ h).1)).0
 
 free_of_update : (setting : Setting) (tables : Tables) (table : ℕ) (key row : List Datum)
     → fault_of setting tables (Update table key row) ≡ None
     → is_free setting.keys (without setting.keys tables table (named tables table key)) table row ≡ true
 free_of_update setting tables table key row h =
     let found = no_unless (is_some (named tables table key)) NoSuchRow _
-        (no_unfit (setting.fault table row) _ (no_unless (setting.known table) NoTable _ h).1) in
+    (no_unfit (setting.fault table row) _ (no_unless (setting.known table) NoTable _ h).1) in
     (no_unless (is_free setting.keys (without setting.keys tables table (named tables table key)) table row)
-        DuplicateKey None found.1).0
+    DuplicateKey None found.1).0
 
 -- ---- the rows of the table of a change, and those of others
 
@@ -63,7 +63,7 @@ named_there : (setting : Setting) (tables : Tables) → Stands setting.keys tabl
 named_there setting tables stands table key row h =
     let keyed : key_at setting.keys table 0 row ≡ Some key = stands.keyed table 0 key row h in
     ap (λ found. is_row (found_at (tables table 0) found) row) keyed ∙ ap (λ found. is_row found row) h
-        ∙ same_row_of_equal row row refl
+    ∙ same_row_of_equal row row refl
 
 not_free : (setting : Setting) (tables : Tables) (table : ℕ) (row : List Datum)
     → is_free setting.keys tables table row ≡ true → holds setting.keys tables table row ≡ true → ⊥
@@ -116,22 +116,22 @@ pub update_changes : (setting : Setting) → HasPrimaryKeys setting.keys → (ta
     → Stands setting.keys tables → (table : ℕ) (key new : List Datum)
     → fault_of setting tables (Update table key new) ≡ None
     → ChangesRows setting tables (applied setting tables (Update table key new)) table (named tables table key)
-        (Some new)
+    (Some new)
 update_changes setting has tables stands table key new h = record {
   here = λ row. rows_stand setting has tables (Update table key new) h stands table row
       ∙ same_new setting table new row
-          (holds setting.keys tables table row && not (is_named tables table key table row))
+      (holds setting.keys tables table row && not (is_named tables table key table row))
       ∙ ap (λ b. same_row new row || b)
-          (same_old table (named tables table key) row (holds setting.keys tables table row));
+      (same_old table (named tables table key) row (holds setting.keys tables table row));
   beside = λ other row differ. rows_stand setting has tables (Update table key new) h stands other row
       ∙ ap (λ b. (b && same_row new row)
-          || (holds setting.keys tables other row && not (b && is_row (named tables table key) row))) differ
+      || (holds setting.keys tables other row && not (b && is_row (named tables table key) row))) differ
       ∙ and_true (holds setting.keys tables other row);
   there = λ row e. named_there setting tables stands table key row e;
   room = λ row e h2. subst (λ r. holds setting.keys tables table r ≡ true → named tables table key ≡ Some r)
       (some_is new row e)
       (λ held. left_free setting has tables stands table key new (named tables table key) refl
-          (free_of_update setting tables table key new h) held) h2;
+      (free_of_update setting tables table key new h) held) h2;
 }
 
 pub delete_changes : (setting : Setting) → HasPrimaryKeys setting.keys → (tables : Tables)
@@ -177,7 +177,7 @@ swaps_rows setting key_of tells before after fit apart table old new changes = r
       let one_there : holds setting.keys after table one ≡ true = changes.here one ∙ first in
       let other_there : holds setting.keys after table other ≡ true = changes.here other ∙ second in
       apart table one other one_there other_there
-          (tells.same_identity table one other (fit table one one_there) (fit table other other_there) keys);
+      (tells.same_identity table one other (fit table one one_there) (fit table other other_there) keys);
 }
 
 -- what the subscriber of this number does with the rows that it sees go and come in a table
@@ -207,9 +207,9 @@ step_of setting key_of tells subscriber copies before after finds fit apart tabl
   here = done_same (key_of table) (copies table) (passing (setting.passes subscriber table) old)
       (passing (setting.passes subscriber table) new)
       (λ row. swapped old new (holds setting.keys before table) row && setting.passes subscriber table row)
-          (in_shard setting subscriber after table)
+      (in_shard setting subscriber after table)
       (follows_swap (key_of table) (setting.passes subscriber table) (copies table) old new
-          (holds setting.keys before table)
+      (holds setting.keys before table)
       (swaps_rows setting key_of tells before after fit apart table old new changes) (finds table))
       (λ row. ap (λ b. b && setting.passes subscriber table row) (sym (changes.here row)));
   beside = λ other differ. finds_same (key_of other) (copies other) (in_shard setting subscriber before other)
@@ -228,7 +228,7 @@ pub new_fits : (setting : Setting) (before after : Tables) (table : ℕ) (old ne
     → (row : List Datum) → new ≡ Some row → fits setting table row ≡ true
 new_fits setting before after table old new changes fit row h =
     fit table row (changes.here row
-        ∙ or_left (is_row new row) (holds setting.keys before table row && not (is_row old row)) (is_it new row h))
+    ∙ or_left (is_row new row) (holds setting.keys before table row && not (is_row old row)) (is_it new row h))
 
 -- ---- TRUNCATE
 
@@ -256,7 +256,7 @@ flipped one other = by_test (nat_eq one other)
     (λ same. same ∙ sym ((unsigned_Decides other one).1 (sym (eqb-true one other same))))
     (λ differ. by_test (other == one)
     (λ same. absurd (let back : nat_eq one other ≡ true =
-        (unsigned_Decides one other).1 (sym (eqb-true other one same)) in cc))
+    (unsigned_Decides one other).1 (sym (eqb-true other one same)) in cc))
     (λ beside. differ ∙ sym beside))
 
 any_flipped : (number : ℕ) (numbers : List ℕ)
@@ -277,10 +277,10 @@ any_with table numbers item = by_has (list_any (nat_eq item) numbers) refl
   where
     by_has : (has : Bool) → list_any (nat_eq item) numbers ≡ has
         → list_any (λ number. number == table) (if has then numbers else numbers ++ item ∷ [])
-            ≡ (list_any (λ number. number == table) numbers || (item == table))
+        ≡ (list_any (λ number. number == table) numbers || (item == table))
     by_has true h = or_itself (list_any (λ number. number == table) numbers) (item == table)
         (λ same. subst (λ t. list_any (λ number. number == t) numbers ≡ true) (eqb-true item table same)
-            (sym (any_flipped item numbers) ∙ h))
+        (sym (any_flipped item numbers) ∙ h))
     by_has false h = list_any-append (λ number. number == table) numbers (item ∷ [])
         ∙ ap (λ b. list_any (λ number. number == table) numbers || b) (or_false (item == table))
 
@@ -294,17 +294,17 @@ any_fold : (table : ℕ) (numbers more : List ℕ)
 any_fold table numbers [] = sym (or_false (list_any (λ number. number == table) numbers))
 any_fold table numbers (item ∷ more) =
     any_fold table (with_item nat_eq numbers item) more
-        ∙ ap (λ b. b || list_any (λ number. number == table) more) (any_with table numbers item)
+    ∙ ap (λ b. b || list_any (λ number. number == table) more) (any_with table numbers item)
     ∙ or_again (list_any (λ number. number == table) numbers) (item == table)
-        (list_any (λ number. number == table) more)
+    (list_any (λ number. number == table) more)
 
 -- among the tables that the subscriber takes anything of
 among_carried : (carries : ℕ → Bool) (numbers : List ℕ) (table : ℕ)
     → list_any (λ number. number == table) (filter carries (distinct nat_eq numbers))
-        ≡ (carries table && list_any (λ number. number == table) numbers)
+    ≡ (carries table && list_any (λ number. number == table) numbers)
 among_carried carries numbers table =
     any-filter_same (λ number. number == table) carries (carries table)
-        (λ number h. ap carries (eqb-true number table h)) (distinct nat_eq numbers)
+    (λ number h. ap carries (eqb-true number table h)) (distinct nat_eq numbers)
     ∙ ap (λ b. carries table && b) (any_fold table [] numbers)
 
 pub truncate_clears : (setting : Setting) → HasPrimaryKeys setting.keys → Covered setting
@@ -313,14 +313,14 @@ pub truncate_clears : (setting : Setting) → HasPrimaryKeys setting.keys → Co
     → FindsShard setting key_of subscriber copies tables → (numbers : List ℕ)
     → fault_of setting tables (Truncate numbers) ≡ None
     → FindsShard setting key_of subscriber
-        (cleared copies (filter (setting.carries subscriber) (distinct nat_eq numbers)))
-        (applied setting tables (Truncate numbers))
+    (cleared copies (filter (setting.carries subscriber) (distinct nat_eq numbers)))
+    (applied setting tables (Truncate numbers))
 truncate_clears setting has covered key_of subscriber copies tables stands finds numbers h table =
     by_both (setting.carries subscriber table) (list_any (λ number. number == table) numbers) refl refl
   where
     rows_after : (row : List Datum) → in_shard setting subscriber (applied setting tables (Truncate numbers)) table row
         ≡ ((holds setting.keys tables table row && not (list_any (λ number. number == table) numbers))
-            && setting.passes subscriber table row)
+        && setting.passes subscriber table row)
     rows_after row = ap (λ b. b && setting.passes subscriber table row)
         (rows_stand setting has tables (Truncate numbers) h stands table row)
 
@@ -332,40 +332,40 @@ truncate_clears setting has covered key_of subscriber copies tables stands finds
         ≡ false
         → ((row : List Datum)
         → in_shard setting subscriber tables table row
-            ≡ in_shard setting subscriber (applied setting tables (Truncate numbers)) table row)
+        ≡ in_shard setting subscriber (applied setting tables (Truncate numbers)) table row)
         → FindsRows (key_of table)
-            (cleared copies (filter (setting.carries subscriber) (distinct nat_eq numbers)) table)
-            (in_shard setting subscriber (applied setting tables (Truncate numbers)) table)
+        (cleared copies (filter (setting.carries subscriber) (distinct nat_eq numbers)) table)
+        (in_shard setting subscriber (applied setting tables (Truncate numbers)) table)
     untouched e same = finds_alike (key_of table) (copies table)
         (cleared copies (filter (setting.carries subscriber) (distinct nat_eq numbers)) table)
         (in_shard setting subscriber (applied setting tables (Truncate numbers)) table)
         (finds_same (key_of table) (copies table) (in_shard setting subscriber tables table)
-            (in_shard setting subscriber (applied setting tables (Truncate numbers)) table) (finds table) same)
+        (in_shard setting subscriber (applied setting tables (Truncate numbers)) table) (finds table) same)
         (λ key. rw e refl)
 
     by_both : (carried named : Bool) → setting.carries subscriber table ≡ carried
         → list_any (λ number. number == table) numbers ≡ named
         → FindsRows (key_of table)
-            (cleared copies (filter (setting.carries subscriber) (distinct nat_eq numbers)) table)
-            (in_shard setting subscriber (applied setting tables (Truncate numbers)) table)
+        (cleared copies (filter (setting.carries subscriber) (distinct nat_eq numbers)) table)
+        (in_shard setting subscriber (applied setting tables (Truncate numbers)) table)
     by_both true true e f =
         finds_none (key_of table)
         (cleared copies (filter (setting.carries subscriber) (distinct nat_eq numbers)) table)
         (in_shard setting subscriber (applied setting tables (Truncate numbers)) table)
         (λ key. let cleared_too : list_any (λ number. number == table)
-            (filter (setting.carries subscriber) (distinct nat_eq numbers)) ≡ true =
+        (filter (setting.carries subscriber) (distinct nat_eq numbers)) ≡ true =
         among_carried (setting.carries subscriber) numbers table ∙ rw (e, f) refl in rw cleared_too refl)
         (λ row. rows_after row
-            ∙ ap (λ b. (holds setting.keys tables table row && not b) && setting.passes subscriber table row) f
+        ∙ ap (λ b. (holds setting.keys tables table row && not b) && setting.passes subscriber table row) f
         ∙ ap (λ b. b && setting.passes subscriber table row) (and_false (holds setting.keys tables table row)))
     by_both true false e f = untouched (among_carried (setting.carries subscriber) numbers table ∙ rw (e, f) refl)
         (λ row. sym (rows_after row
-            ∙ ap (λ b. (holds setting.keys tables table row && not b) && setting.passes subscriber table row) f
+        ∙ ap (λ b. (holds setting.keys tables table row && not b) && setting.passes subscriber table row) f
         ∙ ap (λ b. b && setting.passes subscriber table row) (and_true (holds setting.keys tables table row))))
     by_both false named e f = untouched (among_carried (setting.carries subscriber) numbers table ∙ rw e refl)
         (λ row. ap (λ b. holds setting.keys tables table row && b) (never row e)
-            ∙ and_false (holds setting.keys tables table row)
+        ∙ and_false (holds setting.keys tables table row)
         ∙ sym (rows_after row
         ∙ ap (λ b. (holds setting.keys tables table row && not (list_any (λ number. number == table) numbers)) && b)
-            (never row e)
+        (never row e)
         ∙ and_false (holds setting.keys tables table row && not (list_any (λ number. number == table) numbers))))

@@ -56,11 +56,11 @@ pub shows : (checked : CheckedOf) → Covered (setting_in checked)
 shows checked covered subscriber tables command h =
     only_same (got (setting_in checked) subscriber (change_of (setting_in checked) tables command)) _
     (record_shows (setting_in checked) covered subscriber tables 1 (command ∷ [])
-        (no_first_fault (setting_in checked) tables command h))
+    (no_first_fault (setting_in checked) tables command h))
 
 module _ (checked : CheckedOf) (transactions : List Transaction) (subscriber begin position : ℕ) (outer : Machine)
     (follows : Follows checked transactions subscriber position outer) (covered : Covered (setting_in checked))
-        (keeps : KeepsApart (setting_in checked)) where
+    (keeps : KeepsApart (setting_in checked)) where
   -- what is told of a change leaves the machine safe, and inside the transaction, after the change
   abbrev Tells : Option r.ChangeOf → Tables → List Bool → Machine → Type 0
   Tells mine after told machine =
@@ -71,7 +71,7 @@ module _ (checked : CheckedOf) (transactions : List Transaction) (subscriber beg
       → fault_of (setting_in checked) tables command ≡ None
       → (told : List Bool) (machine : Machine) → Inside checked subscriber begin outer told tables machine
       → Tells (option_map (as_recorded (setting_in checked)) (seen_of (setting_in checked) subscriber tables command))
-          (applied (setting_in checked) tables command) told machine
+      (applied (setting_in checked) tables command) told machine
   by_seen tables (Insert number row) right h told machine inside =
       let setting = setting_in checked in
       let has = has_primary_keys checked.catalog checked.plan in
@@ -79,13 +79,13 @@ module _ (checked : CheckedOf) (transactions : List Transaction) (subscriber beg
       let next = right_after checked keeps tables (Insert number row) h right in
       let changes = insert_changes setting has tables right.stands number row h in
       let its = row_of checked number row
-          (new_fits setting tables after number None (Some row) changes next.fit row refl) in
+      (new_fits setting tables after number None (Some row) changes next.fit row refl) in
       row_change_safe checked transactions subscriber begin position outer follows covered tables after number
-          its.table its.there None (Some row)
+      its.table its.there None (Some row)
       (λ copies finds. step_of setting (own_key checked) (tells_identity checked covered) subscriber copies tables
-          after finds next.fit next.apart number None (Some row) changes)
+      after finds next.fit next.apart number None (Some row) changes)
       (old_fits setting tables after number None (Some row) changes right.fit)
-          (new_fits setting tables after number None (Some row) changes next.fit)
+      (new_fits setting tables after number None (Some row) changes next.fit)
       told machine inside
   by_seen tables (Update number key row) right h told machine inside =
       let setting = setting_in checked in
@@ -94,13 +94,13 @@ module _ (checked : CheckedOf) (transactions : List Transaction) (subscriber beg
       let next = right_after checked keeps tables (Update number key row) h right in
       let changes = update_changes setting has tables right.stands number key row h in
       let its = row_of checked number row
-          (new_fits setting tables after number (named tables number key) (Some row) changes next.fit row refl) in
+      (new_fits setting tables after number (named tables number key) (Some row) changes next.fit row refl) in
       row_change_safe checked transactions subscriber begin position outer follows covered tables after number
-          its.table its.there (named tables number key) (Some row)
+      its.table its.there (named tables number key) (Some row)
       (λ copies finds. step_of setting (own_key checked) (tells_identity checked covered) subscriber copies tables
-          after finds next.fit next.apart number (named tables number key) (Some row) changes)
+      after finds next.fit next.apart number (named tables number key) (Some row) changes)
       (old_fits setting tables after number (named tables number key) (Some row) changes right.fit)
-          (new_fits setting tables after number (named tables number key) (Some row) changes next.fit)
+      (new_fits setting tables after number (named tables number key) (Some row) changes next.fit)
       told machine inside
   by_seen tables (Delete number key) right h told machine inside =
       let setting = setting_in checked in
@@ -110,67 +110,67 @@ module _ (checked : CheckedOf) (transactions : List Transaction) (subscriber beg
       let changes = delete_changes setting has tables right.stands number key h in
       let found = delete_finds setting tables number key h in
       let its = row_of checked number found.row
-          (old_fits setting tables after number (named tables number key) None changes right.fit found.row
-          found.there) in
+      (old_fits setting tables after number (named tables number key) None changes right.fit found.row
+      found.there) in
       row_change_safe checked transactions subscriber begin position outer follows covered tables after number
-          its.table its.there (named tables number key) None
+      its.table its.there (named tables number key) None
       (λ copies finds. step_of setting (own_key checked) (tells_identity checked covered) subscriber copies tables
-          after finds next.fit next.apart number (named tables number key) None changes)
+      after finds next.fit next.apart number (named tables number key) None changes)
       (old_fits setting tables after number (named tables number key) None changes right.fit)
-          (new_fits setting tables after number (named tables number key) None changes next.fit)
+      (new_fits setting tables after number (named tables number key) None changes next.fit)
       told machine inside
   by_seen tables (Truncate numbers) right h told machine inside =
       let setting = setting_in checked in
       truncate_safe checked transactions subscriber begin position outer follows tables
-          (applied setting tables (Truncate numbers))
+      (applied setting tables (Truncate numbers))
       (filter (setting.carries subscriber) (distinct nat_eq numbers)) (carried_known numbers h)
       (λ copies finds. truncate_clears setting (has_primary_keys checked.catalog checked.plan) covered
-          (own_key checked) subscriber copies tables right.stands finds numbers h)
+      (own_key checked) subscriber copies tables right.stands finds numbers h)
       told machine inside
     where
       carried_known : (all : List ℕ) → fault_of (setting_in checked) tables (Truncate all) ≡ None
           → All (λ number. number < length checked.catalog.tables)
-              (filter ((setting_in checked).carries subscriber) (distinct nat_eq all))
+          (filter ((setting_in checked).carries subscriber) (distinct nat_eq all))
       carried_known all k =
           All-filter ((setting_in checked).carries subscriber) (λ number. number < length checked.catalog.tables)
           (distinct nat_eq all)
           (All-head (IsChangeOf checked.catalog.tables) (change_of (setting_in checked) tables (Truncate all)) []
           (records_of_tables checked tables 1 (Truncate all ∷ [])
-              (no_first_fault (setting_in checked) tables (Truncate all) k)))
+          (no_first_fault (setting_in checked) tables (Truncate all) k)))
 
   command_safe : (tables : Tables) (command : Command) → IsRight (setting_in checked) tables
       → fault_of (setting_in checked) tables command ≡ None
       → (told : List Bool) (machine : Machine) → Inside checked subscriber begin outer told tables machine
       → Tells (got (setting_in checked) subscriber (change_of (setting_in checked) tables command))
-          (applied (setting_in checked) tables command) told machine
+      (applied (setting_in checked) tables command) told machine
   command_safe tables command right h told machine inside =
       subst (λ mine. Tells mine (applied (setting_in checked) tables command) told machine)
-          (sym (shows checked covered subscriber tables command h))
+      (sym (shows checked covered subscriber tables command h))
       (by_seen tables command right h told machine inside)
 
   pub commands_safe : (commands : List Command) (tables : Tables) (number : ℕ) → IsRight (setting_in checked) tables
       → first_fault (setting_in checked) tables number commands ≡ None
       → (told : List Bool) (machine : Machine) → Inside checked subscriber begin outer told tables machine
       → Safe (Follows checked transactions subscriber) position
-          (said_each checked subscriber told (record_of (setting_in checked) tables commands)) machine
+      (said_each checked subscriber told (record_of (setting_in checked) tables commands)) machine
       (λ at next. (at ≡ position)
       × Inside checked subscriber begin outer
-          (told_each checked subscriber told (record_of (setting_in checked) tables commands))
-          (all_applied (setting_in checked) tables commands) next)
+      (told_each checked subscriber told (record_of (setting_in checked) tables commands))
+      (all_applied (setting_in checked) tables commands) next)
   unfolding said_each told_each
   commands_safe [] tables number right h told machine inside = (refl, inside)
   commands_safe (command ∷ commands) tables number right h told machine inside =
       let setting = setting_in checked in
       let none = not_numbered number (fault_of setting tables command)
-          (first_fault setting (applied setting tables command) (number + 1) commands) h in
+      (first_fault setting (applied setting tables command) (number + 1) commands) h in
       let mine = got setting subscriber (change_of setting tables command) in
       let later = record_of setting (applied setting tables command) commands in
       safe_both (Follows checked transactions subscriber)
       (λ at next. (at ≡ position)
-          × Inside checked subscriber begin outer (told_each checked subscriber (told_by told mine) later)
-          (all_applied setting (applied setting tables command) commands) next)
+      × Inside checked subscriber begin outer (told_each checked subscriber (told_by told mine) later)
+      (all_applied setting (applied setting tables command) commands) next)
       (Inside checked subscriber begin outer (told_by told mine) (applied setting tables command))
       position (said checked.catalog.tables told mine) (said_each checked subscriber (told_by told mine) later) machine
       (command_safe tables command right none.0 told machine inside)
       (λ next reached. commands_safe commands (applied setting tables command) (number + 1)
-          (right_after checked keeps tables command none.0 right) none.1 (told_by told mine) next reached)
+      (right_after checked keeps tables command none.0 right) none.1 (told_by told mine) next reached)

@@ -48,7 +48,7 @@ entry_at setting tables number (transaction ∷ transactions) zero commit accept
 }
 entry_at setting tables number (transaction ∷ transactions) (suc place) commit accepted h =
     let later = entry_at setting (left_by setting tables transaction) (number + 1) transactions place commit
-        accepted.1 h in
+    accepted.1 h in
     record {
       transaction = later.transaction;
       there = later.there;

@@ -65,7 +65,7 @@ whole_begin : (count : ℕ) (items : List Item) → Begins (whole_in count items
 whole_begin count [] = record { others = []; is = refl }
 whole_begin count (item ∷ items) =
     begin_with (nat_le (length (spelled item)) count) item (whole_in (count - length (spelled item)) items) items
-        (whole_begin (count - length (spelled item)) items)
+    (whole_begin (count - length (spelled item)) items)
 
 -- ---- what is heard of bytes that were cut
 
@@ -86,7 +86,7 @@ cut_heard : (frames : List Frame) (rest : List ℕ) (machine : Machine) (P : Mac
 cut_heard [] rest machine P h = (refl, h)
 cut_heard (frame ∷ frames) rest machine P h =
     heard_on (hear_frame frame machine) frames (after_frames frames (Rest rest)) machine P
-        (λ next later. cut_heard frames rest next P later) h
+    (λ next later. cut_heard frames rest next P later) h
 
 -- ---- a machine with the same position, rows and Relations
 
@@ -125,9 +125,9 @@ module _ (checked : CheckedOf) (transactions : List Transaction) (published : Is
       let begin = whole_begin (length bytes) items in
       let at = cuts in
       let heard = cut_heard (map frame_in (whole_in (length bytes) items)) at.rest machine
-          (Follows checked transactions subscriber (position_after position (whole_in (length bytes) items)))
+      (Follows checked transactions subscriber (position_after position (whole_in (length bytes) items)))
       (first_safe checked transactions subscriber (whole_in (length bytes) items) begin.others items position machine
-          begin.is
+      begin.is
       (stream_safe checked transactions published subscriber machine at_start position follows moves sent)) in
       record {
         no_fault = ap (λ all. (hear_cut all machine).fault) at.cuts ∙ heard.0;
@@ -139,9 +139,9 @@ module _ (checked : CheckedOf) (transactions : List Transaction) (published : Is
 pub bytes_are_followed : BytesAreFollowed
 bytes_are_followed checked transactions published subscriber machine follows moves sent bytes others first =
     opened_followed checked transactions published subscriber (opened machine)
-        (record { waits = refl; known = λ oid. refl; work_is = λ oid key. refl }) machine.position
+    (record { waits = refl; known = λ oid. refl; work_is = λ oid key. refl }) machine.position
     (follows_alike checked transactions subscriber machine.position machine (opened machine) follows refl
-        (λ oid key. refl) (λ oid. refl)) moves sent bytes others first
+    (λ oid key. refl) (λ oid. refl)) moves sent bytes others first
 
 -- ---- subscribers
 
@@ -157,7 +157,7 @@ sub_follows : (checked : CheckedOf) (transactions : List Transaction) (number : 
     → Follows checked transactions number (sub_machine old).position (sub_machine new)
 sub_follows checked transactions number old new follows opens =
     follows_alike checked transactions number (sub_machine old).position (sub_machine old) (sub_machine new) follows
-        opens.machine.position opens.machine.rows opens.machine.kept
+    opens.machine.position opens.machine.rows opens.machine.kept
 
 heard_is : (old new : Subscriber) (bytes : List ℕ) → Opens old new
     → fed_heard new bytes ≡ hear_cut (cut limit bytes) (sub_machine new)
@@ -171,22 +171,22 @@ fed_followed : (checked : CheckedOf) (transactions : List Transaction) → IsPub
     → All IsSentItem (items_from checked transactions number (sub_machine old).position moves)
     → (bytes others : List ℕ) → AreFirst checked transactions number (sub_machine old).position moves bytes others
     → IsFollowed checked transactions number
-        (position_in checked transactions number (sub_machine old).position moves bytes) (fed_heard between bytes)
+    (position_in checked transactions number (sub_machine old).position moves bytes) (fed_heard between bytes)
 fed_followed checked transactions published number old between follows opens moves sent bytes others first =
     subst (IsFollowed checked transactions number
-        (position_in checked transactions number (sub_machine old).position moves bytes))
-        (sym (heard_is old between bytes opens))
+    (position_in checked transactions number (sub_machine old).position moves bytes))
+    (sym (heard_is old between bytes opens))
     (opened_followed checked transactions published number (sub_machine between) (sub_opened old between opens)
-        (sub_machine old).position
+    (sub_machine old).position
     (sub_follows checked transactions number old between follows opens) moves sent bytes others first)
 
 pub fed_follow : FedFollow
 fed_follow checked transactions published number old between new follows opens moves sent bytes others first feeds =
     let followed = fed_followed checked transactions published number old between follows opens moves sent bytes
-        others first in
+    others first in
     follows_alike checked transactions number
-        (position_in checked transactions number (sub_machine old).position moves bytes)
-        (fed_heard between bytes).machine (sub_machine new)
+    (position_in checked transactions number (sub_machine old).position moves bytes)
+    (fed_heard between bytes).machine (sub_machine new)
     followed.follows feeds.machine.position feeds.machine.rows feeds.machine.kept
 
 -- ---- where it stops
@@ -210,10 +210,10 @@ first_frames [] more all rest h = record { items = []; others = all; is = refl; 
 first_frames (frame ∷ frames) more [] rest h = absurd cc
 first_frames (frame ∷ frames) more (item ∷ all) rest h =
     let later = first_frames frames more all rest
-        (same_more frame (frame_in item) (after_frames frames more) (after_frames (map frame_in all) (Rest rest)) h)
-        in
+    (same_more frame (frame_in item) (after_frames frames more) (after_frames (map frame_in all) (Rest rest)) h)
+    in
     let same = same_frame frame (frame_in item) (after_frames frames more)
-        (after_frames (map frame_in all) (Rest rest)) h in
+    (after_frames (map frame_in all) (Rest rest)) h in
     record {
       items = item ∷ later.items;
       others = later.others;
@@ -254,16 +254,19 @@ goes_on [] long after rest same less = record { more = long; is = refl }
 goes_on (item ∷ short) [] after rest same less = absurd (omega (arith, less))
 goes_on (item ∷ short) (other ∷ long) after rest same less =
     let later = goes_on short long after rest (same_items item other (short ++ after) (long ++ rest) same)
-        (omega (arith, less)) in
-    record { more = later.more; is =
-        ap (λ first. first ∷ long) (sym (same_item item other (short ++ after) (long ++ rest) same))
-        ∙ ap (λ items. item ∷ items) later.is }
+    (omega (arith, less)) in
+    record {
+      more = later.more;
+      is =
+          ap (λ first. first ∷ long) (sym (same_item item other (short ++ after) (long ++ rest) same))
+          ∙ ap (λ items. item ∷ items) later.is;
+    }
 
 module _ (checked : CheckedOf) (transactions : List Transaction) (published : IsPublished checked transactions)
     (number : ℕ) (old between middle new : Subscriber)
     (follows : SubFollows checked transactions number old) (opens : Opens old between) (moves : List Move)
     (sent : All IsSentItem (items_from checked transactions number (sub_machine old).position moves))
-        (bytes piece others : List ℕ)
+    (bytes piece others : List ℕ)
     (first : AreFirst checked transactions number (sub_machine old).position moves (bytes ++ piece) others) where
   abbrev all : List Item
   all = items_from checked transactions number (sub_machine old).position moves
@@ -280,26 +283,26 @@ module _ (checked : CheckedOf) (transactions : List Transaction) (published : Is
   frames_are : frames_of (fed_cut between bytes) ≡ map frame_in before
   frames_are =
       let at = cuts checked transactions published number (sub_machine between) (sub_opened old between opens)
-          (sub_machine old).position follows_there moves sent bytes (piece ++ others)
+      (sub_machine old).position follows_there moves sent bytes (piece ++ others)
       (sym (append_assoc bytes piece others) ∙ first) in
       ap (λ held. frames_of (cut limit (held ++ bytes))) opens.held ∙ ap frames_of at.cuts
-          ∙ frames_before (map frame_in before) at.rest
+      ∙ frames_before (map frame_in before) at.rest
 
   stopped_beyond : StopsBeyond between bytes piece new
       → StopsFollowing checked transactions number (sub_machine old).position before fed new
   stopped_beyond stop =
       let start = sub_opened old between opens in
       let at = cuts checked transactions published number (sub_machine between) start (sub_machine old).position
-          follows_there moves sent (bytes ++ piece) others first in
+      follows_there moves sent (bytes ++ piece) others first in
       let held_is : fed_cut between (bytes ++ piece) ≡ cut limit (bytes ++ piece) =
-          ap (λ held. cut limit (held ++ (bytes ++ piece))) opens.held in
+      ap (λ held. cut limit (held ++ (bytes ++ piece))) opens.held in
       let frames : List Frame = frames_of (fed_cut between bytes) ++ stop.more in
       let some = first_frames frames stop.rest fed at.rest (stop.among ∙ held_is ∙ at.cuts) in
       let less : length before ≤ length some.items =
       let one : length frames ≡ length (frames_of (fed_cut between bytes)) + length stop.more =
-          length-append (frames_of (fed_cut between bytes)) stop.more in
+      length-append (frames_of (fed_cut between bytes)) stop.more in
       let two : length (frames_of (fed_cut between bytes)) ≡ length before = ap length frames_are
-          ∙ length-map before frame_in in
+      ∙ length-map before frame_in in
       let three : length frames ≡ length some.items = ap length some.frames_are ∙ length-map some.items frame_in in
       omega (arith, one, two, three) in
       let both = whole_both in
@@ -314,13 +317,13 @@ module _ (checked : CheckedOf) (transactions : List Transaction) (published : Is
         follows = subst (λ items. Follows checked transactions number
             (position_after (sub_machine old).position items) (sub_machine new)) on.is
             (stays_following checked transactions number (position_after (sub_machine old).position some.items)
-                (hear_frames (map frame_in some.items) (sub_machine between)) (sub_machine new)
+            (hear_frames (map frame_in some.items) (sub_machine between)) (sub_machine new)
             (first_safe checked transactions number some.items (some.others ++ begin.others) all
-                (sub_machine old).position (sub_machine between) together
+            (sub_machine old).position (sub_machine between) together
             (stream_safe checked transactions published number (sub_machine between) start (sub_machine old).position
-                follows_there moves sent))
+            follows_there moves sent))
             (subst (λ its. StaysOf (hear_frames its (sub_machine between)) (sub_machine new)) some.frames_are
-                stop.stays));
+            stop.stays));
       }
     where
       -- what is whole in more bytes goes on with what is whole in fewer
@@ -338,14 +341,14 @@ stopped_follow checked transactions published number old between middle new foll
   where
     by_told : (fault : Option SubFault) → told error ≡ fault
         → StopsFor fault (fed_heard between (bytes ++ piece)) (fed_cut between (bytes ++ piece)) (sub_machine between)
-            (sub_machine new)
+        (sub_machine new)
         → (told error ≡ None) × StopsFollowing checked transactions number (sub_machine old).position
         (whole_in (length bytes) (items_from checked transactions number (sub_machine old).position moves))
         (whole_in (length (bytes ++ piece)) (items_from checked transactions number (sub_machine old).position moves))
-            new
+        new
     by_told (Some fault) e stop = absurd (
         let followed = fed_followed checked transactions published number old between follows opens moves sent
-            (bytes ++ piece) others first in
+        (bytes ++ piece) others first in
         let none : (fed_heard between (bytes ++ piece)).fault ≡ None = followed.no_fault in
         let some : (fed_heard between (bytes ++ piece)).fault ≡ Some fault = stop.fault_is in
         cc)
@@ -362,7 +365,7 @@ pub lost_follow : LostFollow
 lost_follow checked transactions number old new follows loses =
     subst (λ position. Follows checked transactions number position (sub_machine new)) (sym loses.machine.position)
     (follows_alike checked transactions number (sub_machine old).position (sub_machine old) (sub_machine new) follows
-        loses.machine.position loses.machine.rows loses.machine.kept)
+    loses.machine.position loses.machine.rows loses.machine.kept)
 
 none_found : (key : Option (List Datum)) (row : List Datum)
     → is_row (found_at (λ (value : List Datum). None) key) row ≡ false
@@ -376,7 +379,7 @@ first_follows checked transactions number = record {
   rows = λ table. finds_none (own_key checked table) (λ key. None)
       (in_shard (setting_in checked) number no_rows table) (λ key. refl)
       (λ row. ap (λ b. b && (setting_in checked).passes number table row)
-          (none_found (key_at (setting_in checked).keys table 0 row) row));
+      (none_found (key_at (setting_in checked).keys table 0 row) row));
   relations = λ table known shape there h. absurd cc;
 }
 

@@ -37,7 +37,7 @@ use Rattle.filter_tree.proofs.Tests.{by_test}
 not_empty : (byte : ℕ) (bytes : List ℕ) → (length (byte ∷ bytes) == 0) ≡ false
 not_empty byte bytes = by_test (length (byte ∷ bytes) == 0)
     (λ none. let zero : length (byte ∷ bytes) ≡ 0 = (unsigned_Decides (length (byte ∷ bytes)) 0).0 none in
-        absurd (omega (arith, zero)))
+    absurd (omega (arith, zero)))
     (λ some. some)
 
 data_content : (bytes : List ℕ) (machine : Machine)
@@ -49,7 +49,7 @@ carried : (head : XLogData) (message : Msg) (machine : Machine) → IsHead head 
 carried head message machine bounds sent =
     data_content (int64 head.start ++ (int64 head.end ++ (int64 head.clock ++ spelling_of message))) machine
     ∙ ap (λ found. hear_data found machine)
-        (data_is_read head (spelling_of message) bounds.start bounds.end bounds.clock)
+    (data_is_read head (spelling_of message) bounds.start bounds.end bounds.clock)
     ∙ ap (λ result. hear_decoded result machine) (are_decoded message sent.read_back)
 
 carries_heard : (head : XLogData) (message : Msg) (machine : Machine) (P : Machine → Type 0) → IsHead head
@@ -67,10 +67,10 @@ carries_heard head message machine P bounds sent h = by_phase machine.phase refl
         (ap (λ phase. hear_in phase message machine) e) h)
     by_phase Idle e = ok_as (hear message machine) (hear_frame (frame_in (Carries head message)) machine) P
         (sym (ap (λ phase. hear_frame_in phase (frame_in (Carries head message)) machine) e
-            ∙ carried head message machine bounds sent)) h
+        ∙ carried head message machine bounds sent)) h
     by_phase (Busy begin) e = ok_as (hear message machine) (hear_frame (frame_in (Carries head message)) machine) P
         (sym (ap (λ phase. hear_frame_in phase (frame_in (Carries head message)) machine) e
-            ∙ carried head message machine bounds sent)) h
+        ∙ carried head message machine bounds sent)) h
 
 kept_up : (keepalive : Keepalive) (machine : Machine) → machine.phase ≡ Idle → (keepalive.position < 2 ^ 64)
     × (keepalive.clock < 2 ^ 64)
@@ -87,7 +87,7 @@ SafeItems checked transactions subscriber position [] machine = Follows checked 
 SafeItems checked transactions subscriber position (item ∷ items) machine =
     Follows checked transactions subscriber position machine
     × IsOkAnd (hear_frame (frame_in item) machine)
-        (SafeItems checked transactions subscriber (raised_by position item) items)
+    (SafeItems checked transactions subscriber (raised_by position item) items)
 
 pub same_item : (one other : Item) (xs ys : List Item) → one ∷ xs ≡ other ∷ ys → one ≡ other
 same_item one other xs ys e = cc
@@ -101,7 +101,7 @@ module _ (checked : CheckedOf) (transactions : List Transaction) (subscriber : �
       → (messages : List Msg) (rest : List Item) (position : ℕ) (machine : Machine)
       → All IsSentItem (map (Carries head) messages ++ rest)
       → Safe (Follows checked transactions subscriber) position messages machine
-          (λ at next. SafeItems checked transactions subscriber at rest next)
+      (λ at next. SafeItems checked transactions subscriber at rest next)
       → SafeItems checked transactions subscriber position (map (Carries head) messages ++ rest) machine
   carried_safe head bounds [] rest position machine sent h = h
   carried_safe head bounds (message ∷ messages) rest position machine sent h =
@@ -112,9 +112,9 @@ module _ (checked : CheckedOf) (transactions : List Transaction) (subscriber : �
             (map (Carries head) messages ++ rest)) bounds mine.1
             (on_ok (hear message machine)
             (λ next. Safe (Follows checked transactions subscriber) (raised_by_message position message) messages next
-                (λ at last. SafeItems checked transactions subscriber at rest last))
+            (λ at last. SafeItems checked transactions subscriber at rest last))
             (SafeItems checked transactions subscriber (raised_by_message position message)
-                (map (Carries head) messages ++ rest)) h.1
+            (map (Carries head) messages ++ rest)) h.1
             (λ next later. carried_safe head bounds messages rest (raised_by_message position message) next
             (All-tail IsSentItem (Carries head message) (map (Carries head) messages ++ rest) sent) later)),
       )
@@ -123,19 +123,19 @@ module _ (checked : CheckedOf) (transactions : List Transaction) (subscriber : �
   pub first_safe : (fed others items : List Item) (position : ℕ) (machine : Machine) → fed ++ others ≡ items
       → SafeItems checked transactions subscriber position items machine
       → IsOkAnd (hear_frames (map frame_in fed) machine)
-          (Follows checked transactions subscriber (position_after position fed))
+      (Follows checked transactions subscriber (position_after position fed))
   first_safe [] others [] position machine e h = h
   first_safe [] others (item ∷ items) position machine e h = h.0
   first_safe (first ∷ fed) others [] position machine e h = absurd cc
   first_safe (first ∷ fed) others (item ∷ items) position machine e h =
       subst (λ one. IsOkAnd (next_heard (hear_frame (frame_in one) machine) (hear_frames (map frame_in fed)))
-          (Follows checked transactions subscriber (position_after (raised_by position one) fed)))
+      (Follows checked transactions subscriber (position_after (raised_by position one) fed)))
       (sym (same_item first item (fed ++ others) items e))
       (then_ok (hear_frame (frame_in item) machine) (hear_frames (map frame_in fed))
-          (SafeItems checked transactions subscriber (raised_by position item) items)
+      (SafeItems checked transactions subscriber (raised_by position item) items)
       (Follows checked transactions subscriber (position_after (raised_by position item) fed)) h.1
       (λ next later. first_safe fed others items (raised_by position item) next
-          (same_items first item (fed ++ others) items e) later))
+      (same_items first item (fed ++ others) items e) later))
     where
       then_ok : (outcome : Outcome) (more : Machine → Outcome) (P Q : Machine → Type 0) → IsOkAnd outcome P
           → ((next : Machine) → P next → IsOkAnd (more next) Q)
@@ -165,41 +165,41 @@ module _ (checked : CheckedOf) (transactions : List Transaction) (published : Is
       → slice_get (log_of checked transactions) place.done ≡ found
       → Between checked transactions place position machine
       → All IsSentItem (take_items (telling_of checked) place found clock
-          ++ items_on (taken_place (telling_of checked) place found) moves)
+      ++ items_on (taken_place (telling_of checked) place found) moves)
       → SafeItems checked transactions place.slot position
-          (take_items (telling_of checked) place found clock
-          ++ items_on (taken_place (telling_of checked) place found) moves) machine
+      (take_items (telling_of checked) place found clock
+      ++ items_on (taken_place (telling_of checked) place found) moves) machine
   take_safe moves later place clock position machine None e between sent = later place position machine between sent
   take_safe moves later place clock position machine (Some commit) e between sent =
       by_messages (messages_for checked place.slot place.told commit)
-          (commit_safe checked transactions published place position machine between commit e) sent
+      (commit_safe checked transactions published place position machine between commit e) sent
     where
       by_messages : (messages : List Msg)
           → Safe (Follows checked transactions place.slot) position messages machine
-              (Between checked transactions (place_after (telling_of checked) place commit))
+          (Between checked transactions (place_after (telling_of checked) place commit))
           → All IsSentItem (map (Carries (head_of commit.number clock)) messages
-              ++ items_on (place_after (telling_of checked) place commit) moves)
+          ++ items_on (place_after (telling_of checked) place commit) moves)
           → SafeItems checked transactions place.slot position
           (map (Carries (head_of commit.number clock)) messages
-              ++ items_on (place_after (telling_of checked) place commit) moves) machine
+          ++ items_on (place_after (telling_of checked) place commit) moves) machine
       by_messages [] h all = later (place_after (telling_of checked) place commit) position machine h all
       by_messages (message ∷ messages) h all =
           let rest = items_on (place_after (telling_of checked) place commit) moves in
           let first = All-head IsSentItem (Carries (head_of commit.number clock) message)
-              (map (Carries (head_of commit.number clock)) messages ++ rest) all in
+          (map (Carries (head_of commit.number clock)) messages ++ rest) all in
           carried_safe checked transactions place.slot (head_of commit.number clock) first.0 (message ∷ messages) rest
-              position machine all
+          position machine all
           (safe_on (Follows checked transactions place.slot)
-              (Between checked transactions (place_after (telling_of checked) place commit))
+          (Between checked transactions (place_after (telling_of checked) place commit))
           (λ at last. SafeItems checked transactions place.slot at rest last) position (message ∷ messages) machine h
           (λ at last reached. later (place_after (telling_of checked) place commit) at last reached
-              (all_last (map (Carries (head_of commit.number clock)) (message ∷ messages)) rest all)))
+          (all_last (map (Carries (head_of commit.number clock)) (message ∷ messages)) rest all)))
 
   walk_safe : (moves : List Move) → Later moves
   walk_safe [] place position machine between sent = between_follows checked transactions place position machine between
   walk_safe (Take clock ∷ moves) place position machine between sent =
       take_safe moves (λ at p m b s. walk_safe moves at p m b s) place clock position machine
-          (slice_get (log_of checked transactions) place.done) refl between sent
+      (slice_get (log_of checked transactions) place.done) refl between sent
   walk_safe (Keep clock want ∷ moves) place position machine between sent =
       let keepalive : Keepalive = record { position = place.sent; clock = clock; wants_reply = want } in
       let bounds = All-head IsSentItem (keep_item place clock want) (items_on place moves) sent in
@@ -220,12 +220,12 @@ told_nothing : (count number : ℕ) → slice_index_or (replicate count false) n
 told_nothing count number = by_test (nat_lt number count)
     (λ within. get_or-replicate count number false false (ltb-true number count within))
     (λ past. get_or_past (replicate count false) number false
-        (omega (arith, ltb-false number count past, length-replicate count false)))
+    (omega (arith, ltb-false number count past, length-replicate count false)))
 
 pub first_sent : (position : ℕ) → count_before (if position == 0 then 64 else position) ≡ count_before position
 first_sent position = by_test (position == 0)
     (λ zero. ap (λ b. count_before (if b then 64 else position)) zero
-        ∙ sym (only_zero ((unsigned_Decides position 0).0 zero)))
+    ∙ sym (only_zero ((unsigned_Decides position 0).0 zero)))
     (λ more. ap (λ b. count_before (if b then 64 else position)) more)
   where
     only_zero : position ≡ 0 → count_before position ≡ count_before 64
@@ -243,7 +243,7 @@ pub stream_safe : (checked : CheckedOf) (transactions : List Transaction) → Is
     → (moves : List Move)
     → All IsSentItem (items_from checked transactions subscriber position moves)
     → SafeItems checked transactions subscriber position (items_from checked transactions subscriber position moves)
-        machine
+    machine
 stream_safe checked transactions published subscriber machine at_start position follows moves sent =
     let place : Place = place_at subscriber (length checked.catalog.tables) position in
     let items : List Item = all_items (telling_of checked) (log_of checked transactions) place moves in (
@@ -276,8 +276,8 @@ stream_safe checked transactions published subscriber machine at_start position 
 pub items_are_followed : ItemsAreFollowed
 items_are_followed checked transactions published subscriber machine follows moves sent items others e =
     first_safe checked transactions subscriber items others
-        (items_from checked transactions subscriber machine.position moves) machine.position (opened machine) e
+    (items_from checked transactions subscriber machine.position moves) machine.position (opened machine) e
     (stream_safe checked transactions published subscriber (opened machine)
-        (record { waits = refl; known = λ oid. refl; work_is = λ oid key. refl }) machine.position
+    (record { waits = refl; known = λ oid. refl; work_is = λ oid key. refl }) machine.position
     (record { position_is = refl; within = follows.within; rows = follows.rows; relations = follows.relations }) moves
-        sent)
+    sent)

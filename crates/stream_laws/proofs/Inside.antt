@@ -61,7 +61,7 @@ stays_told_one : (told : List Bool) (number other : ℕ) → number < length tol
     → slice_index_or (told_one told number) other false ≡ true
 stays_told_one told number other less h = by_test (other == number)
     (λ here. ap (λ n. slice_index_or (told_one told number) n false) (eqb-true other number here)
-        ∙ told_same told number less)
+    ∙ told_same told number less)
     (λ beside. told_other told number other beside ∙ h)
 
 still_told_one : (told : List Bool) (number other : ℕ) → slice_index_or told number false ≡ true
@@ -70,7 +70,7 @@ still_told_one told number other h = by_test (other == number)
     (λ here.
     let same : other ≡ number = eqb-true other number here in
     ap (λ n. slice_index_or (told_one told number) n false) same ∙ told_same told number (within told number h)
-        ∙ sym h ∙ ap (λ n. slice_index_or told n false) (sym same))
+    ∙ sym h ∙ ap (λ n. slice_index_or told n false) (sym same))
     (λ beside. told_other told number other beside)
   where
     within : (flags : List Bool) (n : ℕ) → slice_index_or flags n false ≡ true → n < length flags
@@ -85,9 +85,9 @@ unfolding told_all
 told_stays told [] count other long within h = h
 told_stays told (number ∷ numbers) count other long within h =
     told_stays (told_one told number) numbers count other (length-set told number true ∙ long)
-        (All-tail (λ n. n < count) number numbers within)
+    (All-tail (λ n. n < count) number numbers within)
     (stays_told_one told number other
-        (subst (λ c. number < c) (sym long) (All-head (λ n. n < count) number numbers within)) h)
+    (subst (λ c. number < c) (sym long) (All-head (λ n. n < count) number numbers within)) h)
 
 pub all_are_told : (told : List Bool) (numbers : List ℕ) (count : ℕ) → length told ≡ count
     → All (λ number. number < count) numbers → AllTold (told_all told numbers) numbers
@@ -95,7 +95,7 @@ unfolding told_all
 all_are_told told [] count long within = tt
 all_are_told told (number ∷ numbers) count long within =
     let less : number < length told =
-        subst (λ c. number < c) (sym long) (All-head (λ n. n < count) number numbers within) in
+    subst (λ c. number < c) (sym long) (All-head (λ n. n < count) number numbers within) in
     let others = All-tail (λ n. n < count) number numbers within in (
       told_stays (told_one told number) numbers count number (length-set told number true ∙ long) others
           (told_same told number less),
@@ -122,7 +122,7 @@ module _ (checked : CheckedOf) (transactions : List Transaction) (subscriber beg
   new_relation told number (Some table) machine e less inside =
       let learnt = learns checked told machine number table e less inside.knows inside.relations in
       safe_heard (Follows checked transactions subscriber)
-          (λ at next. (at ≡ position) × Inside checked subscriber begin outer (told_one told number) tables next)
+      (λ at next. (at ≡ position) × Inside checked subscriber begin outer (told_one told number) tables next)
       position (m.Relation (relation_of number table)) [] machine learnt.next (good told machine inside)
       (ap (λ phase. hear_in phase (m.Relation (relation_of number table)) machine) inside.busy ∙ learnt.heard) (
         refl,
@@ -170,23 +170,23 @@ module _ (checked : CheckedOf) (transactions : List Transaction) (subscriber beg
       → All (λ number. number < length checked.catalog.tables) numbers
       → Inside checked subscriber begin outer told tables machine
       → Safe (Follows checked transactions subscriber) position (relations_of checked.catalog.tables told numbers)
-          machine
+      machine
       (λ at next. (at ≡ position) × Inside checked subscriber begin outer (told_all told numbers) tables next)
   unfolding relations_of relation_once told_all
   relations_safe [] told machine within inside = (refl, inside)
   relations_safe (number ∷ numbers) told machine within inside =
       let less : number < length told =
-          subst (λ c. number < c) (sym inside.knows.flags)
-          (All-head (λ n. n < length checked.catalog.tables) number numbers within) in
+      subst (λ c. number < c) (sym inside.knows.flags)
+      (All-head (λ n. n < length checked.catalog.tables) number numbers within) in
       safe_both (Follows checked transactions subscriber)
       (λ at next. (at ≡ position)
-          × Inside checked subscriber begin outer (told_all (told_one told number) numbers) tables next)
+      × Inside checked subscriber begin outer (told_all (told_one told number) numbers) tables next)
       (Inside checked subscriber begin outer (told_one told number) tables)
       position (introduced checked.catalog.tables (slice_index_or told number false) number)
-          (relations_of checked.catalog.tables (told_one told number) numbers) machine
+      (relations_of checked.catalog.tables (told_one told number) numbers) machine
       (one_relation told number machine (slice_index_or told number false) refl less inside)
       (λ next reached. relations_safe numbers (told_one told number) next
-          (All-tail (λ n. n < length checked.catalog.tables) number numbers within) reached)
+      (All-tail (λ n. n < length checked.catalog.tables) number numbers within) reached)
 
 -- ---- what is staged
 
@@ -197,9 +197,9 @@ pub staged_inside : (checked : CheckedOf) (subscriber begin : ℕ) (outer : Mach
     → FindsRows (own_key checked number) found (in_shard (setting_in checked) subscriber after number)
     → ((other : ℕ) → (number == other) ≡ false
     → FindsRows (own_key checked other) (machine.work (oid_of other))
-        (in_shard (setting_in checked) subscriber after other))
+    (in_shard (setting_in checked) subscriber after other))
     → Inside checked subscriber begin outer told after
-        (record machine { work = with_found machine.work (oid_of number) found })
+    (record machine { work = with_found machine.work (oid_of number) found })
 staged_inside checked subscriber begin outer told before after machine number found inside here beside = record {
   busy = inside.busy;
   position = inside.position;
@@ -210,15 +210,15 @@ staged_inside checked subscriber begin outer told before after machine number fo
       (λ same.
       let numbers : number ≡ other = eqb-true number other same in
       let oids : (oid_of other == oid_of number) ≡ true =
-          (unsigned_Decides (oid_of other) (oid_of number)).1 (ap oid_of (sym numbers)) in
+      (unsigned_Decides (oid_of other) (oid_of number)).1 (ap oid_of (sym numbers)) in
       finds_alike (own_key checked other) found (with_found machine.work (oid_of number) found (oid_of other))
-          (in_shard (setting_in checked) subscriber after other)
+      (in_shard (setting_in checked) subscriber after other)
       (subst (λ n. FindsRows (own_key checked n) found (in_shard (setting_in checked) subscriber after n)) numbers here)
       (λ key. rw oids refl))
       (λ differ.
       finds_alike (own_key checked other) (machine.work (oid_of other))
-          (with_found machine.work (oid_of number) found (oid_of other))
-          (in_shard (setting_in checked) subscriber after other)
+      (with_found machine.work (oid_of number) found (oid_of other))
+      (in_shard (setting_in checked) subscriber after other)
       (beside other differ) (λ key. rw (oids_differ number other differ) refl));
 }
   where

@@ -47,8 +47,8 @@ each_same (first ∷ columns) one other h column k = by_test (first == column)
     (λ here. subst (λ n. value_at one n ≡ value_at other n) ((unsigned_Decides first column).0 here)
     (first_same (value_at one first) (value_at other first) (values_at columns one) (values_at columns other) h))
     (λ beside. each_same columns one other
-        (others_same (value_at one first) (value_at other first) (values_at columns one) (values_at columns other) h)
-        column
+    (others_same (value_at one first) (value_at other first) (values_at columns one) (values_at columns other) h)
+    column
     (sym (ap (λ b. b || has columns column) beside) ∙ k))
 
 all_same : (columns : List ℕ) (one other : List Datum)
@@ -85,35 +85,35 @@ flagged_both false number others one other h k = k
 
 each_flagged : (table : Table) (number : ℕ) (columns : List Column) (one other : List Datum)
     → values_at (flagged_from number (columns_from table number columns)) one
-        ≡ values_at (flagged_from number (columns_from table number columns)) other
+    ≡ values_at (flagged_from number (columns_from table number columns)) other
     → (k : ℕ) → k < length columns → is_covered table (number + k) ≡ true
     → value_at one (number + k) ≡ value_at other (number + k)
 each_flagged table number [] one other h k less covered = absurd (omega (arith, less))
 each_flagged table number (column ∷ columns) one other h zero less covered =
     subst (λ n. value_at one n ≡ value_at other n) (sym (add-zero number))
     (flagged_head (is_covered table number) number
-        (flagged_from (number + 1) (columns_from table (number + 1) columns)) one other
+    (flagged_from (number + 1) (columns_from table (number + 1) columns)) one other
     (subst (λ n. is_covered table n ≡ true) (add-zero number) covered) h)
 each_flagged table number (column ∷ columns) one other h (suc k) less covered =
     subst (λ n. value_at one n ≡ value_at other n) (sym (at_next number k))
     (each_flagged table (number + 1) columns one other
     (flagged_tail (is_covered table number) number
-        (flagged_from (number + 1) (columns_from table (number + 1) columns)) one other h)
+    (flagged_from (number + 1) (columns_from table (number + 1) columns)) one other h)
     k (omega (arith, less)) (subst (λ n. is_covered table n ≡ true) (at_next number k) covered))
 
 all_flagged : (table : Table) (number : ℕ) (columns : List Column) (one other : List Datum)
     → ((k : ℕ) → is_covered table (number + k) ≡ true → value_at one (number + k) ≡ value_at other (number + k))
     → values_at (flagged_from number (columns_from table number columns)) one
-        ≡ values_at (flagged_from number (columns_from table number columns)) other
+    ≡ values_at (flagged_from number (columns_from table number columns)) other
 all_flagged table number [] one other h = refl
 all_flagged table number (column ∷ columns) one other h =
     flagged_both (is_covered table number) number
-        (flagged_from (number + 1) (columns_from table (number + 1) columns)) one other
+    (flagged_from (number + 1) (columns_from table (number + 1) columns)) one other
     (λ covered. subst (λ n. value_at one n ≡ value_at other n) (add-zero number)
-        (h 0 (subst (λ n. is_covered table n ≡ true) (sym (add-zero number)) covered)))
+    (h 0 (subst (λ n. is_covered table n ≡ true) (sym (add-zero number)) covered)))
     (all_flagged table (number + 1) columns one other
     (λ k covered. subst (λ n. value_at one n ≡ value_at other n) (at_next number k)
-        (h (suc k) (subst (λ n. is_covered table n ≡ true) (sym (at_next number k)) covered))))
+    (h (suc k) (subst (λ n. is_covered table n ≡ true) (sym (at_next number k)) covered))))
 
 value_past : (row : List Datum) (column : ℕ) → length row ≤ column → value_at row column ≡ Missing
 value_past row column h = ap (λ found. unwrap_or found Missing) (slice_get_past row column h)
@@ -128,7 +128,7 @@ identity_from_flags table one other wide also h = all_same (identity_columns tab
     (λ column covered. by_test (nat_lt column (length table.columns))
     (λ less. subst (λ n. value_at one n ≡ value_at other n) (zero-add column)
     (each_flagged table 0 table.columns one other h column (ltb-true column (length table.columns) less)
-        (subst (λ n. is_covered table n ≡ true) (sym (zero-add column)) covered)))
+    (subst (λ n. is_covered table n ≡ true) (sym (zero-add column)) covered)))
     (λ past.
     let most : length table.columns ≤ column = ltb-false column (length table.columns) past in
     value_past one column (omega (arith, most, wide)) ∙ sym (value_past other column (omega (arith, most, also)))))
@@ -191,35 +191,35 @@ tells_identity checked covered = record {
       let of_one = row_of checked number one first in
       let of_other = row_of checked number other second in
       let tables : of_other.table ≡ of_one.table =
-          same_Some of_other.table of_one.table (sym of_other.there ∙ of_one.there) in
+      same_Some of_other.table of_one.table (sym of_other.there ∙ of_one.there) in
       let wide : length other ≡ length of_one.table.columns = of_other.valid.wide
-          ∙ ap (λ (t : Table). length t.columns) tables in
+      ∙ ap (λ (t : Table). length t.columns) tables in
       ap (λ found. identity_in found one) of_one.there ∙ columns_identify of_one.table one of_one.valid.wide
       ∙ identity_from_flags of_one.table one other of_one.valid.wide wide
       (sym (key_at_table checked number of_one.table one of_one.there) ∙ keys
-          ∙ key_at_table checked number of_one.table other of_one.there)
+      ∙ key_at_table checked number of_one.table other of_one.there)
       ∙ sym (ap (λ found. identity_in found other) of_one.there ∙ columns_identify of_one.table other wide);
   same_key = λ number one other first second same.
       let of_one = row_of checked number one first in
       let of_other = row_of checked number other second in
       let tables : of_other.table ≡ of_one.table =
-          same_Some of_other.table of_one.table (sym of_other.there ∙ of_one.there) in
+      same_Some of_other.table of_one.table (sym of_other.there ∙ of_one.there) in
       let wide : length other ≡ length of_one.table.columns = of_other.valid.wide
-          ∙ ap (λ (t : Table). length t.columns) tables in
+      ∙ ap (λ (t : Table). length t.columns) tables in
       key_at_table checked number of_one.table one of_one.there
       ∙ flags_from_identity of_one.table one other
       (sym (ap (λ found. identity_in found one) of_one.there ∙ columns_identify of_one.table one of_one.valid.wide)
-          ∙ same
+      ∙ same
       ∙ ap (λ found. identity_in found other) of_one.there ∙ columns_identify of_one.table other wide)
       ∙ sym (key_at_table checked number of_one.table other of_one.there);
   blanked = λ number row fit.
       let of_row = row_of checked number row fit in
       let same : identity_in (Some of_row.table) (blanked_in (Some of_row.table) row)
-          ≡ identity_in (Some of_row.table) row =
+      ≡ identity_in (Some of_row.table) row =
       subst (λ found. identity_in found (blanked_in found row) ≡ identity_in found row) of_row.there
-          (covered.blanked number row) in
+      (covered.blanked number row) in
       ap (λ found. own_key checked number (blanked_in found row)) of_row.there
-          ∙ key_at_table checked number of_row.table (blanked_in (Some of_row.table) row) of_row.there
+      ∙ key_at_table checked number of_row.table (blanked_in (Some of_row.table) row) of_row.there
       ∙ blanked_values of_row.table row (recorded_as of_row.table.identity) same
       ∙ sym (key_at_table checked number of_row.table row of_row.there);
 }

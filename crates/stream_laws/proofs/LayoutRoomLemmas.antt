@@ -56,9 +56,9 @@ below_of_any : (most : ℕ) (numbers : List ℕ) → All (λ number. number < mo
 below_of_any most [] all number h = absurd cc
 below_of_any most (first ∷ numbers) all number h = by_test (nat_eq number first)
     (λ here. subst (λ n. n < most) (sym ((unsigned_Decides number first).0 here))
-        (All-head (λ n. n < most) first numbers all))
+    (All-head (λ n. n < most) first numbers all))
     (λ beside. below_of_any most numbers (All-tail (λ n. n < most) first numbers all) number
-        (sym (ap (λ b. b || list_any (nat_eq number) numbers) beside) ∙ h))
+    (sym (ap (λ b. b || list_any (nat_eq number) numbers) beside) ∙ h))
 
 few_distinct : (most : ℕ) (numbers : List ℕ) → All (λ number. number < most) (distinct nat_eq numbers)
     → length (distinct nat_eq numbers) ≤ most
@@ -86,7 +86,7 @@ module _ (checked : CheckedOf) (limited : IsLimited checked.catalog) where
   narrow : (number : ℕ) (table : Table) → slice_get checked.catalog.tables number ≡ Some table → IsLimitedTable table
   narrow number table there =
       subst IsLimitedTable (get_or_from_slice_get checked.catalog.tables number table table there)
-          (limited.each_table number table (slice_get_within checked.catalog.tables number table there))
+      (limited.each_table number table (slice_get_within checked.catalog.tables number table there))
 
   low : (number : ℕ) (table : Table) → slice_get checked.catalog.tables number ≡ Some table → IsTableNumber number
   low number table there = let less = slice_get_within checked.catalog.tables number table there in
@@ -96,14 +96,14 @@ module _ (checked : CheckedOf) (limited : IsLimited checked.catalog) where
   row_sendable number row fit =
       let its = row_of checked number row fit in
       valid_sendable its.table.columns row (no_fault_from_valid its.table.columns row its.valid)
-          (narrow number its.table its.there).columns
+      (narrow number its.table its.there).columns
 
   part_can : (number : ℕ) (old : List Datum) (new : Option (List Datum)) → fits (setting_in checked) number old ≡ true
       → IsSendablePart (part_of (setting_in checked) number old new)
   part_can number old new fit =
       let its = row_of checked number old fit in
       subst IsSendablePart (sym (records_parts checked.catalog checked.plan number its.table its.there old new))
-          (part_sendable its.table old new (row_sendable number old fit))
+      (part_sendable its.table old new (row_sendable number old fit))
 
   number_low : (number : ℕ) (row : List Datum) → fits (setting_in checked) number row ≡ true → IsTableNumber number
   number_low number row fit = let its = row_of checked number row fit in low number its.table its.there
@@ -117,9 +117,9 @@ module _ (checked : CheckedOf) (limited : IsLimited checked.catalog) where
       let setting = setting_in checked in
       let has = has_primary_keys checked.catalog checked.plan in
       new_fits setting tables (applied setting tables (Insert number row)) number None (Some row)
-          (insert_changes setting has tables so.stands number row h)
+      (insert_changes setting has tables so.stands number row h)
       (stay_fit setting has tables 1 (Insert number row ∷ []) (no_first_fault setting tables (Insert number row) h)
-          so.stands so.fit) row refl
+      so.stands so.fit) row refl
 
   update_fits : (tables : Tables) (number : ℕ) (key row : List Datum)
       → fault_of (setting_in checked) tables (Update number key row) ≡ None → IsSaid (setting_in checked) tables
@@ -128,9 +128,9 @@ module _ (checked : CheckedOf) (limited : IsLimited checked.catalog) where
       let setting = setting_in checked in
       let has = has_primary_keys checked.catalog checked.plan in
       new_fits setting tables (applied setting tables (Update number key row)) number (named tables number key)
-          (Some row) (update_changes setting has tables so.stands number key row h)
+      (Some row) (update_changes setting has tables so.stands number key row h)
       (stay_fit setting has tables 1 (Update number key row ∷ [])
-          (no_first_fault setting tables (Update number key row) h) so.stands so.fit) row refl
+      (no_first_fault setting tables (Update number key row) h) so.stands so.fit) row refl
 
   update_old : (tables : Tables) (number : ℕ) (key row old : List Datum)
       → fault_of (setting_in checked) tables (Update number key row) ≡ None → IsSaid (setting_in checked) tables
@@ -158,7 +158,7 @@ module _ (checked : CheckedOf) (limited : IsLimited checked.catalog) where
         number_low number row fit,
         subst (λ old. IsSendablePart (part_found setting number old (Some row))) (sym found.there)
             (part_can number found.row (Some row)
-                (so.fit number found.row (update_old tables number key row found.row h so found.there))),
+            (so.fit number found.row (update_old tables number key row found.row h so found.there))),
         row_sendable number row fit,
       )
   change_sendable tables (Delete number key) h so =
@@ -171,20 +171,20 @@ module _ (checked : CheckedOf) (limited : IsLimited checked.catalog) where
       )
   change_sendable tables (Truncate numbers) h so =
       let below = All-head (IsChangeOf checked.catalog.tables)
-          (change_of (setting_in checked) tables (Truncate numbers)) []
+      (change_of (setting_in checked) tables (Truncate numbers)) []
       (records_of_tables checked tables 1 (Truncate numbers ∷ [])
-          (no_first_fault (setting_in checked) tables (Truncate numbers) h)) in
+      (no_first_fault (setting_in checked) tables (Truncate numbers) h)) in
       let few : length (distinct nat_eq numbers) ≤ length checked.catalog.tables =
-          few_distinct (length checked.catalog.tables) numbers below in
+      few_distinct (length checked.catalog.tables) numbers below in
       (omega (arith, few, limited.tables), all_low (distinct nat_eq numbers) below)
     where
       all_low : (list : List ℕ) → All (λ number. number < length checked.catalog.tables) list → All IsTableNumber list
       all_low [] all = All-nil IsTableNumber
       all_low (number ∷ list) all =
           let less : number < length checked.catalog.tables =
-              All-head (λ n. n < length checked.catalog.tables) number list all in
+          All-head (λ n. n < length checked.catalog.tables) number list all in
           All-cons IsTableNumber number list (omega (arith, less, limited.tables))
-              (all_low list (All-tail (λ n. n < length checked.catalog.tables) number list all))
+          (all_low list (All-tail (λ n. n < length checked.catalog.tables) number list all))
 
   changes_sendable : (commands : List Command) (tables : Tables) (number : ℕ)
       → first_fault (setting_in checked) tables number commands ≡ None → IsSaid (setting_in checked) tables
@@ -193,26 +193,30 @@ module _ (checked : CheckedOf) (limited : IsLimited checked.catalog) where
   changes_sendable (command ∷ commands) tables number h so =
       let setting = setting_in checked in
       let none = not_numbered number (fault_of setting tables command)
-          (first_fault setting (applied setting tables command) (number + 1) commands) h in
+      (first_fault setting (applied setting tables command) (number + 1) commands) h in
       All-cons IsSendableChange (change_of setting tables command)
-          (record_of setting (applied setting tables command) commands)
+      (record_of setting (applied setting tables command) commands)
       (change_sendable tables command none.0 so)
       (changes_sendable commands (applied setting tables command) (number + 1) none.1
-          (said_after tables command none.0 so))
+      (said_after tables command none.0 so))
 
   -- ---- what is told are texts
 
   relation_text : (number : ℕ) (table : Table) → IsNamed table → HasTexts (m.Relation (relation_of number table))
   relation_text number table names =
-      record { namespace = names.schema.utf8; name = names.name.utf8; columns =
-      columns_text 0 table.columns names.columns }
+      record {
+        namespace = names.schema.utf8;
+        name = names.name.utf8;
+        columns =
+            columns_text 0 table.columns names.columns;
+      }
     where
       columns_text : (from : ℕ) (columns : List Column) → All HasPlainName columns
           → All HasTextName (columns_from table from columns)
       columns_text from [] all = All-nil HasTextName
       columns_text from (column ∷ columns) all =
           All-cons HasTextName (column_of table from column) (columns_from table (from + 1) columns)
-              (All-head HasPlainName column columns all).utf8
+          (All-head HasPlainName column columns all).utf8
           (columns_text (from + 1) columns (All-tail HasPlainName column columns all))
 
   found_text : (number : ℕ) (found : Option Table) → slice_get checked.catalog.tables number ≡ found
@@ -233,7 +237,7 @@ module _ (checked : CheckedOf) (limited : IsLimited checked.catalog) where
   relations_text told [] = All-nil HasTexts
   relations_text told (number ∷ numbers) =
       All-append HasTexts (introduced checked.catalog.tables (slice_index_or told number false) number)
-          (relations_of checked.catalog.tables (told_one told number) numbers)
+      (relations_of checked.catalog.tables (told_one told number) numbers)
       (once_text (slice_index_or told number false) number) (relations_text (told_one told number) numbers)
 
   -- what is told of a change, where its own message is a text
@@ -243,7 +247,7 @@ module _ (checked : CheckedOf) (limited : IsLimited checked.catalog) where
   change_text told None h = All-nil HasTexts
   change_text told (Some change) h =
       All-append HasTexts (relations_of checked.catalog.tables told (named_in change)) (message_of change)
-          (relations_text told (named_in change)) h
+      (relations_text told (named_in change)) h
 
   part_told : (number : ℕ) (part : Option PartOf) → IsSendablePart part → IsTextPart part
       → All HasTexts (message_of (r.Delete number part))
@@ -262,28 +266,28 @@ module _ (checked : CheckedOf) (limited : IsLimited checked.catalog) where
       (All-nil HasTexts)
   update_told number (Some (r.Key row)) new h text k also =
       All-cons HasTexts (m.Update (t.oid_of number) (Some (t.old_of (r.Key row))) (cells_of new)) []
-          (row_text row h text, row_text new k also) (All-nil HasTexts)
+      (row_text row h text, row_text new k also) (All-nil HasTexts)
   update_told number (Some (r.Full row)) new h text k also =
       All-cons HasTexts (m.Update (t.oid_of number) (Some (t.old_of (r.Full row))) (cells_of new)) []
-          (row_text row h text, row_text new k also) (All-nil HasTexts)
+      (row_text row h text, row_text new k also) (All-nil HasTexts)
 
   -- of rows that are seen
   rows_told : (number : ℕ) (old new : Option (List Datum))
       → IfSome old (λ row. fits (setting_in checked) number row ≡ true)
       → IfSome new (λ row. fits (setting_in checked) number row ≡ true)
       → IfSome (option_map (as_recorded (setting_in checked)) (seen_rows number old new))
-          (λ one. All HasTexts (message_of one))
+      (λ one. All HasTexts (message_of one))
   rows_told number None None h k = tt
   rows_told number None (Some new) h k =
       All-cons HasTexts (m.Insert (t.oid_of number) (cells_of new)) []
       (row_text new (row_sendable number new k) (fits_text checked number new k)) (All-nil HasTexts)
   rows_told number (Some old) None h k =
       part_told number (part_of (setting_in checked) number old None) (part_can number old None h)
-          (part_text checked number old None (fits_text checked number old h))
+      (part_text checked number old None (fits_text checked number old h))
   rows_told number (Some old) (Some new) h k =
       update_told number (part_of (setting_in checked) number old (Some new)) new (part_can number old (Some new) h)
       (part_text checked number old (Some new) (fits_text checked number old h)) (row_sendable number new k)
-          (fits_text checked number new k)
+      (fits_text checked number new k)
 
   tables_told : (numbers : List ℕ)
       → IfSome (option_map (as_recorded (setting_in checked)) (seen_tables numbers))
@@ -295,7 +299,7 @@ module _ (checked : CheckedOf) (limited : IsLimited checked.catalog) where
   struck : (number subscriber : ℕ) (found : Option (List Datum))
       → ((row : List Datum) → found ≡ Some row → fits (setting_in checked) number row ≡ true)
       → IfSome (passing ((setting_in checked).passes subscriber number) found)
-          (λ row. fits (setting_in checked) number row ≡ true)
+      (λ row. fits (setting_in checked) number row ≡ true)
   struck number subscriber found h = by_passing (passing ((setting_in checked).passes subscriber number) found) refl
     where
       by_passing : (passed : Option (List Datum))
@@ -308,47 +312,47 @@ module _ (checked : CheckedOf) (limited : IsLimited checked.catalog) where
     seen_told : (tables : Tables) (command : Command) → fault_of (setting_in checked) tables command ≡ None
         → IsSaid (setting_in checked) tables
         → IfSome (option_map (as_recorded (setting_in checked))
-            (seen_of (setting_in checked) subscriber tables command)) (λ one. All HasTexts (message_of one))
+        (seen_of (setting_in checked) subscriber tables command)) (λ one. All HasTexts (message_of one))
     seen_told tables (Insert number row) h so =
         rows_told number None (passing ((setting_in checked).passes subscriber number) (Some row)) tt
         (struck number subscriber (Some row)
-            (λ other e. subst (λ r. fits (setting_in checked) number r ≡ true) (some_is row other e)
-            (insert_fits tables number row h so)))
+        (λ other e. subst (λ r. fits (setting_in checked) number r ≡ true) (some_is row other e)
+        (insert_fits tables number row h so)))
     seen_told tables (Update number key row) h so =
         rows_told number (passing ((setting_in checked).passes subscriber number) (named tables number key))
-            (passing ((setting_in checked).passes subscriber number) (Some row))
+        (passing ((setting_in checked).passes subscriber number) (Some row))
         (struck number subscriber (named tables number key)
-            (λ old e. so.fit number old (update_old tables number key row old h so e)))
+        (λ old e. so.fit number old (update_old tables number key row old h so e)))
         (struck number subscriber (Some row)
-            (λ other e. subst (λ r. fits (setting_in checked) number r ≡ true) (some_is row other e)
-            (update_fits tables number key row h so)))
+        (λ other e. subst (λ r. fits (setting_in checked) number r ≡ true) (some_is row other e)
+        (update_fits tables number key row h so)))
     seen_told tables (Delete number key) h so =
         rows_told number (passing ((setting_in checked).passes subscriber number) (named tables number key)) None
         (struck number subscriber (named tables number key)
-            (λ old e. so.fit number old (delete_old tables number key old h so e))) tt
+        (λ old e. so.fit number old (delete_old tables number key old h so e))) tt
     seen_told tables (Truncate numbers) h so =
         tables_told (filter ((setting_in checked).carries subscriber) (distinct nat_eq numbers))
 
     all_told : (commands : List Command) (tables : Tables) (number : ℕ)
         → first_fault (setting_in checked) tables number commands ≡ None → IsSaid (setting_in checked) tables
         → (told : List Bool) → All HasTexts
-            (said_each checked subscriber told (record_of (setting_in checked) tables commands))
+        (said_each checked subscriber told (record_of (setting_in checked) tables commands))
     unfolding said_each
     all_told [] tables number h so told = All-nil HasTexts
     all_told (command ∷ commands) tables number h so told =
         let setting = setting_in checked in
         let none = not_numbered number (fault_of setting tables command)
-            (first_fault setting (applied setting tables command) (number + 1) commands) h in
+        (first_fault setting (applied setting tables command) (number + 1) commands) h in
         let mine = got setting subscriber (change_of setting tables command) in
         All-append HasTexts (said checked.catalog.tables told mine)
-            (said_each checked subscriber (told_by told mine)
-            (record_of setting (applied setting tables command) commands))
+        (said_each checked subscriber (told_by told mine)
+        (record_of setting (applied setting tables command) commands))
         (change_text told mine
-            (subst (λ one. IfSome one (λ change. All HasTexts (message_of change)))
-            (sym (shows checked covered subscriber tables command none.0))
+        (subst (λ one. IfSome one (λ change. All HasTexts (message_of change)))
+        (sym (shows checked covered subscriber tables command none.0))
         (seen_told tables command none.0 so)))
         (all_told commands (applied setting tables command) (number + 1) none.1 (said_after tables command none.0 so)
-            (told_by told mine))
+        (told_by told mine))
 
     enclosed_text : (commit : CommitOf) (messages : List Msg) → All HasTexts messages
         → All HasTexts (enclosed commit messages)
@@ -356,19 +360,24 @@ module _ (checked : CheckedOf) (limited : IsLimited checked.catalog) where
     enclosed_text commit (first ∷ others) all =
         All-cons HasTexts (t.begin_of commit) ((first ∷ others) ++ t.commit_of commit ∷ []) tt
         (All-append HasTexts (first ∷ others) (t.commit_of commit ∷ []) all
-            (All-cons HasTexts (t.commit_of commit) [] tt (All-nil HasTexts)))
+        (All-cons HasTexts (t.commit_of commit) [] tt (All-nil HasTexts)))
 
     commit_sent : (number time : ℕ) (commands : List Command) (tables : Tables) → 1 ≤ number → number ≤ 1000000000
         → time < 2 ^ 64 → first_fault (setting_in checked) tables 1 commands ≡ None
         → IsSaid (setting_in checked) tables → (told : List Bool)
         → All IsSent (messages_for checked subscriber told
-            (commit_of number time (record_of (setting_in checked) tables commands)))
+        (commit_of number time (record_of (setting_in checked) tables commands)))
     commit_sent number time commands tables first last timed h so told =
         messages_sent checked subscriber told (commit_of number time (record_of (setting_in checked) tables commands)) _
-        (record { numbered = first; numbered_within = last; timed = timed; changed =
-            changes_sendable commands tables 1 h so }) limited refl
+        (record {
+          numbered = first;
+          numbered_within = last;
+          timed = timed;
+          changed =
+              changes_sendable commands tables 1 h so;
+        }) limited refl
         (enclosed_text (commit_of number time (record_of (setting_in checked) tables commands))
-            (said_each checked subscriber told (record_of (setting_in checked) tables commands))
+        (said_each checked subscriber told (record_of (setting_in checked) tables commands))
         (all_told commands tables 1 h so told))
 
   -- ---- the tables before each commit
@@ -380,7 +389,7 @@ module _ (checked : CheckedOf) (limited : IsLimited checked.catalog) where
   all_after (command ∷ commands) tables number h so =
       let setting = setting_in checked in
       let none = not_numbered number (fault_of setting tables command)
-          (first_fault setting (applied setting tables command) (number + 1) commands) h in
+      (first_fault setting (applied setting tables command) (number + 1) commands) h in
       all_after commands (applied setting tables command) (number + 1) none.1 (said_after tables command none.0 so)
 
   said_at : (transactions : List Transaction) (tables : Tables) (place : ℕ)
@@ -404,7 +413,7 @@ logs_fit_layouts checked covered limited transactions accepted timed few = recor
       subst (λ one. All IsSent (messages_for checked subscriber told one)) (sym entry.is)
       (commit_sent checked limited covered subscriber (1 + place) entry.transaction.time entry.transaction.commands
       (fold (left_by (setting_in checked)) no_rows (take place transactions)) (omega arith)
-          (omega (arith, entry.within, few)) own entry.accepted.no_fault
+      (omega (arith, entry.within, few)) own entry.accepted.no_fault
       (said_at checked limited transactions no_rows place accepted first) told);
 }
   where

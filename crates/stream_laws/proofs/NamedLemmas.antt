@@ -33,11 +33,11 @@ first_at [] number d differ within = absurd (omega (arith, within))
 first_at (name ∷ names) zero d differ within = rw (same_bytes.refl name) refl
 first_at (name ∷ names) (suc number) d differ within =
     let apart : bytes_eq name (get_or names number d) ≡ false =
-        apart_from_distinct bytes_eq (name ∷ names) 0 (suc number) d differ (omega arith) within in
+    apart_from_distinct bytes_eq (name ∷ names) 0 (suc number) d differ (omega arith) within in
     let misses : bytes_eq (get_or names number d) name ≡ false = same_bytes.symm (get_or names number d) name ∙ apart in
     let later = first_at names number d (IsDistinct-tail bytes_eq name names differ) (omega (arith, within)) in
     let more : position_or_len (bytes_eq (get_or names number d)) (name ∷ names)
-        ≡ 1 + position_or_len (bytes_eq (get_or names number d)) names = rw misses refl in
+    ≡ 1 + position_or_len (bytes_eq (get_or names number d)) names = rw misses refl in
     omega (arith, more, later)
 
 is_found : (names : List (List ℕ)) (number : ℕ) (d : List ℕ) → IsDistinct bytes_eq names → number < length names
@@ -76,7 +76,7 @@ module _ (catalog : CatalogOf Expr) (named : IsNamedCatalog catalog) where
       → AreTaken (length catalog.publications) subscription.publications
   its_taken subscriber subscription there =
       subst (TakesKnown (length catalog.publications))
-          (get_or_from_slice_get catalog.subscriptions subscriber subscription subscription there)
+      (get_or_from_slice_get catalog.subscriptions subscriber subscription subscription there)
       (named.taken subscriber subscription (slice_get_within catalog.subscriptions subscriber subscription there))
 
   name_is : (subscriber : ℕ) (subscription : Subscription)
@@ -84,23 +84,26 @@ module _ (catalog : CatalogOf Expr) (named : IsNamedCatalog catalog) where
       → get_or names subscriber [] ≡ subscription.name
   name_is subscriber subscription there =
       get_or-map (λ (s : Subscription). s.name) catalog.subscriptions subscriber subscription []
-          (slice_get_within catalog.subscriptions subscriber subscription there)
+      (slice_get_within catalog.subscriptions subscriber subscription there)
       ∙ ap (λ (s : Subscription). s.name)
-          (get_or_from_slice_get catalog.subscriptions subscriber subscription subscription there)
+      (get_or_from_slice_get catalog.subscriptions subscriber subscription subscription there)
 
   pub can_ask : (subscriber : ℕ) (subscription : Subscription)
       → slice_get catalog.subscriptions subscriber ≡ Some subscription → CanAsk catalog subscriber subscription
   can_ask subscriber subscription there =
       let within : subscriber < length names =
-          omega (arith, slice_get_within catalog.subscriptions subscriber subscription there,
-          length-map catalog.subscriptions (λ (s : Subscription). s.name)) in
+      omega (
+        arith,
+        slice_get_within catalog.subscriptions subscriber subscription there,
+        length-map catalog.subscriptions (λ (s : Subscription). s.name),
+      ) in
       let its = name_is subscriber subscription there in
       let taken = its_taken subscriber subscription there in
       record {
         is_there = there;
         found = sym (position-map (bytes_eq subscription.name) (λ (s : Subscription). s.name) catalog.subscriptions)
             ∙ subst (λ name. position (bytes_eq name) names ≡ Some subscriber) its
-                (is_found names subscriber [] named.subscriptions.differ within);
+            (is_found names subscriber [] named.subscriptions.differ within);
         named = subst IsPlainName its (All-get_or IsPlainName names subscriber [] within named.subscriptions.plain);
         some = taken.some;
         known = taken.known;

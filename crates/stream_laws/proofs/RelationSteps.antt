@@ -42,7 +42,7 @@ column_itself column =
     and_from (beq column.is_key column.is_key) _ ((booleans_Decides column.is_key column.is_key).1 refl)
     (and_from _ _ ((bytes_eq-Decides column.name column.name).1 refl)
     (and_from (nat_eq column.type_oid column.type_oid) (int_eq column.type_modifier column.type_modifier)
-        (eq-eqb column.type_oid column.type_oid refl)
+    (eq-eqb column.type_oid column.type_oid refl)
     ((Decides-int_eq column.type_modifier column.type_modifier).1 refl)))
 
 columns_itself : (columns : List RelationColumn) → same_columns columns columns ≡ true
@@ -57,7 +57,7 @@ relation_itself relation =
     (and_from _ _ ((bytes_eq-Decides relation.namespace relation.namespace).1 refl)
     (and_from _ _ ((bytes_eq-Decides relation.name relation.name).1 refl)
     (and_from (same_identity relation.identity relation.identity) (same_columns relation.columns relation.columns)
-        (identity_itself relation.identity)
+    (identity_itself relation.identity)
     (columns_itself relation.columns))))
 
 -- ---- what a Relation says
@@ -134,11 +134,11 @@ knows_more checked told machine next number less known is other = ap (λ (f : �
     (λ here.
     let same : other ≡ number = (unsigned_Decides other number).0 here in
     let oids : (oid_of other == oid_of number) ≡ true =
-        (unsigned_Decides (oid_of other) (oid_of number)).1 (ap oid_of same) in
+    (unsigned_Decides (oid_of other) (oid_of number)).1 (ap oid_of same) in
     ap (λ b. b || machine.known (oid_of other)) oids ∙ sym (told_same told number less)
-        ∙ ap (λ n. slice_index_or (told_one told number) n false) (sym same))
+    ∙ ap (λ n. slice_index_or (told_one told number) n false) (sym same))
     (λ beside. ap (λ b. b || machine.known (oid_of other)) (oid_differs other number beside) ∙ known.known other
-        ∙ sym (told_other told number other beside))
+    ∙ sym (told_other told number other beside))
 
 shape_is : (one other : TableShape) → Some one ≡ Some other → one ≡ other
 shape_is one other h = cc
@@ -162,11 +162,11 @@ learns checked told machine number table there less known keeps_all = by_kept (m
         (λ same.
         let numbers : other ≡ number = (unsigned_Decides other number).0 same in
         let tables : table ≡ another =
-            same_Some table another (sym there ∙ ap (slice_get checked.catalog.tables) (sym numbers) ∙ at) in
+        same_Some table another (sym there ∙ ap (slice_get checked.catalog.tables) (sym numbers) ∙ at) in
         ap (λ n. next.kept (oid_of n)) numbers ∙ here ∙ ap (λ n. Some (shape_for n table)) (sym numbers)
-            ∙ ap (λ (t : Table). Some (shape_for other t)) tables)
+        ∙ ap (λ (t : Table). Some (shape_for other t)) tables)
         (λ beside. elsewhere other beside
-            ∙ known.kept other another at (sym (told_other told number other beside) ∙ flag))
+        ∙ known.kept other another at (sym (told_other told number other beside) ∙ flag))
 
     relations_after : (next : Machine) → next.kept (oid_of number) ≡ Some (shape_for number table)
         → ((other : ℕ) → (other == number) ≡ false → next.kept (oid_of other) ≡ machine.kept (oid_of other))
@@ -175,11 +175,11 @@ learns checked told machine number table there less known keeps_all = by_kept (m
         (λ same.
         let numbers : other ≡ number = (unsigned_Decides other number).0 same in
         let tables : table ≡ another =
-            same_Some table another (sym there ∙ ap (slice_get checked.catalog.tables) (sym numbers) ∙ at) in
+        same_Some table another (sym there ∙ ap (slice_get checked.catalog.tables) (sym numbers) ∙ at) in
         let shapes : Some (shape_for number table) ≡ Some shape = sym here
-            ∙ ap (λ n. next.kept (oid_of n)) (sym numbers) ∙ h in
+        ∙ ap (λ n. next.kept (oid_of n)) (sym numbers) ∙ h in
         ap (λ n. shape_of (relation_of n another)) numbers
-            ∙ ap (λ (t : Table). shape_of (relation_of number t)) (sym tables) ∙ has_shape number table ∙ shapes)
+        ∙ ap (λ (t : Table). shape_of (relation_of number t)) (sym tables) ∙ has_shape number table ∙ shapes)
         (λ beside. keeps_all other another shape at (sym (elsewhere other beside) ∙ h))
 
     by_kept : (found : Option TableShape) → machine.kept (oid_of number) ≡ found
@@ -187,9 +187,9 @@ learns checked told machine number table there less known keeps_all = by_kept (m
     by_kept None e =
         let next : Machine = learned (oid_of number) (shape_for number table) machine in
         let here : next.kept (oid_of number) ≡ Some (shape_for number table) =
-            rw (eq-eqb (oid_of number) (oid_of number) refl) refl in
+        rw (eq-eqb (oid_of number) (oid_of number) refl) refl in
         let elsewhere : (other : ℕ) → (other == number) ≡ false
-            → next.kept (oid_of other) ≡ machine.kept (oid_of other) =
+        → next.kept (oid_of other) ≡ machine.kept (oid_of other) =
         λ other beside. rw (oid_differs other number beside) refl in
         record {
           next = next;
@@ -209,12 +209,12 @@ learns checked told machine number table there less known keeps_all = by_kept (m
     by_kept (Some shape) e =
         let says : shape_of (relation_of number table) ≡ Some shape = keeps_all number table shape there e in
         let is : shape_for number table ≡ shape =
-            shape_is (shape_for number table) shape (sym (has_shape number table) ∙ says) in
+        shape_is (shape_for number table) shape (sym (has_shape number table) ∙ says) in
         let next : Machine = recognized (oid_of number) machine in
         let here : next.kept (oid_of number) ≡ Some (shape_for number table) = e ∙ ap Some (sym is) in
         let same : same_relation shape.relation (relation_of number table) ≡ true =
         ap (λ (s : TableShape). same_relation s.relation (relation_of number table)) (sym is)
-            ∙ relation_itself (relation_of number table) in
+        ∙ relation_itself (relation_of number table) in
         record {
           next = next;
           heard = ap (λ found. learn_as found (relation_of number table) machine) e ∙ rw same refl;

@@ -12,7 +12,7 @@ abbrev pub Safe : (ℕ → Machine → Type 0) → ℕ → List Msg → Machine 
 Safe Good position [] machine Goal = Goal position machine
 Safe Good position (message ∷ messages) machine Goal =
     Good position machine
-        × IsOkAnd (hear message machine) (λ next. Safe Good (raised_by_message position message) messages next Goal)
+    × IsOkAnd (hear message machine) (λ next. Safe Good (raised_by_message position message) messages next Goal)
 
 pub on_ok : (outcome : Outcome) (P Q : Machine → Type 0) → IsOkAnd outcome P
     → ((machine : Machine) → P machine → Q machine) → IsOkAnd outcome Q
@@ -27,9 +27,11 @@ pub safe_heard : (Good Goal : ℕ → Machine → Type 0) (position : ℕ) (mess
     (machine next : Machine) → Good position machine → hear message machine ≡ Ok next
     → Safe Good (raised_by_message position message) messages next Goal
     → Safe Good position (message ∷ messages) machine Goal
-safe_heard Good Goal position message messages machine next good heard rest =
-    (good, subst (λ o. IsOkAnd o (λ after. Safe Good (raised_by_message position message) messages after Goal))
-        (sym heard) rest)
+safe_heard Good Goal position message messages machine next good heard rest = (
+  good,
+  subst (λ o. IsOkAnd o (λ after. Safe Good (raised_by_message position message) messages after Goal))
+      (sym heard) rest,
+)
 
 pub safe_append : (Good Goal : ℕ → Machine → Type 0) (position : ℕ) (messages more : List Msg) (machine : Machine)
     → Safe Good position messages machine (λ at next. Safe Good at more next Goal)
@@ -63,5 +65,5 @@ pub safe_both : (Good Goal : ℕ → Machine → Type 0) (Middle : Machine → T
 safe_both Good Goal Middle position messages more machine h on =
     safe_append Good Goal position messages more machine
     (safe_on Good (λ at next. (at ≡ position) × Middle next) (λ at next. Safe Good at more next Goal) position
-        messages machine h
+    messages machine h
     (λ at next reached. subst (λ p. Safe Good p more next Goal) (sym reached.0) (on next reached.1)))

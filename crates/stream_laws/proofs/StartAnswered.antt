@@ -81,8 +81,10 @@ module _ (publications : List (PublicationOf Expr)) where
       → unknown_refusal (known publications) (map (called publications) numbers) ≡ None
   names_known [] all = refl
   names_known (number ∷ numbers) all =
-      rw (name_known publications number (All-head (IsKnown publications) number numbers all),
-          names_known numbers (All-tail (IsKnown publications) number numbers all)) refl
+      rw (
+        name_known publications number (All-head (IsKnown publications) number numbers all),
+        names_known numbers (All-tail (IsKnown publications) number numbers all),
+      ) refl
 
   is_its_name : (number : ℕ) → IsKnown publications number
       → is_called (known publications) (called publications number) number ≡ true
@@ -90,19 +92,19 @@ module _ (publications : List (PublicationOf Expr)) where
 
   each_name : (before after : List ℕ) → All (IsKnown publications) after
       → list_all (λ name. list_any (is_called (known publications) name) (before ++ after))
-          (map (called publications) after) ≡ true
+      (map (called publications) after) ≡ true
   each_name before [] all = refl
   each_name before (number ∷ after) all =
       let first = any_at (is_called (known publications) (called publications number)) before number after
-          (is_its_name number (All-head (IsKnown publications) number after all)) in
+      (is_its_name number (All-head (IsKnown publications) number after all)) in
       let more = ap (λ numbers. list_all (λ name. list_any (is_called (known publications) name) numbers)
-          (map (called publications) after)) (sym (append_assoc before (number ∷ []) after))
+      (map (called publications) after)) (sym (append_assoc before (number ∷ []) after))
       ∙ each_name (before ++ number ∷ []) after (All-tail (IsKnown publications) number after all) in
       rw (first, more) refl
 
   any_name : (before after : List ℕ) (number : ℕ) → IsKnown publications number
       → list_any (λ name. is_called (known publications) name number)
-          (map (called publications) (before ++ (number ∷ after))) ≡ true
+      (map (called publications) (before ++ (number ∷ after))) ≡ true
   any_name [] after number less = rw (is_its_name number less) refl
   any_name (other ∷ before) after number less =
       rw (any_name before after number less)
@@ -110,13 +112,13 @@ module _ (publications : List (PublicationOf Expr)) where
 
   each_number : (before after : List ℕ) → All (IsKnown publications) after
       → list_all (λ number. list_any (λ name. is_called (known publications) name number)
-          (map (called publications) (before ++ after))) after ≡ true
+      (map (called publications) (before ++ after))) after ≡ true
   each_number before [] all = refl
   each_number before (number ∷ after) all =
       let first = any_name before after number (All-head (IsKnown publications) number after all) in
       let more = ap (λ numbers. list_all
-          (λ number. list_any (λ name. is_called (known publications) name number)
-          (map (called publications) numbers)) after) (sym (append_assoc before (number ∷ []) after))
+      (λ number. list_any (λ name. is_called (known publications) name number)
+      (map (called publications) numbers)) after) (sym (append_assoc before (number ∷ []) after))
       ∙ each_number (before ++ number ∷ []) after (All-tail (IsKnown publications) number after all) in
       rw (first, more) refl
 
@@ -133,7 +135,7 @@ all_short : (names : List (List ℕ)) → All IsPlainName names → All IsShortN
 all_short [] all = All-nil IsShortName
 all_short (name ∷ names) all =
     All-cons IsShortName name names (short_name name (All-head IsPlainName name names all))
-        (all_short names (All-tail IsPlainName name names all))
+    (all_short names (All-tail IsPlainName name names all))
 
 not_ahead : (slot : Option Slot) (end position : ℕ) → slot_fault slot end position ≡ None → nat_lt end position ≡ false
 not_ahead None end position e = absurd cc
@@ -172,12 +174,12 @@ module _ (served : Served) (slots : List Slot) (subscriber position : ℕ) (subs
   unfolding asked_of
   is_asked =
       ap (asked_in (offer_in served))
-          (query_text text (start_is_text subscription.name names position can.named plain small))
+      (query_text text (start_is_text subscription.name names position can.named plain small))
       ∙ ap (asked_by (offer_in served)) reads
       ∙ ap (asked_at (offer_in served) (start_command subscription.name names position)) can.found
       ∙ ap (λ its. unless_refused
-          (slot_refusal (offer_in served) (start_command subscription.name names position) subscriber its) subscriber
-          position)
+      (slot_refusal (offer_in served) (start_command subscription.name names position) subscriber its) subscriber
+      position)
       (ap publications_of can.is_there)
       ∙ ap (λ refusal. unless_refused refusal subscriber position) not_refused
 
@@ -187,12 +189,12 @@ module _ (served : Served) (slots : List Slot) (subscriber position : ℕ) (subs
   begins =
       ap (begin_by served slots) is_asked
       ∙ ap (λ fault. unless_fault fault subscriber (max position (confirmed_at slots subscriber))
-          (slot_name served.checked.catalog.subscriptions subscriber)) free
+      (slot_name served.checked.catalog.subscriptions subscriber)) free
 
 pub starts_are_answered : StartsAreAnswered
 starts_are_answered served slots subscriber position subscription can small free =
     ap (λ found. begin_of served slots 81
-        (start_text (subscription_name found)
-        (map (called served.checked.catalog.publications) (publications_taken found)) position ++ (0 ∷ [])))
-        can.is_there
+    (start_text (subscription_name found)
+    (map (called served.checked.catalog.publications) (publications_taken found)) position ++ (0 ∷ [])))
+    can.is_there
     ∙ begins served slots subscriber position subscription can small free

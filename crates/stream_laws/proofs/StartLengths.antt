@@ -68,14 +68,27 @@ start_short slot names position short all few small =
     let fourth = length-append (codes " (proto_version '1', publication_names ") end in
     let third = length-append (lsn_text position) (codes " (proto_version '1', publication_names " ++ end) in
     let second = length-append (codes " LOGICAL ")
-        (lsn_text position ++ (codes " (proto_version '1', publication_names " ++ end)) in
+    (lsn_text position ++ (codes " (proto_version '1', publication_names " ++ end)) in
     let first = length-append (in_quotes 34 slot)
-        (codes " LOGICAL " ++ (lsn_text position ++ (codes " (proto_version '1', publication_names " ++ end))) in
+    (codes " LOGICAL " ++ (lsn_text position ++ (codes " (proto_version '1', publication_names " ++ end))) in
     let whole = length-append (codes "START_REPLICATION SLOT ")
-        (in_quotes 34 slot ++
-        (codes " LOGICAL " ++ (lsn_text position ++ (codes " (proto_version '1', publication_names " ++ end)))) in
-    omega (arith, whole, first, second, third, fourth, fifth, quoted_short 34 slot,
-        quoted_short 39 (names_text names), names_short names all, few, place_short position small, short)
+    (in_quotes 34 slot ++
+    (codes " LOGICAL " ++ (lsn_text position ++ (codes " (proto_version '1', publication_names " ++ end)))) in
+    omega (
+      arith,
+      whole,
+      first,
+      second,
+      third,
+      fourth,
+      fifth,
+      quoted_short 34 slot,
+      quoted_short 39 (names_text names),
+      names_short names all,
+      few,
+      place_short position small,
+      short,
+    )
 
 start_fits : (catalog : CatalogOf Expr) (subscriber position : ℕ) (subscription : Subscription) → IsLimited catalog
     → IsNamedCatalog catalog
@@ -83,12 +96,16 @@ start_fits : (catalog : CatalogOf Expr) (subscriber position : ℕ) (subscriptio
 start_fits catalog subscriber position subscription limited named can small =
     let names = map (λ number. publication_name (slice_get catalog.publications number)) subscription.publications in
     let taken = few_taken (length catalog.publications) subscription.publications
-        (its_taken catalog named subscriber subscription can.is_there) in
+    (its_taken catalog named subscriber subscription can.is_there) in
     let few : length names ≤ 64 =
-        omega (arith, taken, limited.publications,
-        length-map subscription.publications (λ number. publication_name (slice_get catalog.publications number))) in
+    omega (
+      arith,
+      taken,
+      limited.publications,
+      length-map subscription.publications (λ number. publication_name (slice_get catalog.publications number)),
+    ) in
     let fits = start_short subscription.name names position can.named.short
-        (names_are_plain catalog.publications subscription.publications can.known can.publications) few small in
+    (names_are_plain catalog.publications subscription.publications can.known can.publications) few small in
     rw can.is_there fits
 
 -- ---- each subscriber
@@ -107,5 +124,9 @@ subscribers_can_ask catalog subscriber limited named within = by_found (slice_ge
     by_found None e = absurd (omega (arith, none_past catalog.subscriptions subscriber e, within))
     by_found (Some subscription) e =
         let can = can_ask catalog named subscriber subscription e in
-        record { subscription = subscription; asks = can; fits =
-            λ position small. start_fits catalog subscriber position subscription limited named can small }
+        record {
+          subscription = subscription;
+          asks = can;
+          fits =
+              λ position small. start_fits catalog subscriber position subscription limited named can small;
+        }

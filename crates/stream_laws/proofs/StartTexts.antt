@@ -53,7 +53,7 @@ plain_text (b ∷ text) e =
     let both = and_parts (is_plain b) (list_all is_plain text) e in
     let more = plain_text text both.1 in
     joined (b ∷ []) text (record { clean = rw (plain_clean b both.0) refl; utf8 = one_utf8 b (plain_small b both.0) })
-        more
+    more
 
 -- ---- between quotes
 
@@ -78,15 +78,15 @@ doubled_utf8 quote (b ∷ text) part small utf8 =
     let long : length (part ++ (b ∷ text)) ≡ length part + suc (length text) = length-append part (b ∷ text) in
     let low : get_or (part ++ (b ∷ text)) (length part) 0 < 128 = omega (arith, at, is, small) in
     let front = subst IsUtf8 (take_at part (b ∷ text) (length part) refl)
-        (IsUtf8-take (part ++ (b ∷ text)) (length part) utf8
-        (IsCharBoundary-before_ascii (part ++ (b ∷ text)) (length part) (omega (arith, long)) low)) in
+    (IsUtf8-take (part ++ (b ∷ text)) (length part) utf8
+    (IsCharBoundary-before_ascii (part ++ (b ∷ text)) (length part) (omega (arith, long)) low)) in
     let rest = subst IsUtf8 (past part b text)
-        (IsUtf8-drop (part ++ (b ∷ text)) (length part + 1) utf8
-        (IsCharBoundary-after_ascii (part ++ (b ∷ text)) (length part) utf8 (omega (arith, long)) low)) in
+    (IsUtf8-drop (part ++ (b ∷ text)) (length part + 1) utf8
+    (IsCharBoundary-after_ascii (part ++ (b ∷ text)) (length part) utf8 (omega (arith, long)) low)) in
     rw same (IsUtf8-append part (quote ∷ quote ∷ doubled quote text) front
     (IsUtf8-append (quote ∷ []) (quote ∷ doubled quote text) (one_utf8 quote small)
-        (IsUtf8-append (quote ∷ []) (doubled quote text) (one_utf8 quote small)
-        (doubled_utf8 quote text [] small rest)))))
+    (IsUtf8-append (quote ∷ []) (doubled quote text) (one_utf8 quote small)
+    (doubled_utf8 quote text [] small rest)))))
     (λ other. rw other (subst IsUtf8 (append_assoc part (b ∷ []) (doubled quote text))
     (doubled_utf8 quote text (part ++ b ∷ []) small (subst IsUtf8 (sym (append_assoc part (b ∷ []) text)) utf8))))
   where
@@ -107,8 +107,11 @@ quoted_text : (quote : ℕ) (text : List ℕ) → is_plain quote ≡ true → Is
 quoted_text quote text plain h =
     let mark = plain_text (quote ∷ []) (rw plain refl) in
     let inner : IsQueryText (doubled quote text) =
-        record { clean = doubled_clean quote text (plain_clean quote plain) h.clean; utf8 =
-        doubled_utf8 quote text [] (plain_small quote plain) h.utf8 } in
+    record {
+      clean = doubled_clean quote text (plain_clean quote plain) h.clean;
+      utf8 =
+          doubled_utf8 quote text [] (plain_small quote plain) h.utf8;
+    } in
     joined (quote ∷ []) (doubled quote text ++ (quote ∷ [])) mark (joined (doubled quote text) (quote ∷ []) inner mark)
 
 -- ---- names and places
@@ -128,7 +131,7 @@ later_text [] all = record { clean = refl; utf8 = IsUtf8-nil }
 later_text (name ∷ names) all =
     joined (44 ∷ in_quotes 34 name) (flat_map (λ name. codes "," ++ in_quotes 34 name) names)
     (joined (44 ∷ []) (in_quotes 34 name) (plain_text (44 ∷ []) refl)
-        (quoted_text 34 name refl (name_text name (All-head IsPlainName name names all))))
+    (quoted_text 34 name refl (name_text name (All-head IsPlainName name names all))))
     (later_text names (All-tail IsPlainName name names all))
 
 all_names : (names : List (List ℕ)) → All IsPlainName names → IsQueryText (names_text names)
@@ -136,7 +139,7 @@ all_names [] all = record { clean = refl; utf8 = IsUtf8-nil }
 all_names (name ∷ names) all =
     joined (in_quotes 34 name) (flat_map (λ name. codes "," ++ in_quotes 34 name) names)
     (quoted_text 34 name refl (name_text name (All-head IsPlainName name names all)))
-        (later_text names (All-tail IsPlainName name names all))
+    (later_text names (All-tail IsPlainName name names all))
 
 hex_plain : (written : List ℕ) → list_all is_ascii_hexdigit written ≡ true → list_all is_plain written ≡ true
 hex_plain [] e = refl
@@ -151,11 +154,11 @@ hex_plain (d ∷ written) e =
 place_text : (position : ℕ) → position < 2 ^ 64 → IsQueryText (lsn_text position)
 place_text position small =
     let high = plain_text (digits 16 true (position / 2 ^ 32))
-        (hex_plain (digits 16 true (position / 2 ^ 32)) (hex_digits (position / 2 ^ 32) (omega (arith, small)))) in
+    (hex_plain (digits 16 true (position / 2 ^ 32)) (hex_digits (position / 2 ^ 32) (omega (arith, small)))) in
     let low = plain_text (digits 16 true (position % 2 ^ 32))
-        (hex_plain (digits 16 true (position % 2 ^ 32)) (hex_digits (position % 2 ^ 32) (omega arith))) in
+    (hex_plain (digits 16 true (position % 2 ^ 32)) (hex_digits (position % 2 ^ 32) (omega arith))) in
     joined (digits 16 true (position / 2 ^ 32)) (47 ∷ digits 16 true (position % 2 ^ 32)) high
-        (joined (47 ∷ []) (digits 16 true (position % 2 ^ 32)) (plain_text (47 ∷ []) refl) low)
+    (joined (47 ∷ []) (digits 16 true (position % 2 ^ 32)) (plain_text (47 ∷ []) refl) low)
 
 pub start_is_text : (slot : List ℕ) (names : List (List ℕ)) (position : ℕ) → IsPlainName slot → All IsPlainName names
     → position < 2 ^ 64 → IsQueryText (start_text slot names position)
@@ -165,9 +168,9 @@ start_is_text slot names position named all small =
     (joined (codes " LOGICAL ") _ (plain_text (codes " LOGICAL ") refl)
     (joined (lsn_text position) _ (place_text position small)
     (joined (codes " (proto_version '1', publication_names ") _
-        (plain_text (codes " (proto_version '1', publication_names ") refl)
+    (plain_text (codes " (proto_version '1', publication_names ") refl)
     (joined (in_quotes 39 (names_text names)) (codes ")")
-        (quoted_text 39 (names_text names) refl (all_names names all)) (plain_text (codes ")") refl))))))
+    (quoted_text 39 (names_text names) refl (all_names names all)) (plain_text (codes ")") refl))))))
 
 -- ---- the Query
 
@@ -183,4 +186,4 @@ query_text text is =
     let within : nat_lt (length text) (length text + 1) ≡ true = grind (arith, nat_tests) in
     let same : length text + 1 == length text + 1 ≡ true = grind (arith, nat_tests) in
     rw (zero_at text is.clean, long, within, long, same, take_at text (0 ∷ []) (length text) refl)
-        (is_text text is.utf8)
+    (is_text text is.utf8)

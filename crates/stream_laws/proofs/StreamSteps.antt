@@ -59,12 +59,12 @@ between_follows checked transactions place position machine between = record {
 pub has_rows : (checked : CheckedOf) (subscriber : ℕ) (one other : Rows) (tables : Tables)
     → ((oid : ℕ) (key : List Datum) → one oid key ≡ other oid key)
     → ((number : ℕ) → FindsRows (own_key checked number) (one (oid_of number))
-        (in_shard (setting_in checked) subscriber tables number))
+    (in_shard (setting_in checked) subscriber tables number))
     → (number : ℕ) → FindsRows (own_key checked number) (other (oid_of number))
-        (in_shard (setting_in checked) subscriber tables number)
+    (in_shard (setting_in checked) subscriber tables number)
 has_rows checked subscriber one other tables same h number =
     finds_alike (own_key checked number) (one (oid_of number)) (other (oid_of number))
-        (in_shard (setting_in checked) subscriber tables number) (h number) (λ key. sym (same (oid_of number) key))
+    (in_shard (setting_in checked) subscriber tables number) (h number) (λ key. sym (same (oid_of number) key))
 
 -- ---- numbers
 
@@ -99,37 +99,37 @@ module _ (checked : CheckedOf) (transactions : List Transaction) (published : Is
   abbrev next_commit : Place → Transaction → CommitOf
   next_commit place transaction =
       log.commit_of (1 + place.done) transaction.time
-          (record_of (setting_in checked) (after (setting_in checked) (take place.done transactions))
-          transaction.commands)
+      (record_of (setting_in checked) (after (setting_in checked) (take place.done transactions))
+      transaction.commands)
 
   after_commit : (place : Place) (position : ℕ) (machine : Machine)
       → Between checked transactions place position machine → (transaction : Transaction)
       → place.done < length transactions
       → after (setting_in checked) (take (suc place.done) transactions)
-          ≡ left_by (setting_in checked) (after (setting_in checked) (take place.done transactions)) transaction
+      ≡ left_by (setting_in checked) (after (setting_in checked) (take place.done transactions)) transaction
       → (next : Machine)
       → Inside checked place.slot (lsn_of (1 + place.done)) machine
       (told_each checked place.slot place.told
-          (record_of (setting_in checked) (after (setting_in checked) (take place.done transactions))
-          transaction.commands))
+      (record_of (setting_in checked) (after (setting_in checked) (take place.done transactions))
+      transaction.commands))
       (left_by (setting_in checked) (after (setting_in checked) (take place.done transactions)) transaction) next
       → Between checked transactions (place_after (telling_of checked) place (next_commit place transaction))
-          (max position (end_of (1 + place.done))) (committed (end_of (1 + place.done)) next)
+      (max position (end_of (1 + place.done))) (committed (end_of (1 + place.done)) next)
   after_commit place position machine between transaction within left next inside =
       let setting = setting_in checked in
       let number : 1 + place.done ≡ place.done + 1 = first_number place.done in
       let ends : max position (end_of (1 + place.done)) ≡ end_of (1 + place.done) =
       subst (λ n. max position (end_of n) ≡ end_of n) (sym number) (ends_there position place.done between.counted) in
       let counts : count_before (end_of (1 + place.done)) ≡ place.done + 1 =
-          subst (λ n. count_before (end_of n) ≡ place.done + 1) (sym number) (count_of_end place.done) in
+      subst (λ n. count_before (end_of n) ≡ place.done + 1) (sym number) (count_of_end place.done) in
       let counted : count_before (max position (end_of (1 + place.done))) ≡ place.done + 1 = ap count_before ends
-          ∙ counts in
+      ∙ counts in
       let shown : HasShard checked place.slot (committed (end_of (1 + place.done)) next)
-          (after setting (take (place.done + 1) transactions)) =
+      (after setting (take (place.done + 1) transactions)) =
       subst (λ n. HasShard checked place.slot (committed (end_of (1 + place.done)) next)
-          (after setting (take n transactions))) (next_done place.done)
+      (after setting (take n transactions))) (next_done place.done)
       (subst (λ tables. HasShard checked place.slot (committed (end_of (1 + place.done)) next) tables) (sym left)
-          inside.work) in
+      inside.work) in
       record {
         idle = refl;
         position_is = ap (λ at. max at (end_of (1 + place.done))) (inside.position ∙ between.position_is);
@@ -149,15 +149,15 @@ module _ (checked : CheckedOf) (transactions : List Transaction) (published : Is
       → Between checked transactions place position machine → (transaction : Transaction)
       → place.done < length transactions
       → after (setting_in checked) (take (suc place.done) transactions)
-          ≡ left_by (setting_in checked) (after (setting_in checked) (take place.done transactions)) transaction
+      ≡ left_by (setting_in checked) (after (setting_in checked) (take place.done transactions)) transaction
       → Inside checked place.slot (lsn_of (1 + place.done)) machine
       (told_each checked place.slot place.told
-          (record_of (setting_in checked) (after (setting_in checked) (take place.done transactions))
-          transaction.commands))
+      (record_of (setting_in checked) (after (setting_in checked) (take place.done transactions))
+      transaction.commands))
       (left_by (setting_in checked) (after (setting_in checked) (take place.done transactions)) transaction)
-          (begun (lsn_of (1 + place.done)) machine)
+      (begun (lsn_of (1 + place.done)) machine)
       → Between checked transactions (place_after (telling_of checked) place (next_commit place transaction)) position
-          machine
+      machine
   after_nothing place position machine between transaction within left inside =
       let setting = setting_in checked in
       let number : 1 + place.done ≡ place.done + 1 = first_number place.done in
@@ -172,8 +172,8 @@ module _ (checked : CheckedOf) (transactions : List Transaction) (published : Is
             (next_done place.done)
             (subst (λ tables. HasShard checked place.slot machine tables) (sym left)
             (has_rows checked place.slot machine.work machine.rows
-                (left_by setting (after setting (take place.done transactions)) transaction) between.work_is
-                inside.work));
+            (left_by setting (after setting (take place.done transactions)) transaction) between.work_is
+            inside.work));
         at_position = between.at_position;
         knows = record { flags = inside.knows.flags; known = inside.knows.known; kept = inside.knows.kept };
         relations = between.relations;
@@ -181,7 +181,7 @@ module _ (checked : CheckedOf) (transactions : List Transaction) (published : Is
 
   begins : (place : Place) (position : ℕ) (machine : Machine) → Between checked transactions place position machine
       → Inside checked place.slot (lsn_of (1 + place.done)) machine place.told
-          (after (setting_in checked) (take place.done transactions)) (begun (lsn_of (1 + place.done)) machine)
+      (after (setting_in checked) (take place.done transactions)) (begun (lsn_of (1 + place.done)) machine)
   begins place position machine between = record {
     busy = refl;
     position = refl;
@@ -198,13 +198,13 @@ module _ (checked : CheckedOf) (transactions : List Transaction) (published : Is
       → Between checked transactions place position machine → (transaction : Transaction)
       → place.done < length transactions
       → after (setting_in checked) (take (suc place.done) transactions)
-          ≡ left_by (setting_in checked) (after (setting_in checked) (take place.done transactions)) transaction
+      ≡ left_by (setting_in checked) (after (setting_in checked) (take place.done transactions)) transaction
       → (said : List Msg)
       → Safe (Follows checked transactions place.slot) position said (begun (lsn_of (1 + place.done)) machine)
       (λ at next. (at ≡ position) × Inside checked place.slot (lsn_of (1 + place.done)) machine
       (told_each checked place.slot place.told
-          (record_of (setting_in checked) (after (setting_in checked) (take place.done transactions))
-          transaction.commands))
+      (record_of (setting_in checked) (after (setting_in checked) (take place.done transactions))
+      transaction.commands))
       (left_by (setting_in checked) (after (setting_in checked) (take place.done transactions)) transaction) next)
       → Safe (Follows checked transactions place.slot) position (enclosed (next_commit place transaction) said) machine
       (Between checked transactions (place_after (telling_of checked) place (next_commit place transaction)))
@@ -215,52 +215,52 @@ module _ (checked : CheckedOf) (transactions : List Transaction) (published : Is
       let lsn : ℕ = lsn_of (1 + place.done) in
       let follows = between_follows checked transactions place position machine between in
       safe_heard (Follows checked transactions place.slot)
-          (Between checked transactions (place_after (telling_of checked) place (next_commit place transaction)))
+      (Between checked transactions (place_after (telling_of checked) place (next_commit place transaction)))
       position (begin_of (next_commit place transaction))
-          ((first ∷ others) ++ commit_of (next_commit place transaction) ∷ []) machine
-          (begun (lsn_of (1 + place.done)) machine) follows
+      ((first ∷ others) ++ commit_of (next_commit place transaction) ∷ []) machine
+      (begun (lsn_of (1 + place.done)) machine) follows
       (ap (λ phase. hear_in phase (begin_of (next_commit place transaction)) machine) between.idle)
       (safe_both (Follows checked transactions place.slot)
-          (Between checked transactions (place_after (telling_of checked) place (next_commit place transaction)))
+      (Between checked transactions (place_after (telling_of checked) place (next_commit place transaction)))
       (Inside checked place.slot (lsn_of (1 + place.done)) machine
       (told_each checked place.slot place.told
-          (record_of (setting_in checked) (after (setting_in checked) (take place.done transactions))
-          transaction.commands))
+      (record_of (setting_in checked) (after (setting_in checked) (take place.done transactions))
+      transaction.commands))
       (left_by (setting_in checked) (after (setting_in checked) (take place.done transactions)) transaction))
       position (first ∷ others) (commit_of (next_commit place transaction) ∷ [])
-          (begun (lsn_of (1 + place.done)) machine) h
+      (begun (lsn_of (1 + place.done)) machine) h
       (λ next inside.
       safe_heard (Follows checked transactions place.slot)
-          (Between checked transactions (place_after (telling_of checked) place (next_commit place transaction)))
+      (Between checked transactions (place_after (telling_of checked) place (next_commit place transaction)))
       position (commit_of (next_commit place transaction)) [] next (committed (end_of (1 + place.done)) next)
       (inside_follows checked transactions place.slot (lsn_of (1 + place.done)) position machine _ _ next follows
-          inside)
+      inside)
       (ap (λ phase. hear_in phase (commit_of (next_commit place transaction)) next) inside.busy
-          ∙ rw ((unsigned_Decides (lsn_of (1 + place.done)) (lsn_of (1 + place.done))).1 refl) refl)
+      ∙ rw ((unsigned_Decides (lsn_of (1 + place.done)) (lsn_of (1 + place.done))).1 refl) refl)
       (after_commit place position machine between transaction within left next inside)))
 
   pub commit_safe : (place : Place) (position : ℕ) (machine : Machine)
       → Between checked transactions place position machine → (commit : CommitOf)
       → slice_get (log_of checked transactions) place.done ≡ Some commit
       → Safe (Follows checked transactions place.slot) position (messages_for checked place.slot place.told commit)
-          machine
+      machine
       (Between checked transactions (place_after (telling_of checked) place commit))
   commit_safe place position machine between commit h =
       let entry = entry_at (setting_in checked) no_rows 1 transactions place.done commit published.accepted h in
       let follows = between_follows checked transactions place position machine between in
       let tables : Tables = after (setting_in checked) (take place.done transactions) in
       subst (λ one. Safe (Follows checked transactions place.slot) position
-          (messages_for checked place.slot place.told one) machine
+      (messages_for checked place.slot place.told one) machine
       (Between checked transactions (place_after (telling_of checked) place one))) (sym entry.is)
       (enclosed_safe place position machine between entry.transaction entry.within entry.left
       (said_each checked place.slot place.told
-          (record_of (setting_in checked) (after (setting_in checked) (take place.done transactions))
-          entry.transaction.commands))
+      (record_of (setting_in checked) (after (setting_in checked) (take place.done transactions))
+      entry.transaction.commands))
       (commands_safe checked transactions place.slot (lsn_of (1 + place.done)) position machine follows
-          published.covered published.apart
+      published.covered published.apart
       entry.transaction.commands (after (setting_in checked) (take place.done transactions)) 1
       (right_at checked published.apart no_rows transactions place.done published.accepted setting_begins)
-          entry.accepted.no_fault
+      entry.accepted.no_fault
       place.told (begun (lsn_of (1 + place.done)) machine) (begins place position machine between)))
 
   -- ---- a keepalive
@@ -281,10 +281,10 @@ module _ (checked : CheckedOf) (transactions : List Transaction) (published : Is
         done = between.done;
         counted = by_test (nat_lt position place.sent)
             (λ above. subst (λ p. count_before p ≤ place.done)
-                (sym (raised_to position place.sent (ltb-true position place.sent above)))
-                (omega (arith, between.sent)))
+            (sym (raised_to position place.sent (ltb-true position place.sent above)))
+            (omega (arith, between.sent)))
             (λ below. subst (λ p. count_before p ≤ place.done)
-                (sym (not_raised position place.sent (ltb-false position place.sent below))) between.counted);
+            (sym (not_raised position place.sent (ltb-false position place.sent below))) between.counted);
         sent = between.sent;
         at_done = has_rows checked place.slot machine.rows next.rows (after setting (take place.done transactions))
             (λ oid key. ap (λ (f : Rows). f oid key) (sym rows)) between.at_done;
@@ -293,12 +293,12 @@ module _ (checked : CheckedOf) (transactions : List Transaction) (published : Is
             (λ oid key. ap (λ (f : Rows). f oid key) (sym rows))
             (by_test (nat_lt position place.sent)
             (λ above. subst (λ p. HasShard checked place.slot machine
-                (after setting (take (count_before p) transactions)))
-                (sym (raised_to position place.sent (ltb-true position place.sent above)))
+            (after setting (take (count_before p) transactions)))
+            (sym (raised_to position place.sent (ltb-true position place.sent above)))
             (subst (λ n. HasShard checked place.slot machine (after setting (take n transactions))) (sym between.sent)
-                between.at_done))
+            between.at_done))
             (λ below. subst (λ p. HasShard checked place.slot machine
-                (after setting (take (count_before p) transactions)))
+            (after setting (take (count_before p) transactions)))
             (sym (not_raised position place.sent (ltb-false position place.sent below))) between.at_position));
         knows = record {
           flags = between.knows.flags;

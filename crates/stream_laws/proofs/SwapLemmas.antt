@@ -37,7 +37,7 @@ pub keys_differ : (key_of : List Datum → List Datum) (one other : List Datum)
     → same_row (key_of one) (key_of other) ≡ false → same_row one other ≡ false
 keys_differ key_of one other h = by_test (same_row one other)
     (λ same. absurd (let keys =
-        same_row_of_equal (key_of one) (key_of other) (ap key_of (equal_from_same_row one other same)) in cc))
+    same_row_of_equal (key_of one) (key_of other) (ap key_of (equal_from_same_row one other same)) in cc))
     (λ differ. differ)
 
 pub finds_same : (key_of : List Datum → List Datum) (found : Found) (rows others : List Datum → Bool)
@@ -87,7 +87,7 @@ finds_gone key_of found rows old finds there = record {
       ∙ sym (and_not (same_row old row)) ∙ ap (λ b. b && not (same_row old row)) (sym before))
       (λ beside.
       ap (λ o. is_row o row) (put_beside found (key_of old) None (key_of row) beside) ∙ finds.each row
-          ∙ sym (and_true (rows row))
+      ∙ sym (and_true (rows row))
       ∙ ap (λ b. rows row && not b) (sym (keys_differ key_of old row beside)));
 }
 
@@ -129,10 +129,10 @@ vacant key_of old new rows found_rows found swaps finds others = at (found (key_
         let is_there : found_rows row ≡ true = sym (finds.each row) ∙ is_it (found (key_of row)) row here in
         let other = others row is_there in
         let one : swapped old (Some new) rows row ≡ true =
-            or_right (same_row new row) (rows row && not (is_row old row))
-            (still_there (rows row) (is_row old row) other.0 other.1) in
+        or_right (same_row new row) (rows row && not (is_row old row))
+        (still_there (rows row) (is_row old row) other.0 other.1) in
         let two : swapped old (Some new) rows new ≡ true =
-            or_left (same_row new new) (rows new && not (is_row old new)) (same_itself new) in
+        or_left (same_row new new) (rows new && not (is_row old new)) (same_itself new) in
         let same : row ≡ new = swaps.apart row new one two keys in
         let was : old ≡ Some row = swaps.room row (ap Some (sym same)) other.0 in
         let hit : is_row old row ≡ true = is_it old row was in
@@ -145,7 +145,7 @@ pub passes_row : (passes : List Datum → Bool) (found : Option (List Datum)) (r
 passes_row passes None row = refl
 passes_row passes (Some found) row = by_test (same_row found row)
     (λ same. by_pass (passes found) refl same ∙ ap passes (equal_from_same_row found row same)
-        ∙ ap (λ b. b && passes row) (sym same))
+    ∙ ap (λ b. b && passes row) (sym same))
     (λ differ. none_of (passes found) differ ∙ ap (λ b. b && passes row) (sym differ))
   where
     none_of : (b : Bool) → same_row found row ≡ false → is_row (if b then Some found else None) row ≡ false
@@ -182,7 +182,7 @@ distribute false false o p = refl
 pub shard_swapped : (passes : List Datum → Bool) (old new : Option (List Datum)) (rows : List Datum → Bool)
     (row : List Datum)
     → swapped (passing passes old) (passing passes new) (λ r. rows r && passes r) row
-        ≡ (swapped old new rows row && passes row)
+    ≡ (swapped old new rows row && passes row)
 shard_swapped passes old new rows row =
     ap (λ b. b || ((rows row && passes row) && not (is_row (passing passes old) row))) (passes_row passes new row)
     ∙ ap (λ b. (is_row new row && passes row) || ((rows row && passes row) && not b)) (passes_row passes old row)
@@ -217,7 +217,7 @@ module _ (key_of : List Datum → List Datum) (passes : List Datum → Bool) (fo
       → swapped away coming (λ r. rows r && passes r) row ≡ (swapped old new rows row && passes row)
   to_after away coming e f row =
       ap (λ o. swapped o coming (λ r. rows r && passes r) row) (sym e)
-          ∙ ap (λ o. swapped (passing passes old) o (λ r. rows r && passes r) row) (sym f)
+      ∙ ap (λ o. swapped (passing passes old) o (λ r. rows r && passes r) row) (sym f)
       ∙ shard_swapped passes old new rows row
 
   with_new : (row : List Datum) → new ≡ Some row → Swaps key_of old (Some row) rows
@@ -233,7 +233,7 @@ module _ (key_of : List Datum → List Datum) (passes : List Datum → Bool) (fo
         both.0,
         by_test (is_row old row)
             (λ hit. absurd (let none : (is_row old row && passes row) ≡ false = sym (passes_row passes old row)
-                ∙ ap (λ o. is_row o row) e in
+            ∙ ap (λ o. is_row o row) e in
             let all : (is_row old row && passes row) ≡ true = rw (hit, both.1) refl in cc))
             (λ miss. miss),
       )
@@ -242,18 +242,18 @@ module _ (key_of : List Datum → List Datum) (passes : List Datum → Bool) (fo
       → IsDone key_of found away coming (λ row. swapped old new rows row && passes row)
   by_both None None e f =
       finds_same key_of found (λ row. rows row && passes row) _ finds
-          (λ row. sym (and_true (rows row && passes row)) ∙ to_after None None e f row)
+      (λ row. sym (and_true (rows row && passes row)) ∙ to_after None None e f row)
   by_both None (Some coming) e f =
       let is = passing_some passes new coming f in
       let free : found (key_of coming) ≡ None =
-          vacant key_of old coming rows (λ row. rows row && passes row) found (with_new coming is.0) finds
-          (λ row h. not_struck row e h) in (
+      vacant key_of old coming rows (λ row. rows row && passes row) found (with_new coming is.0) finds
+      (λ row h. not_struck row e h) in (
         free,
         finds_same key_of (put found (key_of coming) (Some coming))
             (λ row. same_row coming row || (rows row && passes row)) _
             (finds_put key_of found (λ row. rows row && passes row) coming finds free)
             (λ row. ap (λ b. same_row coming row || b) (sym (and_true (rows row && passes row)))
-                ∙ to_after None (Some coming) e f row),
+            ∙ to_after None (Some coming) e f row),
       )
   by_both (Some away) None e f =
       let was = passing_some passes old away e in
@@ -261,7 +261,7 @@ module _ (key_of : List Datum → List Datum) (passes : List Datum → Bool) (fo
         found_there key_of found (λ row. rows row && passes row) away finds there,
         finds_same key_of (put found (key_of away) None) (λ row. (rows row && passes row) && not (same_row away row)) _
             (finds_gone key_of found (λ row. rows row && passes row) away finds there)
-                (λ row. to_after (Some away) None e f row),
+            (λ row. to_after (Some away) None e f row),
       )
   by_both (Some away) (Some coming) e f =
       let was = passing_some passes old away e in
@@ -270,7 +270,7 @@ module _ (key_of : List Datum → List Datum) (passes : List Datum → Bool) (fo
       let left = finds_gone key_of found (λ row. rows row && passes row) away finds there in
       let free : put found (key_of away) None (key_of coming) ≡ None =
       vacant key_of old coming rows (λ row. (rows row && passes row) && not (same_row away row))
-          (put found (key_of away) None) (with_new coming is.0) left
+      (put found (key_of away) None) (with_new coming is.0) left
       (λ row h. (
         (and_parts (rows row) (passes row) (and_parts (rows row && passes row) (not (same_row away row)) h).0).0,
         ap (λ o. is_row o row) was.0
@@ -281,7 +281,7 @@ module _ (key_of : List Datum → List Datum) (passes : List Datum → Bool) (fo
         finds_same key_of (put (put found (key_of away) None) (key_of coming) (Some coming))
             (λ row. same_row coming row || ((rows row && passes row) && not (same_row away row))) _
             (finds_put key_of (put found (key_of away) None)
-                (λ row. (rows row && passes row) && not (same_row away row)) coming left free)
+            (λ row. (rows row && passes row) && not (same_row away row)) coming left free)
             (λ row. to_after (Some away) (Some coming) e f row),
       )
 

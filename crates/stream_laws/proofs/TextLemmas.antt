@@ -53,7 +53,7 @@ values_text columns [] wide fits = All-nil IsTextValue
 values_text [] (value ∷ row) wide fits = absurd (omega (arith, wide))
 values_text (column ∷ columns) (value ∷ row) wide fits =
     All-cons IsTextValue value row (value_text column value (fits 0))
-        (values_text columns row (omega (arith, wide)) (λ k. fits (suc k)))
+    (values_text columns row (omega (arith, wide)) (λ k. fits (suc k)))
 
 pub fits_text : (checked : CheckedOf) (number : ℕ) (row : List Datum) → fits (setting_in checked) number row ≡ true
     → IsTextRow row
@@ -77,7 +77,7 @@ blanked_text : (columns : List ℕ) (number : ℕ) (row : List Datum) → IsText
 blanked_text columns number [] h = All-nil IsTextValue
 blanked_text columns number (value ∷ row) h =
     All-cons IsTextValue (if list_any (λ column. column == number) columns then value else Missing)
-        (blanked_from columns (number + 1) row)
+    (blanked_from columns (number + 1) row)
     (if_text (list_any (λ column. column == number) columns) value (All-head IsTextValue value row h))
     (blanked_text columns (number + 1) row (All-tail IsTextValue value row h))
 
@@ -106,7 +106,7 @@ pub part_text : (checked : CheckedOf) (number : ℕ) (old : List Datum) (new : O
     → IsTextPart (part_of (setting_in checked) number old new)
 part_text checked number old new h =
     part_by_text ((setting_in checked).recorded number) ((setting_in checked).identity number)
-        ((setting_in checked).blanked number) old new h
+    ((setting_in checked).blanked number) old new h
     (blanked_in_text (slice_get checked.catalog.tables number) old h)
 
 -- ---- cells
@@ -137,7 +137,7 @@ cells_text : (row : List Datum) → All IsSendableValue row → IsTextRow row �
 cells_text [] h text = All-nil IsCellText
 cells_text (value ∷ row) h text =
     All-cons IsCellText (cell_of value) (cells_of row)
-        (cell_text value (All-head IsSendableValue value row h) (All-head IsTextValue value row text))
+    (cell_text value (All-head IsSendableValue value row h) (All-head IsTextValue value row text))
     (cells_text row (All-tail IsSendableValue value row h) (All-tail IsTextValue value row text))
 
 pub row_text : (row : List Datum) → IsSendableRow row → IsTextRow row → AreTexts (cells_of row)

@@ -51,7 +51,7 @@ record Empties (old : Machine) (numbers : List ℕ) : Type 0 where
 oid_alike : (one other : ℕ) → (oid_of other == oid_of one) ≡ (one == other)
 oid_alike one other = by_test (one == other)
     (λ same. (unsigned_Decides (oid_of other) (oid_of one)).1 (ap oid_of (sym ((unsigned_Decides one other).0 same)))
-        ∙ sym same)
+    ∙ sym same)
     (λ differ. by_test (oid_of other == oid_of one)
     (λ same. absurd (
     let oids : oid_of other ≡ oid_of one = (unsigned_Decides (oid_of other) (oid_of one)).0 same in
@@ -73,17 +73,26 @@ empties : (checked : CheckedOf) (told : List Bool) (numbers : List ℕ) (machine
     → AllTold told numbers → Empties machine numbers
 unfolding hear_truncate
 empties checked told [] machine within known kept flags =
-    record { next = machine; heard = refl; phase = refl; position = refl; rows = refl; known = refl; kept =
-        refl; work = λ table key. refl }
+    record {
+      next = machine;
+      heard = refl;
+      phase = refl;
+      position = refl;
+      rows = refl;
+      known = refl;
+      kept =
+          refl;
+      work = λ table key. refl;
+    }
 empties checked told (number ∷ numbers) machine within known kept flags =
     let there = there_of checked.catalog.tables number
-        (All-head (λ n. n < length checked.catalog.tables) number numbers within) in
+    (All-head (λ n. n < length checked.catalog.tables) number numbers within) in
     let one : hear_empty (oid_of number) machine
-        ≡ Ok (record machine { work = with_found machine.work (oid_of number) (λ key. None) }) =
+    ≡ Ok (record machine { work = with_found machine.work (oid_of number) (λ key. None) }) =
     change_heard machine (oid_of number) emptied (shape_for number there.table) (λ key. None) (known number ∙ flags.0)
-        (kept number there.table there.is flags.0) refl in
+    (kept number there.table there.is flags.0) refl in
     let later = empties checked told numbers
-        (record machine { work = with_found machine.work (oid_of number) (λ key. None) })
+    (record machine { work = with_found machine.work (oid_of number) (λ key. None) })
     (All-tail (λ n. n < length checked.catalog.tables) number numbers within) known kept flags.1 in
     record {
       next = later.next;
@@ -95,7 +104,7 @@ empties checked told (number ∷ numbers) machine within known kept flags =
       kept = later.kept;
       work = λ table key. later.work table key
           ∙ ap (λ b. if list_any (λ n. n == table) numbers then
-              None else (if b then None else machine.work (oid_of table) key)) (oid_alike number table)
+          None else (if b then None else machine.work (oid_of table) key)) (oid_alike number table)
           ∙ both_clear (number == table) (list_any (λ n. n == table) numbers) (machine.work (oid_of table) key);
     }
 
@@ -107,11 +116,11 @@ module _ (checked : CheckedOf) (transactions : List Transaction) (subscriber beg
       → FindsShard (setting_in checked) (own_key checked) subscriber (cleared copies numbers) after)
       → (told : List Bool) (machine : Machine) → Inside checked subscriber begin outer told before machine
       → Safe (Follows checked transactions subscriber) position
-          (said checked.catalog.tables told (option_map (as_recorded (setting_in checked)) (seen_tables numbers)))
-          machine
+      (said checked.catalog.tables told (option_map (as_recorded (setting_in checked)) (seen_tables numbers)))
+      machine
       (λ at next. (at ≡ position)
-          × Inside checked subscriber begin outer
-          (told_by told (option_map (as_recorded (setting_in checked)) (seen_tables numbers))) after next)
+      × Inside checked subscriber begin outer
+      (told_by told (option_map (as_recorded (setting_in checked)) (seen_tables numbers))) after next)
   unfolding said told_by
   truncate_safe [] within clears told machine inside = (
     refl,
@@ -126,25 +135,25 @@ module _ (checked : CheckedOf) (transactions : List Transaction) (subscriber beg
   )
   truncate_safe (number ∷ numbers) within clears told machine inside =
       safe_both (Follows checked transactions subscriber)
-          (λ at next. (at ≡ position)
-          × Inside checked subscriber begin outer (told_all told (number ∷ numbers)) after next)
+      (λ at next. (at ≡ position)
+      × Inside checked subscriber begin outer (told_all told (number ∷ numbers)) after next)
       (Inside checked subscriber begin outer (told_all told (number ∷ numbers)) before) position
-          (relations_of checked.catalog.tables told (number ∷ numbers))
+      (relations_of checked.catalog.tables told (number ∷ numbers))
       (m.Truncate 0 (map oid_of (number ∷ numbers)) ∷ []) machine
       (relations_safe checked transactions subscriber begin position outer follows before (number ∷ numbers) told
-          machine within inside)
+      machine within inside)
       (λ next reached.
       let flags = all_are_told told (number ∷ numbers) (length checked.catalog.tables) inside.knows.flags within in
       let emptied_all = empties checked (told_all told (number ∷ numbers)) (number ∷ numbers) next within
-          reached.knows.known reached.knows.kept flags in
+      reached.knows.known reached.knows.kept flags in
       safe_heard (Follows checked transactions subscriber)
-          (λ at last. (at ≡ position)
-          × Inside checked subscriber begin outer (told_all told (number ∷ numbers)) after last)
+      (λ at last. (at ≡ position)
+      × Inside checked subscriber begin outer (told_all told (number ∷ numbers)) after last)
       position (m.Truncate 0 (map oid_of (number ∷ numbers))) [] next emptied_all.next
       (good checked transactions subscriber begin position outer follows before (told_all told (number ∷ numbers))
-          next reached)
+      next reached)
       (ap (λ phase. hear_in phase (m.Truncate 0 (map oid_of (number ∷ numbers))) next) reached.busy
-          ∙ emptied_all.heard) (
+      ∙ emptied_all.heard) (
         refl,
         record {
           busy = emptied_all.phase ∙ reached.busy;
@@ -161,6 +170,6 @@ module _ (checked : CheckedOf) (transactions : List Transaction) (subscriber beg
           work = λ table. finds_alike (own_key checked table)
               (cleared (λ t. next.work (oid_of t)) (number ∷ numbers) table) (emptied_all.next.work (oid_of table))
               (in_shard (setting_in checked) subscriber after table)
-                  (clears (λ t. next.work (oid_of t)) reached.work table) (emptied_all.work table);
+              (clears (λ t. next.work (oid_of t)) reached.work table) (emptied_all.work table);
         },
       ))

@@ -55,7 +55,7 @@ StartsAreAnswered = (served : Served) (slots : List Slot) (subscriber position :
     → CanAsk served.checked.catalog subscriber subscription
     → position < 2 ^ 64 → start_fault slots (end_after served.commits) subscriber position ≡ None
     → begin_of served slots (up_frame served.checked subscriber (Asks position)).kind
-        (up_frame served.checked subscriber (Asks position)).body
+    (up_frame served.checked subscriber (Asks position)).body
     ≡ Begins subscriber (max position (confirmed_at slots subscriber))
 
 -- ---- who can ask

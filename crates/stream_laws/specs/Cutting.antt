@@ -16,7 +16,7 @@ abbrev pub whole_by : {X : Type 0} → (X → Frame) → ℕ → List X → List
 whole_by frame count [] = []
 whole_by frame count (first ∷ others) =
     if_whole (nat_le (length (framed (frame first))) count) first
-        (whole_by frame (count - length (framed (frame first))) others)
+    (whole_by frame (count - length (framed (frame first))) others)
 
 abbrev pub whole_in : ℕ → List Item → List Item
 whole_in count items = whole_by frame_in count items

@@ -118,4 +118,4 @@ ItemsAreFollowed = (checked : CheckedOf) (transactions : List Transaction) → I
     → (items others : List Item)
     → items ++ others ≡ items_from checked transactions subscriber machine.position moves
     → IsOkAnd (hear_frames (map frame_in items) (opened machine))
-        (Follows checked transactions subscriber (position_after machine.position items))
+    (Follows checked transactions subscriber (position_after machine.position items))

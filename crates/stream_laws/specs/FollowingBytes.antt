@@ -20,7 +20,7 @@ use Rattle.stream_laws.specs.Following.{position_after, Follows, IsPublished, lo
 abbrev pub AreFirst : CheckedOf → List Transaction → ℕ → ℕ → List Move → List ℕ → List ℕ → Type 0
 AreFirst checked transactions subscriber position moves bytes others =
     bytes ++ others ≡ stream (telling_of checked) (log_of checked transactions) subscriber
-        (length checked.catalog.tables) position moves
+    (length checked.catalog.tables) position moves
 
 -- the position after the items whose frames are whole in so many bytes
 abbrev pub position_in : CheckedOf → List Transaction → ℕ → ℕ → List Move → List ℕ → ℕ
@@ -41,8 +41,8 @@ BytesAreFollowed = (checked : CheckedOf) (transactions : List Transaction) → I
     → (moves : List Move) → All IsSentItem (items_from checked transactions subscriber machine.position moves)
     → (bytes others : List ℕ) → AreFirst checked transactions subscriber machine.position moves bytes others
     → IsFollowed checked transactions subscriber
-        (position_in checked transactions subscriber machine.position moves bytes)
-        (hear_cut (cut limit bytes) (opened machine))
+    (position_in checked transactions subscriber machine.position moves bytes)
+    (hear_cut (cut limit bytes) (opened machine))
 
 -- ---- subscribers, by what their calls leave
 
@@ -59,7 +59,7 @@ FedFollow = (checked : CheckedOf) (transactions : List Transaction) → IsPublis
     → (bytes others : List ℕ) → AreFirst checked transactions number (sub_machine old).position moves bytes others
     → Feeds between bytes new
     → Follows checked transactions number
-        (position_in checked transactions number (sub_machine old).position moves bytes) (sub_machine new)
+    (position_in checked transactions number (sub_machine old).position moves bytes) (sub_machine new)
 
 -- nothing has to be fed before the first piece
 abbrev pub NothingIsFed : Type 0

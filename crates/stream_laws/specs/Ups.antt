@@ -34,7 +34,7 @@ abbrev pub start_of : CatalogOf Expr → ℕ → ℕ → List ℕ
 start_of catalog subscriber position =
     start_text (subscription_name (slice_get catalog.subscriptions subscriber))
     (map (λ number. publication_name (slice_get catalog.publications number))
-        (publications_taken (slice_get catalog.subscriptions subscriber))) position
+    (publications_taken (slice_get catalog.subscriptions subscriber))) position
 
 abbrev pub up_frame : CheckedOf → ℕ → Up → Frame
 up_frame checked subscriber (Asks position) =

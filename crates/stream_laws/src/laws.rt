@@ -35,11 +35,7 @@ pub fn subscribers_follow_streams()
 /// as more is committed (`longer`).
 ///
 /// PostgreSQL 15, 31.2. Subscription, and 55.4. Streaming Replication Protocol.
-#[tactic(auto, using(
-    crate::proofs::FollowingBytesLemmas::fed_follow,
-    crate::proofs::FollowingBytesLemmas::first_follows,
-    crate::proofs::FollowingBytesLemmas::follows_longer
-))]
+#[tactic(auto, using(crate::proofs::FollowingBytesLemmas::fed_follow, crate::proofs::FollowingBytesLemmas::first_follows, crate::proofs::FollowingBytesLemmas::follows_longer))]
 pub fn fed_subscribers_follow()
     ensures fed { FedFollow }
     ensures nothing { NothingIsFed }

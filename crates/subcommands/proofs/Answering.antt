@@ -15,12 +15,12 @@ module _ (one other : List Datum) where
       → (SayTheSame (filters_of carriers) one other → map (said_by one) carriers ≡ map (said_by other) carriers)
       → SayTheSame (filters_of (record { name = name; filter = filter } ∷ carriers)) one other
       → map (said_by one) (record { name = name; filter = filter } ∷ carriers)
-          ≡ map (said_by other) (record { name = name; filter = filter } ∷ carriers)
+      ≡ map (said_by other) (record { name = name; filter = filter } ∷ carriers)
   one_more name carriers None others same =
       ap (λ lines. said_by one (record { name = name; filter = None }) ∷ lines) (others same)
   one_more name carriers (Some filter) others same =
       let here : meaning filter one ≡ meaning filter other =
-          All-head (λ it. meaning it one ≡ meaning it other) filter (filters_of carriers) same in
+      All-head (λ it. meaning it one ≡ meaning it other) filter (filters_of carriers) same in
       let later = others (All-tail (λ it. meaning it one ≡ meaning it other) filter (filters_of carriers) same) in
       rw (here, later) refl
 

@@ -25,7 +25,7 @@ module _ (wanted : RowOutput) (number : ℕ) (carriers : List CarrierOf) (column
   unreadable_line error None outcome line is known tells same = absurd cc
   unreadable_line error (Some wrong) outcome line is known tells same =
       subst (λ (o : Result (List Datum) Fault). IsLineOf wanted number carriers columns o line) (sym tells)
-          (record { error = error; tells = (refl, is); is = same })
+      (record { error = error; tells = (refl, is); is = same })
 
   invalid_line : (row : List Datum) (wrong : RowFault) (outcome : Result (List Datum) Fault) (line : List ℕ)
       → outcome ≡ Ok row → row_fault columns row ≡ Some wrong

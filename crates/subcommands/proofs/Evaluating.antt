@@ -24,12 +24,12 @@ pub evaluated : (wanted : RowOutput) (input word : List ℕ) (old new : Option (
     → (result : Result Status Failure)
     → WritesRows wanted number carriers table.columns (lines_of cut.rest) old new result
     → Ends (λ lines status. IsEvaluation wanted input word [] lines status)
-        (λ lines. (lines ≡ []) ⊎ IsBegunEvaluation wanted input word lines) (IsFault input word) old new result
+    (λ lines. (lines ≡ []) ⊎ IsBegunEvaluation wanted input word lines) (IsFault input word) old new result
 evaluated wanted input word old new cut catalog number table carriers same parts reads named found result writes =
     let rows = lines_of cut.rest in
     let of_rows : (left lines : List (List ℕ)) (status : Status)
-        → AreFirstLines wanted number carriers table.columns rows left lines status
-        → IsEvaluation wanted input word left lines status =
+    → AreFirstLines wanted number carriers table.columns rows left lines status
+    → IsEvaluation wanted input word left lines status =
     λ left lines status first. record {
       cut = cut;
       catalog = catalog;
@@ -43,11 +43,15 @@ evaluated wanted input word old new cut catalog number table carriers same parts
           first;
     } in
     ends_as (AreFirstLines wanted number carriers table.columns rows [])
-        (λ lines status. IsEvaluation wanted input word [] lines status)
+    (λ lines status. IsEvaluation wanted input word [] lines status)
     (AreSomeLines wanted number carriers table.columns rows)
-        (λ lines. (lines ≡ []) ⊎ IsBegunEvaluation wanted input word lines) (IsFault input word)
+    (λ lines. (lines ≡ []) ⊎ IsBegunEvaluation wanted input word lines) (IsFault input word)
     (of_rows [])
-    (λ lines some. inr (record
-        { row = some.row; later = some.later; status = some.status; first =
-        of_rows (some.row ∷ some.later) lines some.status some.first }))
+    (λ lines some. inr (record {
+      row = some.row;
+      later = some.later;
+      status = some.status;
+      first =
+          of_rows (some.row ∷ some.later) lines some.status some.first;
+    }))
     old new result writes

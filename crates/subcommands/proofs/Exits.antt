@@ -100,7 +100,7 @@ module _ (words : List (List ℕ)) (known : Option (List ℕ)) where
   help_returned text old new failure (Ok told) asks stops is = absurd is
   help_returned text old new failure (Err failed) asks stops is =
       subst (λ (told : Failure). IsEnding words known old new (Err told)) (sym is)
-          (help_stopped text old new failure asks stops)
+      (help_stopped text old new failure asks stops)
 
   -- ---- a failure is reported
 
@@ -122,26 +122,35 @@ module _ (words : List (List ℕ)) (known : Option (List ℕ)) where
   told old mid new before after status end is appends (inl whole) =
       subst (λ (s : Status). IsOutcome words known old new s) (sym whole.0)
       (whole_outcome old new status
-          (record { text = before ++ after; is = is; appends =
-          Appends-trans old mid new before after appends whole.1 }))
+      (record {
+        text = before ++ after;
+        is = is;
+        appends =
+            Appends-trans old mid new before after appends whole.1;
+      }))
   told old mid new before after status end is appends (inr part) =
       subst (λ (s : Status). IsOutcome words known old new s) (sym part.0)
-      (record { status = status; text = before ++ after; is = is; first =
-          first_after before after old mid new appends part.1 })
+      (record {
+        status = status;
+        text = before ++ after;
+        is = is;
+        first =
+            first_after before after old mid new appends part.1;
+      })
 
   memory_told : (old mid new : Option (List ℕ)) (end : Status) → WritesCutShort words known old mid
       → ((end ≡ OutOfMemory) × Appends mid new (text_of (memory_line ∷ []))) ⊎
-          ((end ≡ Output) × WritesFirst (text_of (memory_line ∷ [])) mid new) → IsOutcome words known old new end
+      ((end ≡ Output) × WritesFirst (text_of (memory_line ∷ [])) mid new) → IsOutcome words known old new end
   memory_told old mid new end now writes =
       let text : text_of (now.lines ++ memory_line ∷ []) ≡ text_of now.lines ++ text_of (memory_line ∷ []) =
       text_of-more now.lines memory_line ∙ ap (λ t. text_of now.lines ++ t) (sym (append-nil (ended memory_line))) in
       told old mid new (text_of now.lines) (text_of (memory_line ∷ [])) OutOfMemory end
-          (subst (λ (t : List ℕ). IsOutput words known OutOfMemory t) text (CutShort now.lines now.begun)) now.appends
-          writes
+      (subst (λ (t : List ℕ). IsOutput words known OutOfMemory t) text (CutShort now.lines now.begun)) now.appends
+      writes
 
   told_instead : (old mid new : Option (List ℕ)) (end : Status) → mid ≡ old
       → ((end ≡ OutOfMemory) × Appends mid new (text_of (memory_line ∷ []))) ⊎
-          ((end ≡ Output) × WritesFirst (text_of (memory_line ∷ [])) mid new) → IsOutcome words known old new end
+      ((end ≡ Output) × WritesFirst (text_of (memory_line ∷ [])) mid new) → IsOutcome words known old new end
   told_instead old mid new end e writes =
       memory_told old mid new end (record { lines = []; begun = inl refl; appends = unwritten old mid e }) writes
 
@@ -149,11 +158,11 @@ module _ (words : List (List ℕ)) (known : Option (List ℕ)) where
       → IsEnding words known old mid (Err failure) → IsReport failure mid new end → IsOutcome words known old new end
   reported old mid new (f.CommandLine why) end now (inl report) =
       told old mid new [] (text_of (failure_lines (f.CommandLine why))) CommandLine end (Misworded _ now.0)
-          (unwritten old mid now.1) report
+      (unwritten old mid now.1) report
   reported old mid new (f.CommandLine why) end now (inr report) = told_instead old mid new end now.1 report
   reported old mid new (f.Input fault) end now (inl report) =
       told old mid new [] (text_of (failure_lines (f.Input fault))) Input end (Rejected fault now.0)
-          (unwritten old mid now.1) report
+      (unwritten old mid now.1) report
   reported old mid new (f.Input fault) end now (inr report) = told_instead old mid new end now.1 report
   reported old mid new f.OutOfMemory end now report = memory_told old mid new end now report
   reported old mid new f.Output end now report =
@@ -174,8 +183,13 @@ module _ (words : List (List ℕ)) (known : Option (List ℕ)) where
   flushed old new newer CommandLine now keeps = whole_kept old new newer CommandLine now keeps
   flushed old new newer Input now keeps = whole_kept old new newer Input now keeps
   flushed old new newer Output now keeps =
-      record { status = now.status; text = now.text; is = now.is; first =
-      first_kept now.text old new newer now.first keeps }
+      record {
+        status = now.status;
+        text = now.text;
+        is = now.is;
+        first =
+            first_kept now.text old new newer now.first keeps;
+      }
   flushed old new newer OutOfMemory now keeps = whole_kept old new newer OutOfMemory now keeps
 
   first_of_whole : (old new : Option (List ℕ)) (status : Status) → WritesOutput words known old new status
@@ -204,5 +218,9 @@ module _ (words : List (List ℕ)) (known : Option (List ℕ)) where
   pub ran_unflushed : (old new newer : Option (List ℕ)) (status : Status) (number : ℕ)
       → IsOutcome words known old new status → Keeps new newer → number ≡ 4 → IsRun words known old newer number
   ran_unflushed old new newer status number now keeps e =
-      record { status = Output; numbered = e; outcome =
-      unflushed old newer status (flushed old new newer status now keeps) }
+      record {
+        status = Output;
+        numbered = e;
+        outcome =
+            unflushed old newer status (flushed old new newer status now keeps);
+      }

@@ -138,7 +138,7 @@ module _ (catalog : CatalogOf Expr) where
   stop_returned number all old new newer failure (Ok told) within before here is = absurd is
   stop_returned number all old new newer failure (Err failed) within before here is =
       subst (λ (told : Failure). WritesTables catalog old newer (Err told)) (sym is)
-          (tables_stopped number all old new newer failure within before here)
+      (tables_stopped number all old new newer failure within before here)
 
   pub all_written : (number : ℕ) (all : Bool) (status : Status) (old new : Option (List ℕ))
       → number ≡ length catalog.tables → status ≡ status_for all
@@ -156,12 +156,15 @@ pub made : (input : List ℕ) (old new : Option (List ℕ)) (catalog : CatalogOf
     → (result : Result Status Failure) → WritesTables catalog old new result → EndsRequest Make input old new result
 made input old new catalog whole reads result writes =
     let of_tables : (left : ℕ) (lines : List (List ℕ)) (status : Status) → AreFirstLines catalog left lines status
-        → IsMaking input left lines status =
+    → IsMaking input left lines status =
     λ left lines status first. record { catalog = catalog; whole = whole; reads = reads; tables = first } in
     ends_as (AreFirstLines catalog 0) (IsMaking input 0) (AreSomeLines catalog)
-        (λ lines. (lines ≡ []) ⊎ IsBegunMaking input lines) (IsFault input)
+    (λ lines. (lines ≡ []) ⊎ IsBegunMaking input lines) (IsFault input)
     (of_tables 0)
-    (λ lines some. inr (record
-        { later = some.later; status = some.status; first =
-        of_tables (some.later + 1) lines some.status some.first }))
+    (λ lines some. inr (record {
+      later = some.later;
+      status = some.status;
+      first =
+          of_tables (some.later + 1) lines some.status some.first;
+    }))
     old new result writes

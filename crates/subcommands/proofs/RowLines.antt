@@ -64,7 +64,7 @@ module _ (wanted : RowOutput) (number : ℕ) (carriers : List CarrierOf) (column
       → Appends old newer (text_of (lines ++ line ∷ []))
   appends_line lines line old new newer first second =
       subst (λ (text : List ℕ). Appends old newer text) (sym (text_of-more lines line))
-          (Appends-trans old new newer (text_of lines) (ended line) first second)
+      (Appends-trans old new newer (text_of lines) (ended line) first second)
 
   pub so_far_next : (rows left : List (List ℕ)) (row : List ℕ) (later : List (List ℕ)) (status after : Status)
       (old new newer : Option (List ℕ)) (line : List ℕ) (answered : Bool)
@@ -75,7 +75,7 @@ module _ (wanted : RowOutput) (number : ℕ) (carriers : List CarrierOf) (column
   so_far_next rows left row later status after old new newer line answered left_is now is_line e after_is grows =
       let after_of : after ≡ status_of columns (now.first.first ++ row ∷ []) =
       after_is ∙ ap (λ (s : Status). if answered then s else Refused) now.first.goes_by
-          ∙ status_of-next now.first.first row answered e in
+      ∙ status_of-next now.first.first row answered e in
       record {
         lines = now.lines ++ line ∷ [];
         first = lines_next rows left row later now.lines line status after left_is now.first is_line after_of;
@@ -107,7 +107,7 @@ module _ (wanted : RowOutput) (number : ℕ) (carriers : List CarrierOf) (column
   some_or_whole : (rows later lines : List (List ℕ)) (status : Status)
       → AreFirstLines wanted number carriers columns rows later lines status
       → AreSomeLines wanted number carriers columns rows lines ⊎
-          ((status : Status) × AreFirstLines wanted number carriers columns rows [] lines status)
+      ((status : Status) × AreFirstLines wanted number carriers columns rows [] lines status)
   some_or_whole rows [] lines status now = inr (status, now)
   some_or_whole rows (row ∷ later) lines status now = inl (some_at rows (row ∷ later) row later lines status refl now)
 
@@ -124,7 +124,7 @@ module _ (wanted : RowOutput) (number : ℕ) (carriers : List CarrierOf) (column
       out_of_memory rows left row later status old new newer left_is now stops
   line_stopped rows left row later status old new newer line f.Output left_is now is_line stops =
       let next = lines_next rows left row later now.lines line status
-          (status_of columns (now.first.first ++ row ∷ [])) left_is now.first is_line refl in
+      (status_of columns (now.first.first ++ row ∷ [])) left_is now.first is_line refl in
       record {
         lines = now.lines ++ line ∷ [];
         part = some_or_whole rows later (now.lines ++ line ∷ []) (status_of columns (now.first.first ++ row ∷ [])) next;
@@ -140,7 +140,7 @@ module _ (wanted : RowOutput) (number : ℕ) (carriers : List CarrierOf) (column
   memory_returned rows left row later status old new (Ok told) left_is now is = absurd is
   memory_returned rows left row later status old new (Err failure) left_is now is =
       subst (λ (failed : Failure). WritesRows wanted number carriers columns rows old new (Err failed)) (sym is)
-          (out_of_memory rows left row later status old new new left_is now refl)
+      (out_of_memory rows left row later status old new new left_is now refl)
 
   pub stop_returned : (rows left : List (List ℕ)) (row : List ℕ) (later : List (List ℕ)) (status : Status)
       (old new newer : Option (List ℕ)) (line : List ℕ) (failure : Failure) (result : Result Status Failure)
@@ -151,7 +151,7 @@ module _ (wanted : RowOutput) (number : ℕ) (carriers : List CarrierOf) (column
   stop_returned rows left row later status old new newer line failure (Ok told) left_is now is_line stops is = absurd is
   stop_returned rows left row later status old new newer line failure (Err failed) left_is now is_line stops is =
       subst (λ (told : Failure). WritesRows wanted number carriers columns rows old newer (Err told)) (sym is)
-          (line_stopped rows left row later status old new newer line failure left_is now is_line stops)
+      (line_stopped rows left row later status old new newer line failure left_is now is_line stops)
 
   -- no row is left
   pub all_written : (rows left : List (List ℕ)) (status : Status) (old new : Option (List ℕ)) → left ≡ []

@@ -13,7 +13,7 @@ join-next : (first : List ℕ) (pieces : List (List ℕ)) (said : List ℕ)
 join-next first [] said = refl
 join-next first (next ∷ pieces) said =
     ap (λ line. first ++ 32 ∷ line) (join-next next pieces said)
-        ∙ sym (append_assoc first (32 ∷ join_with_byte 32 (next ∷ pieces)) (32 ∷ said))
+    ∙ sym (append_assoc first (32 ∷ join_with_byte 32 (next ∷ pieces)) (32 ∷ said))
 
 -- the first piece, if there is one, has a byte
 abbrev StartsFull : List (List ℕ) → Type 0
@@ -42,10 +42,10 @@ line_of-append row carriers next =
 pub line_of-next : (row : List Datum) (carriers : List Carrier) (i : ℕ) (next : Carrier) → i < length carriers
     → next ≡ get_or carriers i next
     → line_of row (map carrier_view (take (i + 1) carriers))
-        ≡ with_said (line_of row (map carrier_view (take i carriers))) (said_by row (carrier_view next))
+    ≡ with_said (line_of row (map carrier_view (take i carriers))) (said_by row (carrier_view next))
 line_of-next row carriers i next within e =
     let front = take i carriers in
     let more : take (i + 1) carriers ≡ front ++ next ∷ [] = take_more carriers i next within
-        ∙ ap (λ p. front ++ p ∷ []) (sym e) in
+    ∙ ap (λ p. front ++ p ∷ []) (sym e) in
     ap (λ c. line_of row (map carrier_view c)) more ∙ ap (line_of row) (map-append carrier_view front (next ∷ []))
-        ∙ sym (line_of-append row (map carrier_view front) (carrier_view next))
+    ∙ sym (line_of-append row (map carrier_view front) (carrier_view next))

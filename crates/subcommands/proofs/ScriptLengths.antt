@@ -34,7 +34,7 @@ unfolding next_line counted_word
 next_line-gives tables count ts =
     let room : LineOf → Type 0 = λ line. count < 100000 in
     then-gives (λ (u : StepWord). count < 100000) room (counted_word count ts) _
-        (counted-gives count (step_ahead ts) ts) (λ word ts2 has.
+    (counted-gives count (step_ahead ts) ts) (λ word ts2 has.
     any-gives room (step_body word tables ts2) _ (λ step ts3.
     any-gives room (expect i.Semicolon ts3) _ (λ semicolon ts4. has)))
 
@@ -43,7 +43,7 @@ one_line-gives : (tables : List Table) (lines : List LineOf) (ts : Items) → le
 unfolding one_line
 one_line-gives tables lines ts short =
     then-gives (λ (line : LineOf). length lines < 100000) (λ (more : List LineOf). length more ≤ 100000)
-        (next_line tables (length lines) ts) _ (next_line-gives tables (length lines) ts)
+    (next_line tables (length lines) ts) _ (next_line-gives tables (length lines) ts)
     (λ line ts2 room. omega (arith, length_push lines line))
 
 lines-gives : (tables : List Table) (ts : Items)
@@ -52,7 +52,7 @@ unfolding lines
 lines-gives tables ts =
     let short : List LineOf → Type 0 = λ made. length made ≤ 100000 in
     repeat-gives short (each more_ahead (one_line tables))
-        (each-gives short more_ahead (one_line tables) (one_line-gives tables)) [] ts (omega arith)
+    (each-gives short more_ahead (one_line tables) (one_line-gives tables)) [] ts (omega arith)
 
 without_rest-short : (read : Outcome (List LineOf)) (made : List LineOf)
     → Gives (λ (made : List LineOf). length made ≤ 100000) read → without_rest read ≡ Ok made → length made ≤ 100000

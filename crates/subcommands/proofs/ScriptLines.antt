@@ -26,7 +26,7 @@ pub left_next : (items : List Line) (count : ℕ) (line : Line) → count < leng
     → map line_view (drop count items) ≡ line_view line ∷ map line_view (drop (count + 1) items)
 left_next items count line within is =
     at_drop_more (map line_view) items count line within
-        ∙ ap (λ (l : Line). line_view l ∷ map line_view (drop (count + 1) items)) (sym is)
+    ∙ ap (λ (l : Line). line_view l ∷ map line_view (drop (count + 1) items)) (sym is)
 
 pub none_left : (items : List Line) (count : ℕ) → length items ≤ count → map line_view (drop count items) ≡ []
 none_left items count all = at_drop_all (map line_view) items count all
@@ -81,11 +81,11 @@ module _ (checked : CheckedOf) (most : ℕ) where
       → IsMade now.first now.lines now.world before after now.events step text
   made_after steps left count before after old new step text now makes room =
       let into : MakesInto before after most now.events now.world (count + 1) step.step text =
-          makes most now.events now.world now.is_world in
+      makes most now.events now.world now.is_world in
       let is_step : IsStep checked most (length now.first + 1) step.step now.world into.lines into.next =
       subst (λ (c : CheckedOf). IsStep c most (length now.first + 1) step.step now.world into.lines into.next) now.same
       (subst (λ (clock : ℕ). IsStep (world_checked before) most clock step.step now.world into.lines into.next)
-          (ap (λ n. n + 1) (sym now.counted)) into.is_step) in
+      (ap (λ n. n + 1) (sym now.counted)) into.is_step) in
       record {
         own = into.lines;
         happened = into.happened;
@@ -151,7 +151,7 @@ module _ (checked : CheckedOf) (most : ℕ) where
   memory_first steps old new (Ok told) same is = absurd is
   memory_first steps old new (Err failure) same is =
       subst (λ (failed : Failure). WritesSteps checked most steps old new (Err failed)) (sym is)
-          (record { lines = []; begun = inl refl; appends = unwritten old new same })
+      (record { lines = []; begun = inl refl; appends = unwritten old new same })
 
   -- memory runs out in a step
   pub memory_returned : (steps left : List LineOf) (step : LineOf) (later : List LineOf) (count : ℕ) (code : World)
@@ -161,9 +161,13 @@ module _ (checked : CheckedOf) (most : ℕ) where
   memory_returned steps left step later count code old new (Ok told) left_is now is = absurd is
   memory_returned steps left step later count code old new (Err failure) left_is now is =
       subst (λ (failed : Failure). WritesSteps checked most steps old new (Err failed)) (sym is)
-      (record { lines = now.lines; begun =
-          inr (some_at steps left now.first step later now.lines now.world left_is now.split now.are); appends =
-          now.appends })
+      (record {
+        lines = now.lines;
+        begun =
+            inr (some_at steps left now.first step later now.lines now.world left_is now.split now.are);
+        appends =
+            now.appends;
+      })
 
   step_stopped : (steps left : List LineOf) (step : LineOf) (later : List LineOf) (count : ℕ) (before after : World)
       (old new newer : Option (List ℕ)) (text : List ℕ) (failure : Failure)
@@ -176,10 +180,10 @@ module _ (checked : CheckedOf) (most : ℕ) where
       stops = absurd stops
   step_stopped steps left step later count before after old new newer text f.OutOfMemory left_is room now makes stops
       = record {
-    lines = now.lines;
-    begun = inr (some_at steps left now.first step later now.lines now.world left_is now.split now.are);
-    appends = subst (λ (n : Option (List ℕ)). Appends old n (text_of now.lines)) (sym stops) now.appends;
-  }
+        lines = now.lines;
+        begun = inr (some_at steps left now.first step later now.lines now.world left_is now.split now.are);
+        appends = subst (λ (n : Option (List ℕ)). Appends old n (text_of now.lines)) (sym stops) now.appends;
+      }
   step_stopped steps left step later count before after old new newer text f.Output left_is room now makes stops =
       let made = made_after steps left count before after old new step text now makes room in
       record {
@@ -209,8 +213,15 @@ module _ (checked : CheckedOf) (most : ℕ) where
       → IsSoFar steps left count code old new → WritesSteps checked most steps old new (Ok Done)
   all_written steps left count code old new none now = record {
     lines = now.lines;
-    whole = (refl, record
-        { first = now.first; world = now.world; split = now.split ∙ ap (λ rest. now.first ++ rest) none; are =
-        now.are });
+    whole = (
+      refl,
+      record {
+        first = now.first;
+        world = now.world;
+        split = now.split ∙ ap (λ rest. now.first ++ rest) none;
+        are =
+            now.are;
+      },
+    );
     appends = now.appends;
   }

@@ -55,15 +55,24 @@ module _ (limit : ℕ) (input : List ℕ) (cut : CutTwice) (catalog : CatalogOf 
   certificate_returned old failure (Ok told) is same = absurd same
   certificate_returned old failure (Err failed) is same =
       subst (λ (told : Failure). EndsRequest (Simulate limit) input old old (Err told)) (sym same)
-          (certificate_told old old failure is refl)
+      (certificate_told old old failure is refl)
 
   module _ (certificates : text_fault 1 (lines_of cut.second) ≡ None) where
     script_told : (old new : Option (List ℕ)) (failure : Failure)
         → IsOfScript (script_by catalog.tables cut.third) failure → new ≡ old
         → EndsRequest (Simulate limit) input old new (Err failure)
-    script_told old new (f.Input (i.Script error)) is same =
-        (record { cut = cut; catalog = catalog; parts = parts; reads = reads; certificates = certificates; script =
-            is }, same)
+    script_told old new (f.Input (i.Script error)) is same = (
+      record {
+        cut = cut;
+        catalog = catalog;
+        parts = parts;
+        reads = reads;
+        certificates = certificates;
+        script =
+            is;
+      },
+      same,
+    )
     script_told old new f.OutOfMemory is same = out_of_memory (Simulate limit) input old new same
     script_told old new (f.CommandLine why) is same = absurd is
     script_told old new f.Output is same = absurd is
@@ -79,7 +88,7 @@ module _ (limit : ℕ) (input : List ℕ) (cut : CutTwice) (catalog : CatalogOf 
     script_returned old failure (Ok told) is same = absurd same
     script_returned old failure (Err failed) is same =
         subst (λ (told : Failure). EndsRequest (Simulate limit) input old old (Err told)) (sym same)
-            (script_told old old failure is refl)
+        (script_told old old failure is refl)
 
     -- ---- what is answered
 
@@ -88,8 +97,17 @@ module _ (limit : ℕ) (input : List ℕ) (cut : CutTwice) (catalog : CatalogOf 
           → AreMade limit catalog (trees_in (lines_of cut.second)) steps left lines
           → IsSimulation limit input left lines Done
       made left lines are =
-          record { cut = cut; catalog = catalog; steps = steps; parts = parts; reads = reads; certificates =
-          certificates; script = script; result = are }
+          record {
+            cut = cut;
+            catalog = catalog;
+            steps = steps;
+            parts = parts;
+            reads = reads;
+            certificates =
+                certificates;
+            script = script;
+            result = are;
+          }
 
       -- the steps are made, as far as memory and the writer go
       pub steps_made : (old new : Option (List ℕ)) (result : Result Status Failure) → IsSound catalog
@@ -98,14 +116,14 @@ module _ (limit : ℕ) (input : List ℕ) (cut : CutTwice) (catalog : CatalogOf 
           → EndsRequest (Simulate limit) input old new result
       steps_made old new result sound unrefused writes =
           let of_steps : (left : List LineOf) (lines : List (List ℕ))
-              → AreFirstSteps (checked_by catalog) limit steps left lines → IsSimulation limit input left lines Done =
+          → AreFirstSteps (checked_by catalog) limit steps left lines → IsSimulation limit input left lines Done =
           λ left lines first. made left lines (record { sound = sound; unrefused = unrefused; first = first }) in
           ends_as (AreAllLines (checked_by catalog) limit steps) (IsSimulation limit input [])
-              (AreBegunLines (checked_by catalog) limit steps)
-              (λ lines. (lines ≡ []) ⊎ IsBegunSimulation limit input lines)
+          (AreBegunLines (checked_by catalog) limit steps)
+          (λ lines. (lines ≡ []) ⊎ IsBegunSimulation limit input lines)
           (IsFault input)
           (λ lines status all. subst (λ (s : Status). IsSimulation limit input [] lines s) (sym all.0)
-              (of_steps [] lines all.1))
+          (of_steps [] lines all.1))
           (λ lines begun. elim begun [
             | inl none ↦ inl none
             | inr some ↦ inr (record

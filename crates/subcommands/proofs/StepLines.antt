@@ -66,7 +66,7 @@ module _ (before after : World) (now : ℕ) (step : StepOf) (text : List ℕ) wh
               position_is = λ there.
                   subst (λ (c : CheckedOf). position ≡ w.position_of c into.next subscriber) into.checked
                   (at (subst (λ (c : CheckedOf). subscriber < length c.plan) (sym into.checked) there) most
-                      (events ++ asked) into.next into.is);
+                  (events ++ asked) into.next into.is);
               at_end = λ there. end there most events world stands;
               are = refl;
             }));

@@ -47,25 +47,39 @@ line_ends request input line status old new (Err f.Output) is same appends stops
 
 module _ (input : List ℕ) (cut : Cut) (catalog : CatalogOf Expr) (parts : two_parts input ≡ Some cut)
     (reads : catalog_by as_filter cut.part ≡ Ok catalog) (certificates : text_fault 1 (lines_of cut.rest) ≡ None)
-    where
-  pub accepted : (old new : Option (List ℕ)) (result : Result Status Failure) → IsSound catalog
-      → IsFirstRefusal catalog (trees_in (lines_of cut.rest)) None → IfOk result (λ s. s ≡ Done)
-      → OnOk result (Appends old new (ended (codes "accepted")))
-      → IfErr result (StopsText (ended (codes "accepted")) old new) → EndsRequest Check input old new result
-  accepted old new result sound unrefused same appends stops =
-      line_ends Check input (codes "accepted") Done old new result
-      (record { cut = cut; catalog = catalog; parts = parts; reads = reads; certificates = certificates; verdict =
-          record { sound = sound; unrefused = unrefused; are = refl } })
-      same appends stops
+  where
+    pub accepted : (old new : Option (List ℕ)) (result : Result Status Failure) → IsSound catalog
+        → IsFirstRefusal catalog (trees_in (lines_of cut.rest)) None → IfOk result (λ s. s ≡ Done)
+        → OnOk result (Appends old new (ended (codes "accepted")))
+        → IfErr result (StopsText (ended (codes "accepted")) old new) → EndsRequest Check input old new result
+    accepted old new result sound unrefused same appends stops =
+        line_ends Check input (codes "accepted") Done old new result
+        (record {
+          cut = cut;
+          catalog = catalog;
+          parts = parts;
+          reads = reads;
+          certificates = certificates;
+          verdict =
+              record { sound = sound; unrefused = unrefused; are = refl };
+        })
+        same appends stops
 
-  pub refused : (error : CheckError) (old new : Option (List ℕ)) (result : Result Status Failure)
-      → IsFirstRefusal catalog (trees_in (lines_of cut.rest)) (Some error)
-      → ShardingIsWrong catalog (plan_of catalog) (trees_in (lines_of cut.rest)) error
-      → IfOk result (λ s. s ≡ Refused)
-      → OnOk result (Appends old new (ended (refused_line catalog error)))
-      → IfErr result (StopsText (ended (refused_line catalog error)) old new) → EndsRequest Check input old new result
-  refused error old new result refusal wrong same appends stops =
-      line_ends Check input (refused_line catalog error) Refused old new result
-      (record { cut = cut; catalog = catalog; parts = parts; reads = reads; certificates = certificates; verdict =
-          record { error = error; refusal = refusal; wrong = wrong; are = refl } })
-      same appends stops
+    pub refused : (error : CheckError) (old new : Option (List ℕ)) (result : Result Status Failure)
+        → IsFirstRefusal catalog (trees_in (lines_of cut.rest)) (Some error)
+        → ShardingIsWrong catalog (plan_of catalog) (trees_in (lines_of cut.rest)) error
+        → IfOk result (λ s. s ≡ Refused)
+        → OnOk result (Appends old new (ended (refused_line catalog error)))
+        → IfErr result (StopsText (ended (refused_line catalog error)) old new) → EndsRequest Check input old new result
+    refused error old new result refusal wrong same appends stops =
+        line_ends Check input (refused_line catalog error) Refused old new result
+        (record {
+          cut = cut;
+          catalog = catalog;
+          parts = parts;
+          reads = reads;
+          certificates = certificates;
+          verdict =
+              record { error = error; refusal = refusal; wrong = wrong; are = refl };
+        })
+        same appends stops

@@ -41,15 +41,15 @@ always_of : (setting : Setting) (tables : Tables) (command : Command) (fault : C
     → (others : Tables) → fault_of setting others command ≡ Some fault
 always_of setting tables (Insert table row) fault own is others =
     stays (setting.known table) (setting.fault table row) _ _ fault own
-        (taken_of_rows (is_free setting.keys tables table row)) is
+    (taken_of_rows (is_free setting.keys tables table row)) is
 always_of setting tables (Update table key row) fault own is others =
     stays (setting.known table) (setting.fault table row) _ _ fault own
     (one_of_rows (is_some (named tables table key)) NoSuchRow _ refl
-        (taken_of_rows (is_free setting.keys (without setting.keys tables table (named tables table key)) table row)))
-        is
+    (taken_of_rows (is_free setting.keys (without setting.keys tables table (named tables table key)) table row)))
+    is
 always_of setting tables (Delete table key) fault own is others =
     stays (setting.known table) None _ _ fault own
-        (one_of_rows (is_some (named tables table key)) NoSuchRow None refl none_of_rows) is
+    (one_of_rows (is_some (named tables table key)) NoSuchRow None refl none_of_rows) is
 always_of setting tables (Truncate numbers) fault own is others = is
 
 -- ---- lists
@@ -65,8 +65,14 @@ record HasFrom (setting : Setting) (commands : List Command) (first number : ℕ
 later : (setting : Setting) (command : Command) (commands : List Command) (first number : ℕ) (fault : CommandFault)
     → HasFrom setting commands (first + 1) number fault → HasFrom setting (command ∷ commands) first number fault
 later setting command commands first number fault has =
-    record { place = suc has.place; command = has.command; number_is = omega (arith, has.number_is); at =
-        has.at; always = has.always }
+    record {
+      place = suc has.place;
+      command = has.command;
+      number_is = omega (arith, has.number_is);
+      at =
+          has.at;
+      always = has.always;
+    }
 
 here_or_later : (setting : Setting) (tables : Tables) (command : Command) (commands : List Command) (first number : ℕ)
     (fault : CommandFault) → is_of_command fault ≡ true
@@ -74,15 +80,21 @@ here_or_later : (setting : Setting) (tables : Tables) (command : Command) (comma
     → HasFrom setting commands (first + 1) number fault)
     → (found : Option CommandFault) → fault_of setting tables command ≡ found
     → numbered first found (first_fault setting (applied setting tables command) (first + 1) commands)
-        ≡ Some (number, fault) → HasFrom setting (command ∷ commands) first number fault
+    ≡ Some (number, fault) → HasFrom setting (command ∷ commands) first number fault
 here_or_later setting tables command commands first number fault own rest None found told =
     later setting command commands first number fault (rest told)
 here_or_later setting tables command commands first number fault own rest (Some one) found told =
     let pair : (first, one) ≡ (number, fault) = cc in
     let same : first ≡ number = ap (λ (p : ℕ × CommandFault). p.0) pair in
     let fault_is : one ≡ fault = ap (λ (p : ℕ × CommandFault). p.1) pair in
-    record { place = 0; command = command; number_is = omega (arith, same); at = refl; always =
-        always_of setting tables command fault own (found ∙ ap Some fault_is) }
+    record {
+      place = 0;
+      command = command;
+      number_is = omega (arith, same);
+      at = refl;
+      always =
+          always_of setting tables command fault own (found ∙ ap Some fault_is);
+    }
 
 has_from : (setting : Setting) (tables : Tables) (commands : List Command) (first number : ℕ) (fault : CommandFault)
     → is_of_command fault ≡ true
@@ -96,5 +108,11 @@ has_from setting tables (command ∷ commands) first number fault own is =
 pub faults_of_commands_stay : FaultsOfCommandsStay
 faults_of_commands_stay setting tables commands number fault own is =
     let has : HasFrom setting commands 1 number fault = has_from setting tables commands 1 number fault own is in
-    record { place = has.place; command = has.command; number_is = omega (arith, has.number_is); at = has.at; always =
-        has.always }
+    record {
+      place = has.place;
+      command = has.command;
+      number_is = omega (arith, has.number_is);
+      at = has.at;
+      always =
+          has.always;
+    }

@@ -38,8 +38,12 @@ may_insert : (setting : Setting) (tables : Tables) (table : ℕ) (row : List Dat
 may_insert setting tables table row h =
     let first = no_unless (setting.known table) NoTable _ h in
     let fit = no_unfit (setting.fault table row) _ first.1 in
-    record { known = first.0; fit = fit.0; free =
-        (no_unless (is_free setting.keys tables table row) DuplicateKey None fit.1).0 }
+    record {
+      known = first.0;
+      fit = fit.0;
+      free =
+          (no_unless (is_free setting.keys tables table row) DuplicateKey None fit.1).0;
+    }
 
 -- the row that is named is there, in the place of the key
 pub record IsFound (tables : Tables) (table : ℕ) (key : List Datum) : Type 0 where
@@ -81,7 +85,7 @@ pub delete_finds : (setting : Setting) (tables : Tables) (table : ℕ) (key : Li
 delete_finds setting tables table key h =
     let first = no_unless (setting.known table) NoTable _ h in
     found_by tables table key (named tables table key) refl
-        (no_unless (is_some (named tables table key)) NoSuchRow None first.1).0
+    (no_unless (is_some (named tables table key)) NoSuchRow None first.1).0
 
 -- ---- without the row that a key names
 
@@ -95,10 +99,10 @@ holds_after : (setting : Setting) → HasPrimaryKeys setting.keys → (tables : 
     → (table : ℕ) (key : List Datum) (found : Option (List Datum))
     → named tables table key ≡ found → (other : ℕ) (another : List Datum)
     → holds setting.keys (without setting.keys tables table found) other another
-        ≡ (holds setting.keys tables other another && not ((table == other) && is_row found another))
+    ≡ (holds setting.keys tables other another && not ((table == other) && is_row found another))
 holds_after setting keyed tables stands table key None is other another =
     sym (and_true (holds setting.keys tables other another))
-        ∙ ap (λ b. holds setting.keys tables other another && not b) (sym (and_false (table == other)))
+    ∙ ap (λ b. holds setting.keys tables other another && not b) (sym (and_false (table == other)))
 holds_after setting keyed tables stands table key (Some row) is other another =
     holds_without setting.keys keyed tables stands table 0 key row is other another
 
@@ -112,9 +116,9 @@ rows_stand setting keyed tables (Insert table row) h stands other another =
     holds_with setting.keys keyed tables table row (may_insert setting tables table row h).free other another
 rows_stand setting keyed tables (Update table key row) h stands other another =
     holds_with setting.keys keyed (without setting.keys tables table (named tables table key)) table row
-        (may_update setting tables table key row h).free other another
+    (may_update setting tables table key row h).free other another
     ∙ ap (λ b. is_this table row other another || b)
-        (holds_after setting keyed tables stands table key (named tables table key) refl other another)
+    (holds_after setting keyed tables stands table key (named tables table key) refl other another)
 rows_stand setting keyed tables (Delete table key) h stands other another =
     holds_after setting keyed tables stands table key (named tables table key) refl other another
 rows_stand setting keyed tables (Truncate numbers) h stands other another =
@@ -129,7 +133,7 @@ keeps_keyed setting tables (Insert table row) h stands =
 keeps_keyed setting tables (Update table key row) h stands =
     put_keeps setting.keys (without setting.keys tables table (named tables table key)) table row
     (without_keeps setting tables table key (named tables table key) refl stands)
-        (may_update setting tables table key row h).free
+    (may_update setting tables table key row h).free
 keeps_keyed setting tables (Delete table key) h stands =
     without_keeps setting tables table key (named tables table key) refl stands
 keeps_keyed setting tables (Truncate numbers) h stands = emptied_keeps setting.keys tables numbers stands
@@ -145,9 +149,9 @@ pub stay_keyed : (setting : Setting) (tables : Tables) (number : ℕ) (commands 
 stay_keyed setting tables number [] h stands = stands
 stay_keyed setting tables number (command ∷ commands) h stands =
     let both = not_numbered number (fault_of setting tables command)
-        (first_fault setting (applied setting tables command) (number + 1) commands) h in
+    (first_fault setting (applied setting tables command) (number + 1) commands) h in
     stay_keyed setting (applied setting tables command) (number + 1) commands both.1
-        (keeps_keyed setting tables command both.0 stands)
+    (keeps_keyed setting tables command both.0 stands)
 
 -- ---- rows fit
 
@@ -183,10 +187,10 @@ came_from setting tables (Insert table row) h other another after fit there =
 came_from setting tables (Update table key row) h other another after fit there =
     let may = may_update setting tables table key row h in
     either (is_this table row other another)
-        (holds setting.keys tables other another && not (is_named tables table key other another)) after
+    (holds setting.keys tables other another && not (is_named tables table key other another)) after
     (λ new. fit (this_fits setting table row other another new (fits_by setting table row may.known may.fit)))
     (λ old. there (left_of (holds setting.keys tables other another) (not (is_named tables table key other another))
-        old))
+    old))
 came_from setting tables (Delete table key) h other another after fit there =
     there (left_of (holds setting.keys tables other another) (not (is_named tables table key other another)) after)
 came_from setting tables (Truncate numbers) h other another after fit there =
@@ -198,7 +202,7 @@ pub is_new_or_old : {P : Type 0} (setting : Setting) → HasPrimaryKeys setting.
     → (fits setting table row ≡ true → P) → (holds setting.keys tables table row ≡ true → P) → P
 is_new_or_old setting keyed tables command h stands table row after fit there =
     came_from setting tables command h table row
-        (sym (rows_stand setting keyed tables command h stands table row) ∙ after) fit there
+    (sym (rows_stand setting keyed tables command h stands table row) ∙ after) fit there
 
 pub stay_fit : (setting : Setting) → HasPrimaryKeys setting.keys
     → (tables : Tables) (number : ℕ) (commands : List Command) → first_fault setting tables number commands ≡ None
@@ -206,11 +210,11 @@ pub stay_fit : (setting : Setting) → HasPrimaryKeys setting.keys
 stay_fit setting keyed tables number [] h stands fit = fit
 stay_fit setting keyed tables number (command ∷ commands) h stands fit =
     let both = not_numbered number (fault_of setting tables command)
-        (first_fault setting (applied setting tables command) (number + 1) commands) h in
+    (first_fault setting (applied setting tables command) (number + 1) commands) h in
     stay_fit setting keyed (applied setting tables command) (number + 1) commands both.1
-        (keeps_keyed setting tables command both.0 stands)
+    (keeps_keyed setting tables command both.0 stands)
     (λ table row there. is_new_or_old setting keyed tables command both.0 stands table row there (λ new. new)
-        (λ old. fit table row old))
+    (λ old. fit table row old))
 
 -- ---- rows stay apart
 
@@ -220,7 +224,7 @@ pub stay_apart : (setting : Setting) → KeepsApart setting → (tables : Tables
 stay_apart setting keeps tables number [] h stands apart = apart
 stay_apart setting keeps tables number (command ∷ commands) h stands apart =
     let both = not_numbered number (fault_of setting tables command)
-        (first_fault setting (applied setting tables command) (number + 1) commands) h in
+    (first_fault setting (applied setting tables command) (number + 1) commands) h in
     stay_apart setting keeps (applied setting tables command) (number + 1) commands both.1
     (keeps_keyed setting tables command both.0 stands) (keeps.kept tables command both.0 stands apart)
 
@@ -231,8 +235,11 @@ none_held setting table row h = let at = (held setting.keys no_rows table row h)
 
 pub begins_well : (setting : Setting) → BeginsWell setting
 begins_well setting = record {
-  keyed = record { keyed = λ table number value row h. absurd cc; whole =
-      λ table number other value another row h k. absurd cc };
+  keyed = record {
+    keyed = λ table number value row h. absurd cc;
+    whole =
+        λ table number other value another row h k. absurd cc;
+  };
   fit = λ table row h. absurd (none_held setting table row h);
   apart = λ table one other h k e. absurd (none_held setting table one h);
 }

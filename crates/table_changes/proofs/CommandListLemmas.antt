@@ -39,7 +39,7 @@ pub free_from_alike : (one other : ℕ → List Datum → Option (List Datum))
 free_from_alike one other same number [] row = refl
 free_from_alike one other same number (key ∷ keys) row =
     ap (λ found. is_none found && is_free_from one (number + 1) keys row)
-        (found_alike (one number) (other number) (same number) (key row))
+    (found_alike (one number) (other number) (same number) (key row))
     ∙ ap (λ b. is_none (found_at (other number) (key row)) && b) (free_from_alike one other same (number + 1) keys row)
 
 free_alike : (keys : Keys) (one other : Tables) → SameTables one other → (table : ℕ) (row : List Datum)
@@ -62,7 +62,7 @@ unnamed_alike : (keys : Keys) (one other : Tables) → SameTables one other → 
     → SameTables (without keys one table (named one table key)) (without keys other table (named other table key))
 unnamed_alike keys one other same table key =
     subst (λ found. SameTables (without keys one table (named one table key)) (without keys other table found))
-        (same table 0 key)
+    (same table 0 key)
     (without_alike keys one other same table (named one table key))
 
 emptied_alike : (one other : Tables) → SameTables one other → (numbers : List ℕ)
@@ -74,18 +74,18 @@ fault_alike : (setting : Setting) (one other : Tables) → SameTables one other 
     → fault_of setting one command ≡ fault_of setting other command
 fault_alike setting one other same (Insert table row) =
     ap (λ b. unless (setting.known table) NoTable
-        (unless_unfit (setting.fault table row) (unless b DuplicateKey None)))
-        (free_alike setting.keys one other same table row)
+    (unless_unfit (setting.fault table row) (unless b DuplicateKey None)))
+    (free_alike setting.keys one other same table row)
 fault_alike setting one other same (Update table key row) =
     ap (λ found. unless (setting.known table) NoTable
-        (unless_unfit (setting.fault table row) (unless (is_some found) NoSuchRow
+    (unless_unfit (setting.fault table row) (unless (is_some found) NoSuchRow
     (unless (is_free setting.keys (without setting.keys one table (named one table key)) table row) DuplicateKey
-        None)))) (same table 0 key)
+    None)))) (same table 0 key)
     ∙ ap (λ b. unless (setting.known table) NoTable
-        (unless_unfit (setting.fault table row)
-        (unless (is_some (named other table key)) NoSuchRow (unless b DuplicateKey None))))
+    (unless_unfit (setting.fault table row)
+    (unless (is_some (named other table key)) NoSuchRow (unless b DuplicateKey None))))
     (free_alike setting.keys (without setting.keys one table (named one table key))
-        (without setting.keys other table (named other table key))
+    (without setting.keys other table (named other table key))
     (unnamed_alike setting.keys one other same table key) table row)
 fault_alike setting one other same (Delete table key) =
     ap (λ found. unless (setting.known table) NoTable (unless (is_some found) NoSuchRow None)) (same table 0 key)
@@ -96,7 +96,7 @@ applied_alike : (setting : Setting) (one other : Tables) → SameTables one othe
 applied_alike setting one other same (Insert table row) = put_alike setting.keys one other same table row (Some row)
 applied_alike setting one other same (Update table key row) =
     put_alike setting.keys (without setting.keys one table (named one table key))
-        (without setting.keys other table (named other table key))
+    (without setting.keys other table (named other table key))
     (unnamed_alike setting.keys one other same table key) table row (Some row)
 applied_alike setting one other same (Delete table key) = unnamed_alike setting.keys one other same table key
 applied_alike setting one other same (Truncate numbers) = emptied_alike one other same numbers
@@ -115,7 +115,7 @@ seen_alike : (setting : Setting) (subscriber : ℕ) (one other : Tables) → Sam
 seen_alike setting subscriber one other same (Insert table row) = refl
 seen_alike setting subscriber one other same (Update table key row) =
     ap (λ found. seen_rows table (passing (setting.passes subscriber table) found)
-        (passing (setting.passes subscriber table) (Some row))) (same table 0 key)
+    (passing (setting.passes subscriber table) (Some row))) (same table 0 key)
 seen_alike setting subscriber one other same (Delete table key) =
     ap (λ found. seen_rows table (passing (setting.passes subscriber table) found) None) (same table 0 key)
 seen_alike setting subscriber one other same (Truncate numbers) = refl
@@ -127,27 +127,27 @@ first_alike : (setting : Setting) (one other : Tables) → SameTables one other 
 first_alike setting one other same number [] = refl
 first_alike setting one other same number (command ∷ commands) =
     ap (λ fault. numbered number fault (first_fault setting (applied setting one command) (number + 1) commands))
-        (fault_alike setting one other same command)
+    (fault_alike setting one other same command)
     ∙ ap (numbered number (fault_of setting other command))
     (first_alike setting (applied setting one command) (applied setting other command)
-        (applied_alike setting one other same command) (number + 1) commands)
+    (applied_alike setting one other same command) (number + 1) commands)
 
 all_alike : (setting : Setting) (one other : Tables) → SameTables one other → (commands : List Command)
     → SameTables (all_applied setting one commands) (all_applied setting other commands)
 all_alike setting one other same [] = same
 all_alike setting one other same (command ∷ commands) =
     all_alike setting (applied setting one command) (applied setting other command)
-        (applied_alike setting one other same command) commands
+    (applied_alike setting one other same command) commands
 
 record_alike : (setting : Setting) (one other : Tables) → SameTables one other → (commands : List Command)
     → record_of setting one commands ≡ record_of setting other commands
 record_alike setting one other same [] = refl
 record_alike setting one other same (command ∷ commands) =
     ap (λ change. change ∷ record_of setting (applied setting one command) commands)
-        (change_alike setting one other same command)
+    (change_alike setting one other same command)
     ∙ ap (λ changes. change_of setting other command ∷ changes)
     (record_alike setting (applied setting one command) (applied setting other command)
-        (applied_alike setting one other same command) commands)
+    (applied_alike setting one other same command) commands)
 
 each_alike : (setting : Setting) (subscriber : ℕ) (one other : Tables) → SameTables one other
     → (commands : List Command)
@@ -155,10 +155,10 @@ each_alike : (setting : Setting) (subscriber : ℕ) (one other : Tables) → Sam
 each_alike setting subscriber one other same [] = refl
 each_alike setting subscriber one other same (command ∷ commands) =
     ap (λ item. item ∷ seen_each setting subscriber (applied setting one command) commands)
-        (seen_alike setting subscriber one other same command)
+    (seen_alike setting subscriber one other same command)
     ∙ ap (λ items. seen_of setting subscriber other command ∷ items)
     (each_alike setting subscriber (applied setting one command) (applied setting other command)
-        (applied_alike setting one other same command) commands)
+    (applied_alike setting one other same command) commands)
 
 pub are_alike : (setting : Setting) (one other : Tables) → SameTables one other → AreAlike setting one other
 are_alike setting one other same = record {
@@ -189,17 +189,17 @@ none_before number (Some fault) next h = absurd cc
 pub fault_of_one_more : (setting : Setting) (tables : Tables) (number : ℕ) (commands : List Command)
     (command : Command) → first_fault setting tables number commands ≡ None
     → first_fault setting tables number (commands ++ command ∷ [])
-        ≡ numbered (number + length commands) (fault_of setting (all_applied setting tables commands) command) None
+    ≡ numbered (number + length commands) (fault_of setting (all_applied setting tables commands) command) None
 fault_of_one_more setting tables number [] command h =
     ap (λ n. numbered n (fault_of setting tables command) None) (no_more number)
 fault_of_one_more setting tables number (first ∷ commands) command h =
     let both = none_before number (fault_of setting tables first)
-        (first_fault setting (applied setting tables first) (number + 1) commands) h in
+    (first_fault setting (applied setting tables first) (number + 1) commands) h in
     ap (λ fault. numbered number fault
-        (first_fault setting (applied setting tables first) (number + 1) (commands ++ command ∷ []))) both.0
+    (first_fault setting (applied setting tables first) (number + 1) (commands ++ command ∷ []))) both.0
     ∙ fault_of_one_more setting (applied setting tables first) (number + 1) commands command both.1
     ∙ ap (λ n. numbered n (fault_of setting (all_applied setting (applied setting tables first) commands) command)
-        None) (next_number number (length commands))
+    None) (next_number number (length commands))
 
 later_fault : (number : ℕ) (fault : Option CommandFault) (next longer : Option (ℕ × CommandFault))
     (found : ℕ × CommandFault) → (next ≡ Some found → longer ≡ Some found)
@@ -213,21 +213,21 @@ pub first_fault_stays : (setting : Setting) (tables : Tables) (number : ℕ) (co
 first_fault_stays setting tables number [] more fault h = absurd cc
 first_fault_stays setting tables number (first ∷ commands) more fault h =
     later_fault number (fault_of setting tables first)
-        (first_fault setting (applied setting tables first) (number + 1) commands)
+    (first_fault setting (applied setting tables first) (number + 1) commands)
     (first_fault setting (applied setting tables first) (number + 1) (commands ++ more)) fault
     (λ later. first_fault_stays setting (applied setting tables first) (number + 1) commands more fault later) h
 
 pub left_by_one_more : (setting : Setting) (tables : Tables) (commands : List Command) (command : Command)
     → all_applied setting tables (commands ++ command ∷ [])
-        ≡ applied setting (all_applied setting tables commands) command
+    ≡ applied setting (all_applied setting tables commands) command
 left_by_one_more setting tables [] command = refl
 left_by_one_more setting tables (first ∷ commands) command =
     left_by_one_more setting (applied setting tables first) commands command
 
 pub record_of_one_more : (setting : Setting) (tables : Tables) (commands : List Command) (command : Command)
     → record_of setting tables (commands ++ command ∷ []) ≡ record_of setting tables commands
-        ++ change_of setting (all_applied setting tables commands) command ∷ []
+    ++ change_of setting (all_applied setting tables commands) command ∷ []
 record_of_one_more setting tables [] command = refl
 record_of_one_more setting tables (first ∷ commands) command =
     ap (λ changes. change_of setting tables first ∷ changes)
-        (record_of_one_more setting (applied setting tables first) commands command)
+    (record_of_one_more setting (applied setting tables first) commands command)

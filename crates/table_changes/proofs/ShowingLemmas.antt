@@ -64,15 +64,15 @@ gone_as setting subscriber table old part false h = refl
 
 shows_gone : (setting : Setting) → Covered setting → (subscriber table : ℕ) (old : List Datum)
     → option_map (stands_for table (setting.carries subscriber))
-        (out_gone (setting.passes subscriber table) (part_of setting table old None))
+    (out_gone (setting.passes subscriber table) (part_of setting table old None))
     ≡ option_map (as_recorded setting) (seen_rows table (passing (setting.passes subscriber table) (Some old)) None)
 shows_gone setting covered subscriber table old =
     let tells = gone_by setting covered table old (setting.recorded table) refl in
     ap (λ p. option_map (stands_for table (setting.carries subscriber))
-        (out_gone (setting.passes subscriber table) p)) tells.is
+    (out_gone (setting.passes subscriber table) p)) tells.is
     ∙ ap (option_map (stands_for table (setting.carries subscriber)))
     (out_gone_by (setting.passes subscriber table) tells.part (setting.passes subscriber table old)
-        (tells.alike subscriber))
+    (tells.alike subscriber))
     ∙ gone_as setting subscriber table old tells.part (setting.passes subscriber table old) tells.is
 
 -- ---- a row that another replaces
@@ -90,7 +90,7 @@ by_columns : (setting : Setting) → Covered setting → (table : ℕ) (old new 
     → same_row (setting.identity table old) (setting.identity table new) ≡ b → TellsOld setting table old new
 by_columns setting covered table old new h true same =
     let one : setting.identity table old ≡ setting.identity table new =
-        equal_from_same_row (setting.identity table old) (setting.identity table new) same in
+    equal_from_same_row (setting.identity table old) (setting.identity table new) same in
     record {
       part = None;
       is = ap (λ as_it. part_by as_it (setting.identity table) (setting.blanked table) old (Some new)) h
@@ -133,15 +133,15 @@ replaced_as setting subscriber table old new part true true h gone = ap (λ p. S
 shows_replaced : (setting : Setting) → Covered setting → (subscriber table : ℕ) (old new : List Datum)
     → got setting subscriber (r.Update table (part_of setting table old (Some new)) new)
     ≡ option_map (as_recorded setting)
-        (seen_rows table (passing (setting.passes subscriber table) (Some old))
-        (passing (setting.passes subscriber table) (Some new)))
+    (seen_rows table (passing (setting.passes subscriber table) (Some old))
+    (passing (setting.passes subscriber table) (Some new)))
 shows_replaced setting covered subscriber table old new =
     let tells = old_by setting covered table old new (setting.recorded table) refl in
     ap (λ p. got setting subscriber (r.Update table p new)) tells.is
     ∙ ap (λ a. option_map (stands_for table (setting.carries subscriber))
-        (out_by a (setting.passes subscriber table new) tells.part new)) (tells.alike subscriber)
+    (out_by a (setting.passes subscriber table new) tells.part new)) (tells.alike subscriber)
     ∙ replaced_as setting subscriber table old new tells.part (setting.passes subscriber table old)
-        (setting.passes subscriber table new) tells.is
+    (setting.passes subscriber table new) tells.is
     (λ passes stays. tells.gone subscriber passes stays)
 
 -- ---- tables that are emptied
@@ -155,13 +155,13 @@ seen_some carries (number ∷ numbers) = by_test (carries number) (λ h. rw h re
 emptied_as : (setting : Setting) (subscriber : ℕ) (numbers : List ℕ) (b : Bool)
     → option_map (stands_for 0 (setting.carries subscriber)) (if b then Some (o.Truncate numbers) else None)
     ≡ option_map (as_recorded setting)
-        (if b then Some (s.Truncate (filter (setting.carries subscriber) numbers)) else None)
+    (if b then Some (s.Truncate (filter (setting.carries subscriber) numbers)) else None)
 emptied_as setting subscriber numbers true = refl
 emptied_as setting subscriber numbers false = refl
 
 shows_emptied : (setting : Setting) (subscriber : ℕ) (numbers : List ℕ)
     → got setting subscriber (r.Truncate numbers)
-        ≡ option_map (as_recorded setting) (seen_tables (filter (setting.carries subscriber) numbers))
+    ≡ option_map (as_recorded setting) (seen_tables (filter (setting.carries subscriber) numbers))
 shows_emptied setting subscriber numbers =
     emptied_as setting subscriber numbers (list_any (setting.carries subscriber) numbers)
     ∙ ap (option_map (as_recorded setting)) (sym (seen_some (setting.carries subscriber) numbers))
@@ -171,14 +171,14 @@ shows_emptied setting subscriber numbers =
 shows : (setting : Setting) → Covered setting → (subscriber : ℕ) (tables : Tables) (command : Command)
     → fault_of setting tables command ≡ None
     → got setting subscriber (change_of setting tables command)
-        ≡ option_map (as_recorded setting) (seen_of setting subscriber tables command)
+    ≡ option_map (as_recorded setting) (seen_of setting subscriber tables command)
 shows setting covered subscriber tables (Insert table row) h =
     shows_new setting subscriber table row (setting.passes subscriber table row)
 shows setting covered subscriber tables (Update table key row) h =
     subst (λ found. got setting subscriber (r.Update table (part_found setting table found (Some row)) row)
     ≡ option_map (as_recorded setting)
-        (seen_rows table (passing (setting.passes subscriber table) found)
-        (passing (setting.passes subscriber table) (Some row))))
+    (seen_rows table (passing (setting.passes subscriber table) found)
+    (passing (setting.passes subscriber table) (Some row))))
     (sym (update_finds setting tables table key row h).there)
     (shows_replaced setting covered subscriber table (update_finds setting tables table key row h).row row)
 shows setting covered subscriber tables (Delete table key) h =
@@ -193,13 +193,13 @@ pub record_shows : (setting : Setting) → Covered setting
     → (subscriber : ℕ) (tables : Tables) (number : ℕ) (commands : List Command)
     → first_fault setting tables number commands ≡ None
     → map (got setting subscriber) (record_of setting tables commands)
-        ≡ map (option_map (as_recorded setting)) (seen_each setting subscriber tables commands)
+    ≡ map (option_map (as_recorded setting)) (seen_each setting subscriber tables commands)
 record_shows setting covered subscriber tables number [] h = refl
 record_shows setting covered subscriber tables number (command ∷ commands) h =
     let both = not_numbered number (fault_of setting tables command)
-        (first_fault setting (applied setting tables command) (number + 1) commands) h in
+    (first_fault setting (applied setting tables command) (number + 1) commands) h in
     ap (λ change. change ∷ map (got setting subscriber) (record_of setting (applied setting tables command) commands))
-        (shows setting covered subscriber tables command both.0)
+    (shows setting covered subscriber tables command both.0)
     ∙ ap (λ changes. option_map (as_recorded setting) (seen_of setting subscriber tables command) ∷ changes)
     (record_shows setting covered subscriber (applied setting tables command) (number + 1) commands both.1)
 
@@ -215,7 +215,7 @@ somes_of_mapped : {A B : Type 0} (f : A → B) (founds : List (Option A))
 somes_of_mapped f [] = refl
 somes_of_mapped f (found ∷ founds) =
     ap (cons_option (option_map f found)) (somes_of_mapped f founds)
-        ∙ cons_same f found (filter_map (λ found. found) founds)
+    ∙ cons_same f found (filter_map (λ found. found) founds)
 
 somes_of : {A B : Type 0} (f : A → Option B) (xs : List A) → filter_map f xs ≡ filter_map (λ found. found) (map f xs)
 somes_of f [] = refl
@@ -225,7 +225,7 @@ pub record_shows_all : (setting : Setting) → Covered setting
     → (subscriber : ℕ) (tables : Tables) (number : ℕ) (commands : List Command)
     → first_fault setting tables number commands ≡ None
     → filter_map (got setting subscriber) (record_of setting tables commands)
-        ≡ map (as_recorded setting) (seen setting subscriber tables commands)
+    ≡ map (as_recorded setting) (seen setting subscriber tables commands)
 record_shows_all setting covered subscriber tables number commands h =
     somes_of (got setting subscriber) (record_of setting tables commands)
     ∙ ap (filter_map (λ found. found)) (record_shows setting covered subscriber tables number commands h)

@@ -42,16 +42,19 @@ own_is : (keys : Keys) (table : ℕ) (row : List Datum) (other number : ℕ) (va
 own_is keys table row other number value h =
     let both = both_true (table == other) (is_row (key_at keys table number row) value) h in
     let same : table ≡ other = (unsigned_Decides table other).0 both.0 in
-    record { table_is = same; value_is =
-        subst (λ t. key_at keys t number row ≡ Some value) same
-        (row_found (key_at keys table number row) value both.1) }
+    record {
+      table_is = same;
+      value_is =
+          subst (λ t. key_at keys t number row ≡ Some value) same
+          (row_found (key_at keys table number row) value both.1);
+    }
 
 own_here : (keys : Keys) (table number : ℕ) (row value : List Datum) → key_at keys table number row ≡ Some value
     → is_own keys table row table number value ≡ true
 own_here keys table number row value h =
     let tables : (table == table) ≡ true = same_table table in
     let values : is_row (key_at keys table number row) value ≡ true =
-        found_row (key_at keys table number row) value h in
+    found_row (key_at keys table number row) value h in
     rw (tables, values) refl
 
 own_of : (keys : Keys) (table : ℕ) (row : List Datum) (other number : ℕ) (value : List Datum) → table ≡ other
@@ -88,9 +91,9 @@ nothing_at : (place : List Datum → Option (List Datum)) (found : Option (List 
 nothing_at place None value is h = absurd cc
 nothing_at place (Some found) value is h =
     subst (λ v. place v ≡ None) (some_is found value is) (none_is (place found) h) where
-  none_is : (o : Option (List Datum)) → is_none o ≡ true → o ≡ None
-  none_is None k = refl
-  none_is (Some x) k = absurd cc
+      none_is : (o : Option (List Datum)) → is_none o ≡ true → o ≡ None
+      none_is None k = refl
+      none_is (Some x) k = absurd cc
 
 free_from : (places : ℕ → List Datum → Option (List Datum)) (number : ℕ) (keys : List UniqueKey) (row : List Datum)
     → is_free_from places number keys row ≡ true
@@ -102,13 +105,13 @@ free_from places number (key ∷ keys) row h zero value is =
 free_from places number (key ∷ keys) row h (suc k) value is =
     let both = both_true (is_none (found_at (places number) (key row))) (is_free_from places (number + 1) keys row) h in
     subst (λ n. places n value ≡ None) (sym (at_next number k))
-        (free_from places (number + 1) keys row both.1 k value is)
+    (free_from places (number + 1) keys row both.1 k value is)
 
 pub free_place : (keys : Keys) (tables : Tables) (table : ℕ) (row : List Datum) → is_free keys tables table row ≡ true
     → (number : ℕ) (value : List Datum) → key_at keys table number row ≡ Some value → tables table number value ≡ None
 free_place keys tables table row h number value is =
     subst (λ n. tables table n value ≡ None) (zero_more number)
-        (free_from (tables table) 0 (keys table) row h number value is)
+    (free_from (tables table) 0 (keys table) row h number value is)
 
 -- ---- rows stay where they belong
 
@@ -118,27 +121,27 @@ put_keeps keys tables table row stands free = record {
   keyed = λ other number value found h. by_test (is_own keys table row other number value)
       (λ own.
       let same : row ≡ found =
-          some_is row found (sym (put_own keys tables table row (Some row) other number value own) ∙ h) in
+      some_is row found (sym (put_own keys tables table row (Some row) other number value own) ∙ h) in
       subst (λ r. key_at keys other number r ≡ Some value) same (own_is keys table row other number value own).value_is)
       (λ elsewhere. stands.keyed other number value found
-          (sym (put_elsewhere keys tables table row (Some row) other number value elsewhere) ∙ h));
+      (sym (put_elsewhere keys tables table row (Some row) other number value elsewhere) ∙ h));
   whole = λ other number next value another found h k. by_test (is_own keys table row other number value)
       (λ own.
       let same : row ≡ found =
-          some_is row found (sym (put_own keys tables table row (Some row) other number value own) ∙ h) in
+      some_is row found (sym (put_own keys tables table row (Some row) other number value own) ∙ h) in
       let next_own = own_of keys table row other next another (own_is keys table row other number value own).table_is
-          (subst (λ r. key_at keys other next r ≡ Some another) (sym same) k) in
+      (subst (λ r. key_at keys other next r ≡ Some another) (sym same) k) in
       put_own keys tables table row (Some row) other next another next_own ∙ ap Some same)
       (λ elsewhere.
       let before : tables other next another ≡ Some found =
       stands.whole other number next value another found
-          (sym (put_elsewhere keys tables table row (Some row) other number value elsewhere) ∙ h) k in
+      (sym (put_elsewhere keys tables table row (Some row) other number value elsewhere) ∙ h) k in
       by_test (is_own keys table row other next another)
       (λ own. absurd (
       let place = own_is keys table row other next another own in
       let none : tables other next another ≡ None =
       free_place keys tables other row (subst (λ t. is_free keys tables t row ≡ true) place.table_is free) next
-          another place.value_is in
+      another place.value_is in
       cc))
       (λ beside. put_elsewhere keys tables table row (Some row) other next another beside ∙ before));
 }
@@ -150,23 +153,23 @@ take_keeps keys tables table place at row stands there = record {
   keyed = λ other number value found h. by_test (is_own keys table row other number value)
       (λ own. absurd (let none = put_own keys tables table row None other number value own in cc))
       (λ elsewhere. stands.keyed other number value found
-          (sym (put_elsewhere keys tables table row None other number value elsewhere) ∙ h));
+      (sym (put_elsewhere keys tables table row None other number value elsewhere) ∙ h));
   whole = λ other number next value another found h k. by_test (is_own keys table row other number value)
       (λ own. absurd (let none = put_own keys tables table row None other number value own in cc))
       (λ elsewhere.
       let here : tables other number value ≡ Some found =
-          sym (put_elsewhere keys tables table row None other number value elsewhere) ∙ h in
+      sym (put_elsewhere keys tables table row None other number value elsewhere) ∙ h in
       let before : tables other next another ≡ Some found = stands.whole other number next value another found here k in
       by_test (is_own keys table row other next another)
       (λ own. absurd (
       let next_place = own_is keys table row other next another own in
       let moved : tables other place at ≡ Some row =
-          subst (λ t. tables t place at ≡ Some row) next_place.table_is there in
+      subst (λ t. tables t place at ≡ Some row) next_place.table_is there in
       let same : row ≡ found =
-          some_is row found (sym (stands.whole other place next at another row moved next_place.value_is) ∙ before) in
+      some_is row found (sym (stands.whole other place next at another row moved next_place.value_is) ∙ before) in
       let key : key_at keys other number row ≡ Some value =
-          subst (λ r. key_at keys other number r ≡ Some value) (sym same) (stands.keyed other number value found here)
-          in
+      subst (λ r. key_at keys other number r ≡ Some value) (sym same) (stands.keyed other number value found here)
+      in
       let itself = own_of keys table row other number value next_place.table_is key in
       cc))
       (λ beside. put_elsewhere keys tables table row None other next another beside ∙ before));
@@ -187,12 +190,12 @@ emptied_keeps keys tables numbers stands = record {
   keyed = λ other number value found h. by_test (list_any (λ table. table == other) numbers)
       (λ named. absurd (let none = emptied_here tables numbers other number value named in cc))
       (λ elsewhere. stands.keyed other number value found
-          (sym (emptied_elsewhere tables numbers other number value elsewhere) ∙ h));
+      (sym (emptied_elsewhere tables numbers other number value elsewhere) ∙ h));
   whole = λ other number next value another found h k. by_test (list_any (λ table. table == other) numbers)
       (λ named. absurd (let none = emptied_here tables numbers other number value named in cc))
       (λ elsewhere. emptied_elsewhere tables numbers other next another elsewhere
       ∙ stands.whole other number next value another found
-          (sym (emptied_elsewhere tables numbers other number value elsewhere) ∙ h) k);
+      (sym (emptied_elsewhere tables numbers other number value elsewhere) ∙ h) k);
 }
 
 -- ---- rows that are there
@@ -221,7 +224,7 @@ one_row keys tables stands table number one other value h k first second =
     let at = held keys tables table one h in
     let by = held keys tables table other k in
     some_is one other (sym (stands.whole table 0 number at.value value one at.there first)
-        ∙ stands.whole table 0 number by.value value other by.there second)
+    ∙ stands.whole table 0 number by.value value other by.there second)
 
 -- ---- which rows are there
 
@@ -250,7 +253,7 @@ this_own keys table row other another value key h = by_test (is_this table row o
     let both = both_true (table == other) (same_row row another) same in
     let rows : row ≡ another = equal_from_same_row row another both.1 in
     let own = own_of keys table row other 0 value ((unsigned_Decides table other).0 both.0)
-        (subst (λ r. key_at keys other 0 r ≡ Some value) (sym rows) key) in
+    (subst (λ r. key_at keys other 0 r ≡ Some value) (sym rows) key) in
     cc))
     (λ differs. differs)
 
@@ -259,7 +262,7 @@ pub holds_with : (keys : Keys) → HasPrimaryKeys keys → (tables : Tables) (ta
     → is_free keys tables table row ≡ true
     → (other : ℕ) (another : List Datum)
     → holds keys (put_in keys tables table row) other another
-        ≡ (is_this table row other another || holds keys tables other another)
+    ≡ (is_this table row other another || holds keys tables other another)
 holds_with keys keyed tables table row free other another =
     let its = has_key keys keyed other another in
     let after = holds_by keys (put_in keys tables table row) other another its.value its.key in
@@ -269,7 +272,7 @@ holds_with keys keyed tables table row free other another =
     let place = own_is keys table row other 0 its.value own in
     let none : tables other 0 its.value ≡ None =
     free_place keys tables other row (subst (λ t. is_free keys tables t row ≡ true) place.table_is free) 0 its.value
-        place.value_is in
+    place.value_is in
     let tables_same : (table == other) ≡ true = (unsigned_Decides table other).1 place.table_is in
     after ∙ ap (λ found. is_row found another) (put_own keys tables table row (Some row) other 0 its.value own)
     ∙ sym (ap (λ b. b && same_row row another) tables_same)
@@ -277,15 +280,15 @@ holds_with keys keyed tables table row free other another =
     ∙ ap (λ b. is_this table row other another || b) (sym (before ∙ ap (λ found. is_row found another) none)))
     (λ elsewhere.
     after ∙ ap (λ found. is_row found another)
-        (put_elsewhere keys tables table row (Some row) other 0 its.value elsewhere)
+    (put_elsewhere keys tables table row (Some row) other 0 its.value elsewhere)
     ∙ sym before ∙ ap (λ b. b || holds keys tables other another)
-        (sym (this_own keys table row other another its.value its.key elsewhere)))
+    (sym (this_own keys table row other another its.value its.key elsewhere)))
 
 -- the row that goes is no more there, and the others as before
 pub holds_without : (keys : Keys) → HasPrimaryKeys keys → (tables : Tables) → Stands keys tables
     → (table place : ℕ) (at row : List Datum) → tables table place at ≡ Some row → (other : ℕ) (another : List Datum)
     → holds keys (take_out keys tables table row) other another
-        ≡ (holds keys tables other another && not (is_this table row other another))
+    ≡ (holds keys tables other another && not (is_this table row other another))
 holds_without keys keyed tables stands table place at row there other another =
     let its = has_key keys keyed other another in
     let after = holds_by keys (take_out keys tables table row) other another its.value its.key in
@@ -295,7 +298,7 @@ holds_without keys keyed tables stands table place at row there other another =
     let at_key = own_is keys table row other 0 its.value own in
     let found : tables other 0 its.value ≡ Some row =
     stands.whole other place 0 at its.value row (subst (λ t. tables t place at ≡ Some row) at_key.table_is there)
-        at_key.value_is in
+    at_key.value_is in
     let tables_same : (table == other) ≡ true = (unsigned_Decides table other).1 at_key.table_is in
     after ∙ ap (λ o. is_row o another) (put_own keys tables table row None other 0 its.value own)
     ∙ sym (and_not (same_row row another))
@@ -305,13 +308,13 @@ holds_without keys keyed tables stands table place at row there other another =
     after ∙ ap (λ o. is_row o another) (put_elsewhere keys tables table row None other 0 its.value elsewhere)
     ∙ sym before ∙ sym (and_true (holds keys tables other another))
     ∙ ap (λ b. holds keys tables other another && not b)
-        (sym (this_own keys table row other another its.value its.key elsewhere)))
+    (sym (this_own keys table row other another its.value its.key elsewhere)))
 
 -- no row of a table that is emptied is there
 pub holds_emptied : (keys : Keys) → HasPrimaryKeys keys
     → (tables : Tables) (numbers : List ℕ) (other : ℕ) (another : List Datum)
     → holds keys (emptied tables numbers) other another
-        ≡ (holds keys tables other another && not (list_any (λ table. table == other) numbers))
+    ≡ (holds keys tables other another && not (list_any (λ table. table == other) numbers))
 holds_emptied keys keyed tables numbers other another =
     let its = has_key keys keyed other another in
     let after = holds_by keys (emptied tables numbers) other another its.value its.key in
@@ -330,10 +333,10 @@ pub row_goes : (keys : Keys) → HasPrimaryKeys keys → (tables : Tables) → S
     → (table : ℕ) (row : List Datum) → holds keys tables table row ≡ true
     → (other : ℕ) (another : List Datum)
     → holds keys (take_out keys tables table row) other another
-        ≡ (holds keys tables other another && not (is_this table row other another))
+    ≡ (holds keys tables other another && not (is_this table row other another))
 row_goes keys keyed tables stands table row h other another =
     let at = held keys tables table row h in
-        holds_without keys keyed tables stands table 0 at.value row at.there other another
+    holds_without keys keyed tables stands table 0 at.value row at.there other another
 
 pub others_stay : (keys : Keys) (tables : Tables) → Stands keys tables → StayWhereTheyBelong keys tables
 others_stay keys tables stands = record {

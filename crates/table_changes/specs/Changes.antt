@@ -22,7 +22,7 @@ RowComes = (keys : Keys) → HasPrimaryKeys keys → (tables : Tables) (table : 
     → is_free keys tables table row ≡ true
     → (other : ℕ) (another : List Datum)
     → holds keys (put_in keys tables table row) other another
-        ≡ (is_this table row other another || holds keys tables other another)
+    ≡ (is_this table row other another || holds keys tables other another)
 
 -- A row that was there and goes is no more there, and all others are.
 abbrev pub RowGoes : Type 0
@@ -30,14 +30,14 @@ RowGoes = (keys : Keys) → HasPrimaryKeys keys → (tables : Tables) → Stands
     → (table : ℕ) (row : List Datum) → holds keys tables table row ≡ true
     → (other : ℕ) (another : List Datum)
     → holds keys (take_out keys tables table row) other another
-        ≡ (holds keys tables other another && not (is_this table row other another))
+    ≡ (holds keys tables other another && not (is_this table row other another))
 
 -- Of tables that are emptied no row is there, and of others all.
 abbrev pub TablesAreEmptied : Type 0
 TablesAreEmptied = (keys : Keys) → HasPrimaryKeys keys → (tables : Tables) (numbers : List ℕ)
     → (other : ℕ) (another : List Datum)
     → holds keys (emptied tables numbers) other another
-        ≡ (holds keys tables other another && not (list_any (λ table. table == other) numbers))
+    ≡ (holds keys tables other another && not (list_any (λ table. table == other) numbers))
 
 -- Rows stay where they belong as another comes and goes, and as tables are emptied.
 pub record StayWhereTheyBelong (keys : Keys) (tables : Tables) : Type 0 where
@@ -69,7 +69,7 @@ stands_after setting tables (Insert table row) other another =
     is_this table row other another || holds setting.keys tables other another
 stands_after setting tables (Update table key row) other another =
     is_this table row other another
-        || (holds setting.keys tables other another && not (is_named tables table key other another))
+    || (holds setting.keys tables other another && not (is_named tables table key other another))
 stands_after setting tables (Delete table key) other another =
     holds setting.keys tables other another && not (is_named tables table key other another)
 stands_after setting tables (Truncate numbers) other another =

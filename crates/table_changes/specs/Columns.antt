@@ -20,4 +20,4 @@ abbrev pub blanked_from : List ℕ → ℕ → List Datum → List Datum
 blanked_from columns number [] = []
 blanked_from columns number (value ∷ values) =
     (if list_any (λ column. column == number) columns then value else Missing)
-        ∷ blanked_from columns (number + 1) values
+    ∷ blanked_from columns (number + 1) values

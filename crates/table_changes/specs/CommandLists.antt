@@ -32,7 +32,7 @@ abbrev pub FaultOfOneMore : Type 0
 FaultOfOneMore = (setting : Setting) (tables : Tables) (number : ℕ) (commands : List Command) (command : Command)
     → first_fault setting tables number commands ≡ None
     → first_fault setting tables number (commands ++ command ∷ [])
-        ≡ numbered (number + length commands) (fault_of setting (all_applied setting tables commands) command) None
+    ≡ numbered (number + length commands) (fault_of setting (all_applied setting tables commands) command) None
 
 -- after a fault no command changes which is the first
 abbrev pub FirstFaultStays : Type 0
@@ -44,10 +44,10 @@ FirstFaultStays = (setting : Setting) (tables : Tables) (number : ℕ) (commands
 abbrev pub LeftByOneMore : Type 0
 LeftByOneMore = (setting : Setting) (tables : Tables) (commands : List Command) (command : Command)
     → all_applied setting tables (commands ++ command ∷ [])
-        ≡ applied setting (all_applied setting tables commands) command
+    ≡ applied setting (all_applied setting tables commands) command
 
 -- and is recorded after them
 abbrev pub RecordOfOneMore : Type 0
 RecordOfOneMore = (setting : Setting) (tables : Tables) (commands : List Command) (command : Command)
     → record_of setting tables (commands ++ command ∷ []) ≡ record_of setting tables commands
-        ++ change_of setting (all_applied setting tables commands) command ∷ []
+    ++ change_of setting (all_applied setting tables commands) command ∷ []

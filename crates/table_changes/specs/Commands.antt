@@ -62,7 +62,7 @@ fault_of setting tables (Update table key row) =
     unless (setting.known table) NoTable (unless_unfit (setting.fault table row)
     (unless (is_some (named tables table key)) NoSuchRow
     (unless (is_free setting.keys (without setting.keys tables table (named tables table key)) table row) DuplicateKey
-        None)))
+    None)))
 fault_of setting tables (Delete table key) =
     unless (setting.known table) NoTable (unless (is_some (named tables table key)) NoSuchRow None)
 fault_of setting tables (Truncate numbers) = unless (all_known setting numbers) NoTable None
@@ -91,4 +91,4 @@ abbrev pub first_fault : Setting → Tables → ℕ → List Command → Option 
 first_fault setting tables number [] = None
 first_fault setting tables number (command ∷ commands) =
     numbered number (fault_of setting tables command)
-        (first_fault setting (applied setting tables command) (number + 1) commands)
+    (first_fault setting (applied setting tables command) (number + 1) commands)

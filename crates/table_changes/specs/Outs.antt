@@ -62,7 +62,7 @@ stands_for table carries (Truncate numbers) = r.Truncate (filter carries numbers
 abbrev pub got : Setting → ℕ → r.ChangeOf → Option r.ChangeOf
 got setting subscriber change =
     option_map (stands_for (table_of change) (setting.carries subscriber))
-        (transform_of (setting.passes subscriber) (setting.carries subscriber) change)
+    (transform_of (setting.passes subscriber) (setting.carries subscriber) change)
 
 -- what is seen, as it is recorded
 abbrev pub as_recorded : Setting → s.Seen → r.ChangeOf

@@ -38,7 +38,7 @@ seen_of setting subscriber tables (c.Insert table row) =
     seen_rows table None (passing (setting.passes subscriber table) (Some row))
 seen_of setting subscriber tables (c.Update table key row) =
     seen_rows table (passing (setting.passes subscriber table) (c.named tables table key))
-        (passing (setting.passes subscriber table) (Some row))
+    (passing (setting.passes subscriber table) (Some row))
 seen_of setting subscriber tables (c.Delete table key) =
     seen_rows table (passing (setting.passes subscriber table) (c.named tables table key)) None
 seen_of setting subscriber tables (c.Truncate numbers) =

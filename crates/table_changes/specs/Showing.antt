@@ -16,7 +16,7 @@ RecordShows = (setting : Setting) → Covered setting
     → (subscriber : ℕ) (tables : Tables) (number : ℕ) (commands : List Command)
     → first_fault setting tables number commands ≡ None
     → map (got setting subscriber) (record_of setting tables commands)
-        ≡ map (option_map (as_recorded setting)) (seen_each setting subscriber tables commands)
+    ≡ map (option_map (as_recorded setting)) (seen_each setting subscriber tables commands)
 
 -- So it gets of the whole record what it sees of the commands, in their order.
 abbrev pub RecordShowsAll : Type 0
@@ -24,4 +24,4 @@ RecordShowsAll = (setting : Setting) → Covered setting
     → (subscriber : ℕ) (tables : Tables) (number : ℕ) (commands : List Command)
     → first_fault setting tables number commands ≡ None
     → filter_map (got setting subscriber) (record_of setting tables commands)
-        ≡ map (as_recorded setting) (seen setting subscriber tables commands)
+    ≡ map (as_recorded setting) (seen setting subscriber tables commands)

@@ -48,9 +48,9 @@ bare_more : (show : Option TableRows → ℕ → List Datum → Option (List Dat
 bare_more show rows made none bare number key value = by_test (number == length rows)
     (λ here. let same : number ≡ length rows = number_is number (length rows) here in
     ap (λ n. show (slice_get (rows ++ made ∷ []) n) key value) same
-        ∙ ap (λ found. show found key value) (get_last rows made) ∙ bare key value)
+    ∙ ap (λ found. show found key value) (get_last rows made) ∙ bare key value)
     (λ beside. ap (λ found. show found key value)
-        (get_front rows made number (number_apart number (length rows) beside)) ∙ none number key value)
+    (get_front rows made number (number_apart number (length rows) beside)) ∙ none number key value)
 
 pub makes_one : (rows : List TableRows) (table : Table) (left all : List Table) (made : TableRows)
     → length made.maps.items ≡ length (keys_in (Some table))
@@ -87,7 +87,7 @@ pub numbered_more : (log : List CommitOf) (commit : CommitOf) → commit.number 
 numbered_more log commit is numbered place found at = by_test (place == length log)
     (λ here. let same : place ≡ length log = number_is place (length log) here in
     let last : commit ≡ found =
-        some_is commit found (sym (get_last log commit) ∙ ap (slice_get (log ++ commit ∷ [])) (sym same) ∙ at) in
+    some_is commit found (sym (get_last log commit) ∙ ap (slice_get (log ++ commit ∷ [])) (sym same) ∙ at) in
     ap (λ (one : CommitOf). one.number) (sym last) ∙ is ∙ ap (λ n. n + 1) (sym same))
     (λ beside. numbered place found (sym (get_front log commit place (number_apart place (length log) beside)) ∙ at))
 
@@ -170,11 +170,11 @@ pub found_numbered : (log : List CommitOf) (number : ℕ) (commit : CommitOf) �
     → IsNumbered log → commit.number ≡ number
 found_numbered log number commit found numbered = by_test (number == 0)
     (λ zero_is. absurd (let none : Some commit ≡ None = found
-        ∙ ap (λ b. if b then None else slice_get log (number - 1)) zero_is in cc))
+    ∙ ap (λ b. if b then None else slice_get log (number - 1)) zero_is in cc))
     (λ some.
     let apart : number ≢ 0 = number_apart number 0 some in
     let at : slice_get log (number - 1) ≡ Some commit =
-        sym (found ∙ ap (λ b. if b then None else slice_get log (number - 1)) some) in
+    sym (found ∙ ap (λ b. if b then None else slice_get log (number - 1)) some) in
     let is : commit.number ≡ number - 1 + 1 = numbered (number - 1) commit at in
     omega arith)
 

@@ -58,7 +58,7 @@ pub has_rows : (tables : List Table) (rows : List TableRows) (number : ℕ) (tab
 has_rows tables rows number table wide there =
     let first : length (widths rows) ≡ length rows = length-map rows (λ (row : TableRows). length row.maps.items) in
     let last : length (widths_of tables) ≡ length tables =
-        length-map tables (λ (one : Table). length (keys_in (Some one))) in
+    length-map tables (λ (one : Table). length (keys_in (Some one))) in
     let same : length (widths rows) ≡ length (widths_of tables) = ap length wide in
     let low : number < length tables = within tables number table there in
     omega arith
@@ -98,8 +98,8 @@ module _ (catalog : CatalogOf Expr) (plan : PlanOf) (tables : Tables) (number : 
       ap (λ b. unless b NoTable
       (unless_unfit ((setting_of catalog plan).fault number row) (unless (is_some (named tables number key)) NoSuchRow
       (unless (is_free (setting_of catalog plan).keys
-          (without (setting_of catalog plan).keys tables number (named tables number key)) number row) DuplicateKey
-          None))))
+      (without (setting_of catalog plan).keys tables number (named tables number key)) number row) DuplicateKey
+      None))))
       (is_unknown catalog plan number none)
 
 -- of a table that is there, whose rows are at these places
@@ -117,62 +117,62 @@ module _ (catalog : CatalogOf Expr) (plan : PlanOf) (tables : Tables) (number : 
       → is_free (setting_of catalog plan).keys others number row ≡ is_free_from seen 0 (keys_in (Some table)) row
   free_is others seen alike row =
       ap (λ keys. is_free_from (others number) 0 keys row) keys_are
-          ∙ free_from_alike (others number) seen alike 0 (keys_in (Some table)) row
+      ∙ free_from_alike (others number) seen alike 0 (keys_in (Some table)) row
 
   pub insert_fault : (row : List Datum)
       → fault_of (setting_of catalog plan) tables (Insert number row)
-          ≡ unless_unfit (row_fault table.columns row) (unless_taken (keys_in (Some table)) places row)
+      ≡ unless_unfit (row_fault table.columns row) (unless_taken (keys_in (Some table)) places row)
   insert_fault row =
       ap (λ b. unless b NoTable
-          (unless_unfit ((setting_of catalog plan).fault number row)
-          (unless (is_free (setting_of catalog plan).keys tables number row) DuplicateKey None)))
+      (unless_unfit ((setting_of catalog plan).fault number row)
+      (unless (is_free (setting_of catalog plan).keys tables number row) DuplicateKey None)))
       (is_known catalog plan number table there)
       ∙ ap (λ fault. unless_unfit fault
-          (unless (is_free (setting_of catalog plan).keys tables number row) DuplicateKey None)) (fault_is row)
+      (unless (is_free (setting_of catalog plan).keys tables number row) DuplicateKey None)) (fault_is row)
       ∙ ap (λ b. unless_unfit (row_fault table.columns row) (unless b DuplicateKey None))
-          (free_is tables places same row)
+      (free_is tables places same row)
 
   pub delete_fault_is : (key : List Datum)
       → fault_of (setting_of catalog plan) tables (Delete number key) ≡ delete_fault places key
   delete_fault_is key =
       ap (λ b. unless b NoTable (unless (is_some (named tables number key)) NoSuchRow None))
-          (is_known catalog plan number table there)
+      (is_known catalog plan number table there)
       ∙ ap (λ found. unless (is_some found) NoSuchRow None) (same 0 key)
 
   pub out_is : (row : List Datum) (found : Option (List Datum)) (key : ℕ) (value : List Datum)
       → put (setting_of catalog plan).keys tables number row found number key value
-          ≡ put_at places (values_in (keys_in (Some table)) row) found key value
+      ≡ put_at places (values_in (keys_in (Some table)) row) found key value
   out_is row found key value =
       put_is (setting_of catalog plan).keys tables places number row found key value (same key value)
       ∙ ap (λ keys. put_at places (values_in keys row) found key value) keys_are
 
   without_is : (found : Option (List Datum)) (key : ℕ) (value : List Datum)
       → without (setting_of catalog plan).keys tables number found number key value
-          ≡ without_at (keys_in (Some table)) places found key value
+      ≡ without_at (keys_in (Some table)) places found key value
   without_is None key value = same key value
   without_is (Some row) key value = out_is row None key value
 
   pub update_fault_is : (key row : List Datum)
       → fault_of (setting_of catalog plan) tables (Update number key row)
-          ≡ unless_unfit (row_fault table.columns row) (replace_fault (keys_in (Some table)) places key row)
+      ≡ unless_unfit (row_fault table.columns row) (replace_fault (keys_in (Some table)) places key row)
   update_fault_is key row =
       let free : Option (List Datum) → Bool =
-          λ found. is_free (setting_of catalog plan).keys (without (setting_of catalog plan).keys tables number found)
-          number row in
+      λ found. is_free (setting_of catalog plan).keys (without (setting_of catalog plan).keys tables number found)
+      number row in
       ap (λ b. unless b NoTable
-          (unless_unfit ((setting_of catalog plan).fault number row)
-          (unless (is_some (named tables number key)) NoSuchRow
-          (unless (free (named tables number key)) DuplicateKey None))))
+      (unless_unfit ((setting_of catalog plan).fault number row)
+      (unless (is_some (named tables number key)) NoSuchRow
+      (unless (free (named tables number key)) DuplicateKey None))))
       (is_known catalog plan number table there)
       ∙ ap (λ fault. unless_unfit fault
-          (unless (is_some (named tables number key)) NoSuchRow
-          (unless (free (named tables number key)) DuplicateKey None))) (fault_is row)
+      (unless (is_some (named tables number key)) NoSuchRow
+      (unless (free (named tables number key)) DuplicateKey None))) (fault_is row)
       ∙ ap (λ found. unless_unfit (row_fault table.columns row)
-          (unless (is_some found) NoSuchRow (unless (free found) DuplicateKey None))) (same 0 key)
+      (unless (is_some found) NoSuchRow (unless (free found) DuplicateKey None))) (same 0 key)
       ∙ ap (λ b. unless_unfit (row_fault table.columns row)
-          (unless (is_some (places 0 key)) NoSuchRow (unless b DuplicateKey None)))
+      (unless (is_some (places 0 key)) NoSuchRow (unless b DuplicateKey None)))
       (free_is (without (setting_of catalog plan).keys tables number (places 0 key))
-          (without_at (keys_in (Some table)) places (places 0 key)) (without_is (places 0 key)) row)
+      (without_at (keys_in (Some table)) places (places 0 key)) (without_is (places 0 key)) row)
 
 -- ---- what commands leave, and what is recorded of them
 
@@ -184,17 +184,17 @@ module _ (catalog : CatalogOf Expr) (plan : PlanOf) (old : List TableRows) (numb
 
   pub insert_applies : (row : List Datum) (change : r.ChangeOf) → number < 64
       → unless_unfit (row_fault table.columns row) (unless_taken (keys_in (Some table)) (seen_at rows.maps.items) row)
-          ≡ None
+      ≡ None
       → InsertsRow table number rows new row change
       → Applies (setting_of catalog plan) old (slice_set old number new) (Insert number row) change
   insert_applies row change low h inserts = record {
     no_fault = insert_fault catalog plan (seen_in old) number table there (seen_at rows.maps.items) alike row ∙ h;
     leaves = sees_tables old number rows new at (put_in (setting_of catalog plan).keys (seen_in old) number row)
         (λ key value. inserts.puts.sees key value
-            ∙ sym (out_is catalog plan (seen_in old) number table there (seen_at rows.maps.items) alike row (Some row)
-            key value))
+        ∙ sym (out_is catalog plan (seen_in old) number table there (seen_at rows.maps.items) alike row (Some row)
+        key value))
         (λ other apart key value. put_others (setting_of catalog plan).keys (seen_in old) number row (Some row) other
-            apart key value);
+        apart key value);
     records = inserts.records;
     sendable = subst IsSendableChange (sym inserts.records)
         (let both : IsSendableChange (r.Insert number row) = (low, inserts.sendable) in both);
@@ -214,22 +214,22 @@ module _ (catalog : CatalogOf Expr) (plan : PlanOf) (old : List TableRows) (numb
           (without (setting_of catalog plan).keys (seen_in old) number place)) (sym named_is)
           (sees_tables old number rows new at (take_out (setting_of catalog plan).keys (seen_in old) number gone)
           (λ place value. puts.sees place value
-              ∙ sym (out_is catalog plan (seen_in old) number table there (seen_at rows.maps.items) alike gone None
-              place value))
+          ∙ sym (out_is catalog plan (seen_in old) number table there (seen_at rows.maps.items) alike gone None
+          place value))
           (λ other apart place value. put_others (setting_of catalog plan).keys (seen_in old) number gone None other
-              apart place value));
+          apart place value));
       records = is ∙ ap (r.Delete number) (sym (records_parts catalog plan number table there gone None))
           ∙ ap (λ place. r.Delete number (r.part_found (setting_of catalog plan) number place None)) (sym named_is);
       sendable = subst IsSendableChange (sym is)
           (let both : IsSendableChange (r.Delete number (part_in table gone None)) =
-              (low, part_sendable table gone None sendable) in both);
+          (low, part_sendable table gone None sendable) in both);
     }
 
     update_one : (row : List Datum) (change : r.ChangeOf)
         → change ≡ r.Update number (part_in table gone (Some row)) row → number < 64 → IsSendableRow gone
         → IsSendableRow row
         → unless_unfit (row_fault table.columns row)
-            (replace_fault (keys_in (Some table)) (seen_at rows.maps.items) key row) ≡ None
+        (replace_fault (keys_in (Some table)) (seen_at rows.maps.items) key row) ≡ None
         → ReplacesRow rows new (keys_in (Some table)) gone row
         → Applies (setting_of catalog plan) old (slice_set old number new) (Update number key row) change
     update_one row change is low sendable new_sendable h replaces = record {
@@ -240,26 +240,26 @@ module _ (catalog : CatalogOf Expr) (plan : PlanOf) (old : List TableRows) (numb
           number row))
           (sym named_is)
           (sees_tables old number rows new at
-              (put_in (setting_of catalog plan).keys
-              (take_out (setting_of catalog plan).keys (seen_in old) number gone) number row)
+          (put_in (setting_of catalog plan).keys
+          (take_out (setting_of catalog plan).keys (seen_in old) number gone) number row)
           (λ place value. replaces.sees place value
           ∙ sym (out_is catalog plan (take_out (setting_of catalog plan).keys (seen_in old) number gone) number table
-              there
+          there
           (put_at (seen_at rows.maps.items) (values_in (keys_in (Some table)) gone) None)
           (λ k v. out_is catalog plan (seen_in old) number table there (seen_at rows.maps.items) alike gone None k v)
-              row (Some row) place value))
+          row (Some row) place value))
           (λ other apart place value.
           put_others (setting_of catalog plan).keys
-              (take_out (setting_of catalog plan).keys (seen_in old) number gone) number row (Some row) other apart
-              place value
+          (take_out (setting_of catalog plan).keys (seen_in old) number gone) number row (Some row) other apart
+          place value
           ∙ put_others (setting_of catalog plan).keys (seen_in old) number gone None other apart place value));
       records = is ∙ ap (λ one. r.Update number one row)
           (sym (records_parts catalog plan number table there gone (Some row)))
           ∙ ap (λ place. r.Update number (r.part_found (setting_of catalog plan) number place (Some row)) row)
-              (sym named_is);
+          (sym named_is);
       sendable = subst IsSendableChange (sym is)
           (let all : IsSendableChange (r.Update number (part_in table gone (Some row)) row) =
-              (low, part_sendable table gone (Some row) sendable, new_sendable) in all);
+          (low, part_sendable table gone (Some row) sendable, new_sendable) in all);
     }
 
   pub delete_applies : (key : List Datum) (change : r.ChangeOf) → number < 64
@@ -270,12 +270,12 @@ module _ (catalog : CatalogOf Expr) (plan : PlanOf) (old : List TableRows) (numb
 
   pub update_applies : (key row : List Datum) (change : r.ChangeOf) → number < 64
       → unless_unfit (row_fault table.columns row)
-          (replace_fault (keys_in (Some table)) (seen_at rows.maps.items) key row) ≡ None
+      (replace_fault (keys_in (Some table)) (seen_at rows.maps.items) key row) ≡ None
       → UpdatesRow table number rows new key row change
       → Applies (setting_of catalog plan) old (slice_set old number new) (Update number key row) change
   update_applies key row change low h updates =
       update_one key updates.gone updates.found row change updates.records low updates.gone_sendable updates.sendable
-          h updates.puts
+      h updates.puts
 
 -- ---- answers
 
@@ -323,7 +323,7 @@ module _ (checked : CheckedOf) (tables : List TableRows) (number : ℕ) (table :
       (result : Result Change Refused)
       → fault_of (setting_in checked) (seen_in tables) command ≡ refusal
       → ((change : r.ChangeOf) → refusal ≡ None → IsDone change
-          → Applies (setting_in checked) tables (slice_set tables number new) command change)
+      → Applies (setting_in checked) tables (slice_set tables number new) command change)
       → TriesRows refusal (λ change. IsDone (change_view change)) (slice_index_or tables number missing_rows) result new
       → Tries (setting_in checked) command tables result (slice_set tables number new)
   tries_here command refusal IsDone result same applies tries = record {
@@ -336,45 +336,45 @@ module _ (checked : CheckedOf) (tables : List TableRows) (number : ℕ) (table :
 
   pub tries_insert : (result : Result Change Refused) (row : List Datum)
       → TriesRows (unless_unfit (row_fault table.columns row)
-          (unless_taken (keys_in (Some table)) (seen_at (slice_index_or tables number missing_rows).maps.items) row))
-          (λ change. InsertsRow table number (slice_index_or tables number missing_rows) new row (change_view change))
-          (slice_index_or tables number missing_rows) result new
+      (unless_taken (keys_in (Some table)) (seen_at (slice_index_or tables number missing_rows).maps.items) row))
+      (λ change. InsertsRow table number (slice_index_or tables number missing_rows) new row (change_view change))
+      (slice_index_or tables number missing_rows) result new
       → Tries (setting_in checked) (Insert number row) tables result (slice_set tables number new)
   tries_insert result row = tries_here (Insert number row)
       (unless_unfit (row_fault table.columns row)
-          (unless_taken (keys_in (Some table)) (seen_at (slice_index_or tables number missing_rows).maps.items) row))
+      (unless_taken (keys_in (Some table)) (seen_at (slice_index_or tables number missing_rows).maps.items) row))
       (InsertsRow table number (slice_index_or tables number missing_rows) new row) result
       (insert_fault checked.catalog checked.plan (seen_in tables) number table there
-          (seen_at (slice_index_or tables number missing_rows).maps.items) before row)
+      (seen_at (slice_index_or tables number missing_rows).maps.items) before row)
       (λ change none inserts. insert_applies checked.catalog checked.plan tables number table
-          (slice_index_or tables number missing_rows) new there here row change low none inserts)
+      (slice_index_or tables number missing_rows) new there here row change low none inserts)
 
   pub tries_delete : (result : Result Change Refused) (key : List Datum)
       → TriesRows (delete_fault (seen_at (slice_index_or tables number missing_rows).maps.items) key)
-          (λ change. DeletesRow table number (slice_index_or tables number missing_rows) new key (change_view change))
-          (slice_index_or tables number missing_rows) result new
+      (λ change. DeletesRow table number (slice_index_or tables number missing_rows) new key (change_view change))
+      (slice_index_or tables number missing_rows) result new
       → Tries (setting_in checked) (Delete number key) tables result (slice_set tables number new)
   tries_delete result key = tries_here (Delete number key)
       (delete_fault (seen_at (slice_index_or tables number missing_rows).maps.items) key)
       (DeletesRow table number (slice_index_or tables number missing_rows) new key) result
       (delete_fault_is checked.catalog checked.plan (seen_in tables) number table there
-          (seen_at (slice_index_or tables number missing_rows).maps.items) before key)
+      (seen_at (slice_index_or tables number missing_rows).maps.items) before key)
       (λ change none deletes. delete_applies checked.catalog checked.plan tables number table
-          (slice_index_or tables number missing_rows) new there here key change low deletes)
+      (slice_index_or tables number missing_rows) new there here key change low deletes)
 
   pub tries_update : (result : Result Change Refused) (key row : List Datum)
       → TriesRows (unless_unfit (row_fault table.columns row)
-          (replace_fault (keys_in (Some table)) (seen_at (slice_index_or tables number missing_rows).maps.items) key
-          row))
-          (λ change. UpdatesRow table number (slice_index_or tables number missing_rows) new key row
-          (change_view change)) (slice_index_or tables number missing_rows) result new
+      (replace_fault (keys_in (Some table)) (seen_at (slice_index_or tables number missing_rows).maps.items) key
+      row))
+      (λ change. UpdatesRow table number (slice_index_or tables number missing_rows) new key row
+      (change_view change)) (slice_index_or tables number missing_rows) result new
       → Tries (setting_in checked) (Update number key row) tables result (slice_set tables number new)
   tries_update result key row = tries_here (Update number key row)
       (unless_unfit (row_fault table.columns row)
-          (replace_fault (keys_in (Some table)) (seen_at (slice_index_or tables number missing_rows).maps.items) key
-          row))
+      (replace_fault (keys_in (Some table)) (seen_at (slice_index_or tables number missing_rows).maps.items) key
+      row))
       (UpdatesRow table number (slice_index_or tables number missing_rows) new key row) result
       (update_fault_is checked.catalog checked.plan (seen_in tables) number table there
-          (seen_at (slice_index_or tables number missing_rows).maps.items) before key row)
+      (seen_at (slice_index_or tables number missing_rows).maps.items) before key row)
       (λ change none updates. update_applies checked.catalog checked.plan tables number table
-          (slice_index_or tables number missing_rows) new there here key row change low none updates)
+      (slice_index_or tables number missing_rows) new there here key row change low none updates)

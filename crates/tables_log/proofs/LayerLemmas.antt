@@ -60,7 +60,7 @@ over_append : {K V : Type 0} (test : K → Bool) (undo : List (K × Option V)) (
 over_append test [] key place found = over_if (test key) place found
 over_append test ((other, was) ∷ undo) key place found =
     over_first (test other) was (lookup test (undo ++ (key, place) ∷ [])) (lookup test undo) found
-        (if test key then place else found)
+    (if test key then place else found)
     (over_append test undo key place found)
 
 some_append : {K V : Type 0} (test : K → Bool) (undo : List (K × V)) (key : K) (place : V)
@@ -69,14 +69,14 @@ some_append : {K V : Type 0} (test : K → Bool) (undo : List (K × V)) (key : K
 some_append test [] key place h = absurd cc
 some_append test ((other, was) ∷ undo) key place h =
     some_if (test other) was (lookup test undo) (lookup test (undo ++ (key, place) ∷ []))
-        (some_append test undo key place) h
+    (some_append test undo key place) h
 
 some_before : {K V : Type 0} (test : K → Bool) (undo : List (K × V)) (key : K) (place : V) → test key ≡ false
     → is_some (lookup test (undo ++ (key, place) ∷ [])) ≡ true → is_some (lookup test undo) ≡ true
 some_before test [] key place apart h = sym (ap (λ b. is_some (if b then Some place else None)) apart) ∙ h
 some_before test ((other, was) ∷ undo) key place apart h =
     some_if (test other) was (lookup test (undo ++ (key, place) ∷ [])) (lookup test undo)
-        (some_before test undo key place apart) h
+    (some_before test undo key place apart) h
 
 module _ {K : Type 0} (cmp : K → K → Ordering) where
   -- ---- one map
@@ -185,14 +185,14 @@ module _ {K : Type 0} {cmp : K → K → Ordering} (total : IsTotalOrder cmp) wh
       → (other : K) → kept_under cmp new_base made (undo ++ (key, was) ∷ []) other ≡ kept_under cmp base made undo other
   keeps_undone {V} base new_base made undo key was value is puts other =
       let there : (if eq_by_cmp cmp key other then was else below cmp new_base other) ≡ below cmp base other =
-          by_test (eq_by_cmp cmp key other)
+      by_test (eq_by_cmp cmp key other)
       (λ same. ap (λ (b : Bool). if b then was else below cmp new_base other) same
-          ∙ sym (ap flat (get_same base key other same ∙ is)))
+      ∙ sym (ap flat (get_same base key other same ∙ is)))
       (λ apart.
       ap (λ (b : Bool). if b then was else below cmp new_base other) apart ∙ puts other
       ∙ ap (λ (b : Bool). if b then value else below cmp base other) apart) in
       let found : over (was_in cmp (undo ++ (key, was) ∷ []) other) (below cmp new_base other)
-          ≡ over (was_in cmp undo other) (below cmp base other) =
+      ≡ over (was_in cmp undo other) (below cmp base other) =
       over_append (is_at (cmp other)) undo key was (below cmp new_base other)
       ∙ ap (λ (b : Bool). over (was_in cmp undo other) (if b then was else below cmp new_base other)) (turned key other)
       ∙ ap (λ (x : Option V). over (was_in cmp undo other) x) there in
@@ -218,7 +218,7 @@ module _ {K : Type 0} {cmp : K → K → Ordering} (total : IsTotalOrder cmp) wh
   rewinds_one base new_base first_base undo new_undo first_undo key was is puts stay rewinds = record {
     back = λ other.
         ap (over (was_in cmp new_undo other))
-            (puts other ∙ sym (ap (λ b. if b then was else below cmp base other) (turned key other)))
+        (puts other ∙ sym (ap (λ b. if b then was else below cmp base other) (turned key other)))
         ∙ sym (over_append (is_at (cmp other)) new_undo key was (below cmp base other))
         ∙ sym (ap (λ places. over (was_in cmp places other) (below cmp base other)) is)
         ∙ rewinds.back other;

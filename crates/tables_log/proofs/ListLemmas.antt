@@ -51,11 +51,11 @@ pub applies_one : (setting : Setting) (tables new first : List TableRows) (chang
     → SoFar setting new first (changes ++ change ∷ []) (number + 1) left all
 applies_one setting tables new first changes number command left all change applies keeps so_far =
     let alike : AreAlike setting (seen_in new) (applied setting (seen_in tables) command) =
-        are_alike setting (seen_in new) (applied setting (seen_in tables) command) applies.leaves in
+    are_alike setting (seen_in new) (applied setting (seen_in tables) command) applies.leaves in
     record {
       fault = alike.first (number + 1) left
           ∙ sym (ap (λ fault. numbered number fault
-              (first_fault setting (applied setting (seen_in tables) command) (number + 1) left)) applies.no_fault)
+          (first_fault setting (applied setting (seen_in tables) command) (number + 1) left)) applies.no_fault)
           ∙ so_far.fault;
       leaves = λ table key value. alike.all_left left table key value ∙ so_far.leaves table key value;
       records = append_assoc changes (change ∷ []) (record_of setting (seen_in new) left)
@@ -83,8 +83,8 @@ pub stops_at : (setting : Setting) (tables first : List TableRows) (changes : Li
     → StopsAt setting (seen_in first) all (error_at number refused)
 stops_at setting tables first changes number command left all (Fault fault) tells so_far =
     sym so_far.fault ∙ ap
-        (λ found. numbered number found
-        (first_fault setting (applied setting (seen_in tables) command) (number + 1) left)) tells
+    (λ found. numbered number found
+    (first_fault setting (applied setting (seen_in tables) command) (number + 1) left)) tells
 stops_at setting tables first changes number command left all OutOfMemory tells so_far = tt
 
 -- ---- as the loop over the commands has it
@@ -94,7 +94,7 @@ pub so_far_begins : (setting : Setting) (first : List TableRows) (changes : List
     → SoFar setting first first (map change_view changes) 1 (map command_view commands) (map command_view commands)
 so_far_begins setting first changes commands none =
     subst (λ some. SoFar setting first first (map change_view some) 1 (map command_view commands)
-        (map command_view commands)) (sym none) (record {
+    (map command_view commands)) (sym none) (record {
       fault = refl;
       leaves = λ table key value. refl;
       records = refl;
@@ -115,4 +115,4 @@ pub applied_to_end : (setting : Setting) (tables first : List TableRows) (change
 applied_to_end setting tables first changes number i commands past so_far =
     applies_all setting tables first changes number (map command_view commands)
     (subst (λ left. SoFar setting tables first changes number (map command_view left) (map command_view commands))
-        (drop_past commands i past) so_far)
+    (drop_past commands i past) so_far)

@@ -84,14 +84,14 @@ module _ {K : Type 0} (cmp : K → K → Ordering) (total : IsTotalOrder cmp) (e
   each_past key place entries [] h = refl
   each_past {V} key place entries (other ∷ others) h =
       ap (λ (first : Option V). first ∷ map (found_in ((key, place) ∷ entries)) others)
-          (found_past key place entries other h.0)
+      (found_past key place entries other h.0)
       ∙ ap (λ (rest : List (Option V)). found_in entries other ∷ rest) (each_past key place entries others h.1)
 
   found_first : {V : Type 0} (key : K) (place : Option V) (entries : List (K × Option V))
       → found_in ((key, place) ∷ entries) key ≡ place
   found_first {V} key place entries =
       ap (λ (found : Option (Option V)). flat found)
-          (lookup_head (is_at (cmp key)) (key, place) entries ((eq_by_cmp_equiv total).refl key))
+      (lookup_head (is_at (cmp key)) (key, place) entries ((eq_by_cmp_equiv total).refl key))
 
   each_filled : {V : Type 0} (entries : List (K × Option V)) → IsDistinct (eq_by_cmp cmp) (keys_of entries)
       → map (found_in entries) (filled_keys entries) ≡ map there (filled (values_of entries))
@@ -101,10 +101,10 @@ module _ {K : Type 0} (cmp : K → K → Ordering) (total : IsTotalOrder cmp) (e
       each_past key None entries (filled_keys entries) (apart_filled key entries h.0) ∙ each_filled entries h.1
   each_filled {V} ((key, Some value) ∷ entries) h =
       ap (λ (first : Option V). first ∷ map (found_in ((key, Some value) ∷ entries)) (filled_keys entries))
-          (found_first key (Some value) entries)
+      (found_first key (Some value) entries)
       ∙ ap (λ (rest : List (Option V)). Some value ∷ rest)
       (each_past key (Some value) entries (filled_keys entries) (apart_filled key entries h.0)
-          ∙ each_filled entries h.1)
+      ∙ each_filled entries h.1)
 
   all_step : {V : Type 0} (key other : K) (place : Option V) (entries : List (K × Option V)) (value : V) (same : Bool)
       → eq_by_cmp cmp key other ≡ same
@@ -119,11 +119,11 @@ module _ {K : Type 0} (cmp : K → K → Ordering) (total : IsTotalOrder cmp) (e
       (0, omega arith, sym (exact key other ((Equal-is (cmp key other)).0 same)))
   all_step {V} key other None entries value false apart later found =
       later (sym (ap (λ (x : Option (Option V)). flat x) (lookup_tail (is_at (cmp key)) (other, None) entries apart))
-          ∙ found)
+      ∙ found)
   all_step {V} key other (Some kept) entries value false apart later found =
       contains_more other (filled_keys entries) key
       (later (sym (ap (λ (x : Option (Option V)). flat x)
-          (lookup_tail (is_at (cmp key)) (other, Some kept) entries apart)) ∙ found))
+      (lookup_tail (is_at (cmp key)) (other, Some kept) entries apart)) ∙ found))
 
   all_filled : {V : Type 0} (entries : List (K × Option V)) (key : K) (value : V) → found_in entries key ≡ Some value
       → Contains (filled_keys entries) key
@@ -157,7 +157,7 @@ module _ {K : Type 0} (cmp : K → K → Ordering) (total : IsTotalOrder cmp) (e
         → rewound_at other place ≡ rewound_at key place
     rewound_same key other place same =
         sym (ap (λ (test : K → Bool). if list_any test made then None else over (lookup test undo) place)
-            (tests_same total key other same))
+        (tests_same total key other same))
 
     -- what is found by a key is what was kept of what is found by it
     looked_up : (entries : List (K × Option V)) (key : K)
@@ -180,9 +180,9 @@ module _ {K : Type 0} (cmp : K → K → Ordering) (total : IsTotalOrder cmp) (e
     kept_flat key (Some place) room = refl
     kept_flat key None room =
         let nothing : over (was_in cmp undo key) None ≡ None =
-            over_none (was_in cmp undo key) (λ has. let never : false ≡ true = room has in cc) in
+        over_none (was_in cmp undo key) (λ has. let never : false ≡ true = room has in cc) in
         sym (ap (λ (x : Option V). if is_made cmp made key then None else x) nothing
-            ∙ if_same (is_made cmp made key) None)
+        ∙ if_same (is_made cmp made key) None)
 
     found_rewound : (base : BTreeMap K (Option V)) → HasRoom cmp base undo → (key : K)
         → found_in (rewound_entries base.entries) key ≡ kept_under cmp base made undo key
@@ -207,9 +207,9 @@ module _ {K : Type 0} (cmp : K → K → Ordering) (total : IsTotalOrder cmp) (e
       let entries = rewound_entries made undo base.entries in
       let ascending = subst (IsStrictlySortedBy cmp) (sym (same_keys made undo base.entries)) ordered in
       subst (λ (found : K → Option V). Lists cmp found (filled (kept_places cmp base made undo)))
-          (λ i key. found_rewound made undo base room key i)
+      (λ i key. found_rewound made undo base room key i)
       (subst (λ (places : List (Option V)). Lists cmp (found_in entries) (filled places))
-          (same_places made undo base.entries) (lists_entries entries ascending))
+      (same_places made undo base.entries) (lists_entries entries ascending))
 
 -- ---- in two maps, one of which has the keys that are one number
 
@@ -229,7 +229,7 @@ same_from_ties : (keys : List (List Datum)) → IsDistinct (eq_by_cmp row_cmp) k
 same_from_ties keys h =
     IsDistinct-from_apart same_row keys (λ i j d before within.
     sym (ties_same_rows (get_or keys i d) (get_or keys j d))
-        ∙ apart_from_distinct (eq_by_cmp row_cmp) keys i j d h before within)
+    ∙ apart_from_distinct (eq_by_cmp row_cmp) keys i j d h before within)
 
 numbers_apart : (number : ℤ) (others : List ℤ) → AllByRecursion (λ other. eq_by_cmp int_cmp number other ≡ false) others
     → AllByRecursion (λ other. same_row (number_key number) other ≡ false) (map number_key others)
@@ -264,9 +264,11 @@ not_numbers found (key ∷ keys) (value ∷ listed) none each =
 
 contains_number : (numbers : List ℤ) (number : ℤ) → Contains numbers number
     → Contains (map number_key numbers) (number_key number)
-contains_number numbers number has =
-    (has.0, omega (arith, length-map numbers number_key, has.1),
-        get_or-map number_key numbers has.0 number (number_key number) has.1 ∙ ap number_key has.2)
+contains_number numbers number has = (
+  has.0,
+  omega (arith, length-map numbers number_key, has.1),
+  get_or-map number_key numbers has.0 number (number_key number) has.1 ∙ ap number_key has.2,
+)
 
 module _ {V : Type 0} (of_number : ℤ → Option V) (of_row : List Datum → Option V) where
   each_number : (numbers : List ℤ) → map (by_number of_number of_row) (map number_key numbers) ≡ map of_number numbers
@@ -290,12 +292,12 @@ module _ {V : Type 0} (of_number : ℤ → Option V) (of_row : List Datum → Op
         → Contains (map number_key some.keys ++ rest.keys) key
     contains_key key value None is finds =
         Contains-append_right (map number_key some.keys) rest.keys key
-            (rest.all key value (sym (found_row of_number of_row key is) ∙ finds))
+        (rest.all key value (sym (found_row of_number of_row key is) ∙ finds))
     contains_key key value (Some number) is finds =
         Contains-append_left (map number_key some.keys) rest.keys key
         (subst (λ (one : List Datum). Contains (map number_key some.keys) one) (sym (key_of_number key number is))
         (contains_number some.keys number
-            (some.all number value (sym (found_number of_number of_row key number is) ∙ finds))))
+        (some.all number value (sym (found_number of_number of_row key number is) ∙ finds))))
 
     lists_two : ListsFound (by_number of_number of_row) (some_listed ++ others)
     lists_two = record {
@@ -305,7 +307,7 @@ module _ {V : Type 0} (of_number : ℤ → Option V) (of_row : List Datum → Op
           (all_apart some.keys rest.keys none_of_rest);
       each = map-append (by_number of_number of_row) (map number_key some.keys) rest.keys
           ∙ ap (λ (first : List (Option V)). first ++ map (by_number of_number of_row) rest.keys)
-              (each_number some.keys ∙ some.each)
+          (each_number some.keys ∙ some.each)
           ∙ ap (λ (last : List (Option V)). map there some_listed ++ last) (each_row rest.keys none_of_rest ∙ rest.each)
           ∙ sym (map-append there some_listed others);
       all = λ key value finds. contains_key key value (number_in key) refl finds;
@@ -318,16 +320,16 @@ pub lists_maps : {V : Type 0} (numbers : BTreeMap ℤ (Option V)) (numbers_made 
     → HasRoom row_cmp rows rows_undo
     → HasNoNumber (kept_under row_cmp rows rows_made rows_undo)
     → ListsFound (by_number (kept_under int_cmp numbers numbers_made numbers_undo)
-        (kept_under row_cmp rows rows_made rows_undo))
+    (kept_under row_cmp rows rows_made rows_undo))
     (filled (kept_places int_cmp numbers numbers_made numbers_undo)
-        ++ filled (kept_places row_cmp rows rows_made rows_undo))
+    ++ filled (kept_places row_cmp rows rows_made rows_undo))
 lists_maps numbers numbers_made numbers_undo rows rows_made rows_undo numbers_ordered numbers_room rows_ordered
     rows_room none =
     lists_two (kept_under int_cmp numbers numbers_made numbers_undo) (kept_under row_cmp rows rows_made rows_undo)
     (filled (kept_places int_cmp numbers numbers_made numbers_undo))
-        (filled (kept_places row_cmp rows rows_made rows_undo))
+    (filled (kept_places row_cmp rows rows_made rows_undo))
     (lists_map int_cmp int_cmp_total int_cmp-IsAntisymmetric numbers numbers_made numbers_undo numbers_ordered
-        numbers_room)
+    numbers_room)
     (lists_map row_cmp row_total row_tie rows rows_made rows_undo rows_ordered rows_room) none
 
 -- ---- in the maps of a table, of which the first is that of the primary key
@@ -355,14 +357,14 @@ pub lists_no_table : (tables : List TableRows) (table : ℕ) → slice_get table
     → ListsFound (kept_in tables table 0) (listed_in tables table)
 lists_no_table tables table none =
     subst (λ (found : Option TableRows). ListsFound (kept_at (maps_of found) 0) (first_values (maps_of found)))
-        (sym none) (lists_none (kept_at [] 0) (λ key. refl))
+    (sym none) (lists_none (kept_at [] 0) (λ key. refl))
 
 pub lists_table : (tables : List TableRows) (table : ℕ) (rows : TableRows) → slice_get tables table ≡ Some rows
     → ListsFound (kept_at rows.maps.items 0) (first_values rows.maps.items)
     → ListsFound (kept_in tables table 0) (listed_in tables table)
 lists_table tables table rows is lists =
     subst (λ (found : Option TableRows). ListsFound (kept_at (maps_of found) 0) (first_values (maps_of found)))
-        (sym is) lists
+    (sym is) lists
 
 -- ---- the rows of a table, where each row is found by one key at most
 
@@ -375,7 +377,7 @@ module _ (found : List Datum → Option (List Datum)) (listed : List (List Datum
       → found (get_or lists.keys i key) ≡ Some (get_or listed i row)
   found_by i key row within =
       sym (get_or-map found lists.keys i key None (omega (arith, long, within)))
-          ∙ ap (λ (all : List (Option (List Datum))). get_or all i None) lists.each
+      ∙ ap (λ (all : List (Option (List Datum))). get_or all i None) lists.each
       ∙ get_or-map there listed i row None within
 
   lists_row : (key row : List Datum) → found key ≡ Some row → Contains listed row
@@ -383,7 +385,7 @@ module _ (found : List Datum → Option (List Datum)) (listed : List (List Datum
       let has = lists.all key row is in
       let within : has.0 < length listed = omega (arith, long, has.1) in
       let there : Some (get_or listed has.0 row) ≡ Some row = sym (found_by has.0 key row within) ∙ ap found has.2
-          ∙ is in
+      ∙ is in
       (has.0, within, cc)
 
   row_is_found : (row : List Datum) → Contains listed row → (key : List Datum) × (found key ≡ Some row)

@@ -22,7 +22,7 @@ key_of_number (Known (Number other) ∷ value ∷ values) number is = absurd cc
 pub numbers_tie : (one other : ℤ) → eq_by_cmp int_cmp one other ≡ same_row (number_key one) (number_key other)
 numbers_tie one other =
     sym (ap is_eq (then_equal (datum_cmp (Known (Number one)) (Known (Number other)))
-        ∙ orders_values.numbers one other))
+    ∙ orders_values.numbers one other))
     ∙ ties_same_rows (number_key one) (number_key other)
 
 pub not_true : (b : Bool) → (b ≡ true → ⊥) → b ≡ false
@@ -34,12 +34,12 @@ pub number_apart : (number : ℤ) (other : List Datum) → number_in other ≡ N
     → same_row (number_key number) other ≡ false
 number_apart number other none = not_true (same_row (number_key number) other)
     (λ same. let equal : number_in (number_key number) ≡ number_in other =
-        ap number_in (equal_from_same_row (number_key number) other same) in absurd cc)
+    ap number_in (equal_from_same_row (number_key number) other same) in absurd cc)
 
 pub row_apart : (key : List Datum) (number : ℤ) → number_in key ≡ None → same_row key (number_key number) ≡ false
 row_apart key number none = not_true (same_row key (number_key number))
     (λ same. let equal : number_in key ≡ number_in (number_key number) =
-        ap number_in (equal_from_same_row key (number_key number) same) in absurd cc)
+    ap number_in (equal_from_same_row key (number_key number) same) in absurd cc)
 
 -- ---- what is found by them
 
@@ -67,14 +67,14 @@ pub puts_number : {V : Type 0} (old new : ℤ → Option V) (rows : List Datum �
 puts_number old new rows key number value is puts other = by_kind other _
     (λ another is_other.
     let tie : eq_by_cmp int_cmp number another ≡ same_row key other =
-        cc (numbers_tie number another, key_of_number key number is, key_of_number other another is_other) in
+    cc (numbers_tie number another, key_of_number key number is, key_of_number other another is_other) in
     found_number new rows other another is_other ∙ puts another ∙ ap (λ b. if b then value else old another) tie
     ∙ sym (ap (λ found. if same_row key other then value else found) (found_number old rows other another is_other)))
     (λ none.
     let apart : same_row key other ≡ false = ap (λ k. same_row k other) (key_of_number key number is)
-        ∙ number_apart number other none in
+    ∙ number_apart number other none in
     found_row new rows other none ∙ sym (found_row old rows other none)
-        ∙ sym (ap (λ b. if b then value else by_number old rows other) apart))
+    ∙ sym (ap (λ b. if b then value else by_number old rows other) apart))
 
 pub puts_row : {V : Type 0} (numbers : ℤ → Option V) (old new : List Datum → Option V) (key : List Datum)
     (value : Option V) → number_in key ≡ None
@@ -84,12 +84,12 @@ pub puts_row : {V : Type 0} (numbers : ℤ → Option V) (old new : List Datum �
 puts_row numbers old new key value none puts other = by_kind other _
     (λ number is.
     let apart : same_row key other ≡ false = ap (same_row key) (key_of_number other number is)
-        ∙ row_apart key number none in
+    ∙ row_apart key number none in
     found_number numbers new other number is ∙ sym (found_number numbers old other number is)
-        ∙ sym (ap (λ b. if b then value else by_number numbers old other) apart))
+    ∙ sym (ap (λ b. if b then value else by_number numbers old other) apart))
     (λ no_number.
     found_row numbers new other no_number ∙ puts other
-        ∙ ap (λ b. if b then value else old other) (ties_same_rows key other)
+    ∙ ap (λ b. if b then value else old other) (ties_same_rows key other)
     ∙ sym (ap (λ found. if same_row key other then value else found) (found_row numbers old other no_number)))
 
 -- ---- no key that is one number
@@ -99,7 +99,7 @@ pub not_number : {V : Type 0} (found : List Datum → Option V) (key : List Datu
 not_number found key value none is = by_kind key _
     (λ number is_number.
     let there : is_some (found (number_key number)) ≡ true =
-        ap is_some (sym (ap found (key_of_number key number is_number)) ∙ is) in
+    ap is_some (sym (ap found (key_of_number key number is_number)) ∙ is) in
     let not_there = none number in
     absurd cc)
     (λ no_number. no_number)

@@ -151,9 +151,9 @@ pub settles_next : (maps first : List (Staged (List Datum))) (index : ℕ) (old 
 settles_next maps first index old new at settles going =
     let before : slice_get first index ≡ Some old = sym (going.rest index (omega arith)) ∙ at in
     let was : (value : List Datum) → seen old value ≡ seen_at first index value =
-        λ value. sym (ap (λ found. shown seen found value) before) in
+    λ value. sym (ap (λ found. shown seen found value) before) in
     goes_on maps first index (seen_at first) (seen_at first) old new at (λ value. settles.keeps value ∙ was value)
-        (λ value. settles.sees value ∙ was value) going
+    (λ value. settles.sees value ∙ was value) going
 
 pub settles_rows : (old new : TableRows) (index : ℕ) → length old.maps.items ≤ index
     → Going new.maps.items old.maps.items index (seen_at old.maps.items) (seen_at old.maps.items)
@@ -172,7 +172,7 @@ pub discards_tables_next : (tables first : List TableRows) (index : ℕ) (old ne
 discards_tables_next tables first index old new at discards going =
     let before : slice_get first index ≡ Some old = sym (going.rest index (omega arith)) ∙ at in
     let was : SamePlaces (kept_at old.maps.items) (kept_in first index) =
-        λ number value. sym (ap (λ found. kept_at (maps_of found) number value) before) in
+    λ number value. sym (ap (λ found. kept_at (maps_of found) number value) before) in
     goes_on_tables tables first index (kept_in first) (kept_in first) old new at
-        (λ number value. discards.keeps number value ∙ was number value)
+    (λ number value. discards.keeps number value ∙ was number value)
     (λ number value. discards.sees number value ∙ was number value) discards.width going

@@ -75,7 +75,7 @@ written count xs items same = ap (λ n. take n (xs ++ drop (length xs) items)) (
 pub same_count : (new old : List TableRows) → widths new ≡ widths old → length new ≡ length old
 same_count new old same =
     sym (length-map new (λ (rows : TableRows). length rows.maps.items)) ∙ ap length same
-        ∙ length-map old (λ (rows : TableRows). length rows.maps.items)
+    ∙ length-map old (λ (rows : TableRows). length rows.maps.items)
 
 pub within : {X : Type 0} (xs : List X) (i : ℕ) (x : X) → slice_get xs i ≡ Some x → i < length xs
 within [] i x h = absurd cc
@@ -99,16 +99,16 @@ module _ (maps : List (Staged (List Datum))) (number : ℕ) (old new : Staged (L
       (λ here. let same : other ≡ number = number_is other number here in
       subst (λ n. kept_at (slice_set maps number new) n value ≡ kept_at maps n value) (sym same)
       (ap (λ found. shown kept found value) (get_set_here maps number new (within maps number old at))
-          ∙ keeps.keeps value ∙ sym (ap (λ found. shown kept found value) at)))
+      ∙ keeps.keeps value ∙ sym (ap (λ found. shown kept found value) at)))
       (λ beside. ap (λ found. shown kept found value)
-          (get_set_beside maps number other new (number_apart other number beside)))
+      (get_set_beside maps number other new (number_apart other number beside)))
 
 -- ---- values are put one after another, the last one first
 
 put_last : (places : Places) (values : List (Option (List Datum))) (value : Option (List Datum))
     (row : Option (List Datum)) (found : List Datum)
     → put_at places (values ++ value ∷ []) row (length values) found
-        ≡ (if is_row value found then row else places (length values) found)
+    ≡ (if is_row value found then row else places (length values) found)
 put_last places values value row found =
     ap (λ at. if is_row (flat at) found then row else places (length values) found) (get_last values value)
 
@@ -135,7 +135,7 @@ pub puts_nothing : (rows : TableRows) (number : ℕ) (value row : Option (List D
 puts_nothing rows number value row none = record {
   sees = λ other found. no_place_is (other == number) found row (seen_at rows.maps.items other found)
       ∙ ap (λ one. if (other == number) && is_row one found then row else seen_at rows.maps.items other found)
-          (sym none);
+      (sym none);
 }
 
 pub keeps_here : (rows : TableRows) → KeepsRows rows rows
@@ -166,7 +166,7 @@ puts_there rows new number old map value row low is changed puts =
           ap (λ n. seen_at (slice_set rows.maps.items number map) n found) same
           ∙ seen_here rows.maps.items number old map at found ∙ puts.sees found
           ∙ ap (λ under. if same_row value found then row else under)
-              (sym (ap (λ one. shown seen one found) at) ∙ ap (λ n. seen_at rows.maps.items n found) (sym same))
+          (sym (ap (λ one. shown seen one found) at) ∙ ap (λ n. seen_at rows.maps.items n found) (sym same))
           ∙ sym (ap (λ b. if b && same_row value found then row else seen_at rows.maps.items other found) here))
           (λ beside. seen_beside rows.maps.items number old map at other (number_apart other number beside) found
           ∙ sym (ap (λ b. if b && same_row value found then row else seen_at rows.maps.items other found) beside));
@@ -177,20 +177,20 @@ puts_there rows new number old map value row low is changed puts =
 pub puts_next : (old new : TableRows) (values : List (Option (List Datum))) (value row : Option (List Datum))
     → PutsOne old new (length values) value row → (number : ℕ) (found : List Datum)
     → put_at (seen_at new.maps.items) values row number found
-        ≡ put_at (seen_at old.maps.items) (values ++ value ∷ []) row number found
+    ≡ put_at (seen_at old.maps.items) (values ++ value ∷ []) row number found
 puts_next old new values value row one number found = by_test (number == length values)
     (λ here. let same : number ≡ length values = number_is number (length values) here in
     subst (λ n. put_at (seen_at new.maps.items) values row n found
-        ≡ put_at (seen_at old.maps.items) (values ++ value ∷ []) row n found) (sym same)
+    ≡ put_at (seen_at old.maps.items) (values ++ value ∷ []) row n found) (sym same)
     (put_past (seen_at new.maps.items) values row found
     ∙ one.sees (length values) found
     ∙ ap (λ b. if b && is_row value found then row else seen_at old.maps.items (length values) found)
-        (number_itself (length values))
+    (number_itself (length values))
     ∙ sym (put_last (seen_at old.maps.items) values value row found)))
     (λ beside. let apart : number ≢ length values = number_apart number (length values) beside in
     ap (λ under. if is_row (value_of values number) found then row else under)
     (one.sees number found
-        ∙ ap (λ b. if b && is_row value found then row else seen_at old.maps.items number found) beside)
+    ∙ ap (λ b. if b && is_row value found then row else seen_at old.maps.items number found) beside)
     ∙ sym (put_front (seen_at old.maps.items) values value row number apart found))
 
 -- maps of which nothing is found, one more than were counted
@@ -285,7 +285,7 @@ drop_next [] i d low = absurd (omega arith)
 drop_next (x ∷ xs) zero d low = refl
 drop_next (x ∷ xs) (suc i) d low =
     drop_next xs i d (omega arith)
-        ∙ ap (λ k. slice_index_or xs i d ∷ drop k (x ∷ xs)) (let same : suc (i + 1) ≡ suc i + 1 = omega arith in same)
+    ∙ ap (λ k. slice_index_or xs i d ∷ drop k (x ∷ xs)) (let same : suc (i + 1) ≡ suc i + 1 = omega arith in same)
 
 pub value_of_key : (keys : List UniqueKey) (number : ℕ) (row : List Datum)
     → value_of (values_in keys row) number ≡ value_in (slice_get keys number) row
@@ -318,9 +318,9 @@ module _ (tables : List TableRows) (table : ℕ) (old new : TableRows) (at : sli
         (λ here. let same : other ≡ table = number_is other table here in
         subst (λ t. kept_in (slice_set tables table new) t number value ≡ kept_in tables t number value) (sym same)
         (ap (λ found. kept_at (maps_of found) number value) rows_here ∙ keeps.keeps number value
-            ∙ sym (ap (λ found. kept_at (maps_of found) number value) at)))
+        ∙ sym (ap (λ found. kept_at (maps_of found) number value) at)))
         (λ beside. ap (λ found. kept_at (maps_of found) number value)
-            (get_set_beside tables table other new (number_apart other table beside)));
+        (get_set_beside tables table other new (number_apart other table beside)));
     width = map_set (λ (rows : TableRows). length rows.maps.items) tables table new old at keeps.width;
   }
 
@@ -333,7 +333,7 @@ module _ (tables : List TableRows) (table : ℕ) (old new : TableRows) (at : sli
   sees_tables wanted here others = λ other number value. by_test (other == table)
       (λ at_it. let same : other ≡ table = number_is other table at_it in
       subst (λ t. seen_in (slice_set tables table new) t number value ≡ wanted t number value) (sym same)
-          (seen_table number value ∙ here number value))
+      (seen_table number value ∙ here number value))
       (λ beside. let apart : other ≢ table = number_apart other table beside in
       seen_others other apart number value ∙ sym (others other apart number value))
 
@@ -343,12 +343,12 @@ pub put_is : (keys : Keys) (tables : Tables) (places : Places) (table : ℕ) (ro
     (found : Option (List Datum)) (number : ℕ) (value : List Datum)
     → tables table number value ≡ places number value
     → put keys tables table row found table number value
-        ≡ put_at places (values_in (keys table) row) found number value
+    ≡ put_at places (values_in (keys table) row) found number value
 put_is keys tables places table row found number value same =
     ap (λ b. if b && is_row (key_at keys table number row) value then found else tables table number value)
-        (number_itself table)
+    (number_itself table)
     ∙ ap (λ key. if is_row key value then found else tables table number value)
-        (sym (value_of_key (keys table) number row))
+    (sym (value_of_key (keys table) number row))
     ∙ ap (λ place. if is_row (value_of (values_in (keys table) row) number) value then found else place) same
 
 -- and what it has in another
@@ -358,4 +358,4 @@ pub put_others : (keys : Keys) (tables : Tables) (table : ℕ) (row : List Datum
 put_others keys tables table row found other apart number value = by_test (table == other)
     (λ here. absurd (apart (sym (number_is table other here))))
     (λ beside. ap (λ b. if b && is_row (key_at keys table number row) value then found else tables other number value)
-        beside)
+    beside)

@@ -16,7 +16,7 @@ module _ {X Y : Type 0} (view : X → Y) (one other : List X) (place : ℕ) (x y
       → take (place + 1) (map view one) ≡ take (place + 1) (map view other)
   agree_one_more same before =
       take_more_same (map view one) (map view other) place (view x) (omega (arith, length-map one view))
-          (omega (arith, length-map other view)) before
+      (omega (arith, length-map other view)) before
       (view_here ∙ same ∙ sym view_there)
 
   pub differ_there : view x ≢ view y → map view one ≢ map view other

@@ -24,11 +24,17 @@ use Rattle.tables_log.specs.Sendable.{IsSendableValue, IsSendableRow, IsSendable
 
 wide_integer : (kind : ColType) (number : ℤ) → IsWithin kind number → IsWithin BigInt number
 wide_integer SmallInt number h =
-    record { above_least = omega (arith, ints, h.above_least); below_greatest =
-    omega (arith, ints, h.below_greatest) }
+    record {
+      above_least = omega (arith, ints, h.above_least);
+      below_greatest =
+          omega (arith, ints, h.below_greatest);
+    }
 wide_integer Integer number h =
-    record { above_least = omega (arith, ints, h.above_least); below_greatest =
-    omega (arith, ints, h.below_greatest) }
+    record {
+      above_least = omega (arith, ints, h.above_least);
+      below_greatest =
+          omega (arith, ints, h.below_greatest);
+    }
 wide_integer BigInt number h = h
 wide_integer Boolean number h = record { above_least = h.above_least; below_greatest = h.below_greatest }
 wide_integer Text number h = record { above_least = h.above_least; below_greatest = h.below_greatest }
@@ -86,7 +92,7 @@ blanked_values : (columns : List ℕ) (number : ℕ) (cells : List Datum) → Al
 blanked_values columns number [] h = All-nil IsSendableValue
 blanked_values columns number (cell ∷ cells) h =
     All-cons IsSendableValue (if list_any (λ column. column == number) columns then cell else Missing)
-        (blanked_from columns (number + 1) cells)
+    (blanked_from columns (number + 1) cells)
     (cell_sendable (list_any (λ column. column == number) columns) cell (All-head IsSendableValue cell cells h))
     (blanked_values columns (number + 1) cells (All-tail IsSendableValue cell cells h))
 
@@ -123,4 +129,4 @@ pub part_sendable : (table : Table) (old : List Datum) (new : Option (List Datum
     → IsSendablePart (part_in table old new)
 part_sendable table old new h =
     by_sendable (recorded_as table.identity) (identity_in (Some table)) (blanked_in (Some table)) old new h
-        (blanked_sendable (recorded_as table.identity) table old h)
+    (blanked_sendable (recorded_as table.identity) table old h)

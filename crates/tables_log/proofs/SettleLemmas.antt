@@ -22,7 +22,7 @@ nothing_past : (tables : List TableRows) (number : ℕ) → length tables ≤ nu
     → kept_in tables number key value ≡ seen_in tables number key value
 nothing_past tables number past key value =
     ap (λ found. kept_at (maps_of found) key value) (slice_get_past tables number past)
-        ∙ sym (ap (λ found. seen_at (maps_of found) key value) (slice_get_past tables number past))
+    ∙ sym (ap (λ found. seen_at (maps_of found) key value) (slice_get_past tables number past))
 
 -- what is kept of a table is what is seen of it
 same_if : (b : Bool) (kept seen : Option (List Datum)) → (b ≡ true → kept ≡ seen) → kept ≡ (if b then seen else kept)
@@ -33,7 +33,7 @@ pub settles_past : (tables : List TableRows) (number : ℕ) → length tables �
 settles_past tables number past = record {
   keeps = λ table key value. same_if (number == table) (kept_in tables table key value) (seen_in tables table key value)
       (λ here. ap (λ n. kept_in tables n key value) (sym (number_is number table here))
-          ∙ nothing_past tables number past key value
+      ∙ nothing_past tables number past key value
       ∙ ap (λ n. seen_in tables n key value) (number_is number table here));
   sees = λ table key value. refl;
   width = refl;
@@ -52,20 +52,20 @@ module _ (tables : List TableRows) (number : ℕ) (old new : TableRows) (at : sl
       → kept_in (slice_set tables number new) number key value ≡ seen_in tables number key value
   kept_here key value =
       ap (λ found. kept_at (maps_of found) key value) here_is ∙ settles.keeps key value
-          ∙ sym (ap (λ found. seen_at (maps_of found) key value) at)
+      ∙ sym (ap (λ found. seen_at (maps_of found) key value) at)
 
   seen_here : (key : ℕ) (value : List Datum)
       → seen_in (slice_set tables number new) number key value ≡ seen_in tables number key value
   seen_here key value =
       ap (λ found. seen_at (maps_of found) key value) here_is ∙ settles.sees key value
-          ∙ sym (ap (λ found. seen_at (maps_of found) key value) at)
+      ∙ sym (ap (λ found. seen_at (maps_of found) key value) at)
 
   pub settles_here : SettlesOne tables (slice_set tables number new) number
   settles_here = record {
     keeps = λ table key value. by_test (number == table)
         (λ here.
         ap (λ n. kept_in (slice_set tables number new) n key value) (sym (number_is number table here))
-            ∙ kept_here key value
+        ∙ kept_here key value
         ∙ ap (λ n. seen_in tables n key value) (number_is number table here)
         ∙ sym (ap (λ b. if b then seen_in tables table key value else kept_in tables table key value) here))
         (λ apart.
@@ -74,7 +74,7 @@ module _ (tables : List TableRows) (number : ℕ) (old new : TableRows) (at : sl
     sees = λ table key value. by_test (number == table)
         (λ here.
         ap (λ n. seen_in (slice_set tables number new) n key value) (sym (number_is number table here))
-            ∙ seen_here key value
+        ∙ seen_here key value
         ∙ ap (λ n. seen_in tables n key value) (number_is number table here))
         (λ apart. ap (λ found. seen_at (maps_of found) key value) (beside_is table apart));
     width = map_set (λ (rows : TableRows). length rows.maps.items) tables number new old at settles.width;
@@ -139,7 +139,7 @@ pub settled_numbers : (tables first : List TableRows) (numbers : List ℕ) (inde
     → SettlesNamed first tables (is_in numbers)
 settled_numbers tables first numbers index past settling =
     settled tables first (is_in (drop index numbers)) (is_in numbers)
-        (λ table. ap (λ left. is_in left table) (drop_past numbers index past)) settling
+    (λ table. ap (λ left. is_in left table) (drop_past numbers index past)) settling
 
 pub settled_commands : (tables first : List TableRows) (commands : List Command) (index : ℕ) → length commands ≤ index
     → Settling tables first (are_named (drop index commands)) (are_named commands)
@@ -147,14 +147,14 @@ pub settled_commands : (tables first : List TableRows) (commands : List Command)
 settled_commands tables first commands index past settling but =
     let all : SettlesNamed first tables (are_named commands) =
     settled tables first (are_named (drop index commands)) (are_named commands)
-        (λ table. ap (λ left. are_named left table) (drop_past commands index past)) settling in
+    (λ table. ap (λ left. are_named left table) (drop_past commands index past)) settling in
     record {
       keeps = λ table key value. by_test (are_named commands table)
           (λ named. all.keeps table key value
-              ∙ ap (λ b. if b then seen_in first table key value else kept_in first table key value) named)
+          ∙ ap (λ b. if b then seen_in first table key value else kept_in first table key value) named)
           (λ others. all.keeps table key value
-              ∙ ap (λ b. if b then seen_in first table key value else kept_in first table key value) others
-              ∙ but table others key value);
+          ∙ ap (λ b. if b then seen_in first table key value else kept_in first table key value) others
+          ∙ but table others key value);
       sees = all.sees;
       width = all.width;
     }
@@ -173,15 +173,15 @@ beside_one : (setting : Setting) (tables : Tables) (command : Command) (table : 
     → applied setting tables (command_view command) table key value ≡ tables table key value
 beside_one setting tables (Insert number row) table apart key value =
     put_others setting.keys tables number row (Some row) table (λ same. number_apart number table apart (sym same))
-        key value
+    key value
 beside_one setting tables (Update number old row) table apart key value =
     let beside : table ≢ number = λ same. number_apart number table apart (sym same) in
     put_others setting.keys (without setting.keys tables number (tables number 0 old)) number row (Some row) table
-        beside key value
+    beside key value
     ∙ without_others setting tables number (tables number 0 old) table beside key value
 beside_one setting tables (Delete number old) table apart key value =
     without_others setting tables number (tables number 0 old) table
-        (λ same. number_apart number table apart (sym same)) key value
+    (λ same. number_apart number table apart (sym same)) key value
 beside_one setting tables (Truncate numbers) table apart key value =
     ap (λ b. if b then None else tables table key value) apart
 
@@ -201,7 +201,7 @@ pub settled_others : (setting : Setting) (first staged : List TableRows) (comman
     → IsSettledBut (are_named commands) staged
 settled_others setting first staged commands is_settled keeps leaves table apart key value =
     keeps.keeps table key value ∙ is_settled table key value
-        ∙ sym (leaves table key value ∙ beside_all setting (seen_in first) commands table apart key value)
+    ∙ sym (leaves table key value ∙ beside_all setting (seen_in first) commands table apart key value)
 
 -- ---- what is settled
 

@@ -25,7 +25,7 @@ same_back one other same = λ table number value. sym (same table number value)
 
 after_more : (setting : Setting) (tables : Tables) (transactions : List Transaction) (transaction : Transaction)
     → fold (left_by setting) tables (transactions ++ transaction ∷ [])
-        ≡ left_by setting (fold (left_by setting) tables transactions) transaction
+    ≡ left_by setting (fold (left_by setting) tables transactions) transaction
 after_more setting tables [] transaction = refl
 after_more setting tables (first ∷ transactions) transaction =
     after_more setting (left_by setting tables first) transactions transaction
@@ -46,7 +46,7 @@ entries_more : (setting : Setting) (tables : Tables) (number : ℕ) (transaction
     → entries_from setting tables number (transactions ++ transaction ∷ [])
     ≡ entries_from setting tables number transactions
     ++ commit_of (number + length transactions) transaction.time
-        (record_of setting (fold (left_by setting) tables transactions) transaction.commands) ∷ []
+    (record_of setting (fold (left_by setting) tables transactions) transaction.commands) ∷ []
 entries_more setting tables number [] transaction =
     ap (λ n. commit_of n transaction.time (record_of setting tables transaction.commands) ∷ []) (no_more number)
 entries_more setting tables number (first ∷ transactions) transaction =
@@ -54,8 +54,8 @@ entries_more setting tables number (first ∷ transactions) transaction =
     (entries_more setting (left_by setting tables first) (number + 1) transactions transaction
     ∙ ap (λ n. entries_from setting (left_by setting tables first) (number + 1) transactions
     ++ commit_of n transaction.time
-        (record_of setting (fold (left_by setting) (left_by setting tables first) transactions) transaction.commands)
-        ∷ [])
+    (record_of setting (fold (left_by setting) (left_by setting tables first) transactions) transaction.commands)
+    ∷ [])
     (number_more number (length transactions)))
 
 entries_length : (setting : Setting) (tables : Tables) (number : ℕ) (transactions : List Transaction)
@@ -100,23 +100,23 @@ commits_add_one old new commands time number commits transactions stands =
     let count : length (book_log old) ≡ length transactions = each_is_logged old transactions stands in
     let numbers : number ≡ 1 + length transactions = omega (arith, commits.number_is, count) in
     stood_stands (book_setting old) new (transactions ++ record { commands = commands; time = time } ∷ [])
-        (sym (ap setting_in commits.checked)) (record {
+    (sym (ap setting_in commits.checked)) (record {
       accepted = accepted_more (book_setting old) no_rows transactions (record { commands = commands; time = time })
           stands.accepted
           (record { sized = commits.transaction; no_fault = sym (alike.first 1 commands) ∙ commits.no_fault });
       rows = λ table key value.
           commits.rows table key value ∙ alike.all_left commands table key value
           ∙ ap (λ (tables : Tables). tables table key value)
-              (sym (after_more (book_setting old) no_rows transactions
-              (record { commands = commands; time = time })));
+          (sym (after_more (book_setting old) no_rows transactions
+          (record { commands = commands; time = time })));
       log = commits.log
           ∙ ap (λ log. log ++ commit_of number time (record_of (book_setting old) (book_rows old) commands) ∷ [])
-              stands.log
+          stands.log
           ∙ ap (λ changes. entries_from (book_setting old) no_rows 1 transactions ++ commit_of number time changes
-              ∷ []) (alike.recorded commands)
+          ∷ []) (alike.recorded commands)
           ∙ ap (λ n. entries_from (book_setting old) no_rows 1 transactions
-              ++ commit_of n time (record_of (book_setting old) (after (book_setting old) transactions) commands)
-              ∷ []) numbers
+          ++ commit_of n time (record_of (book_setting old) (after (book_setting old) transactions) commands)
+          ∷ []) numbers
           ∙ sym (entries_more (book_setting old) no_rows 1 transactions (record { commands = commands; time = time }));
     })
 
@@ -152,20 +152,20 @@ pub books_are_right : BooksAreRight
 books_are_right book transactions stands =
     let begins : BeginsWell (book_setting book) = begins_well (book_setting book) in
     let has : HasPrimaryKeys (book_setting book).keys =
-        has_primary_keys (book_checked book).catalog (book_checked book).plan in
+    has_primary_keys (book_checked book).catalog (book_checked book).plan in
     let alike : AreAlike (book_setting book) (after (book_setting book) transactions) (book_rows book) =
     are_alike (book_setting book) (after (book_setting book) transactions) (book_rows book)
-        (same_back (book_rows book) (after (book_setting book) transactions) stands.rows) in
+    (same_back (book_rows book) (after (book_setting book) transactions) stands.rows) in
     let keyed : Stands (book_setting book).keys (after (book_setting book) transactions) =
-        keyed_after (book_setting book) no_rows transactions stands.accepted begins.keyed in
+    keyed_after (book_setting book) no_rows transactions stands.accepted begins.keyed in
     let fit : AllFit (book_setting book) (after (book_setting book) transactions) =
-        fit_after (book_setting book) has no_rows transactions stands.accepted begins.keyed begins.fit in
+    fit_after (book_setting book) has no_rows transactions stands.accepted begins.keyed begins.fit in
     record {
       keyed = alike.standing keyed;
       fit = λ table row holds. fit table row (alike.holding table row ∙ holds);
       apart = λ keeps table one other first second same.
           apart_after (book_setting book) keeps no_rows transactions stands.accepted begins.keyed begins.apart table
-              one other
+          one other
           (alike.holding table one ∙ first) (alike.holding table other ∙ second) same;
     }
 
@@ -175,4 +175,4 @@ pub listed_are_rows : ListedAreRows
 listed_are_rows book transactions table rows stands lists in_order =
     let right = books_are_right book transactions stands in
     rows_in_order (book_rows book table 0) (book_listed book table) rows (key_at (book_setting book).keys table 0)
-        (λ key row is. right.keyed.keyed table 0 key row is) lists in_order
+    (λ key row is. right.keyed.keyed table 0 key row is) lists in_order

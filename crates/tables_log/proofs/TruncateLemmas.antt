@@ -55,7 +55,7 @@ any_with_if : (has : Bool) (number item : ℕ) (numbers : List ℕ)
 any_with_if true number item numbers h = or_left (list_any (nat_eq number) numbers) (nat_eq number item) h
 any_with_if false number item numbers h =
     ap (λ b. list_any (nat_eq number) numbers || b) (sym (or_false (nat_eq number item)))
-        ∙ sym (list_any-append (nat_eq number) numbers (item ∷ [])) ∙ h
+    ∙ sym (list_any-append (nat_eq number) numbers (item ∷ [])) ∙ h
 
 any_of_fold : (number : ℕ) (numbers more : List ℕ)
     → list_any (nat_eq number) (fold (with_item nat_eq) numbers more) ≡ true
@@ -63,7 +63,7 @@ any_of_fold : (number : ℕ) (numbers more : List ℕ)
 any_of_fold number numbers [] h = or_left (list_any (nat_eq number) numbers) false h
 any_of_fold number numbers (item ∷ more) h = by_test (list_any (nat_eq number) more)
     (λ later. or_right (list_any (nat_eq number) numbers) (nat_eq number item || list_any (nat_eq number) more)
-        (or_right (nat_eq number item) (list_any (nat_eq number) more) later))
+    (or_right (nat_eq number item) (list_any (nat_eq number) more) later))
     (λ no_later.
     let first : list_any (nat_eq number) (with_item nat_eq numbers item) ≡ true =
     sym (or_false (list_any (nat_eq number) (with_item nat_eq numbers item)))
@@ -71,7 +71,7 @@ any_of_fold number numbers (item ∷ more) h = by_test (list_any (nat_eq number)
     ∙ any_of_fold number (with_item nat_eq numbers item) more h in
     either_or (list_any (nat_eq number) numbers) (nat_eq number item) (list_any (nat_eq number) more)
     (or_left (list_any (nat_eq number) numbers || nat_eq number item) (list_any (nat_eq number) more)
-        (any_with_if (list_any (nat_eq item) numbers) number item numbers first)))
+    (any_with_if (list_any (nat_eq item) numbers) number item numbers first)))
 
 pub distinct_with : (has : Bool) (item : ℕ) (numbers : List ℕ) → list_any (nat_eq item) numbers ≡ has
     → IsDistinct nat_eq numbers
@@ -84,7 +84,7 @@ pub distinct_fold : (numbers more : List ℕ) → IsDistinct nat_eq numbers
 distinct_fold numbers [] h = h
 distinct_fold numbers (item ∷ more) h =
     distinct_fold (with_item nat_eq numbers item) more
-        (distinct_with (list_any (nat_eq item) numbers) item numbers refl h)
+    (distinct_with (list_any (nat_eq item) numbers) item numbers refl h)
 
 pub none_distinct : IsDistinct nat_eq []
 unfolding IsDistinct
@@ -105,7 +105,7 @@ all_numbers : (numbers : List ℕ) → ((number : ℕ) → list_any (nat_eq numb
 all_numbers [] below = All-nil IsTableNumber
 all_numbers (number ∷ numbers) below =
     All-cons IsTableNumber number numbers
-        (below number (or_left (nat_eq number number) (list_any (nat_eq number) numbers) (number_itself number)))
+    (below number (or_left (nat_eq number number) (list_any (nat_eq number) numbers) (number_itself number)))
     (all_numbers numbers (λ other h. below other (or_right (nat_eq other number) (list_any (nat_eq other) numbers) h)))
 
 known_all : (setting : Setting) (numbers : List ℕ) → all_known setting numbers ≡ true
@@ -122,18 +122,20 @@ truncate_applies catalog plan old new numbers once narrow known is empties =
     let few : length catalog.tables ≤ 64 = narrow.few in
     let below : (number : ℕ) → list_any (nat_eq number) once ≡ true → number < 64 = λ number any.
     let one : list_any (nat_eq number) (distinct nat_eq numbers) ≡ true = ap (list_any (nat_eq number)) (sym is)
-        ∙ any in
+    ∙ any in
     let low : number < length catalog.tables = ltb-true number (length catalog.tables)
     (known_of_any (setting_of catalog plan).known number numbers (known_all (setting_of catalog plan) numbers known)
-        (any_of_fold number [] numbers one)) in
+    (any_of_fold number [] numbers one)) in
     omega arith in
     record {
       no_fault = ap (λ b. unless b NoTable None) known;
       leaves = empties;
       records = ap r.Truncate is;
-      sendable = (length-le_from_distinct_below once 64
-          (subst (IsDistinct nat_eq) (sym is) (distinct_fold [] numbers none_distinct)) below,
-          all_numbers once below);
+      sendable = (
+        length-le_from_distinct_below once 64
+            (subst (IsDistinct nat_eq) (sym is) (distinct_fold [] numbers none_distinct)) below,
+        all_numbers once below,
+      );
     }
 
 -- ---- one table after another is emptied
@@ -169,7 +171,7 @@ pub empties_past : (tables : List TableRows) (number : ℕ) → length tables �
 empties_past tables number past = record {
   sees = λ other key value. by_test (number == other)
       (λ h. ap (λ k. seen_in tables k key value) (sym (number_is number other h))
-          ∙ nothing_past tables number past key value
+      ∙ nothing_past tables number past key value
       ∙ sym (ap (λ b. if b then None else seen_in tables other key value) h))
       (λ h. sym (ap (λ b. if b then None else seen_in tables other key value) h));
 }
@@ -180,7 +182,7 @@ empties_here tables number old new at empties = record {
   sees = sees_tables tables number old new at (λ t n w. if number == t then None else seen_in tables t n w)
       (λ n w. empties.sees n w ∙ sym (ap (λ b. if b then None else seen_in tables number n w) (number_itself number)))
       (λ t apart n w. by_test (number == t) (λ h. absurd (apart (sym (number_is number t h))))
-          (λ h. ap (λ b. if b then None else seen_in tables t n w) h));
+      (λ h. ap (λ b. if b then None else seen_in tables t n w) h));
 }
 
 pub empties_next : (tables new first : List TableRows) (number : ℕ) (left all : List ℕ) → KeepsTables tables new

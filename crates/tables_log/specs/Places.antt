@@ -93,9 +93,9 @@ pub record PutsOne (old new : TableRows) (number : ℕ) (value : Option (List Da
 
 -- in the places of these values there is this row, or none
 pub record PutsRow (old new : TableRows) (values : List (Option (List Datum))) (row : Option (List Datum)) : Type 0
-    where
-  pub sees : (number : ℕ) (value : List Datum)
-      → seen_at new.maps.items number value ≡ put_at (seen_at old.maps.items) values row number value
+  where
+    pub sees : (number : ℕ) (value : List Datum)
+        → seen_at new.maps.items number value ≡ put_at (seen_at old.maps.items) values row number value
 
 pub record EmptiesRows (new : TableRows) : Type 0 where
   pub sees : (number : ℕ) (value : List Datum) → seen_at new.maps.items number value ≡ None

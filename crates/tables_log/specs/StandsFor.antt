@@ -43,7 +43,7 @@ abbrev pub entries_from : Setting → Tables → ℕ → List Transaction → Li
 entries_from setting tables number [] = []
 entries_from setting tables number (transaction ∷ transactions) =
     commit_of number transaction.time (record_of setting tables transaction.commands)
-        ∷ entries_from setting (left_by setting tables transaction) (number + 1) transactions
+    ∷ entries_from setting (left_by setting tables transaction) (number + 1) transactions
 
 pub record StandsFor (book : Book) (transactions : List Transaction) : Type 0 where
   pub accepted : AreAccepted (book_setting book) no_rows transactions

@@ -120,12 +120,7 @@ impl TableRows {
 
     /// Stages the row, or that there is none, in the map of this number, if the row has a value there. The only error
     /// is want of memory.
-    #[tactic(auto, using(
-        crate::proofs::PlaceLemmas::puts_nothing,
-        crate::proofs::PlaceLemmas::puts_there,
-        crate::proofs::PlaceLemmas::keeps_there,
-        crate::proofs::PlaceLemmas::keeps_here
-    ))]
+    #[tactic(auto, using(crate::proofs::PlaceLemmas::puts_nothing, crate::proofs::PlaceLemmas::puts_there, crate::proofs::PlaceLemmas::keeps_there, crate::proofs::PlaceLemmas::keeps_here))]
     fn put_one(
         &mut self,
         number: usize,

@@ -57,7 +57,7 @@ same_both (Err a) (Err b) (Ok c) first second = absurd second
 pub same_table : (one other : Machine) (oid : ℕ) → Alike one other → table_of one oid ≡ table_of other oid
 same_table one other oid alike =
     ap (λ known. if known then one.kept oid else None) (alike.known oid)
-        ∙ ap (λ shape. if other.known oid then shape else None) (alike.kept oid)
+    ∙ ap (λ shape. if other.known oid then shape else None) (alike.kept oid)
 
 empty_in : (one other : Machine) (oid : ℕ) (table : Option TableShape) → Alike one other
     → SameOutcome (change_of table (one.work oid) oid emptied one) (change_of table (other.work oid) oid emptied other)
@@ -76,7 +76,7 @@ pub empty_alike : (one other : Machine) (oid : ℕ) → Alike one other
     → SameOutcome (hear_empty oid one) (hear_empty oid other)
 empty_alike one other oid alike =
     subst (λ table. SameOutcome (change_of (table_of one oid) (one.work oid) oid emptied one)
-        (change_of table (other.work oid) oid emptied other))
+    (change_of table (other.work oid) oid emptied other))
     (same_table one other oid alike) (empty_in one other oid (table_of one oid) alike)
 
 truncate_opens : (oid : ℕ) (oids : List ℕ) (machine : Machine)
@@ -102,7 +102,7 @@ unfolding hear_truncate
 truncate_alike [] one other alike = alike
 truncate_alike (oid ∷ oids) one other alike =
     rest_alike (hear_truncate oids) (truncate_alike oids) (hear_empty oid one) (hear_empty oid other)
-        (empty_alike one other oid alike)
+    (empty_alike one other oid alike)
 
 pub same_itself : (one : Outcome) → SameOutcome one one
 same_itself (Ok machine) = alike_itself machine
@@ -127,7 +127,7 @@ empties_next oids i old new whole low reached same =
     same_both (hear_truncate (drop (i + 1) oids) new) (hear_truncate (drop i oids) old) whole
     (subst (λ out. SameOutcome (hear_truncate (drop (i + 1) oids) new) out)
     (sym (ap (λ list. hear_truncate list old) (drop_step oids i low)
-        ∙ truncate_opens (get_or oids i 0) (drop (i + 1) oids) old))
+    ∙ truncate_opens (get_or oids i 0) (drop (i + 1) oids) old))
     (after_one (drop (i + 1) oids) new (hear_empty (get_or oids i 0) old) reached))
     same
 
@@ -148,7 +148,7 @@ refused_so oids i old whole None low tells same = tt
 refused_so oids i old whole (Some fault) low tells same =
     faults_so fault (hear_truncate (drop i oids) old) whole
     (ap (λ list. hear_truncate list old) (drop_step oids i low)
-        ∙ truncate_opens (get_or oids i 0) (drop (i + 1) oids) old
+    ∙ truncate_opens (get_or oids i 0) (drop (i + 1) oids) old
     ∙ stops_one (drop (i + 1) oids) (hear_empty (get_or oids i 0) old) fault tells)
     same
 
@@ -165,4 +165,4 @@ pub all_emptied : (oids : List ℕ) (i : ℕ) (new : Machine) (whole : Outcome) 
     → SameOutcome (hear_truncate (drop i oids) new) whole → Reaches new whole
 all_emptied oids i new whole past same =
     reaches_so new (hear_truncate (drop i oids) new) whole
-        (ap (λ list. hear_truncate list new) (drop_of_length-le oids past) ∙ truncate_ends new) same
+    (ap (λ list. hear_truncate list new) (drop_of_length-le oids past) ∙ truncate_ends new) same

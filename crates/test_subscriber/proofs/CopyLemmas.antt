@@ -34,13 +34,13 @@ pub found_at : (copies : List TableCopy) (oid place : ℕ) → place_of copies o
     → copy_of copies oid ≡ slice_get copies place
 found_at copies oid place h =
     find_at (has_oid oid) copies
-        ∙ ap (slice_get copies) (at_place (position_or_len (has_oid oid) copies) (length copies) place h)
+    ∙ ap (slice_get copies) (at_place (position_or_len (has_oid oid) copies) (length copies) place h)
 
 pub found_nowhere : (copies : List TableCopy) (oid : ℕ) → place_of copies oid ≡ None → copy_of copies oid ≡ None
 found_nowhere copies oid h =
     find_at (has_oid oid) copies
-        ∙ slice_get_past copies (position_or_len (has_oid oid) copies)
-        (past_end (position_or_len (has_oid oid) copies) (length copies) h)
+    ∙ slice_get_past copies (position_or_len (has_oid oid) copies)
+    (past_end (position_or_len (has_oid oid) copies) (length copies) h)
 
 -- ---- one copy changes
 
@@ -89,14 +89,14 @@ written copies oid place old new other first same = by_test (other == oid)
     let test : has_oid oid new ≡ true = subst (λ n. (n == oid) ≡ true) (sym same) (number_itself oid) in
     let found : copy_of (slice_set copies place new) oid ≡ Some new =
     find-set (has_oid oid) copies place new
-        (sym (at_place (position_or_len (has_oid oid) copies) (length copies) place first.there))
+    (sym (at_place (position_or_len (has_oid oid) copies) (length copies) place first.there))
     (inside copies place old first.at) test in
     rw here (subst (λ n. copy_of (slice_set copies place new) n ≡ Some new) (sym equal) found))
     (λ differs.
     let has : old.shape.relation.oid ≡ oid = first_has copies oid place old first in
     let old_differs : has_oid other (get_or copies place old) ≡ false =
     subst (λ (c : TableCopy). (c.shape.relation.oid == other) ≡ false) (sym (read_at copies place old old first.at))
-        (apart old.shape.relation.oid oid other has differs) in
+    (apart old.shape.relation.oid oid other has differs) in
     let new_differs : has_oid other new ≡ false = apart new.shape.relation.oid oid other same differs in
     rw differs (find_past (has_oid other) copies place new old old_differs new_differs))
 
@@ -108,9 +108,9 @@ pub added : (copies : List TableCopy) (oid : ℕ) (new : TableCopy) (other : ℕ
 added copies oid new other none same = by_test (other == oid)
     (λ here. let equal : other ≡ oid = number_is other oid here in
     let test : has_oid other new ≡ true =
-        subst (λ n. (new.shape.relation.oid == n) ≡ true) (same ∙ sym equal) (number_itself new.shape.relation.oid) in
+    subst (λ n. (new.shape.relation.oid == n) ≡ true) (same ∙ sym equal) (number_itself new.shape.relation.oid) in
     let absent : copy_of copies other ≡ None =
-        subst (λ n. copy_of copies n ≡ None) (sym equal) (found_nowhere copies oid none) in
+    subst (λ n. copy_of copies n ≡ None) (sym equal) (found_nowhere copies oid none) in
     rw here (find-append (has_oid other) copies (new ∷ []) ∙ rw (absent, test) refl))
     (λ differs.
     let test : has_oid other new ≡ false = apart new.shape.relation.oid oid other same differs in
@@ -127,10 +127,10 @@ each Does keeps [] (new ∷ news) does oid = absurd (does 0)
 each Does keeps (old ∷ olds) [] does oid = absurd (does 0)
 each Does keeps (old ∷ olds) (new ∷ news) does oid = by_test (old.shape.relation.oid == oid)
     (λ here. let also : (new.shape.relation.oid == oid) ≡ true =
-        subst (λ n. (n == oid) ≡ true) (sym (keeps old new (does 0))) here in
+    subst (λ n. (n == oid) ≡ true) (sym (keeps old new (does 0))) here in
     rw (here, also) (does 0))
     (λ later. let also : (new.shape.relation.oid == oid) ≡ false =
-        subst (λ n. (n == oid) ≡ false) (sym (keeps old new (does 0))) later in
+    subst (λ n. (n == oid) ≡ false) (sym (keeps old new (does 0))) later in
     rw (later, also) (each Does keeps olds news (λ place. does (suc place)) oid))
 
 -- the copies before this one were changed, and the others are as they were
@@ -171,13 +171,13 @@ goes_on Does olds news index d new low does going = record {
   done = λ place below. by_test (place == index)
       (λ here. let same : place ≡ index = number_is place index here in
       let old : slice_get olds index ≡ Some (get_or news index d) = sym (going.rest index (omega arith))
-          ∙ get_there news index d low in
+      ∙ get_there news index d low in
       subst (λ p. OfEach Does (slice_get olds p) (slice_get (slice_set news index new) p)) (sym same)
       (rw (old, set_here news index new low) does))
       (λ differs. let apart : place ≢ index =
-          (λ same. let equal : (place == index) ≡ true = (unsigned_Decides place index).1 same in absurd cc) in
+      (λ same. let equal : (place == index) ≡ true = (unsigned_Decides place index).1 same in absurd cc) in
       subst (λ found. OfEach Does (slice_get olds place) found) (sym (set_beside news index place new apart))
-          (going.done place (omega arith)));
+      (going.done place (omega arith)));
   rest = λ place high. let apart : place ≢ index = omega arith in set_beside news index place new apart
       ∙ going.rest place (omega arith);
   width = length-set news index new ∙ going.width;
@@ -230,9 +230,9 @@ first_there copies oid place d at low = record { there = at; at = get_there copi
 pub place_within : (copies : List TableCopy) (oid place : ℕ) → place_of copies oid ≡ Some place → place < length copies
 place_within copies oid place h = by_test (nat_lt (position_or_len (has_oid oid) copies) (length copies))
     (λ low. let at : position_or_len (has_oid oid) copies ≡ place =
-        at_place (position_or_len (has_oid oid) copies) (length copies) place h in
+    at_place (position_or_len (has_oid oid) copies) (length copies) place h in
     let below : position_or_len (has_oid oid) copies < length copies =
-        ltb-true (position_or_len (has_oid oid) copies) (length copies) low in omega arith)
+    ltb-true (position_or_len (has_oid oid) copies) (length copies) low in omega arith)
     (λ high. let none : None ≡ Some place = sym (rw high refl) ∙ h in absurd cc)
 
 -- what is read at one place
@@ -240,5 +240,5 @@ pub read_same : {X : Type 0} (xs : List X) (i : ℕ) (one other : X) → i < len
     → other ≡ get_or xs i other → one ≡ other
 read_same xs i one other low is also =
     let met : Some (get_or xs i one) ≡ Some (get_or xs i other) = sym (get_there xs i one low)
-        ∙ get_there xs i other low in
+    ∙ get_there xs i other low in
     let same : get_or xs i one ≡ get_or xs i other = cc in is ∙ same ∙ sym also

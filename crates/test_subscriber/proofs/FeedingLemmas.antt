@@ -50,7 +50,7 @@ hears_no_fault (Then frame others) machine good =
 abbrev pub HearsMore : List ℕ → Cut → Machine → Type 0
 HearsMore more whole machine = (hear_cut whole machine).fault ≡ None
     → hear_cut (with_more limit more whole) machine
-        ≡ hear_cut (cut limit (rest_of whole ++ more)) (hear_cut whole machine).machine
+    ≡ hear_cut (cut limit (rest_of whole ++ more)) (hear_cut whole machine).machine
 
 then_hears_more : (more : List ℕ) (outcome : Outcome) (others : Cut) (machine : Machine)
     → ((next : Machine) → HearsMore more others next)
@@ -85,7 +85,7 @@ cut_alike (Rest bytes) one other alike = record { fault = refl; machine = alike 
 cut_alike (Bad fault bytes) one other alike = record { fault = refl; machine = alike }
 cut_alike (Then frame others) one other alike =
     then_alike others (hear_frame frame one) (hear_frame frame other) one other alike
-        (frame_alike frame one other alike) (cut_alike others)
+    (frame_alike frame one other alike) (cut_alike others)
 
 -- ---- a connection that is opens
 
@@ -136,7 +136,7 @@ unfolding hear_truncate
 truncate_open [] machine opens = opens
 truncate_open (oid ∷ oids) machine opens =
     rest_open (hear_truncate oids) (hear_empty oid machine) (truncate_open oids)
-        (change_of_open (table_of machine oid) (machine.work oid) oid emptied machine opens)
+    (change_of_open (table_of machine oid) (machine.work oid) oid emptied machine opens)
 
 learn_open : (shape : Option TableShape) (oid : ℕ) (machine : Machine) → IsOpen machine.phase
     → IsOpenAfter (learn_new shape oid machine)
@@ -166,13 +166,13 @@ busy_open begin (m.Commit lsn end_lsn time) machine opens =
 busy_open begin (m.Relation relation) machine opens = relation_open (machine.kept relation.oid) relation machine opens
 busy_open begin (m.Insert relation new) machine opens =
     change_of_open (table_of machine relation) (machine.work relation) relation
-        (λ shape found. inserted shape found new) machine opens
+    (λ shape found. inserted shape found new) machine opens
 busy_open begin (m.Update relation old new) machine opens =
     change_of_open (table_of machine relation) (machine.work relation) relation
-        (λ shape found. updated shape found old new) machine opens
+    (λ shape found. updated shape found old new) machine opens
 busy_open begin (m.Delete relation old) machine opens =
     change_of_open (table_of machine relation) (machine.work relation) relation
-        (λ shape found. deleted shape found old) machine opens
+    (λ shape found. deleted shape found old) machine opens
 busy_open begin (m.Truncate options relations) machine opens = truncate_open relations machine opens
 
 message_open : (phase : Phase) (message : Msg) (machine : Machine) → IsOpen machine.phase
@@ -233,7 +233,7 @@ cut_open (Rest bytes) machine opens = opens
 cut_open (Bad fault bytes) machine opens = opens
 cut_open (Then frame others) machine opens =
     then_open (hear_frame frame machine) others machine opens (phase_open machine.phase frame machine opens)
-        (cut_open others)
+    (cut_open others)
 
 -- ---- frames one after another
 
@@ -269,7 +269,7 @@ frames_append : (first second : List Frame) (machine : Machine)
 frames_append [] second machine = refl
 frames_append (frame ∷ first) second machine =
     next_of (hear_frame frame machine) (hear_frames (first ++ second))
-        (λ next. next_heard (hear_frames first next) (hear_frames second)) (frames_append first second)
+    (λ next. next_heard (hear_frames first next) (hear_frames second)) (frames_append first second)
     ∙ sym (next_after (hear_frame frame machine) (hear_frames first) (hear_frames second))
 
 next_alike : (frames : List Frame) (one other : Outcome) → SameOutcome one other
@@ -285,7 +285,7 @@ frames_alike : (frames : List Frame) (one other : Machine) → Alike one other
 frames_alike [] one other alike = alike
 frames_alike (frame ∷ frames) one other alike =
     next_alike frames (hear_frame frame one) (hear_frame frame other) (frame_alike frame one other alike)
-        (frames_alike frames)
+    (frames_alike frames)
 
 stopped_alike : (one other : Machine) → Alike one other → Alike (stopped one) (stopped other)
 stopped_alike one other alike = record {
@@ -361,8 +361,11 @@ module _ (old between : Subscriber) (first second : List ℕ) (one : Feeds old f
         ∙ sym (rest_with_more limit second whole (hears_no_fault whole (sub_machine old) good))
         ∙ sym (ap rest_of all_cut);
     output = two.output ∙ one.output;
-    names = record { slot = two.names.slot ∙ one.names.slot; publications = two.names.publications
-        ∙ one.names.publications };
+    names = record {
+      slot = two.names.slot ∙ one.names.slot;
+      publications = two.names.publications
+          ∙ one.names.publications;
+    };
   }
 
   beyond : (new : Subscriber) → StopsAmong (fed_cut between second) (sub_machine between) (sub_machine new)
@@ -375,10 +378,10 @@ module _ (old between : Subscriber) (first second : List ℕ) (one : Feeds old f
         ∙ sym (more_after limit second whole (hears_no_fault whole (sub_machine old) good)) ∙ sym all_cut;
     stays = subst (λ outcome. StaysOf outcome (sub_machine new))
         (sym (frames_append (frames_of whole) stops.frames (sub_machine old)
-            ∙ ap (λ outcome. next_heard outcome (hear_frames stops.frames))
-            (hears_frames whole (sub_machine old) good)))
+        ∙ ap (λ outcome. next_heard outcome (hear_frames stops.frames))
+        (hears_frames whole (sub_machine old) good)))
         (stays_alike (hear_frames stops.frames (sub_machine between)) (hear_frames stops.frames heard.machine)
-            (sub_machine new)
+        (sub_machine new)
         (frames_alike stops.frames (sub_machine between) heard.machine machine_alike) stops.stays);
   }
 
@@ -390,14 +393,14 @@ module _ (old between : Subscriber) (first second : List ℕ) (one : Feeds old f
   stops_for : (fault : Option SubFault) (new : Subscriber)
       → StopsFor fault (fed_heard between second) (fed_cut between second) (sub_machine between) (sub_machine new)
       → StopsFor fault (fed_heard old (first ++ second)) (fed_cut old (first ++ second)) (sub_machine old)
-          (sub_machine new)
+      (sub_machine new)
   stops_for None new stops = among new stops
   stops_for (Some fault) new stops = record {
     fault_is = sym heard_alike.fault ∙ stops.fault_is;
     stays = alike_both (sub_machine new) (stopped (fed_heard between second).machine)
         (stopped (fed_heard old (first ++ second)).machine) stops.stays
         (stopped_alike (fed_heard between second).machine (fed_heard old (first ++ second)).machine
-            heard_alike.machine);
+        heard_alike.machine);
   }
 
   stop_as_one : (new : Subscriber) (error : SubFault) → FeedStops between second error new
@@ -424,4 +427,4 @@ stops_come_at_once old between new first second error one stops =
 pub first_pieces_stay : FirstPiecesStay
 first_pieces_stay old between new first second error one stops memory = beyond old between first second one new
     (subst (λ fault. StopsFor fault (fed_heard between second) (fed_cut between second) (sub_machine between)
-        (sub_machine new)) memory stops.machine)
+    (sub_machine new)) memory stops.machine)

@@ -88,4 +88,4 @@ pub frame_alike : (frame : Frame) (one other : Machine) → Alike one other
     → SameOutcome (hear_frame frame one) (hear_frame frame other)
 frame_alike frame one other alike =
     subst (λ phase. SameOutcome (hear_frame_in one.phase frame one) (hear_frame_in phase frame other)) alike.phase
-        (phase_alike one.phase frame one other alike)
+    (phase_alike one.phase frame one other alike)

@@ -43,8 +43,8 @@ row_ends = refl
 row_step : (kinds : List ColType) (cells : List Cell) (i : ℕ) (kind : ColType) (cell : Cell) → i < length kinds
     → i < length cells
     → row_in (drop i kinds) (drop i cells)
-        ≡ row_with (datum_in (get_or kinds i kind) (get_or cells i cell))
-        (row_in (drop (i + 1) kinds) (drop (i + 1) cells))
+    ≡ row_with (datum_in (get_or kinds i kind) (get_or cells i cell))
+    (row_in (drop (i + 1) kinds) (drop (i + 1) cells))
 row_step kinds cells i kind cell low under =
     rw (add-one, drop-cons kinds i kind low, drop-cons cells i cell under)
     (row_opens (get_or kinds i kind) (drop (suc i) kinds) (get_or cells i cell) (drop (suc i) cells))
@@ -56,21 +56,21 @@ pub row_fails : (made : List Datum) (kinds : List ColType) (cells : List Cell) (
 row_fails made kinds cells i kind cell low same at none =
     let under : i < length cells = omega arith in
     ap (after made) (row_step kinds cells i kind cell low under
-        ∙ ap (λ found. row_with found (row_in (drop (i + 1) kinds) (drop (i + 1) cells)))
-        (ap (datum_in (get_or kinds i kind)) (sym at) ∙ none))
+    ∙ ap (λ found. row_with found (row_in (drop (i + 1) kinds) (drop (i + 1) cells)))
+    (ap (datum_in (get_or kinds i kind)) (sym at) ∙ none))
 
 pub row_goes_on : (made : List Datum) (datum : Datum) (kinds : List ColType) (cells : List Cell) (i : ℕ)
     (kind : ColType) (cell : Cell) → i < length kinds
     → length kinds ≡ length cells → cell ≡ get_or cells i cell → datum_in (get_or kinds i kind) cell ≡ Some datum
     → after (made ++ datum ∷ []) (row_in (drop (i + 1) kinds) (drop (i + 1) cells))
-        ≡ after made (row_in (drop i kinds) (drop i cells))
+    ≡ after made (row_in (drop i kinds) (drop i cells))
 row_goes_on made datum kinds cells i kind cell low same at found =
     let under : i < length cells = omega arith in
     value_made made datum (row_in (drop (i + 1) kinds) (drop (i + 1) cells))
     ∙ sym (ap (after made)
-        (row_step kinds cells i kind cell low under
-        ∙ ap (λ value. row_with value (row_in (drop (i + 1) kinds) (drop (i + 1) cells)))
-        (ap (datum_in (get_or kinds i kind)) (sym at) ∙ found)))
+    (row_step kinds cells i kind cell low under
+    ∙ ap (λ value. row_with value (row_in (drop (i + 1) kinds) (drop (i + 1) cells)))
+    (ap (datum_in (get_or kinds i kind)) (sym at) ∙ found)))
 
 pub row_done : (made : List Datum) (kinds : List ColType) (cells : List Cell) (i : ℕ) → length kinds ≤ i
     → length kinds ≡ length cells
@@ -78,7 +78,7 @@ pub row_done : (made : List Datum) (kinds : List ColType) (cells : List Cell) (i
 row_done made kinds cells i past same =
     let over : length cells ≤ i = omega arith in
     ap (after made) (ap (λ some. row_in some (drop i cells)) (drop_of_length-le kinds past)
-        ∙ ap (row_in []) (drop_of_length-le cells over) ∙ row_ends)
+    ∙ ap (row_in []) (drop_of_length-le cells over) ∙ row_ends)
     ∙ ap Some (append-nil made)
 
 no_row : (datum : Option Datum) → row_with datum None ≡ None
@@ -102,4 +102,4 @@ other_count [] (column ∷ columns) h = refl
 other_count (column ∷ columns) [] h = refl
 other_count (column ∷ columns) (other ∷ others) h =
     ap (λ rest. same_column column other && rest) (other_count columns others (λ same. h (omega arith)))
-        ∙ and_false (same_column column other)
+    ∙ and_false (same_column column other)

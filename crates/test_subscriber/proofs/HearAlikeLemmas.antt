@@ -39,7 +39,7 @@ placed_alike : (one other : Found) (key row : List Datum) → FoundAlike one oth
     → SameFound (placed one key row) (placed other key row)
 placed_alike one other key row alike = by_test (is_some (one key))
     (λ taken. let also : is_some (other key) ≡ true = subst (λ found. is_some found ≡ true) (alike key) taken in
-        rw (taken, also) refl)
+    rw (taken, also) refl)
     (λ free. let also : is_some (other key) ≡ false = subst (λ found. is_some found ≡ false) (alike key) free in
     rw (free, also) (put_alike one other key (Some row) alike))
 
@@ -48,9 +48,9 @@ replaced_alike : (one other : Found) (gone key row : List Datum) → FoundAlike 
 replaced_alike one other gone key row alike = by_test (is_some (one gone))
     (λ there. let also : is_some (other gone) ≡ true = subst (λ found. is_some found ≡ true) (alike gone) there in
     rw (there, also) (placed_alike (put one gone None) (put other gone None) key row
-        (put_alike one other gone None alike)))
+    (put_alike one other gone None alike)))
     (λ missing. let also : is_some (other gone) ≡ false =
-        subst (λ found. is_some found ≡ false) (alike gone) missing in rw (missing, also) alike)
+    subst (λ found. is_some found ≡ false) (alike gone) missing in rw (missing, also) alike)
 
 insert_alike : (shape : TableShape) (one other : Found) (read : Result (List Datum) SubFault) → FoundAlike one other
     → SameFound (insert_row shape one read) (insert_row shape other read)
@@ -100,7 +100,7 @@ change_at : (one other : Machine) (oid : ℕ) (change : Change)
 change_at one other oid change respects None alike = refl
 change_at one other oid change respects (Some shape) alike =
     staged_alike one other oid (change shape (one.work oid)) (change shape (other.work oid))
-        (respects shape (one.work oid) (other.work oid) (alike.work oid)) alike
+    (respects shape (one.work oid) (other.work oid) (alike.work oid)) alike
 
 change_alike : (one other : Machine) (oid : ℕ) (change : Change)
     → ((shape : TableShape) (left right : Found) → FoundAlike left right
@@ -108,7 +108,7 @@ change_alike : (one other : Machine) (oid : ℕ) (change : Change)
     → Alike one other → SameOutcome (change_in oid change one) (change_in oid change other)
 change_alike one other oid change respects alike =
     subst (λ table. SameOutcome (change_of (table_of one oid) (one.work oid) oid change one)
-        (change_of table (other.work oid) oid change other))
+    (change_of table (other.work oid) oid change other))
     (same_table one other oid alike) (change_at one other oid change respects (table_of one oid) alike)
 
 -- ---- Relation
@@ -145,7 +145,7 @@ relation_alike : (relation : Relation) (one other : Machine) → Alike one other
     → SameOutcome (hear_relation relation one) (hear_relation relation other)
 relation_alike relation one other alike =
     subst (λ kept. SameOutcome (learn_as (one.kept relation.oid) relation one) (learn_as kept relation other))
-        (alike.kept relation.oid)
+    (alike.kept relation.oid)
     (kept_alike (one.kept relation.oid) relation one other alike)
 
 -- ---- messages
@@ -209,4 +209,4 @@ pub hear_alike : (message : Msg) (one other : Machine) → Alike one other
     → SameOutcome (hear message one) (hear message other)
 hear_alike message one other alike =
     subst (λ phase. SameOutcome (hear_in one.phase message one) (hear_in phase message other)) alike.phase
-        (in_alike one.phase message one other alike)
+    (in_alike one.phase message one other alike)

@@ -60,11 +60,11 @@ hear_one_more : (frames : List Frame) (frame : Frame) (old middle new : Machine)
     → Reaches new (hear_frame frame middle) → Reaches new (hear_frames (frames ++ frame ∷ []) old)
 hear_one_more [] frame old middle new got more =
     then_none new (hear_frame frame old)
-        (reaches_alike new (hear_frame frame middle) (hear_frame frame old) (frame_alike frame middle old got) more)
+    (reaches_alike new (hear_frame frame middle) (hear_frame frame old) (frame_alike frame middle old got) more)
 hear_one_more (first ∷ frames) frame old middle new got more =
     elim (hear_frame first old) as
-        (λ outcome. Reaches middle (next_heard outcome (hear_frames frames))
-        → Reaches new (next_heard outcome (hear_frames (frames ++ frame ∷ [])))) [
+    (λ outcome. Reaches middle (next_heard outcome (hear_frames frames))
+    → Reaches new (next_heard outcome (hear_frames (frames ++ frame ∷ [])))) [
       | Ok reached ↦ (λ got. hear_one_more frames frame reached middle new got more)
       | Err fault ↦ (λ got. absurd got)
     ] got
@@ -73,7 +73,7 @@ gives_cut : (old : Inbox) (frame : Frame) (new : Inbox) → GivesFrame old frame
     → cut old.limit old.bytes ≡ Then frame (cut old.limit new.bytes)
 gives_cut old frame new gives =
     ap (cut old.limit) (sym (append-nil old.bytes)) ∙ gives.cuts []
-        ∙ ap (λ bytes. Then frame (cut old.limit bytes)) (append-nil new.bytes)
+    ∙ ap (λ bytes. Then frame (cut old.limit bytes)) (append-nil new.bytes)
 
 heard_next : (whole : Cut) (limit : ℕ) (before : Inbox) (frame : Frame) (after : Inbox) (old middle new : Machine)
     → HasHeard whole (cut limit before.bytes) old middle → before.limit ≡ limit → GivesFrame before frame after
@@ -83,8 +83,8 @@ heard_next whole limit before frame after old middle new has same gives reaches 
   frames = has.frames ++ frame ∷ [];
   first = after_one_more has.frames frame (cut limit after.bytes)
       ∙ ap (after_frames has.frames)
-          (sym (subst (λ l. cut l before.bytes ≡ Then frame (cut l after.bytes)) same
-          (gives_cut before frame after gives)))
+      (sym (subst (λ l. cut l before.bytes ≡ Then frame (cut l after.bytes)) same
+      (gives_cut before frame after gives)))
       ∙ has.first;
   heard = hear_one_more has.frames frame old middle new has.heard reaches;
 }
@@ -130,7 +130,7 @@ heard_all [] (Then frame more) old new none reaches = absurd cc
 heard_all (first ∷ frames) left old new none reaches =
     elim (hear_frame first old) as (λ outcome. Reaches new (next_heard outcome (hear_frames frames))
     → Matches (heard_then old outcome (hear_cut (after_frames frames left))) (length_fault (after_frames frames left))
-        new) [
+    new) [
       | Ok reached ↦ (λ reaches. heard_all frames left reached new none reaches)
       | Err fault ↦ (λ reaches. absurd reaches)
     ] reaches
@@ -143,9 +143,9 @@ hears_held start before found after old new at never gives =
     let whole : Cut = cut start.limit start.bytes in
     let has : HasHeard whole (cut start.limit before.bytes) old new = at.heard in
     let none : (after ≡ before) × (has_frame (cut before.limit before.bytes) ≡ false) =
-        gives_none before found after never gives in
+    gives_none before found after never gives in
     let nothing : has_frame (cut start.limit before.bytes) ≡ false =
-        subst (λ limit. has_frame (cut limit before.bytes) ≡ false) at.limit none.1 in
+    subst (λ limit. has_frame (cut limit before.bytes) ≡ false) at.limit none.1 in
     let matches = heard_all has.frames (cut start.limit before.bytes) old new nothing has.heard in
     subst (λ inbox. HearsHeld whole (hear_cut whole old) start inbox new) (sym none.0)
     (subst (λ cut. HearsHeld cut (hear_cut cut old) start before new) has.first (record {
@@ -185,8 +185,11 @@ stops_at : (frames : List Frame) (frame : Frame) (more : Cut) (old middle new : 
 stops_at [] frame more old middle new fault got is stays =
     subst (λ outcome. StopsBy fault (heard_then old outcome (hear_cut more)) new)
     (sym (error_alike (hear_frame frame middle) (hear_frame frame old) fault (frame_alike frame middle old got) is))
-    (record { fault_is = refl; stays =
-        alike_both new (stopped middle) (stopped old) stays (stopped_alike middle old got) })
+    (record {
+      fault_is = refl;
+      stays =
+          alike_both new (stopped middle) (stopped old) stays (stopped_alike middle old got);
+    })
 stops_at (first ∷ frames) frame more old middle new fault got is stays =
     elim (hear_frame first old) as (λ outcome. Reaches middle (next_heard outcome (hear_frames frames))
     → StopsBy fault (heard_then old outcome (hear_cut (after_frames frames (Then frame more)))) new) [
@@ -202,7 +205,7 @@ stops_by None whole frame more old middle new has refused stays =
     stops_among whole (Then frame more) old middle new has stays
 stops_by (Some fault) whole frame more old middle new has refused stays =
     subst (λ cut. StopsBy fault (hear_cut cut old) new) has.first
-        (stops_at has.frames frame more old middle new fault has.heard refused stays)
+    (stops_at has.frames frame more old middle new fault has.heard refused stays)
 
 -- a frame was given and refused
 pub stops_after : (start before : Inbox) (found : Option Frame) (frame : Frame) (after : Inbox)

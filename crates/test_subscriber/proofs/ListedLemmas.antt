@@ -27,7 +27,7 @@ pub nowhere_in_order : (copies : List TableCopy) (oid : ℕ) (rows : List (List 
     → rows ≡ [] → InOrder rows (copy_of copies oid)
 nowhere_in_order copies oid rows none empty =
     subst (InOrder rows) (sym (found_nowhere copies oid none))
-        (subst (λ listed. IsInOrder [] listed) (sym empty) none_in_order)
+    (subst (λ listed. IsInOrder [] listed) (sym empty) none_in_order)
 
 pub nowhere_listed : (copies : List TableCopy) (oid : ℕ) → place_of copies oid ≡ None → Lists (copy_of copies oid)
 nowhere_listed copies oid none =

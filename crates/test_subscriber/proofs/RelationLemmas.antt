@@ -71,10 +71,10 @@ module _ (phase : Phase) (at : ℕ) (wants : Bool) (copies : List TableCopy) (pl
 
   pub recognizes : same_relation old.shape.relation relation ≡ true
       → Reaches (machine_with phase at wants (slice_set copies place came))
-          (hear_relation relation (machine_with phase at wants copies))
+      (hear_relation relation (machine_with phase at wants copies))
   recognizes same =
       let known : learn_as (Some old.shape) relation (machine_with phase at wants copies)
-          ≡ Ok (recognized relation.oid (machine_with phase at wants copies)) = rw same refl in
+      ≡ Ok (recognized relation.oid (machine_with phase at wants copies)) = rw same refl in
       subst (Reaches (machine_with phase at wants (slice_set copies place came))) (sym (as_kept ∙ known)) recognized_so
 
 -- ---- a new Relation
@@ -84,7 +84,7 @@ shape_says : (relation : Relation) (kinds : Option (List ColType)) (shape : Tabl
 shape_says relation None shape h = absurd cc
 shape_says relation (Some kinds) shape h =
     let same : shaped relation kinds ≡ shape = some_is (shaped relation kinds) shape h in
-        ap (λ (s : TableShape). s.relation) (sym same)
+    ap (λ (s : TableShape). s.relation) (sym same)
 
 module _ (phase : Phase) (at : ℕ) (wants : Bool) (copies : List TableCopy) (relation : Relation)
     (nowhere : place_of copies relation.oid ≡ None) where
@@ -102,7 +102,7 @@ module _ (phase : Phase) (at : ℕ) (wants : Bool) (copies : List TableCopy) (re
   module _ (shape : TableShape) (new : TableCopy) (says : shape_of relation ≡ Some shape)
       (new_shape : new.shape ≡ shape) (new_known : new.is_known ≡ true)
       (new_kept : (key : List Datum) → kept new.rows key ≡ None)
-          (new_seen : (key : List Datum) → seen new.rows key ≡ None) where
+      (new_seen : (key : List Datum) → seen new.rows key ≡ None) where
     has_oid_too : new.shape.relation.oid ≡ relation.oid
     has_oid_too = ap (λ (s : TableShape). s.relation.oid) new_shape
         ∙ ap (λ (r : Relation). r.oid) (shape_says relation (kinds_of relation.columns) shape says)

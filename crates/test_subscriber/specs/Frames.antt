@@ -28,7 +28,7 @@ code_in body =
     && (bytes_eq (take 15 body) (codes "SERROR" ++ (0 ∷ (codes "VERROR" ++ (0 ∷ codes "C"))))
     && (bytes_eq (take 2 (drop 20 body)) (0 ∷ 77 ∷ []) && bytes_eq (drop (length body - 2) body) (0 ∷ 0 ∷ [])))
     then Some (slice_index body 15 ∷ slice_index body 16 ∷ slice_index body 17 ∷ slice_index body 18
-        ∷ slice_index body 19 ∷ []) else None
+    ∷ slice_index body 19 ∷ []) else None
 
 abbrev pub refusal : Option (List ℕ) → SubFault
 refusal None = f.OutOfPlace

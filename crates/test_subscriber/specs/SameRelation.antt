@@ -20,7 +20,7 @@ abbrev pub same_column : RelationColumn → RelationColumn → Bool
 same_column one other =
     beq one.is_key other.is_key
     && (bytes_eq one.name other.name
-        && (nat_eq one.type_oid other.type_oid && int_eq one.type_modifier other.type_modifier))
+    && (nat_eq one.type_oid other.type_oid && int_eq one.type_modifier other.type_modifier))
 
 abbrev pub same_columns : List RelationColumn → List RelationColumn → Bool
 same_columns [] [] = true

@@ -24,7 +24,7 @@ abbrev pub carried_by : ℕ → Publication → Option CarrierOf
 carried_by table publication =
     if list_any (is_whole table) publication.entries.items then Some (record { name = publication.name; filter = None })
     else option_map (λ filter. record { name = publication.name; filter = Some (expr_view filter) })
-        (option_and_then (λ entry. entry.filter) (find (is_for table) publication.entries.items))
+    (option_and_then (λ entry. entry.filter) (find (is_for table) publication.entries.items))
 
 -- the publications that carry the table, in their order
 abbrev pub carriers_of : ℕ → List Publication → List CarrierOf

@@ -128,18 +128,18 @@ IsFault input (i.Script error) = ⊥
 
 -- what is found of the table is so, and the writer's bytes grow by its line
 pub record WritesTable (catalog : CatalogOf Expr) (number : ℕ) (old new : Option (List ℕ)) (certified : Bool) : Type 0
-    where
-  pub finding : Finding
-  pub true_of : IsTrueOf catalog number finding
-  pub is : certified ≡ is_certificate finding
-  pub appends : Appends old new (ended (line_for catalog number finding))
+  where
+    pub finding : Finding
+    pub true_of : IsTrueOf catalog number finding
+    pub is : certified ≡ is_certificate finding
+    pub appends : Appends old new (ended (line_for catalog number finding))
 
 -- or by the line's first bytes, where writing it stops
 pub record StopsTable (catalog : CatalogOf Expr) (number : ℕ) (old new : Option (List ℕ)) (failure : Failure) : Type 0
-    where
-  pub finding : Finding
-  pub true_of : IsTrueOf catalog number finding
-  pub stops : StopsText (ended (line_for catalog number finding)) old new failure
+  where
+    pub finding : Finding
+    pub true_of : IsTrueOf catalog number finding
+    pub stops : StopsText (ended (line_for catalog number finding)) old new failure
 
 -- a line for each table is written, as far as memory and the writer go
 abbrev pub WritesTables : CatalogOf Expr → Option (List ℕ) → Option (List ℕ) → Result Status Failure → Type 0

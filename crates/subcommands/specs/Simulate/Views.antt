@@ -35,7 +35,7 @@ rows_lines before tables number (rows ∷ later) =
 abbrev pub subscriber_line : List ℕ → SubscriberView → List ℕ
 subscriber_line name shown =
     name ++ 32 ∷ position_text shown.position ++ 32 ∷ decimal shown.applied ++ codes " confirmed "
-        ++ position_text shown.confirmed
+    ++ position_text shown.confirmed
 
 -- that line, and then its rows, each after its name
 abbrev pub named_lines : List ℕ → List Table → SubscriberView → List (List ℕ)
@@ -46,7 +46,7 @@ abbrev pub subscribers_lines : CatalogOf Expr → ℕ → List SubscriberView �
 subscribers_lines catalog number [] = []
 subscribers_lines catalog number (shown ∷ later) =
     named_lines (subscriber_name catalog.subscriptions number) catalog.tables shown
-        ++ subscribers_lines catalog (number + 1) later
+    ++ subscribers_lines catalog (number + 1) later
 
 -- ---- all
 
@@ -54,4 +54,4 @@ subscribers_lines catalog number (shown ∷ later) =
 abbrev pub view_lines : CatalogOf Expr → View → List (List ℕ)
 view_lines catalog view =
     counted (codes "log") view.log
-        ∷ (rows_lines [] catalog.tables 0 (publisher_rows view) ++ subscribers_lines catalog 0 view.subscribers.items)
+    ∷ (rows_lines [] catalog.tables 0 (publisher_rows view) ++ subscribers_lines catalog 0 view.subscribers.items)

@@ -30,7 +30,7 @@ pub record MakesInto (before after : World) (most : ℕ) (events : List (ℕ × 
 abbrev pub MakesOn : World → World → ℕ → StepOf → List ℕ → Type 0
 MakesOn before after now step text =
     (most : ℕ) (events : List (ℕ × w.Event)) (world : w.World) → IsWorld before most events world
-        → MakesInto before after most events world now step text
+    → MakesInto before after most events world now step text
 
 -- ---- a script
 

@@ -24,10 +24,7 @@ pub struct RowMemory {
     places: Places,
 }
 
-fn add_filter<'a>(
-    filters: &mut Vec<&'a Filter>,
-    carrier: Carrier<'a>,
-) -> Result<(), AllocError>
+fn add_filter<'a>(filters: &mut Vec<&'a Filter>, carrier: Carrier<'a>) -> Result<(), AllocError>
     ensures { OnOk result (filters_view filters.new.items ≡ filters_view filters.old.items ++
         cons_option (carrier_view carrier.entry).filter []) }
 {
@@ -41,10 +38,7 @@ fn add_filter<'a>(
 }
 
 /// The filters of the publications that have one.
-fn filters_of<'a>(
-    alloc: Global,
-    carriers: &[Carrier<'a>],
-) -> Result<Vec<&'a Filter>, AllocError>
+fn filters_of<'a>(alloc: Global, carriers: &[Carrier<'a>]) -> Result<Vec<&'a Filter>, AllocError>
     ensures { IfOk result (λ filters. filters_view filters.items ≡ spec.filters_of (map carrier_view carriers.now)) }
 {
     let mut filters = Vec::new(alloc);

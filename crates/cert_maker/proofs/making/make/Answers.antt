@@ -11,17 +11,17 @@ returns-in-Ok-clause-cert c =
     let tables = c.deref.result.now in
     let found = c.in-Some.ensures.lookup in
     let read : slice_get tables c.args.table ≡ Some c.in-Some.found.now =
-        slice_get_read tables (length tables) c.args.table c.in-Some.found.now refl found.3.0 found.1 in
+    slice_get_read tables (length tables) c.args.table c.in-Some.found.now refl found.3.0 found.1 in
     let there : slice_get (catalog_view c.args.catalog.now).tables c.args.table ≡ Some c.in-Some.found.now = cc in
     (right_answer (catalog_view c.args.catalog.now) (plan_view c.args.plan.now) c.args.table c.in-Some.found.now
-        c.in-Ok.made there c.in-Ok.ensures).cert
+    c.in-Ok.made there c.in-Ok.ensures).cert
 
 pub returns-in-Ok-clause-counter : goal.returns-in-Ok-clause-counter
 returns-in-Ok-clause-counter c =
     let tables = c.deref.result.now in
     let found = c.in-Some.ensures.lookup in
     let read : slice_get tables c.args.table ≡ Some c.in-Some.found.now =
-        slice_get_read tables (length tables) c.args.table c.in-Some.found.now refl found.3.0 found.1 in
+    slice_get_read tables (length tables) c.args.table c.in-Some.found.now refl found.3.0 found.1 in
     let there : slice_get (catalog_view c.args.catalog.now).tables c.args.table ≡ Some c.in-Some.found.now = cc in
     (right_answer (catalog_view c.args.catalog.now) (plan_view c.args.plan.now) c.args.table c.in-Some.found.now
-        c.in-Ok.made there c.in-Ok.ensures).counter
+    c.in-Ok.made there c.in-Ok.ensures).counter

@@ -6,5 +6,5 @@ use Rattle.copy_both.proofs.answer.answer_slot.Goals as goal
 pub refuse-requires : goal.refuse-requires
 refuse-requires c =
     refusal_is_sent (offer_view c.args.offer.now) c.args.command.now c.args.slot c.publications_at-taken.result.now
-        (refusal_view c.in-Some.refusal) c.requires
+    (refusal_view c.in-Some.refusal) c.requires
     c.in-Some.ensures

@@ -8,13 +8,13 @@ pub returns-clause-asked : goal.returns-clause-asked
 returns-clause-asked c =
     let query : c.args.kind ≡ 81 = omega arith in
     c.in_ok-answer_text.ensures.asked
-        ∙ ap told (query_asks (offer_view c.args.offer.now) c.args.kind c.args.body.now c.in-Some.text.now query
-        c.in-Some.ensures)
+    ∙ ap told (query_asks (offer_view c.args.offer.now) c.args.kind c.args.body.now c.in-Some.text.now query
+    c.in-Some.ensures)
 
 pub returns-clause-ok : goal.returns-clause-ok
 returns-clause-ok c =
     let query : c.args.kind ≡ 81 = omega arith in
     c.in_ok-answer_text.ensures.ok
     ∙ ap (sent_after c.args.response.now.items)
-        (query_asks (offer_view c.args.offer.now) c.args.kind c.args.body.now c.in-Some.text.now query
-        c.in-Some.ensures)
+    (query_asks (offer_view c.args.offer.now) c.args.kind c.args.body.now c.in-Some.text.now query
+    c.in-Some.ensures)

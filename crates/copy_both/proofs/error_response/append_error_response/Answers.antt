@@ -15,18 +15,30 @@ returns-clause-ok c =
     let size : ℕ = length before + length name + length after + 28 in
     let chain : c.put-4.new.out.items
     ≡ out ++ (69 ∷ []) ++ to_be_bytes w32 size ++ severities ++ code ++ (0 ∷ 77 ∷ []) ++ before ++ name ++ after
-        ++ (0 ∷ 0 ∷ []) =
-    rw (c.put-4.ensures.items, c.put_text-4.ensures.items, c.put_text-3.ensures.items, c.put_text-2.ensures.items,
-        c.put-3.ensures.items, c.put_text.ensures.items, c.put-2.ensures.items, c.put_int32.ensures.items,
-        c.put.ensures.items, c.reserve.ensures.items) refl in
+    ++ (0 ∷ 0 ∷ []) =
+    rw (
+      c.put-4.ensures.items,
+      c.put_text-4.ensures.items,
+      c.put_text-3.ensures.items,
+      c.put_text-2.ensures.items,
+      c.put-3.ensures.items,
+      c.put_text.ensures.items,
+      c.put-2.ensures.items,
+      c.put_int32.ensures.items,
+      c.put.ensures.items,
+      c.reserve.ensures.items,
+    ) refl in
     let fields : severities ++ (code ++ ((0 ∷ 77 ∷ []) ++ (before ++ (name ++ (after ++ (0 ∷ 0 ∷ []))))))
-        ≡ error_fields (code_of (refusal_view c.args.refusal.now)) text =
+    ≡ error_fields (code_of (refusal_view c.args.refusal.now)) text =
     fields_are code before name after ∙ ap (error_fields code) c.words-words.ensures.text
-        ∙ ap (λ told. error_fields told text) c.code-code.ensures.code in
+    ∙ ap (λ told. error_fields told text) c.code-code.ensures.code in
     let same : size ≡ length (error_fields (code_of (refusal_view c.args.refusal.now)) text) + 4 =
-    omega (arith, c.words-words.ensures.length,
-        length-fields (code_of (refusal_view c.args.refusal.now)) text
-        (ap length (sym c.code-code.ensures.code) ∙ c.code-code.ensures.five)) in
+    omega (
+      arith,
+      c.words-words.ensures.length,
+      length-fields (code_of (refusal_view c.args.refusal.now)) text
+          (ap length (sym c.code-code.ensures.code) ∙ c.code-code.ensures.five),
+    ) in
     chain ∙ joined_9 out (69 ∷ []) (to_be_bytes w32 size) severities code (0 ∷ 77 ∷ []) before name after (0 ∷ 0 ∷ [])
     ∙ ap (λ body. out ++ (69 ∷ (to_be_bytes w32 size ++ body))) fields
     ∙ ap (λ n. out ++ (69 ∷ (to_be_bytes w32 n ++ error_fields (code_of (refusal_view c.args.refusal.now)) text))) same

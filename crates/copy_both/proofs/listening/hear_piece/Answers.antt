@@ -19,9 +19,9 @@ returns-else-is_none-clause-quiet c = quiet_after _ _ _ _ c.in_ok-hear_frames.en
 pub returns-in_err-hear_frames-clause-refused : goal.returns-in_err-hear_frames-clause-refused
 returns-in_err-hear_frames-clause-refused c =
     err_answered c.from_residual.result c.in_err-hear_frames.field-0.0 c.args.session.now.response.items
-        c.hear_frames.new.session.response.items c.from_residual.ensures.1
+    c.hear_frames.new.session.response.items c.from_residual.ensures.1
     (frames_answered c.in_err-hear_frames.field-0.0 (served_by c.args.session.now c.args.book.now)
     (hearing_view c.args.session.now (silence c.args.sent) c.args.book.now)
     (hearing_view c.hear_frames.new.session c.hear_frames.new.hearing c.hear_frames.new.book)
-        (held_frames c.feed-fed.new.self) refl
+    (held_frames c.feed-fed.new.self) refl
     c.in_err-hear_frames.ensures.heard)

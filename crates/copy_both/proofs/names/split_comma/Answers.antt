@@ -9,5 +9,5 @@ pub returns-clause-split : goal.returns-clause-split
 returns-clause-split c =
     let found = at_comma c.args.tokens.now c.in-Some.place (sym c.in-Some.ensures) in
     let after : c.split_at-2.result.1.now ≡ drop 1 (drop c.in-Some.place c.args.tokens.now) =
-        c.split_at-2.ensures.back ∙ ap (drop 1) c.split_at.ensures.back in
+    c.split_at-2.ensures.back ∙ ap (drop 1) c.split_at.ensures.back in
     rw (c.split_at.ensures.front, after) found.1

@@ -9,9 +9,9 @@ returns-in_err-reply-clause-err c =
     let first = c.args.voice.now in
     on_err c.from_residual-in_err-reply.result
     (SaysFirst first c.reply.new.voice
-        (frames_by (voice_checked first) (voice_stage first) c.args.started (heard_view c.args.heard.now) c.args.now))
+    (frames_by (voice_checked first) (voice_stage first) c.args.started (heard_view c.args.heard.now) c.args.now))
     (not_replied first c.open.new.voice c.reply.new.voice c.args.started (heard_view c.args.heard.now) c.args.now
-        c.in_ok-open.ensures.ok
+    c.in_ok-open.ensures.ok
     c.in_err-reply.ensures.err)
 
 pub returns-in_err-end-clause-err : goal.returns-in_err-end-clause-err
@@ -19,13 +19,13 @@ returns-in_err-end-clause-err c =
     let first = c.args.voice.now in
     on_err c.from_residual-in_err-end.result
     (SaysFirst first c.end.new.voice
-        (frames_by (voice_checked first) (voice_stage first) c.args.started (heard_view c.args.heard.now) c.args.now))
+    (frames_by (voice_checked first) (voice_stage first) c.args.started (heard_view c.args.heard.now) c.args.now))
     (not_ended first c.open.new.voice c.reply.new.voice c.end.new.voice c.args.started (heard_view c.args.heard.now)
-        c.args.now
+    c.args.now
     c.in_ok-open.ensures.ok c.in_ok-reply.ensures.ok c.in_err-end.ensures.err)
 
 pub returns-clause-ok : goal.returns-clause-ok
 returns-clause-ok c =
     all_said c.args.voice.now c.open.new.voice c.reply.new.voice c.end.new.voice c.args.started
-        (heard_view c.args.heard.now) c.args.now
+    (heard_view c.args.heard.now) c.args.now
     c.in_ok-open.ensures.ok c.in_ok-reply.ensures.ok c.in_ok-end.ensures.ok

@@ -18,7 +18,7 @@ pub split_at-requires-in-Whole : goal.split_at-requires-in-Whole
 split_at-requires-in-Whole c =
     let some : 0 < length c.loop-rest.rest.now = search rules in
     let e : front c.loop-rest.rest.now ≡ Whole c.in-Whole.token c.in-Whole.length =
-        cc (c.in_ok-front.ensures, c.in-Whole.is) in
+    cc (c.in_ok-front.ensures, c.in-Whole.is) in
     let ends : EndsAscii c.loop-rest.rest.now c.in-Whole.length = rw e at (front_piece c.loop-rest.rest.now some) in
     cut_after c.loop-rest.rest.now c.in-Whole.length c.loop-rest.invariant.utf8 ends
 

@@ -8,7 +8,12 @@ returns-clause-ok c =
     let out : List ℕ = c.args.out.now.items in
     let k = c.args.keepalive.now in
     let chain : c.put_flag.new.out.items ≡ out ++ (100 ∷ 0 ∷ 0 ∷ 0 ∷ 22 ∷ 107 ∷ []) ++ int64 k.position
-        ++ int64 k.clock ++ (flag k.wants_reply ∷ []) =
-    rw (c.put_flag.ensures.items, c.put_int64-2.ensures.items, c.put_int64.ensures.items, c.put.ensures.items,
-        c.reserve.ensures.items) refl in
+    ++ int64 k.clock ++ (flag k.wants_reply ∷ []) =
+    rw (
+      c.put_flag.ensures.items,
+      c.put_int64-2.ensures.items,
+      c.put_int64.ensures.items,
+      c.put.ensures.items,
+      c.reserve.ensures.items,
+    ) refl in
     chain ∙ joined_4 out (100 ∷ 0 ∷ 0 ∷ 0 ∷ 22 ∷ 107 ∷ []) (int64 k.position) (int64 k.clock) (flag k.wants_reply ∷ [])

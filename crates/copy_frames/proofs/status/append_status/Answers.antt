@@ -9,8 +9,15 @@ returns-clause-ok c =
     let s = c.args.status.now in
     let chain : c.put_flag.new.out.items
     ≡ out ++ (100 ∷ 0 ∷ 0 ∷ 0 ∷ 38 ∷ 114 ∷ []) ++ int64 s.written ++ int64 s.flushed ++ int64 s.applied
-        ++ int64 s.clock ++ (flag s.wants_reply ∷ []) =
-    rw (c.put_flag.ensures.items, c.put_int64-4.ensures.items, c.put_int64-3.ensures.items,
-        c.put_int64-2.ensures.items, c.put_int64.ensures.items, c.put.ensures.items, c.reserve.ensures.items) refl in
+    ++ int64 s.clock ++ (flag s.wants_reply ∷ []) =
+    rw (
+      c.put_flag.ensures.items,
+      c.put_int64-4.ensures.items,
+      c.put_int64-3.ensures.items,
+      c.put_int64-2.ensures.items,
+      c.put_int64.ensures.items,
+      c.put.ensures.items,
+      c.reserve.ensures.items,
+    ) refl in
     chain ∙ joined_6 out (100 ∷ 0 ∷ 0 ∷ 0 ∷ 38 ∷ 114 ∷ []) (int64 s.written) (int64 s.flushed) (int64 s.applied)
-        (int64 s.clock) (flag s.wants_reply ∷ [])
+    (int64 s.clock) (flag s.wants_reply ∷ [])

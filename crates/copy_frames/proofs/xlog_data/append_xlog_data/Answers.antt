@@ -12,11 +12,19 @@ returns-clause-ok c =
     let size : ℕ = 29 + length message in
     let chain : c.put.new.out.items
     ≡ out ++ (100 ∷ []) ++ to_be_bytes w32 size ++ (119 ∷ []) ++ int64 h.start ++ int64 h.end ++ int64 h.clock
-        ++ message =
-    rw (c.put.ensures.items, c.put_int64-3.ensures.items, c.put_int64-2.ensures.items, c.put_int64.ensures.items,
-        c.put_byte-2.ensures.items, c.put_int32.ensures.items, c.put_byte.ensures.items, c.reserve.ensures.items) refl
-        in
+    ++ message =
+    rw (
+      c.put.ensures.items,
+      c.put_int64-3.ensures.items,
+      c.put_int64-2.ensures.items,
+      c.put_int64.ensures.items,
+      c.put_byte-2.ensures.items,
+      c.put_int32.ensures.items,
+      c.put_byte.ensures.items,
+      c.reserve.ensures.items,
+    ) refl
+    in
     let same : size ≡ length (xlog_data_body h message) + 4 = omega arith in
     chain ∙ joined_7 out (100 ∷ []) (to_be_bytes w32 size) (119 ∷ []) (int64 h.start) (int64 h.end) (int64 h.clock)
-        message
+    message
     ∙ ap (λ n. out ++ (100 ∷ (to_be_bytes w32 n ++ xlog_data_body h message))) same

@@ -8,4 +8,4 @@ use Rattle.filter_tree.proofs.comparison.is_among.Given as goal
 abbrev pub invariant-loop-literal : goal.invariant-loop-literal
 invariant-loop-literal g l =
     list_any (equals (datum_view l.value)) (map constant_view (drop l.literal-index l.literals))
-        ≡ list_any (equals (datum_view l.value)) (map constant_view l.literals)
+    ≡ list_any (equals (datum_view l.value)) (map constant_view l.literals)

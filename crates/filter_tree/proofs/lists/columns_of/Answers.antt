@@ -10,7 +10,7 @@ pub returns-clause-list : goal.returns-clause-list
 returns-clause-list g c =
     c.loop-atom.invariant
     ∙ ap (λ atoms. distinct nat_eq (columns_in (atoms_view atoms)))
-        (all_taken _ _ _ c.loop-atom-test.false c.deref-atom-items.ensures.value)
+    (all_taken _ _ _ c.loop-atom-test.false c.deref-atom-items.ensures.value)
     ∙ ap (λ atoms. distinct nat_eq (columns_in atoms)) c.in_ok-atoms.ensures
     ∙ columns_of_atoms (expr_view c.args.filter.now)
 

@@ -11,6 +11,6 @@ pub returns : goal.returns
 returns g c =
     c.loop-atom.invariant
     ∙ ap (λ atoms. distinct same_term (map term_of (atoms_view atoms)))
-        (all_taken _ _ _ c.loop-atom-test.false c.deref-atom-items.ensures.value)
+    (all_taken _ _ _ c.loop-atom-test.false c.deref-atom-items.ensures.value)
     ∙ ap (λ atoms. distinct same_term (map term_of atoms)) c.in_ok-atoms.ensures
     ∙ terms_of_atoms (expr_view c.args.filter.now)

@@ -7,4 +7,4 @@ use Rattle.filter_tree.proofs.possibility.value_on_path.Given as goal
 abbrev pub invariant-loop-tested : goal.invariant-loop-tested
 invariant-loop-tested g l =
     first_value (atom_view l.atom) (path_view (drop l.tested-index l.path))
-        ≡ first_value (atom_view l.atom) (path_view l.path)
+    ≡ first_value (atom_view l.atom) (path_view l.path)

@@ -11,9 +11,9 @@ returns-clause-found c =
 pub returns-clause-only : goal.returns-clause-only
 returns-clause-only c = λ message fits e.
     subst (λ answer. Answers (λ m. m) told answer c.whole.result) (ap decoded e ∙ are_decoded message fits)
-        c.whole.ensures
+    c.whole.ensures
 
 pub returns-clause-trailing : goal.returns-clause-trailing
 returns-clause-trailing c = λ message next more fits e.
     subst (λ answer. Answers (λ m. m) told answer c.whole.result)
-        (ap decoded e ∙ nothing_follows message next more fits) c.whole.ensures
+    (ap decoded e ∙ nothing_follows message next more fits) c.whole.ensures

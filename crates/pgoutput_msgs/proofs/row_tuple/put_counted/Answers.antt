@@ -8,4 +8,4 @@ pub returns-clause-puts : goal.returns-clause-puts
 returns-clause-puts c =
     subst (Puts c.args.out.now c.put_values.new.out) (sym (spelled_row c.args.values.now))
     (puts_both c.args.out.now c.put_int16.new.out c.put_values.new.out _ _ c.put_int16.ensures
-        c.put_values.ensures.puts)
+    c.put_values.ensures.puts)

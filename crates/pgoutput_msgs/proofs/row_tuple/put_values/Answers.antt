@@ -11,12 +11,12 @@ loop-value-init c = (first_of (search rules, grind (arith, common_steps)), no_te
 pub put_value-requires-clause-fits : goal.put_value-requires-clause-fits
 put_value-requires-clause-fits c =
     value_fits c.args.values.now c.loop-value.value-index c.value-item.result c.value-item.is c.loop-value-test.true
-        c.requires.fits
+    c.requires.fits
 
 pub put_value-requires-clause-room : goal.put_value-requires-clause-room
 put_value-requires-clause-room c =
     room_left value_spelling c.args.out.now c.loop-value.out c.args.values.now c.loop-value.value-index
-        c.value-item.result c.value-item.is c.loop-value-test.true
+    c.value-item.result c.value-item.is c.loop-value-test.true
     c.loop-value.invariant.0 c.requires.room
 
 pub loop-value-preserved : goal.loop-value-preserved
@@ -31,7 +31,7 @@ loop-value-preserved c = (
 pub returns-clause-puts : goal.returns-clause-puts
 returns-clause-puts c =
     all_written value_spelling c.args.out.now c.loop-value.out c.args.values.now c.loop-value.value-index
-        c.loop-value-test.false c.loop-value.invariant.0
+    c.loop-value-test.false c.loop-value.invariant.0
 
 pub returns-clause-texts : goal.returns-clause-texts
 returns-clause-texts c =

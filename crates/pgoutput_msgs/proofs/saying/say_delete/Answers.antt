@@ -7,7 +7,7 @@ pub returns-in-None-clause-said : goal.returns-in-None-clause-said
 returns-in-None-clause-said g c =
     let none : part_view c.args.old.now ≡ None = search rules in
     nothing_deleted g.S.MessageSink.takes_one c.args.sink.now c.args.tables.now c.args.told.now c.args.table
-        (part_view c.args.old.now) none
+    (part_view c.args.old.now) none
 
 pub returns-in-None-clause-told : goal.returns-in-None-clause-told
 returns-in-None-clause-told g c =

@@ -12,4 +12,4 @@ pub returns : goal.returns
 returns g c =
     let is : false ≡ slice_index_or c.args.told.now c.args.number false = search rules in
     was_not_told g.S.MessageSink.takes_one c.args.sink.now c.say_new_relation.new.sink c.args.tables.now
-        c.args.told.now c.args.number is c.in_ok-say_new_relation.ensures
+    c.args.told.now c.args.number is c.in_ok-say_new_relation.ensures

@@ -9,19 +9,19 @@ loop-number-init g c =
 pub loop-number-preserved : goal.loop-number-preserved
 loop-number-preserved g c =
     more_introduced g.S.MessageSink.takes_one c.args.sink.now c.loop-number.sink c.say_relation.new.sink
-        c.args.tables.now c.args.told.now c.loop-number.told c.mark.new.told
+    c.args.tables.now c.args.told.now c.loop-number.told c.mark.new.told
     c.args.numbers.now c.loop-number.number-index (get_or c.args.numbers.now c.loop-number.number-index 0) refl
-        c.loop-number-test.true
+    c.loop-number-test.true
     c.in_ok-say_relation.ensures c.mark.ensures c.loop-number.invariant
 
 pub returns-clause-said : goal.returns-clause-said
 returns-clause-said g c =
     all_taken g.S.MessageSink.takes_one c.args.sink.now c.loop-number.sink c.args.tables.now c.args.told.now
-        c.loop-number.told c.args.numbers.now c.loop-number.number-index
+    c.loop-number.told c.args.numbers.now c.loop-number.number-index
     c.loop-number-test.false c.loop-number.invariant
 
 pub returns-clause-told : goal.returns-clause-told
 returns-clause-told g c =
     all_flags g.S.MessageSink.takes_one c.args.sink.now c.loop-number.sink c.args.tables.now c.args.told.now
-        c.loop-number.told c.args.numbers.now c.loop-number.number-index
+    c.loop-number.told c.args.numbers.now c.loop-number.number-index
     c.loop-number-test.false c.loop-number.invariant

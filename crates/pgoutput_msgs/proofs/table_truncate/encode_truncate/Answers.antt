@@ -6,5 +6,9 @@ use Rattle.pgoutput_msgs.proofs.table_truncate.encode_truncate.Goals as goal
 
 pub put_truncate-requires-clause-room : goal.put_truncate-requires-clause-room
 put_truncate-requires-clause-room c =
-    omega (arith, c.in_ok-reserve.ensures.ok, length_fours (map oid_of c.args.tables.now),
-        length-map c.args.tables.now oid_of)
+    omega (
+      arith,
+      c.in_ok-reserve.ensures.ok,
+      length_fours (map oid_of c.args.tables.now),
+      length-map c.args.tables.now oid_of,
+    )

@@ -16,11 +16,11 @@ loop-place-preserved c =
     let exact : c.in_ok-column_of.field-0 ≡ column_of c.args.table.now c.loop-place.place c.index-columns-place.result =
     first_of (search rules, grind (arith, common_steps)) in
     gathers_on HasTextName (columns_from c.args.table.now) c.as_slice-columns.result.now c.loop-place.made.items
-        c.push.new.self.items c.loop-place.place
+    c.push.new.self.items c.loop-place.place
     c.index-columns-place.result c.in_ok-column_of.field-0 c.index-columns-place.is c.loop-place-test.true
     (ap (λ (x : RelationColumn). x
-        ∷ columns_from c.args.table.now (c.loop-place.place + 1)
-        (drop (c.loop-place.place + 1) c.as_slice-columns.result.now))
+    ∷ columns_from c.args.table.now (c.loop-place.place + 1)
+    (drop (c.loop-place.place + 1) c.as_slice-columns.result.now))
     (sym exact))
     c.in_ok-push.ensures.items c.in_ok-column_of.ensures.text c.loop-place.invariant
 
@@ -29,12 +29,12 @@ returns-clause-exact c =
     let columns : c.from_vec.result ≡ columns_from c.args.table.now 0 c.args.table.now.columns =
     c.from_vec.ensures
     ∙ all_gathered HasTextName (columns_from c.args.table.now) c.as_slice-columns.result.now c.loop-place.made.items
-        c.loop-place.place (omega arith) refl c.loop-place.invariant
+    c.loop-place.place (omega arith) refl c.loop-place.invariant
     ∙ ap (columns_from c.args.table.now 0) c.as_slice-columns.ensures in
     first_of (cc, search rules, grind (arith, common_steps))
 
 pub returns-clause-texts : goal.returns-clause-texts
 returns-clause-texts c =
     let each : All HasTextName c.from_vec.result =
-        subst (All HasTextName) (sym c.from_vec.ensures) c.loop-place.invariant.each in
+    subst (All HasTextName) (sym c.from_vec.ensures) c.loop-place.invariant.each in
     first_of (search rules, grind (arith, common_steps))

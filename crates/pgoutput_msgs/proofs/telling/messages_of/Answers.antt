@@ -11,7 +11,7 @@ use Rattle.pgoutput_msgs.proofs.telling.messages_of.Goals as goal
 pub returns-clause-exact : goal.returns-clause-exact
 returns-clause-exact c =
     let spoken = spoken_messages c.new-spoken.result c.tell_each.new.sink _ c.new-spoken.ensures
-        c.in_ok-tell_each.ensures.said in
+    c.in_ok-tell_each.ensures.said in
     first_of (search rules, grind (arith, common_steps))
 
 pub returns-clause-room : goal.returns-clause-room
@@ -19,11 +19,11 @@ returns-clause-room c =
     let checked = checked_view c.args.checked.now in
     subst (All IsWithinRange) (sym (returns-clause-exact c))
     (messages_room checked c.args.subscriber c.args.told.now c.args.commit.now c.changes.ensures.sendable
-        (checked_limited c.args.checked.now))
+    (checked_limited c.args.checked.now))
 
 pub returns-clause-sent : goal.returns-clause-sent
 returns-clause-sent c =
     let checked = checked_view c.args.checked.now in
     messages_sent checked c.args.subscriber c.args.told.now c.args.commit.now c.in_ok-messages.messages.items
     c.changes.ensures.sendable (checked_limited c.args.checked.now) (returns-clause-exact c)
-        c.in_ok-messages.ensures.texts
+    c.in_ok-messages.ensures.texts

@@ -31,7 +31,7 @@ returns-in-None-clause-said g c =
     let own : plan ≡ checked.plan = search rules in
     let out : None ≡ out_for plan c.args.subscriber change = search rules in
     said_of g.S.MessageSink.takes_one c.args.sink.now c.args.sink.now checked.catalog.tables checked.catalog.tables
-        c.args.told.now None (got (setting_in checked) c.args.subscriber change)
+    c.args.told.now None (got (setting_in checked) c.args.subscriber change)
     refl (got_none checked c.args.subscriber change plan own out)
     (nothing_taken g.S.MessageSink.takes_one c.args.sink.now checked.catalog.tables c.args.told.now)
 
@@ -43,4 +43,4 @@ returns-in-None-clause-told g c =
     let own : plan ≡ checked.plan = search rules in
     let out : None ≡ out_for plan c.args.subscriber change = search rules in
     nothing_told c.args.told.now
-        ∙ ap (told_by c.args.told.now) (sym (got_none checked c.args.subscriber change plan own out))
+    ∙ ap (told_by c.args.told.now) (sym (got_none checked c.args.subscriber change plan own out))

@@ -11,22 +11,22 @@ use Rattle.pgoutput_msgs.proofs.values.tuple_of.Goals as goal
 pub loop-value-init : goal.loop-value-init
 loop-value-init g c =
     none_gathered IsCellText (λ number left. cells_of (map datum_view left)) c.values-values.result.now
-        c.in_ok-cells.cells.items c.in_ok-cells.ensures.items
+    c.in_ok-cells.cells.items c.in_ok-cells.ensures.items
 
 pub loop-value-preserved : goal.loop-value-preserved
 loop-value-preserved g c =
     gathers_on IsCellText (λ number left. cells_of (map datum_view left)) c.values-values.result.now
-        c.loop-value.cells.items c.push.new.self.items c.loop-value.value-index
+    c.loop-value.cells.items c.push.new.self.items c.loop-value.value-index
     c.value-item.result c.in_ok-value_text.field-0 c.value-item.is c.loop-value-test.true
     (ap (λ (x : Cell). x ∷ cells_of (map datum_view (drop (c.loop-value.value-index + 1) c.values-values.result.now)))
-        (sym c.in_ok-value_text.ensures.exact))
+    (sym c.in_ok-value_text.ensures.exact))
     c.in_ok-push.ensures.items c.in_ok-value_text.ensures.text c.loop-value.invariant
 
 pub returns-clause-exact : goal.returns-clause-exact
 returns-clause-exact g c =
     c.from_cells.ensures
     ∙ all_gathered IsCellText (λ number left. cells_of (map datum_view left)) c.values-values.result.now
-        c.loop-value.cells.items c.loop-value.value-index (omega arith) refl
+    c.loop-value.cells.items c.loop-value.value-index (omega arith) refl
     c.loop-value.invariant
     ∙ ap cells_of c.values-values.ensures
 

@@ -7,8 +7,8 @@ use Rattle.program_parts.proofs.reading.read_input.Goals as goal
 pub returns-in-Ok-clause-bytes : goal.returns-in-Ok-clause-bytes
 returns-in-Ok-clause-bytes g c =
     let gave = rw (c.take.ensures.inner, c.take.ensures.limit, c.new-bytes.ensures.items) at
-        c.in_default.ensures.bytes in
+    c.in_default.ensures.bytes in
     let short : length c.read_to_end-read.new.buf.items ≤ 16777216 = search rules in
     let same : string_bytes c.in-Ok.text ≡ c.read_to_end-read.new.buf.items = search rules in
     rw same (all_read (g.R.Read.remaining (reader_of c.args.input)) 16777216 c.read_to_end-read.new.buf.items gave
-        short)
+    short)

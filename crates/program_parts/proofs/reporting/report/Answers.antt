@@ -5,7 +5,7 @@ use Rattle.program_parts.proofs.reporting.report.Goals as goal
 pub returns-in-Ok : goal.returns-in-Ok
 returns-in-Ok g c =
     report_is c.args.failure c.as_str.result.now c.status.result c.write_report.result
-        (g.W.Write.contents c.args.writer.now) (g.W.Write.contents c.write_report.new.writer)
+    (g.W.Write.contents c.args.writer.now) (g.W.Write.contents c.write_report.new.writer)
     c.in_default.not-Output (c.as_str.ensures.value ∙ c.in-Ok.ensures) c.status.ensures c.write_report.ensures
 
 -- nothing more is written where the writer failed

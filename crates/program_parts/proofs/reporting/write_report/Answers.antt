@@ -8,7 +8,9 @@ returns g c =
     let contents = g.W.Write.contents in
     elim c.match-write_text.branch [
       | in-Ok w ↦ inl (w.result-is, w.in-Ok.ensures.written)
-      | in-Err w ↦ inr (w.result-is,
-          stops_first c.args.text.now (contents c.args.writer.now) (contents c.write_text.new.writer) w.in-Err.field-0
-          w.in-Err.ensures.stopped)
+      | in-Err w ↦ inr (
+        w.result-is,
+        stops_first c.args.text.now (contents c.args.writer.now) (contents c.write_text.new.writer) w.in-Err.field-0
+            w.in-Err.ensures.stopped,
+      )
     ]

@@ -10,8 +10,8 @@ pub returns : goal.returns
 unfolding spec.script_by
 returns c =
     whole_read (λ lines. map line_view lines.items)
-        (spec.lines c.args.catalog.now.tables.items (items_of c.args.text.now)) c.lines.result (to_read c.lines.new.r)
+    (spec.lines c.args.catalog.now.tables.items (items_of c.args.text.now)) c.lines.result (to_read c.lines.new.r)
     (subst (λ tables. Reads (λ lines. map line_view lines.items) (spec.lines tables (items_of c.args.text.now))
-        c.lines.result (to_read c.lines.new.r)) c.as_slice.ensures.value
+    c.lines.result (to_read c.lines.new.r)) c.as_slice.ensures.value
     (subst (λ items. Reads (λ lines. map line_view lines.items) (spec.lines c.as_slice.result.now items)
-        c.lines.result (to_read c.lines.new.r)) c.new.ensures c.lines.ensures))
+    c.lines.result (to_read c.lines.new.r)) c.new.ensures c.lines.ensures))

@@ -11,7 +11,7 @@ use Rattle.pub_reader.proofs.statement.statements.Given as goal
 abbrev pub invariant-loop-r : goal.invariant-loop-r
 invariant-loop-r l =
     (statements as_filter (draft_view l.fn.draft) (to_read l.fn.r)
-        ≡ repeat (each more_ahead (ended_statement as_filter)) (draft_view l.draft) (to_read l.r))
+    ≡ repeat (each more_ahead (ended_statement as_filter)) (draft_view l.draft) (to_read l.r))
     × (IsNamedDraft (draft_view l.fn.draft) → IsNamedDraft (draft_view l.draft))
 
 abbrev pub decreases-loop-r : goal.decreases-loop-r

@@ -12,15 +12,15 @@ use Rattle.pub_reader.proofs.statement.whole_catalog.Goals as goal
 pub finish-requires-clause-limits : goal.finish-requires-clause-limits
 finish-requires-clause-limits c =
     resolved_limited as_filter (items_of c.args.text.now) (draft_view c.statements.new.draft)
-        (to_read c.statements.new.r) (search rules)
+    (to_read c.statements.new.r) (search rules)
     (c.in_ok-statements.ensures.named (subst IsNamedDraft (sym c.in_ok-draft.ensures) none_named)).tables
 
 pub finish-requires-clause-entries : goal.finish-requires-clause-entries
 finish-requires-clause-entries c =
     resolved_entries_known (items_of c.args.text.now) (draft_view c.statements.new.draft) (to_read c.statements.new.r)
-        (search rules)
+    (search rules)
 
 pub finish-requires-clause-names : goal.finish-requires-clause-names
 finish-requires-clause-names c =
     resolved_named (draft_view c.statements.new.draft)
-        (c.in_ok-statements.ensures.named (subst IsNamedDraft (sym c.in_ok-draft.ensures) none_named))
+    (c.in_ok-statements.ensures.named (subst IsNamedDraft (sym c.in_ok-draft.ensures) none_named))

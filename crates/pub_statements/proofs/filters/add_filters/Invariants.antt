@@ -7,5 +7,5 @@ use Rattle.pub_statements.proofs.filters.add_filters.Given as goal
 abbrev pub invariant-loop-entry : goal.invariant-loop-entry
 invariant-loop-entry l =
     map (λ f. expr_view f.now) l.filters.items
-        ++ filters_in (λ f. f) l.number (map entry_view (drop l.entry-index l.entries))
+    ++ filters_in (λ f. f) l.number (map entry_view (drop l.entry-index l.entries))
     ≡ map (λ f. expr_view f.now) l.fn.filters.items ++ filters_in (λ f. f) l.number (map entry_view l.entries)

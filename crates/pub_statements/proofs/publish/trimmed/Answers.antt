@@ -8,4 +8,4 @@ unfolding trimmed
 returns c =
     trim_ascii_end_is c.trim_ascii_start.result.now c.trim_ascii_end.result.now c.trim_ascii_end.ensures.value
     ∙ ap end_trimmed (trim_ascii_start_is c.args.text.now c.trim_ascii_start.result.now
-        c.trim_ascii_start.ensures.value)
+    c.trim_ascii_start.ensures.value)

@@ -7,5 +7,5 @@ use Rattle.pub_statements.proofs.resolution.resolved.Given as goal
 abbrev pub invariant-loop-publication : goal.invariant-loop-publication
 invariant-loop-publication l =
     map publication_view l.made.items
-        ++ map (resolved_publication l.tables) (map draft_publication_view l.publication-iterator.rest.items)
+    ++ map (resolved_publication l.tables) (map draft_publication_view l.publication-iterator.rest.items)
     ≡ map (resolved_publication l.tables) (map draft_publication_view l.fn.publications.items)

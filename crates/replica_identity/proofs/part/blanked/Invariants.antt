@@ -7,5 +7,5 @@ use Rattle.replica_identity.proofs.part.blanked.Given as goal
 abbrev pub invariant-loop-column : goal.invariant-loop-column
 invariant-loop-column l =
     map datum_view l.kept.items
-        ++ blanked_from l.columns l.column-counter (map datum_view (drop l.column-counter l.values))
+    ++ blanked_from l.columns l.column-counter (map datum_view (drop l.column-counter l.values))
     ≡ blanked_from l.columns 0 (map datum_view l.values)

@@ -8,5 +8,5 @@ use Rattle.replica_identity.proofs.planning.all_shares.Given as goal
 abbrev pub invariant-loop-subscription : goal.invariant-loop-subscription
 invariant-loop-subscription l =
     map (λ shares. map share_view shares.items) l.all.items
-        ++ map (shares_for (catalog_view l.catalog)) (drop l.subscription-index l.subscription-items)
+    ++ map (shares_for (catalog_view l.catalog)) (drop l.subscription-index l.subscription-items)
     ≡ map (shares_for (catalog_view l.catalog)) l.subscription-items

@@ -10,5 +10,5 @@ use Rattle.replica_identity.proofs.planning.join_publications.Given as goal
 abbrev pub invariant-loop-number : goal.invariant-loop-number
 invariant-loop-number l =
     fold joined_at (map share_view l.shares.items)
-        (entries_listed (map publication_view l.publications) (drop l.number-index l.numbers))
+    (entries_listed (map publication_view l.publications) (drop l.number-index l.numbers))
     ≡ fold joined_at (map share_view l.fn.shares.items) (entries_listed (map publication_view l.publications) l.numbers)

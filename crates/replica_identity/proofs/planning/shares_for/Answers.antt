@@ -13,9 +13,9 @@ returns c =
     let entries = entries_listed catalog.publications c.args.subscription.now.publications in
     c.in_ok-join_publications.ensures
     ∙ ap (λ ps. fold joined_at (map share_view c.in_ok-shares.shares.items)
-        (entries_listed (map publication_view ps) c.as_slice.result.now)) c.as_slice-publications.ensures.value
+    (entries_listed (map publication_view ps) c.as_slice.result.now)) c.as_slice-publications.ensures.value
     ∙ ap (λ ns. fold joined_at (map share_view c.in_ok-shares.shares.items) (entries_listed catalog.publications ns))
-        c.as_slice.ensures
+    c.as_slice.ensures
     ∙ ap (λ shares. fold joined_at shares entries)
-        (c.in_ok-shares.ensures ∙ ap (λ ts. replicate (length ts) Nothing) c.as_slice-tables.ensures.value)
+    (c.in_ok-shares.ensures ∙ ap (λ ts. replicate (length ts) Nothing) c.as_slice-tables.ensures.value)
     ∙ joined_all entries catalog.tables

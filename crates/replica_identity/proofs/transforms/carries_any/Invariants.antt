@@ -8,4 +8,4 @@ use Rattle.replica_identity.proofs.transforms.carries_any.Given as goal
 abbrev pub invariant-loop-table : goal.invariant-loop-table
 invariant-loop-table l =
     list_any (takes_any (plan_view l.plan) l.subscriber) (drop l.table-index l.tables)
-        ≡ list_any (takes_any (plan_view l.plan) l.subscriber) l.tables
+    ≡ list_any (takes_any (plan_view l.plan) l.subscriber) l.tables

@@ -11,7 +11,7 @@ returns-in-Err-clause-asked g c =
     let words = map g.S.AsStr.text c.args.words.now in
     let simple = c.in_ok-command.ensures in
     let faults = subst (λ (a : App). HasKind (fault_of a words) c.in-Err.error) simple
-        (c.in-Err.ensures.kinds (ap is_simple_and_free simple)) in
+    (c.in-Err.ensures.kinds (ap is_simple_and_free simple)) in
     error_asks words (kind_of c.in-Err.error) faults c.asked_by.result c.asked_by.ensures.help
 
 pub returns-in-Err-clause-stopped : goal.returns-in-Err-clause-stopped
@@ -19,7 +19,7 @@ returns-in-Err-clause-stopped g c =
     let words = map g.S.AsStr.text c.args.words.now in
     let simple = c.in_ok-command.ensures in
     let faults = subst (λ (a : App). HasKind (fault_of a words) c.in-Err.error) simple
-        (c.in-Err.ensures.kinds (ap is_simple_and_free simple)) in
+    (c.in-Err.ensures.kinds (ap is_simple_and_free simple)) in
     error_stops words (kind_of c.in-Err.error) faults c.asked_by.result c.asked_by.ensures.stopped
 
 pub returns-in-Some-clause-asked : goal.returns-in-Some-clause-asked
@@ -27,7 +27,7 @@ returns-in-Some-clause-asked g c =
     let words = map g.S.AsStr.text c.args.words.now in
     let simple = c.in_ok-command.ensures in
     let none : fault_of serving words ≡ [] =
-        subst (λ (a : App). fault_of a words ≡ []) simple (c.in-Ok.ensures.kinds (ap is_simple_and_free simple)) in
+    subst (λ (a : App). fault_of a words ≡ []) simple (c.in-Ok.ensures.kinds (ap is_simple_and_free simple)) in
     let taken : TakesServe (subcommand_of serving words) c.in-Some.service = search rules in
     record { faultless = none; taken = taken }
 
@@ -36,9 +36,9 @@ returns-clause-stopped g c =
     let words = map g.S.AsStr.text c.args.words.now in
     let simple = c.in_ok-command.ensures in
     let none : fault_of serving words ≡ [] =
-        subst (λ (a : App). fault_of a words ≡ []) simple (c.in-Ok.ensures.kinds (ap is_simple_and_free simple)) in
+    subst (λ (a : App). fault_of a words ≡ []) simple (c.in-Ok.ensures.kinds (ap is_simple_and_free simple)) in
     let same : subcommand_rows_of c.in-Ok.matches ≡ subcommand_of serving words = search rules in
     let nothing : (service : Service) → TakesServe (subcommand_of serving words) service → ⊥ =
     λ service takes. c.request_of.ensures.none c.in-None.is service
-        (subst (λ (taken : Option (List ℕ × List Row)). TakesServe taken service) (sym same) takes) in
+    (subst (λ (taken : Option (List ℕ × List Row)). TakesServe taken service) (sym same) takes) in
     inr (record { faultless = none; nothing = nothing })

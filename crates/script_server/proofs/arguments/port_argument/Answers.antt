@@ -10,12 +10,12 @@ returns-clause-rule c =
     let long_is : rule_of c.long.result ≡ record (new_rule (codes "port")) { long = Some (codes "port") } =
     ap rule_of c.long.ensures ∙ ap (λ (r : Rule). record r { long = Some (codes "port") }) c.new.ensures.rule in
     let named_is : rule_of c.value_name.result
-        ≡ record (new_rule (codes "port")) { long = Some (codes "port"); value_names = 1 } =
+    ≡ record (new_rule (codes "port")) { long = Some (codes "port"); value_names = 1 } =
     ap rule_of c.value_name.ensures ∙ ap (λ (r : Rule). record r { value_names = 1 }) long_is in
     let help_is : rule_of c.help.result
-        ≡ record (new_rule (codes "port")) { long = Some (codes "port"); value_names = 1 } = ap rule_of c.help.ensures
-        ∙ named_is in
+    ≡ record (new_rule (codes "port")) { long = Some (codes "port"); value_names = 1 } = ap rule_of c.help.ensures
+    ∙ named_is in
     let required_is : rule_of c.required.result
-        ≡ record (new_rule (codes "port")) { long = Some (codes "port"); value_names = 1; required = true } =
+    ≡ record (new_rule (codes "port")) { long = Some (codes "port"); value_names = 1; required = true } =
     ap rule_of c.required.ensures ∙ ap (λ (r : Rule). record r { required = true }) help_is in
     ap rule_of c.action.ensures ∙ ap (λ (r : Rule). record r { action = Some Set }) required_is

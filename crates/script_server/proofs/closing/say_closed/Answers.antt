@@ -12,4 +12,4 @@ returns g c =
     let line = closed_line c.args.commits c.args.connections in
     let is : string_bytes c.in_ok-line.line ≡ line = search rules in
     closes line Done old new c.say.result (Closed c.args.commits c.args.connections)
-        (subst (λ (text : List ℕ). Says text Done old new c.say.result) is c.say.ensures)
+    (subst (λ (text : List ℕ). Says text Done old new c.say.result) is c.say.ensures)

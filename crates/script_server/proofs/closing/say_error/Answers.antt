@@ -14,4 +14,4 @@ returns g c =
     let named : name_of c.args.error ≡ Some name = search rules in
     let is : string_bytes c.in_ok-line.line ≡ codes "close " ++ name = search rules in
     closes (codes "close " ++ name) Refused old new c.say.result (Differs c.args.error name named)
-        (subst (λ (text : List ℕ). Says text Refused old new c.say.result) is c.say.ensures)
+    (subst (λ (text : List ℕ). Says text Refused old new c.say.result) is c.say.ensures)

@@ -10,5 +10,5 @@ returns-clause-stopped g c =
     let text = ended (listening_line c.args.port) in
     first_kept text (contents c.args.writer.now) (contents c.write_line.new.writer) (contents c.flush.new.self)
     (first_whole text (contents c.args.writer.now) (contents c.write_line.new.writer)
-        (rw c.in_ok-line.ensures.ok at c.in_ok-write_line.ensures.written))
+    (rw c.in_ok-line.ensures.ok at c.in_ok-write_line.ensures.written))
     c.flush.ensures.bytes

@@ -18,11 +18,11 @@ returns-in-Ok g c =
     let old = g.W.Write.contents c.args.writer.now in
     let new = g.W.Write.contents c.publish.new.writer in
     let cut : CutTwice = record
-        { first = c.in_ok-text.text.now; second = c.in_ok-text.certificates.now; third = c.in_ok-text.script.now } in
+    { first = c.in_ok-text.text.now; second = c.in_ok-text.certificates.now; third = c.in_ok-text.script.now } in
     let parts : three_parts c.args.input.now ≡ Some cut = search rules in
     let catalog = catalog_view c.in_ok-catalog.catalog in
     let same : texts_view c.as_slice.result.now ≡ lines_of cut.second = ap texts_view c.as_slice.ensures.value
-        ∙ c.in_ok-texts.ensures in
+    ∙ c.in_ok-texts.ensures in
     let sound = rw c.in-Ok.is at c.in_ok-verdict.ensures.sound in
     let unrefused = rw c.in-Ok.is at c.in_ok-verdict.ensures.unrefused in
     served c.args.service c.args.input.now cut catalog parts c.in_ok-catalog.ensures.catalog
@@ -38,13 +38,13 @@ returns g c =
     let result = c.write_refused.result in
     let refusal = c.in-Err.refusal in
     let cut : CutTwice = record
-        { first = c.in_ok-text.text.now; second = c.in_ok-text.certificates.now; third = c.in_ok-text.script.now } in
+    { first = c.in_ok-text.text.now; second = c.in_ok-text.certificates.now; third = c.in_ok-text.script.now } in
     let parts : three_parts c.args.input.now ≡ Some cut = search rules in
     let catalog = catalog_view c.in_ok-catalog.catalog in
     let again : catalog_view c.in_ok-catalog-in-Err.catalog ≡ catalog =
-        cc (c.in_ok-catalog.ensures.catalog, c.in_ok-catalog-in-Err.ensures.catalog) in
+    cc (c.in_ok-catalog.ensures.catalog, c.in_ok-catalog-in-Err.ensures.catalog) in
     let same : texts_view c.as_slice.result.now ≡ lines_of cut.second = ap texts_view c.as_slice.ensures.value
-        ∙ c.in_ok-texts.ensures in
+    ∙ c.in_ok-texts.ensures in
     let first = rw c.in-Err.is at c.in_ok-verdict.ensures.refused in
     let wrong = rw c.in-Err.is at c.in_ok-verdict.ensures.wrong in
     sharding_refused c.args.service c.args.input.now cut catalog parts c.in_ok-catalog.ensures.catalog
@@ -54,28 +54,28 @@ returns g c =
     (subst (λ (lines : List (List ℕ)). ShardingIsWrong catalog (plan_of catalog) (trees_in lines) refusal) same wrong)
     c.write_refused.ensures.status
     (subst (λ (named : CatalogOf Expr). OnOk result (Appends old new (ended (refused_line named refusal)))) again
-        c.write_refused.ensures.written)
+    c.write_refused.ensures.written)
     (subst (λ (named : CatalogOf Expr). IfErr result (StopsText (ended (refused_line named refusal)) old new)) again
-        c.write_refused.ensures.stopped)
+    c.write_refused.ensures.stopped)
 
 pub returns-in_err-lists : goal.returns-in_err-lists
 returns-in_err-lists g c =
     let cut : CutTwice = record
-        { first = c.in_ok-text.text.now; second = c.in_ok-text.certificates.now; third = c.in_ok-text.script.now } in
+    { first = c.in_ok-text.text.now; second = c.in_ok-text.certificates.now; third = c.in_ok-text.script.now } in
     let parts : three_parts c.args.input.now ≡ Some cut = search rules in
     let same : texts_view c.as_slice.result.now ≡ lines_of cut.second = ap texts_view c.as_slice.ensures.value
-        ∙ c.in_ok-texts.ensures in
+    ∙ c.in_ok-texts.ensures in
     script_returned c.args.service c.args.input.now cut (catalog_view c.in_ok-catalog.catalog) parts
-        c.in_ok-catalog.ensures.catalog
+    c.in_ok-catalog.ensures.catalog
     (ap (text_fault 1) (sym same) ∙ c.in_ok-verdict.ensures.read)
     (g.W.Write.contents c.args.writer.now) c.in_err-lists.field-0.0 c.from_residual-in_err-lists.result
-        c.in_err-lists.ensures.err c.from_residual-in_err-lists.ensures.1
+    c.in_err-lists.ensures.err c.from_residual-in_err-lists.ensures.1
 
 pub returns-in_err-catalog-in-Err : goal.returns-in_err-catalog-in-Err
 returns-in_err-catalog-in-Err g c =
     let cut : CutTwice = record
-        { first = c.in_ok-text.text.now; second = c.in_ok-text.certificates.now; third = c.in_ok-text.script.now } in
+    { first = c.in_ok-text.text.now; second = c.in_ok-text.certificates.now; third = c.in_ok-text.script.now } in
     let parts : three_parts c.args.input.now ≡ Some cut = search rules in
     catalog_returned c.args.service c.args.input.now cut parts (g.W.Write.contents c.args.writer.now)
-        c.in_err-catalog-in-Err.field-0.0 c.in_err-catalog-in-Err.ensures.catalog
+    c.in_err-catalog-in-Err.field-0.0 c.in_err-catalog-in-Err.ensures.catalog
     c.from_residual-in_err-catalog-in-Err.result c.from_residual-in_err-catalog-in-Err.ensures.1

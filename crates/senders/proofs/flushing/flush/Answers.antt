@@ -12,7 +12,7 @@ loop-writer-preserved g c =
           c.args.voice.now c.loop-writer.voice c.passed.new.self c.in_ok-count.count
           c.loop-writer.invariant.flushes
           (subst (λ (bytes : List ℕ). Appends (taken c.loop-writer.writer) (taken c.push.new.self)
-              (take c.in_ok-count.count bytes)) c.output-in-loop-writer.ensures c.in_ok-count.ensures.bytes)
-              c.passed.ensures.passes;
+          (take c.in_ok-count.count bytes)) c.output-in-loop-writer.ensures c.in_ok-count.ensures.bytes)
+          c.passed.ensures.passes;
       same = c.in_ok-count.ensures.failed ∙ c.loop-writer.invariant.same;
     }

@@ -13,7 +13,7 @@ returns-in-Some-GoesOn g c =
       hears = on_after g.P.Publishing.checked (left c.args.reader.now) (left c.loop.reader) (left next.new.reader)
           (g.S.Source.has_failed next.new.reader) (g.S.Source.has_ended next.new.reader)
           c.args.listener.now c.loop.listener next.new.listener c.loop.invariant next.result next.ensures
-              c.in-Some-GoesOn.field-0-1 c.in-Some-GoesOn.is-1;
+          c.in-Some-GoesOn.field-0-1 c.in-Some-GoesOn.is-1;
       started_is = sym c.started.ensures ∙ c.in-Some-GoesOn.is-0;
     }
 
@@ -25,7 +25,7 @@ returns-in-Some-Ends g c =
       hears = last_after g.P.Publishing.checked (left c.args.reader.now) (left c.loop.reader) (left next.new.reader)
           (g.S.Source.has_failed next.new.reader) (g.S.Source.has_ended next.new.reader)
           c.args.listener.now c.loop.listener next.new.listener c.loop.invariant next.result next.ensures
-              c.in-Some-Ends.why c.in-Some-Ends.is-1;
+          c.in-Some-Ends.why c.in-Some-Ends.is-1;
       started_is = sym c.started.ensures ∙ c.in-Some-Ends.is-0;
     }
 
@@ -37,7 +37,7 @@ returns-in-None-Ends g c =
       hears = last_after g.P.Publishing.checked (left c.args.reader.now) (left c.loop.reader) (left next.new.reader)
           (g.S.Source.has_failed next.new.reader) (g.S.Source.has_ended next.new.reader)
           c.args.listener.now c.loop.listener next.new.listener c.loop.invariant next.result next.ensures
-              c.in-None-Ends.why c.in-None-Ends.is-1;
+          c.in-None-Ends.why c.in-None-Ends.is-1;
       started_is = sym c.started.ensures ∙ c.in-None-Ends.is-0;
     }
 
@@ -46,6 +46,6 @@ loop-preserved g c =
     let left = g.S.Source.left in
     let next = c.hear_next-next in
     on_after g.P.Publishing.checked (left c.args.reader.now) (left c.loop.reader) (left next.new.reader)
-        (g.S.Source.has_failed next.new.reader) (g.S.Source.has_ended next.new.reader)
+    (g.S.Source.has_failed next.new.reader) (g.S.Source.has_ended next.new.reader)
     c.args.listener.now c.loop.listener next.new.listener c.loop.invariant next.result next.ensures
-        c.in-None-GoesOn.field-0-1 c.in-None-GoesOn.is-1
+    c.in-None-GoesOn.field-0-1 c.in-None-GoesOn.is-1

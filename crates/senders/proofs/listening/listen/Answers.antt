@@ -9,24 +9,24 @@ returns-in-Ends g c =
     let left = g.S.Source.left in
     let next = c.hear_next in
     last_after g.P.Publishing.checked (left c.args.reader.now) (left c.loop.reader) (left next.new.reader)
-        (g.S.Source.has_failed next.new.reader) (g.S.Source.has_ended next.new.reader)
+    (g.S.Source.has_failed next.new.reader) (g.S.Source.has_ended next.new.reader)
     c.args.listener.now c.loop.listener next.new.listener c.loop.invariant next.result next.ensures c.in-Ends.why
-        c.in-Ends.is
+    c.in-Ends.is
 
 pub returns-in-GoesOn-true : goal.returns-in-GoesOn-true
 returns-in-GoesOn-true g c =
     let left = g.S.Source.left in
     let next = c.hear_next in
     on_after g.P.Publishing.checked (left c.args.reader.now) (left c.loop.reader) (left next.new.reader)
-        (g.S.Source.has_failed next.new.reader) (g.S.Source.has_ended next.new.reader)
+    (g.S.Source.has_failed next.new.reader) (g.S.Source.has_ended next.new.reader)
     c.args.listener.now c.loop.listener next.new.listener c.loop.invariant next.result next.ensures
-        c.in-GoesOn-true.field-0 c.in-GoesOn-true.is
+    c.in-GoesOn-true.field-0 c.in-GoesOn-true.is
 
 pub loop-preserved : goal.loop-preserved
 loop-preserved g c =
     let left = g.S.Source.left in
     let next = c.hear_next in
     on_after g.P.Publishing.checked (left c.args.reader.now) (left c.loop.reader) (left next.new.reader)
-        (g.S.Source.has_failed next.new.reader) (g.S.Source.has_ended next.new.reader)
+    (g.S.Source.has_failed next.new.reader) (g.S.Source.has_ended next.new.reader)
     c.args.listener.now c.loop.listener next.new.listener c.loop.invariant next.result next.ensures
-        c.in-GoesOn-false.field-0 c.in-GoesOn-false.is
+    c.in-GoesOn-false.field-0 c.in-GoesOn-false.is

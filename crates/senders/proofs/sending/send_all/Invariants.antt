@@ -7,5 +7,5 @@ use Rattle.senders.proofs.sending.send_all.Given as goal
 abbrev pub invariant-loop : goal.invariant-loop
 invariant-loop g l =
     GoesOn (g.W.Sink.taken l.initial.writer) (g.W.Sink.taken l.writer)
-        (map (λ commit. arc_value commit) l.taken.items) l.voice
+    (map (λ commit. arc_value commit) l.taken.items) l.voice
     (started_telling g.P.Publishing.checked l.started.0 l.started.1 copy_both_response)

@@ -15,28 +15,28 @@ returns g c =
     let taken = g.W.Sink.taken in
     let sink_failed = g.W.Sink.has_failed in
     let fresh : HasHeard checked [] c.in-Ok.listener.ear =
-        subst (λ (k : CheckedOf). HasHeard k [] c.in-Ok.listener.ear) c.checked.ensures c.in-Ok.ensures.heard in
+    subst (λ (k : CheckedOf). HasHeard k [] c.in-Ok.listener.ear) c.checked.ensures c.in-Ok.ensures.heard in
     elim c.match-begin.branch [
       | in-Refused w ↦ rw (w.reader-is, w.writer-is, w.served-is)
           (served_refused checked (left c.args.reader.now) (left c.begin.new.reader)
-              (source_failed c.begin.new.reader) (source_ended c.begin.new.reader) (taken c.args.writer.now)
-              (taken w.answer.new.writer)
+          (source_failed c.begin.new.reader) (source_ended c.begin.new.reader) (taken c.args.writer.now)
+          (taken w.answer.new.writer)
           (sink_failed w.answer.new.writer) c.in-Ok.listener c.begin.new.listener w.unstarted-served.result
-              w.in-Refused.why fresh w.in-Refused.ensures w.answer.ensures w.unstarted-served.ensures.slot
+          w.in-Refused.why fresh w.in-Refused.ensures w.answer.ensures w.unstarted-served.ensures.slot
           w.unstarted-served.ensures.start w.unstarted-served.ensures.taken
-              (w.unstarted-served.ensures.end ∙ w.cause_of.ensures))
+          (w.unstarted-served.ensures.end ∙ w.cause_of.ensures))
       | in-Ended w ↦ rw (w.reader-is, w.writer-is, w.served-is)
           (served_ended checked (left c.args.reader.now) (left c.begin.new.reader) (source_failed c.begin.new.reader)
-              (source_ended c.begin.new.reader) (taken c.args.writer.now)
+          (source_ended c.begin.new.reader) (taken c.args.writer.now)
           (taken w.serve_ended-served.new.writer) (sink_failed w.serve_ended-served.new.writer) c.in-Ok.listener
-              c.begin.new.listener fresh w.serve_ended-served.result w.in-Ended.started w.in-Ended.why
+          c.begin.new.listener fresh w.serve_ended-served.result w.in-Ended.started w.in-Ended.why
           w.in-Ended.ensures w.serve_ended-served.ensures)
       | in-Started w ↦ rw (w.reader-is, w.writer-is, w.served-is)
           (served_started checked (left c.args.reader.now) (left w.serve_started-served.new.reader)
-              (source_failed w.serve_started-served.new.reader) (source_ended w.serve_started-served.new.reader)
+          (source_failed w.serve_started-served.new.reader) (source_ended w.serve_started-served.new.reader)
           (taken c.args.writer.now) (taken w.serve_started-served.new.writer)
-              (sink_failed w.serve_started-served.new.writer) c.in-Ok.listener w.serve_started-served.new.listener
-              fresh
+          (sink_failed w.serve_started-served.new.writer) c.in-Ok.listener w.serve_started-served.new.listener
+          fresh
           w.serve_started-served.result (left c.begin.new.reader) c.begin.new.listener w.in-Started.started
-              w.in-Started.ensures w.serve_started-served.ensures)
+          w.in-Started.ensures w.serve_started-served.ensures)
     ]

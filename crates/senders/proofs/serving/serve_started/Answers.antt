@@ -14,7 +14,7 @@ returns-in-Err g c = record {
       (g.W.Sink.taken c.open.new.writer) (g.W.Sink.has_failed c.open.new.writer) None
       c.without_commits.result c.in-Err.stop c.in-Err.ensures.err
       (subst (λ (is : End). IsWithout c.args.started.0 c.args.started.1 is c.without_commits.result) c.end_of.ensures
-          c.without_commits.ensures);
+      c.without_commits.ensures);
 }
 
 pub returns-then-not-starts_threads : goal.returns-then-not-starts_threads
@@ -26,7 +26,7 @@ returns-then-not-starts_threads g c = record {
       None
       c.without_commits-then-not-starts_threads.result c.in-Ok.ensures.ok.put
       (subst (λ (is : End). IsWithout c.args.started.0 c.args.started.1 is
-          c.without_commits-then-not-starts_threads.result) c.end_of-then-not-starts_threads.ensures
+      c.without_commits-then-not-starts_threads.result) c.end_of-then-not-starts_threads.ensures
       c.without_commits-then-not-starts_threads.ensures);
 }
 
@@ -40,7 +40,7 @@ returns g c =
       streams = streams_to_its_end g.P.Publishing.checked c.args.started.0 c.args.started.1 (taken c.args.writer.now)
           (taken c.open.new.writer) (taken both.new.writer) (taken c.conclude.new.writer)
           both.new.voice c.in-Ok.voice both.result.1 (g.W.Sink.has_failed both.new.writer)
-              (g.W.Sink.has_failed c.conclude.new.writer) c.conclude.result both.result.0 c.in-Ok.ensures.ok
-              both.ensures.sent
+          (g.W.Sink.has_failed c.conclude.new.writer) c.conclude.result both.result.0 c.in-Ok.ensures.ok
+          both.ensures.sent
           both.ensures.failed c.conclude.ensures;
     }

@@ -11,11 +11,11 @@ returns-then-is_ok g c =
     let taken = g.W.Sink.taken in
     let has_failed = g.W.Sink.has_failed in
     says_done c.args.stop c.args.why (taken c.args.writer.now) (taken c.flush.new.writer)
-        (has_failed c.args.writer.now) (has_failed c.flush.new.writer) c.args.voice.now c.done.new.self
-        c.flush.new.voice
+    (has_failed c.args.writer.now) (has_failed c.flush.new.writer) c.args.voice.now c.done.new.self
+    c.flush.new.voice
     c.flush.result c.in-Told.is c.requires (c.is_done.ensures c.if-not-is_done.false)
-        (if_ok c.done.result c.is_ok.result _ c.is_ok.ensures.value c.if-is_ok.true c.done.ensures.ok)
-        c.flush.ensures.flushes
+    (if_ok c.done.result c.is_ok.result _ c.is_ok.ensures.value c.if-is_ok.true c.done.ensures.ok)
+    c.flush.ensures.flushes
     c.flush.ensures.all c.flush.ensures.failed
 
 pub returns-else-is_ok : goal.returns-else-is_ok

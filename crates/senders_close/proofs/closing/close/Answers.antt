@@ -7,26 +7,26 @@ use Rattle.senders_close.proofs.closing.close.Goals as goal
 pub returns-in_err-checked-clause-refused : goal.returns-in_err-checked-clause-refused
 returns-in_err-checked-clause-refused g c =
     memory_refused g.P.Publishing.checked g.P.Publishing.limit c.into_book-book.result c.args.seats.items
-        c.args.served.items c.from_residual.result c.into_book-book.ensures c.from_residual.ensures.1
+    c.args.served.items c.from_residual.result c.into_book-book.ensures c.from_residual.ensures.1
 
 pub returns-in_err-fresh-clause-refused : goal.returns-in_err-fresh-clause-refused
 returns-in_err-fresh-clause-refused g c =
     memory_refused g.P.Publishing.checked g.P.Publishing.limit c.into_book-book.result c.args.seats.items
-        c.args.served.items c.from_residual-in_err-fresh.result c.into_book-book.ensures
-        c.from_residual-in_err-fresh.ensures.1
+    c.args.served.items c.from_residual-in_err-fresh.result c.into_book-book.ensures
+    c.from_residual-in_err-fresh.ensures.1
 
 pub returns-in_err-compare-clause-refused : goal.returns-in_err-compare-clause-refused
 returns-in_err-compare-clause-refused g c =
     passes_on (RefusedClose g.P.Publishing.checked g.P.Publishing.limit c.args.seats.items c.args.served.items)
-        c.from_residual-in_err-compare.result c.in_err-compare.field-0.0 (search rules)
+    c.from_residual-in_err-compare.result c.in_err-compare.field-0.0 (search rules)
     (refused_as_named g.P.Publishing.checked g.P.Publishing.limit c.into_book-book.result c.args.seats.items
-        c.as_slice.result.now c.args.served.items c.as_slice-2.result.now c.in_err-compare.field-0.0
+    c.as_slice.result.now c.args.served.items c.as_slice-2.result.now c.in_err-compare.field-0.0
     c.into_book-book.ensures c.as_slice.ensures.value c.as_slice-2.ensures.value c.in_err-compare.ensures.err)
 
 pub returns-clause-ok : goal.returns-clause-ok
 returns-clause-ok g c =
     closed_as_named g.P.Publishing.checked g.P.Publishing.limit c.into_book-book.result c.compare.new.fresh
-        c.keep_confirmed.new.fresh c.args.seats.items c.as_slice.result.now c.args.served.items
-        c.as_slice-2.result.now
+    c.keep_confirmed.new.fresh c.args.seats.items c.as_slice.result.now c.args.served.items
+    c.as_slice-2.result.now
     c.into_book-book.ensures c.as_slice.ensures.value c.as_slice-2.ensures.value c.in_ok-compare.ensures.ok
-        c.keep_confirmed.ensures
+    c.keep_confirmed.ensures

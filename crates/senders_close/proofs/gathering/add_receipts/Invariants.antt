@@ -6,4 +6,4 @@ use Rattle.senders_close.proofs.gathering.add_receipts.Given as goal
 abbrev pub invariant-loop-note : goal.invariant-loop-note
 invariant-loop-note l =
     map (λ (one : Bor ReceiptOf). one.now) l.receipts.items ++ receipts_in (drop l.note-index l.notes)
-        ≡ map (λ (one : Bor ReceiptOf). one.now) l.fn.receipts.items ++ receipts_in l.notes
+    ≡ map (λ (one : Bor ReceiptOf). one.now) l.fn.receipts.items ++ receipts_in l.notes

@@ -6,4 +6,4 @@ use Rattle.senders_close.proofs.gathering.receipts_of.Given as goal
 abbrev pub invariant-loop-seat : goal.invariant-loop-seat
 invariant-loop-seat g l =
     map (λ (one : Bor ReceiptOf). one.now) l.receipts.items ++ all_receipts (drop l.seat-index l.seats)
-        ≡ all_receipts l.seats
+    ≡ all_receipts l.seats

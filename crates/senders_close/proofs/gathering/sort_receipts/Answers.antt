@@ -11,4 +11,4 @@ pub returns-clause-sorted : goal.returns-clause-sorted
 returns-clause-sorted c =
     sorted_shown (λ one. one.now) (λ (one : ReceiptOf). one.number) _
     (IsNonDecreasingBy-from_sort_by_key (λ one. one.now.number) _ c.sort_unstable_by_key.ensures.sorted
-        (λ a r q k. search rules))
+    (λ a r q k. search rules))

@@ -17,14 +17,14 @@ loop-reading-preserved c = (
   elim c.if-not-branch.branch [
     | then-not-branch w ↦
         wrong_more (IsRight (book_setting c.args.book.now)
-            (transactions_of (map (λ (one : Bor ReceiptOf). one.now) c.args.receipts.now))) c.args.readings.now
-            c.loop-reading.reading-index
+        (transactions_of (map (λ (one : Bor ReceiptOf). one.now) c.args.receipts.now))) c.args.readings.now
+        c.loop-reading.reading-index
         c.reading-item.result (omega arith) c.reading-item.is c.if-not-branch.are_right w.are_right-is
         (MatchBool-at_false _ _ w.if-not-branch.true c.in_ok-read_again.ensures.right)
     | else-not-branch w ↦
         right_more (IsRight (book_setting c.args.book.now)
-            (transactions_of (map (λ (one : Bor ReceiptOf). one.now) c.args.receipts.now))) c.args.readings.now
-            c.loop-reading.reading-index
+        (transactions_of (map (λ (one : Bor ReceiptOf). one.now) c.args.receipts.now))) c.args.readings.now
+        c.loop-reading.reading-index
         c.reading-item.result (omega arith) c.reading-item.is c.if-not-branch.are_right
         (MatchBool-at_true _ _ w.if-not-branch.false c.in_ok-read_again.ensures.right)
         (so_same _ _ c.if-not-branch.are_right c.loop-reading.are_right w.are_right-is c.loop-reading.invariant.2)
@@ -35,6 +35,6 @@ loop-reading-preserved c = (
 pub returns-clause-right : goal.returns-clause-right
 returns-clause-right c =
     right_at_end (IsRight (book_setting c.args.book.now)
-        (transactions_of (map (λ (one : Bor ReceiptOf). one.now) c.args.receipts.now)))
-        (map (λ (one : Bor Reading). one.now) c.args.readings.now) c.loop-reading.reading-index _
+    (transactions_of (map (λ (one : Bor ReceiptOf). one.now) c.args.receipts.now)))
+    (map (λ (one : Bor Reading). one.now) c.args.readings.now) c.loop-reading.reading-index _
     (omega (arith, length-map c.args.readings.now (λ (one : Bor Reading). one.now))) c.loop-reading.invariant.2

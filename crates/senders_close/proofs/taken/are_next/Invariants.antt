@@ -8,5 +8,5 @@ use Rattle.senders_close.proofs.taken.are_next.Given as goal
 abbrev pub invariant-loop-place : goal.invariant-loop-place
 invariant-loop-place l =
     AtRest (AreAt (book_log l.book) l.count (map (λ commit. arc_value commit) l.commits)) (book_log l.book)
-        (l.count + l.place)
+    (l.count + l.place)
     (map (λ commit. arc_value commit) (drop l.place l.commits))

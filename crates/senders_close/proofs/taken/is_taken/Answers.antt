@@ -12,7 +12,7 @@ pub returns : goal.returns
 returns c =
     let at : AreAt (book_log c.args.book.now) c.commits_before-count.result (taken_of c.args.served.now) =
     subst (λ (commits : List (Arc Commit Global)). AreAt (book_log c.args.book.now) c.commits_before-count.result
-        (map (λ commit. arc_value commit) commits)) c.as_slice.ensures.value c.if-not-are_next.ensures in
+    (map (λ commit. arc_value commit) commits)) c.as_slice.ensures.value c.if-not-are_next.ensures in
     whole_or_short (book_log c.args.book.now) c.args.served.now c.commits_before-count.result
-        c.commits_before-count.ensures.is at (search rules)
+    c.commits_before-count.ensures.is at (search rules)
     c.len.result c.from.result (search rules) (search rules) _ refl

@@ -24,8 +24,17 @@ join-one-requires-send-F g c κs within =
             (
               (tt, publisher.shared x.2.now x.2.ref_ptr.0 x.2.ref_ptr.1 _),
               (
-                (tt, (tt, λ y. (part_keyless _ (seat_send (param 0 g.row.P) g.P.Publishing g.P.Ledger) full_share y
-                    x.3.ref_ptr.0 x.3.ref_ptr.1, tt))),
+                (
+                  tt,
+                  (
+                    tt,
+                    λ y. (
+                      part_keyless _ (seat_send (param 0 g.row.P) g.P.Publishing g.P.Ledger) full_share y
+                          x.3.ref_ptr.0 x.3.ref_ptr.1,
+                      tt,
+                    ),
+                  ),
+                ),
                 tt,
               ),
             ),

@@ -6,4 +6,4 @@ use Rattle.shard_checker.proofs.covering.check_columns.Given as goal
 abbrev pub invariant-loop-column : goal.invariant-loop-column
 invariant-loop-column l =
     column_refusal l.publication l.number l.table (drop l.column-index l.columns)
-        ≡ column_refusal l.publication l.number l.table l.columns
+    ≡ column_refusal l.publication l.number l.table l.columns

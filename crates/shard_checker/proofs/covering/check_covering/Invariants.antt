@@ -7,4 +7,4 @@ use Rattle.shard_checker.proofs.covering.check_covering.Given as goal
 abbrev pub invariant-loop-number : goal.invariant-loop-number
 invariant-loop-number l =
     covering_refusal l.tables l.subscriptions l.number (map publication_view (drop l.number l.publications))
-        ≡ covering_refusal l.tables l.subscriptions 0 (map publication_view l.publications)
+    ≡ covering_refusal l.tables l.subscriptions 0 (map publication_view l.publications)

@@ -7,4 +7,4 @@ use Rattle.shard_checker.proofs.covering.check_entries.Given as goal
 abbrev pub invariant-loop-entry : goal.invariant-loop-entry
 invariant-loop-entry l =
     entries_refusal l.tables l.publication (map entry_view (drop l.entry-index l.entries))
-        ≡ entries_refusal l.tables l.publication (map entry_view l.entries)
+    ≡ entries_refusal l.tables l.publication (map entry_view l.entries)

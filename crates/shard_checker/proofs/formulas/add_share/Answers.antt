@@ -7,5 +7,5 @@ use Rattle.shard_checker.proofs.formulas.add_share.Goals as goal
 pub returns : goal.returns
 returns g c = λ shares before.
     filters_more (atoms_view c.args.atoms.now) shares c.args.formulas.now
-        (record { steps = c.compile_share.new.steps; roots = c.push.new.self }) c.in_ok-root.root
+    (record { steps = c.compile_share.new.steps; roots = c.push.new.self }) c.in_ok-root.root
     (share_view c.args.share.now) before c.in_ok-root.ensures c.in_ok-push.ensures.items

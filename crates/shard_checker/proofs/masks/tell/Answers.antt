@@ -13,15 +13,15 @@ returns-then-not-is_at c =
     let old = c.args.masks.now in
     let number = c.args.number in
     told_again number steps c.args.atoms.now old (get_or steps number (Const false)) c.mask_of-mask.result
-        c.requires.ordered c.requires.settled
+    c.requires.ordered c.requires.settled
     (slice_get-get_or steps number (Const false) c.requires.there)
     (c.mask_of-mask.ensures
-        ∙ ap (λ masks. step_mask c.args.atoms.now masks (get_or steps number (Const false))) c.deref.ensures.value)
+    ∙ ap (λ masks. step_mask c.args.atoms.now masks (get_or steps number (Const false))) c.deref.ensures.value)
     c.mark.new.self c.args.users.now c.requires.used (ap (λ v. v.items) c.mark.ensures.list ∙ c.put.ensures.list)
     (subst (λ blocks. Marks old.stale.items c.mark.new.self.stale.items blocks)
     (c.blocks_in.ensures ∙ ap (λ lists. blocks_in lists number) c.deref-then-not-is_at.ensures.value)
     (subst (λ (stale : List Bool). Marks stale c.mark.new.self.stale.items c.blocks_in.result.now)
-        (ap (λ v. v.items) c.put.ensures.stale) c.mark.ensures.stale))
+    (ap (λ v. v.items) c.put.ensures.stale) c.mark.ensures.stale))
     (number + 1) refl
 
 -- the set is what it was
@@ -31,9 +31,9 @@ returns-else-not-is_at c =
     let old = c.args.masks.now in
     let number = c.args.number in
     told_same number steps c.args.atoms.now old (get_or steps number (Const false)) c.mask_of-mask.result
-        c.requires.ordered c.requires.settled
+    c.requires.ordered c.requires.settled
     (slice_get-get_or steps number (Const false) c.requires.there)
     (c.mask_of-mask.ensures
-        ∙ ap (λ masks. step_mask c.args.atoms.now masks (get_or steps number (Const false))) c.deref.ensures.value)
+    ∙ ap (λ masks. step_mask c.args.atoms.now masks (get_or steps number (Const false))) c.deref.ensures.value)
     (number + 1) (ap (λ masks. mask_in masks number) (sym c.deref-2.ensures.value) ∙ c.is_at.ensures (search rules))
-        refl
+    refl

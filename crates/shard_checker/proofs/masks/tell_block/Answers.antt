@@ -6,5 +6,5 @@ use Rattle.shard_checker.proofs.masks.tell_block.Goals as goal
 pub returns : goal.returns
 returns c =
     told_block c.args.block c.loop-number.number c.args.steps.now c.args.atoms.now c.loop-number.masks
-        c.unmark.new.self c.loop-number.invariant (omega arith)
+    c.unmark.new.self c.loop-number.invariant (omega arith)
     (ap (λ v. v.items) c.unmark.ensures.list) c.unmark.ensures.stale

@@ -12,6 +12,6 @@ use Rattle.shard_checker.proofs.numbering.numbered_atoms.Goals as goal
 pub returns : goal.returns
 returns g c =
     sym (at_drop_all (λ rest. fold (with_item same_atom) (atoms_view c.loop-share.atoms.items)
-        (flat_map share_atoms (shares_view rest))) c.args.shares.now c.loop-share.share-index c.loop-share-test.false)
-        ∙
+    (flat_map share_atoms (shares_view rest))) c.args.shares.now c.loop-share.share-index c.loop-share-test.false)
+    ∙
     c.loop-share.invariant

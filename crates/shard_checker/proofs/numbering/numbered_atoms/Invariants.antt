@@ -11,4 +11,4 @@ use Rattle.shard_checker.proofs.numbering.numbered_atoms.Given as goal
 abbrev pub invariant-loop-share : goal.invariant-loop-share
 invariant-loop-share g l =
     fold (with_item same_atom) (atoms_view l.atoms.items)
-        (flat_map share_atoms (shares_view (drop l.share-index l.shares))) ≡ numbered_atoms (shares_view l.shares)
+    (flat_map share_atoms (shares_view (drop l.share-index l.shares))) ≡ numbered_atoms (shares_view l.shares)

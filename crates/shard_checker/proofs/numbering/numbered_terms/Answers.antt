@@ -11,6 +11,6 @@ use Rattle.shard_checker.proofs.numbering.numbered_terms.Goals as goal
 pub returns : goal.returns
 returns g c =
     sym (at_drop_all (λ rest. fold (with_item same_term) c.loop-share.terms.items
-        (flat_map share_terms (shares_view rest))) c.args.shares.now c.loop-share.share-index c.loop-share-test.false)
-        ∙
+    (flat_map share_terms (shares_view rest))) c.args.shares.now c.loop-share.share-index c.loop-share-test.false)
+    ∙
     c.loop-share.invariant

@@ -10,4 +10,4 @@ use Rattle.shard_checker.proofs.numbering.numbered_terms.Given as goal
 abbrev pub invariant-loop-share : goal.invariant-loop-share
 invariant-loop-share g l =
     fold (with_item same_term) l.terms.items (flat_map share_terms (shares_view (drop l.share-index l.shares)))
-        ≡ numbered_terms (shares_view l.shares)
+    ≡ numbered_terms (shares_view l.shares)

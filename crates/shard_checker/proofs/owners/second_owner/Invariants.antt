@@ -7,4 +7,4 @@ use Rattle.shard_checker.proofs.owners.second_owner.Given as goal
 abbrev pub invariant-loop-number : goal.invariant-loop-number
 invariant-loop-number l =
     second_among l.owner l.number (map (mask_in l.masks) (drop l.number l.roots))
-        ≡ second_among l.owner 0 (map (mask_in l.masks) l.roots)
+    ≡ second_among l.owner 0 (map (mask_in l.masks) l.roots)

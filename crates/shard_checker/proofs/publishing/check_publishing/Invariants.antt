@@ -7,4 +7,4 @@ use Rattle.shard_checker.proofs.publishing.check_publishing.Given as goal
 abbrev pub invariant-loop-number : goal.invariant-loop-number
 invariant-loop-number l =
     publishing_refusal l.subscriptions l.number (map publication_view (drop l.number l.publications))
-        ≡ publishing_refusal l.subscriptions 0 (map publication_view l.publications)
+    ≡ publishing_refusal l.subscriptions 0 (map publication_view l.publications)

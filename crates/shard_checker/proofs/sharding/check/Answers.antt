@@ -38,23 +38,23 @@ returns-clause-divided g c =
 pub returns-in_err-check_sharding-clause-exact : goal.returns-in_err-check_sharding-clause-exact
 returns-in_err-check_sharding-clause-exact g c =
     refused_by_any (catalog_view c.args.catalog) (plan_view c.args.plan) (map tree_view c.args.certs.now)
-        c.check_sharding.result c.in_err-check_sharding.field-0.0 c.from_residual.result
+    c.check_sharding.result c.in_err-check_sharding.field-0.0 c.from_residual.result
     (search rules) (search rules) c.check_sharding.ensures.exact
 
 pub returns-in_err-check_sharding-clause-memory : goal.returns-in_err-check_sharding-clause-memory
 returns-in_err-check_sharding-clause-memory g c =
     refused_memory (catalog_view c.args.catalog) (plan_view c.args.plan) (map tree_view c.args.certs.now)
-        c.check_sharding.result c.in_err-check_sharding.field-0.0 c.from_residual.result
+    c.check_sharding.result c.in_err-check_sharding.field-0.0 c.from_residual.result
     (search rules) (search rules) (declared_refusal (catalog_view c.args.catalog) ≡ None)
-        c.check_sharding.ensures.memory
+    c.check_sharding.ensures.memory
 
 pub returns-in_err-check_sharding-clause-wrong : goal.returns-in_err-check_sharding-clause-wrong
 returns-in_err-check_sharding-clause-wrong g c =
     refused_wrong (catalog_view c.args.catalog) (plan_view c.args.plan) (map tree_view c.args.certs.now)
-        c.check_sharding.result c.in_err-check_sharding.field-0.0 c.from_residual.result
+    c.check_sharding.result c.in_err-check_sharding.field-0.0 c.from_residual.result
     (search rules) (search rules) (catalog_entries_known c.args.catalog) c.check_sharding.ensures.exact
 
 pub returns-clause-exact : goal.returns-clause-exact
 returns-clause-exact g c = λ test tells.
     none_by_any (catalog_view c.args.catalog) (plan_view c.args.plan) (map tree_view c.args.certs.now)
-        c.in_ok-check_sharding.ensures.exact test tells
+    c.in_ok-check_sharding.ensures.exact test tells

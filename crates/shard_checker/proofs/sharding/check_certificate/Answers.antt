@@ -10,8 +10,8 @@ use Rattle.shard_checker.proofs.sharding.check_certificate.Goals as goal
 pub returns : goal.returns
 returns g c =
     let same : shares_view c.deref.result.now
-        ≡ table_shares (plan_view c.args.plan.now) c.args.number 0 c.args.subscriptions.now =
+    ≡ table_shares (plan_view c.args.plan.now) c.args.number 0 c.args.subscriptions.now =
     ap shares_view c.deref.ensures.value ∙ c.in_ok-shares.ensures in
     subst (λ shares. Checks
-        (nodes_refusal is_empty c.args.number c.args.table.now shares (g.C.Source.nodes c.args.cert.now))
-        c.check_table.result) same c.check_table.ensures
+    (nodes_refusal is_empty c.args.number c.args.table.now shares (g.C.Source.nodes c.args.cert.now))
+    c.check_table.result) same c.check_table.ensures

@@ -10,6 +10,6 @@ pub returns : goal.returns
 returns c =
     sym (append-nil (shares_view c.loop-number.shares.items)) ∙
     sym (at_drop_all (λ rest. shares_view c.loop-number.shares.items
-        ++ table_shares (plan_view c.args.plan.now) c.args.table c.loop-number.number rest) c.args.subscriptions.now
-        c.loop-number.number c.loop-number-test.false) ∙
+    ++ table_shares (plan_view c.args.plan.now) c.args.table c.loop-number.number rest) c.args.subscriptions.now
+    c.loop-number.number c.loop-number-test.false) ∙
     c.loop-number.invariant

@@ -8,4 +8,4 @@ use Rattle.shard_checker.proofs.sharding.shares_in.Given as goal
 abbrev pub invariant-loop-number : goal.invariant-loop-number
 invariant-loop-number l =
     shares_view l.shares.items ++ table_shares (plan_view l.plan) l.table l.number (drop l.number l.subscriptions)
-        ≡ table_shares (plan_view l.plan) l.table 0 l.subscriptions
+    ≡ table_shares (plan_view l.plan) l.table 0 l.subscriptions

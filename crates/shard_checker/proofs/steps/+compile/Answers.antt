@@ -18,9 +18,9 @@ returns-in_ok-part-in-Is g t c =
     let new = c.add-in-Is.new.self.list.items in
     let part = expr_view c.deref-in-Is.result.now in
     let whole : expr_view c.args.filter.now ≡ e.Is c.in-Is.test part = ap expr_view c.in-Is.is
-        ∙ sym (ap (λ f. e.Is c.in-Is.test (expr_view f)) c.deref-in-Is.ensures) in
+    ∙ sym (ap (λ f. e.Is c.in-Is.test (expr_view f)) c.deref-in-Is.ensures) in
     IfOk-weaker c.add-in-Is.result (λ place. Adds middle new place (Is c.in-Is.test number))
-        (λ place. Compiles atoms old new place (expr_view c.args.filter.now))
+    (λ place. Compiles atoms old new place (expr_view c.args.filter.now))
     (λ place added. subst (λ (filter : Expr). Compiles atoms old new place filter) (sym whole)
     (compiled_is atoms old new place middle number part c.in_ok-part-in-Is.ensures c.in-Is.test added))
-        c.add-in-Is.ensures
+    c.add-in-Is.ensures

@@ -16,14 +16,14 @@ use Rattle.shard_checker.proofs.texts.check_text.Goals as goal
 pub new-requires-clause-sound : goal.new-requires-clause-sound
 new-requires-clause-sound c =
     sharding_sound (catalog_view c.args.catalog) (plan_view c.args.plan) (trees_in (texts_view c.args.texts.now))
-        (catalog_entries_known c.args.catalog) (c.in_ok-check_texts.ensures.exact c.in_ok-read_texts.ensures)
-        c.requires
+    (catalog_entries_known c.args.catalog) (c.in_ok-check_texts.ensures.exact c.in_ok-read_texts.ensures)
+    c.requires
 
 pub returns-clause-sound : goal.returns-clause-sound
 returns-clause-sound c =
     sharding_sound (catalog_view c.args.catalog) (plan_view c.args.plan) (trees_in (texts_view c.args.texts.now))
-        (catalog_entries_known c.args.catalog) (c.in_ok-check_texts.ensures.exact c.in_ok-read_texts.ensures)
-        c.requires
+    (catalog_entries_known c.args.catalog) (c.in_ok-check_texts.ensures.exact c.in_ok-read_texts.ensures)
+    c.requires
 
 pub returns-clause-covered : goal.returns-clause-covered
 returns-clause-covered c =
@@ -41,32 +41,32 @@ returns-clause-divided c =
 pub returns-clause-exact : goal.returns-clause-exact
 returns-clause-exact c = λ test tells.
     text_by_any test tells (catalog_view c.args.catalog) (plan_view c.args.plan) (texts_view c.args.texts.now) None
-        c.in_ok-read_texts.ensures (c.in_ok-check_texts.ensures.exact c.in_ok-read_texts.ensures)
+    c.in_ok-read_texts.ensures (c.in_ok-check_texts.ensures.exact c.in_ok-read_texts.ensures)
 
 pub returns-in_err-check_texts-clause-exact : goal.returns-in_err-check_texts-clause-exact
 returns-in_err-check_texts-clause-exact c =
     refused_by_any (catalog_view c.args.catalog) (plan_view c.args.plan) (texts_view c.args.texts.now)
-        c.check_texts.result c.in_err-check_texts.field-0.0 c.from_residual-in_err-check_texts.result
+    c.check_texts.result c.in_err-check_texts.field-0.0 c.from_residual-in_err-check_texts.result
     (search rules) (search rules) c.in_ok-read_texts.ensures (c.check_texts.ensures.exact c.in_ok-read_texts.ensures)
 
 pub returns-in_err-check_texts-clause-read : goal.returns-in_err-check_texts-clause-read
 returns-in_err-check_texts-clause-read c =
     refused_read (catalog_view c.args.catalog) (plan_view c.args.plan) (texts_view c.args.texts.now)
-        c.check_texts.result c.in_err-check_texts.field-0.0 c.from_residual-in_err-check_texts.result
+    c.check_texts.result c.in_err-check_texts.field-0.0 c.from_residual-in_err-check_texts.result
     (search rules) (search rules) c.in_ok-read_texts.ensures
 
 pub returns-in_err-check_texts-clause-memory : goal.returns-in_err-check_texts-clause-memory
 returns-in_err-check_texts-clause-memory c =
     refused_memory (catalog_view c.args.catalog) (plan_view c.args.plan) (texts_view c.args.texts.now)
-        c.check_texts.result c.in_err-check_texts.field-0.0 c.from_residual-in_err-check_texts.result
+    c.check_texts.result c.in_err-check_texts.field-0.0 c.from_residual-in_err-check_texts.result
     (search rules) (search rules) c.check_texts.ensures.memory
 
 pub returns-in_err-check_texts-clause-wrong : goal.returns-in_err-check_texts-clause-wrong
 returns-in_err-check_texts-clause-wrong c =
     refused_wrong (catalog_view c.args.catalog) (plan_view c.args.plan) (texts_view c.args.texts.now)
-        c.check_texts.result c.in_err-check_texts.field-0.0 c.from_residual-in_err-check_texts.result
+    c.check_texts.result c.in_err-check_texts.field-0.0 c.from_residual-in_err-check_texts.result
     (search rules) (search rules) (catalog_entries_known c.args.catalog)
-        (c.check_texts.ensures.exact c.in_ok-read_texts.ensures)
+    (c.check_texts.ensures.exact c.in_ok-read_texts.ensures)
 
 -- a text isn't read
 pub returns-in_err-read_texts-clause-exact : goal.returns-in_err-read_texts-clause-exact
@@ -75,17 +75,17 @@ returns-in_err-read_texts-clause-exact c = λ test tells. search (rules, text_fi
 pub returns-in_err-read_texts-clause-read : goal.returns-in_err-read_texts-clause-read
 returns-in_err-read_texts-clause-read c =
     fault_tells (texts_view c.args.texts.now) c.from_residual.result c.in_err-read_texts.field-0.0 (search rules)
-        (search rules)
+    (search rules)
 
 pub returns-in_err-read_texts-clause-memory : goal.returns-in_err-read_texts-clause-memory
 returns-in_err-read_texts-clause-memory c =
     fault_is_no_refusal (texts_view c.args.texts.now) c.from_residual.result c.in_err-read_texts.field-0.0
-        (λ error. error ≡ OutOfMemory → declared_refusal (catalog_view c.args.catalog) ≡ None) (search rules)
-        (search rules)
+    (λ error. error ≡ OutOfMemory → declared_refusal (catalog_view c.args.catalog) ≡ None) (search rules)
+    (search rules)
 
 pub returns-in_err-read_texts-clause-wrong : goal.returns-in_err-read_texts-clause-wrong
 returns-in_err-read_texts-clause-wrong c =
     fault_is_no_refusal (texts_view c.args.texts.now) c.from_residual.result c.in_err-read_texts.field-0.0
     (λ error. error ≢ OutOfMemory
-        → ShardingIsWrong (catalog_view c.args.catalog) (plan_view c.args.plan)
-        (trees_in (texts_view c.args.texts.now)) error) (search rules) (search rules)
+    → ShardingIsWrong (catalog_view c.args.catalog) (plan_view c.args.plan)
+    (trees_in (texts_view c.args.texts.now)) error) (search rules) (search rules)

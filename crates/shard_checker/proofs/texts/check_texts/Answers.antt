@@ -9,10 +9,10 @@ use Rattle.shard_checker.proofs.texts.check_texts.Goals as goal
 pub returns-in_err-check_given-clause-exact : goal.returns-in_err-check_given-clause-exact
 returns-in_err-check_given-clause-exact c = λ read.
     subst (λ refusal. Checks refusal c.from_residual.result)
-        (sharding_by_texts is_empty (catalog_view c.args.catalog.now) (plan_view c.args.plan.now) c.args.texts.now
-        read) (search rules)
+    (sharding_by_texts is_empty (catalog_view c.args.catalog.now) (plan_view c.args.plan.now) c.args.texts.now
+    read) (search rules)
 
 pub returns-clause-exact : goal.returns-clause-exact
 returns-clause-exact c = λ read.
     sym (sharding_by_texts is_empty (catalog_view c.args.catalog.now) (plan_view c.args.plan.now) c.args.texts.now
-        read) ∙ c.in_ok-check_given.ensures.exact
+    read) ∙ c.in_ok-check_given.ensures.exact

@@ -12,9 +12,9 @@ loop-subscription-preserved c =
     let index = c.loop-subscription.subscription-index in
     let more : take (index + 1) subscriptions ≡ take index subscriptions ++ c.subscription-item.result ∷ [] =
     take_more subscriptions index c.subscription-item.result (omega arith)
-        ∙ ap (λ one. take index subscriptions ++ one ∷ []) (sym c.subscription-item.is) in
+    ∙ ap (λ one. take index subscriptions ++ one ∷ []) (sym c.subscription-item.is) in
     subst (λ peers. AreFirstPeers publications (take (index + 1) subscriptions) peers) (sym c.in_ok-push.ensures.items)
     (subst (λ its. AreFirstPeers publications its
-        (c.loop-subscription.peers.items ++ c.in_ok-first_peer.field-0 ∷ [])) (sym more)
+    (c.loop-subscription.peers.items ++ c.in_ok-first_peer.field-0 ∷ [])) (sym more)
     (one_more publications (take index subscriptions) c.loop-subscription.peers.items c.subscription-item.result
-        c.in_ok-first_peer.field-0 c.loop-subscription.invariant c.in_ok-first_peer.ensures))
+    c.in_ok-first_peer.field-0 c.loop-subscription.invariant c.in_ok-first_peer.ensures))

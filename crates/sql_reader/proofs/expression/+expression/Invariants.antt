@@ -81,8 +81,8 @@ abbrev pub invariant-conjunction-loop-left : goal.invariant-conjunction-loop-lef
 invariant-conjunction-loop-left l = record {
   so_far : spec.conjunction as_filter l.columns (spec.nested as_filter l.columns l.depth) (to_read l.fn.r)
       ≡ repeat (link (i.Keyword k.And)
-          (spec.one_more_negation as_filter l.columns (spec.nested as_filter l.columns l.depth))) (part_view l.left)
-          (to_read l.r);
+      (spec.one_more_negation as_filter l.columns (spec.nested as_filter l.columns l.depth))) (part_view l.left)
+      (to_read l.r);
   fewer : size (to_read l.r) < size (to_read l.fn.r);
 }
 
@@ -93,8 +93,8 @@ abbrev pub invariant-disjunction-loop-left : goal.invariant-disjunction-loop-lef
 invariant-disjunction-loop-left l = record {
   so_far : spec.disjunction as_filter l.columns (spec.nested as_filter l.columns l.depth) (to_read l.fn.r)
       ≡ repeat (link (i.Keyword k.Or)
-          (spec.one_more_conjunction as_filter l.columns (spec.nested as_filter l.columns l.depth)))
-          (part_view l.left) (to_read l.r);
+      (spec.one_more_conjunction as_filter l.columns (spec.nested as_filter l.columns l.depth)))
+      (part_view l.left) (to_read l.r);
   fewer : size (to_read l.r) < size (to_read l.fn.r);
 }
 
@@ -105,7 +105,7 @@ abbrev pub invariant-other_entries-loop-others : goal.invariant-other_entries-lo
 invariant-other_entries-loop-others l = record {
   so_far : spec.other_entries as_filter l.columns (spec.nested as_filter l.columns l.depth) (to_read l.fn.r)
       ≡ repeat (link i.Comma (spec.one_entry as_filter l.columns (spec.nested as_filter l.columns l.depth)))
-          (map operand_view l.others.items) (to_read l.r);
+      (map operand_view l.others.items) (to_read l.r);
   no_more : size (to_read l.r) ≤ size (to_read l.fn.r);
 }
 

@@ -12,7 +12,7 @@ loop-operand-init c =
     let first = constant_view c.args.first in
     let others = all_beside c.args.place c.args.kind (map operand_view c.args.others.items) in
     let none : map constant_view c.new-literals.result.items ≡ [] =
-        ap (map constant_view) c.new-literals.ensures.items in
+    ap (map constant_view) c.new-literals.ensures.items in
     let one : map constant_view c.put.new.literals.items ≡ first ∷ [] = c.in_ok-put.ensures
-        ∙ ap (λ held. placed held first) none in
+    ∙ ap (λ held. placed held first) none in
     ap (λ held. verdict_map (fold placed held) others) one ∙ first_placed first others

@@ -10,9 +10,9 @@ use Rattle.sql_reader.proofs.list.literals_of.Given as goal
 abbrev pub invariant-loop-operand : goal.invariant-loop-operand
 invariant-loop-operand l =
     verdict_map (fold placed (map constant_view l.literals.items))
-        (all_beside l.place l.kind (map operand_view l.others.items))
+    (all_beside l.place l.kind (map operand_view l.others.items))
     ≡ verdict_map (λ constants. ascending (constant_view l.fn.first ∷ constants))
-        (all_beside l.place l.kind (map operand_view l.fn.others.items))
+    (all_beside l.place l.kind (map operand_view l.fn.others.items))
 
 abbrev pub decreases-loop-operand : goal.decreases-loop-operand
 decreases-loop-operand l = length l.others.items

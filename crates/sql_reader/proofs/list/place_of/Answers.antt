@@ -13,4 +13,4 @@ returns-in-Less c = (
 pub returns-in-Equal : goal.returns-in-Equal
 returns-in-Equal c =
     passed_equal constant_view c.args.literals.now (constant_view c.args.literal.now) c.loop-index.index
-        c.index-literals-index.result (omega arith) (cc) (sym c.in-Equal.ensures) c.loop-index.invariant
+    c.index-literals-index.result (omega arith) (cc) (sym c.in-Equal.ensures) c.loop-index.invariant

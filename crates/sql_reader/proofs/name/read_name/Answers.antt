@@ -17,8 +17,8 @@ returns c =
           Ok (record { place = place_ahead ts; text = meant }, rest_of ts) else Err (refusal ts)) is_ahead
           ∙ ap (λ place. Ok (record { place = place; text = meant }, rest_of ts)) (sym c.place-place.ensures)
           ∙ ap (λ text. Ok (record { place = c.place-place.result; text = text }, rest_of ts))
-              (sym c.in_ok-text.ensures)
+          (sym c.in_ok-text.ensures)
           ∙ ap (λ rest. Ok (record { place = c.place-place.result; text = c.in_ok-text.text }, rest))
-              (sym c.advance.ensures),
+          (sym c.advance.ensures),
       subst (λ rest. size rest < size ts) (sym c.advance.ensures) (rest_of_name_is_fewer ts is_ahead),
     )

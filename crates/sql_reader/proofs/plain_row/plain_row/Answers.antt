@@ -15,9 +15,9 @@ returns-then-byte_at-eq41 c =
     let values = c.loop-place.values.items in
     let plain : IsPlain text c.loop-place.place c.in-Some.field-0 = rw c.in-Some.is at c.in_ok-value.ensures in
     row_closes text (map datum_view values) (datum_view c.in-Some.field-0.value) c.loop-place.place
-        c.in-Some.field-0.after c.loop-place.invariant plain.takes
+    c.in-Some.field-0.after c.loop-place.invariant plain.takes
     (sym c.byte_at.ensures.value ∙ c.if-byte_at-ne40.false)
-        (sym c.byte_at-in-loop-place.ensures.value ∙ c.if-byte_at-eq41.true) plain.within c.if-after-text.false
+    (sym c.byte_at-in-loop-place.ensures.value ∙ c.if-byte_at-eq41.true) plain.within c.if-after-text.false
     ∙ ap Ok (sym (c.from_values.ensures ∙ ap (map datum_view) c.in_ok-push.ensures.items
     ∙ map-append datum_view values (c.in-Some.field-0.value ∷ [])))
 
@@ -31,8 +31,8 @@ loop-place-preserved c =
       | inr e ↦ absurd (c.if-byte_at-eq41.false (c.byte_at-in-loop-place.ensures.value ∙ e))
     ] in
     let pushed : map datum_view c.push.new.self.items ≡ map datum_view values
-        ++ (datum_view c.in-Some.field-0.value ∷ []) =
+    ++ (datum_view c.in-Some.field-0.value ∷ []) =
     ap (map datum_view) c.in_ok-push.ensures.items ∙ map-append datum_view values (c.in-Some.field-0.value ∷ []) in
     rw pushed (wants_next text (map datum_view values) (datum_view c.in-Some.field-0.value) c.loop-place.place
-        c.in-Some.field-0.after c.after_comma-place.result c.loop-place.invariant plain.takes
+    c.in-Some.field-0.after c.after_comma-place.result c.loop-place.invariant plain.takes
     plain.within comma c.after_comma-place.ensures.same)

@@ -16,9 +16,9 @@ returns c =
     let place = c.args.place in
     let count = c.plain_len-length.result in
     let is : count ≡ prefix_len is_plain (drop (place + 1) text) = c.plain_len-length.ensures.value
-        ∙ ap (prefix_len is_plain) c.rest_from.ensures in
+    ∙ ap (prefix_len is_plain) c.rest_from.ensures in
     let cut : place + 1 + count - (place + 1) ≡ count = omega arith in
     string_is_plain text place count c.in_ok-copy.copy
-        (c.in_ok-copy.ensures ∙ c.range.ensures.value ∙ ap (λ n. take n (drop (place + 1) text)) cut) is
+    (c.in_ok-copy.ensures ∙ c.range.ensures.value ∙ ap (λ n. take n (drop (place + 1) text)) cut) is
     c.if-length-gt-MAX_TEXT_BYTES.false c.requires.quote (sym c.byte_at.ensures.value ∙ c.if-byte_at-ne39.false)
     (c.is_end.ensures.within c.if-not-is_end.false) (sym c.is_end.ensures.value ∙ c.if-not-is_end.false)

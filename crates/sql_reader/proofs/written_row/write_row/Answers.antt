@@ -24,4 +24,4 @@ returns-clause-again g c = is_read_again (string_bytes c.push-2.new.self) c.args
 pub returns-clause-valid : goal.returns-clause-valid
 returns-clause-valid g c = λ columns fits some no_least.
     valid_is_read_again (string_bytes c.push-2.new.self) c.args.row.now columns (returns-clause-spelled g c) fits some
-        no_least
+    no_least

@@ -10,5 +10,5 @@ use Rattle.sql_reader.proofs.written_row.write_values.Given as goal
 abbrev pub invariant-loop-value : goal.invariant-loop-value
 invariant-loop-value g l =
     string_bytes l.text ++ flat_map (λ cell. codes ", " ++ value_text cell)
-        (map datum_view (drop l.value-index l.others))
+    (map datum_view (drop l.value-index l.others))
     ≡ string_bytes l.fn.text ++ join_by value_text (codes ", ") (map datum_view l.values)

@@ -6,7 +6,7 @@ use Rattle.sql_tokens.proofs.bytes.run_len.Given as goal
 abbrev pub invariant-loop-length : goal.invariant-loop-length
 invariant-loop-length l =
     (l.length + prefix_len (is_of l.class) (drop l.length l.bytes) ≡ prefix_len (is_of l.class) l.bytes)
-        × (l.length ≤ length l.bytes)
+    × (l.length ≤ length l.bytes)
 
 abbrev pub decreases-loop-length : goal.decreases-loop-length
 decreases-loop-length l = length l.bytes - l.length

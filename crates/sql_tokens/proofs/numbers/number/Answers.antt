@@ -6,4 +6,4 @@ use Rattle.sql_tokens.proofs.numbers.number.Goals as goal
 pub returns-in-Some-clause-within : goal.returns-in-Some-clause-within
 returns-in-Some-clause-within c =
     digits_token c.args.bytes.now c.run_len-length.result c.in-Some.value c.requires c.run_len-length.ensures.value
-        (grind (arith, nat_tests, c.in-Some.ensures.value))
+    (grind (arith, nat_tests, c.in-Some.ensures.value))

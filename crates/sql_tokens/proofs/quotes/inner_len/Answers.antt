@@ -8,5 +8,5 @@ pub returns-then-is_quote-2-clause-closes : goal.returns-then-is_quote-2-clause-
 unfolding inner_from
 returns-then-is_quote-2-clause-closes c =
     let found : inner_len c.args.quote c.args.bytes.now ≡ Some c.loop-rest.length =
-        grind (arith, common_steps, inner_turns) in
+    grind (arith, common_steps, inner_turns) in
     inner_len-ends c.args.quote c.args.bytes.now c.loop-rest.length found

@@ -9,21 +9,21 @@ pub returns-in_err-limit-in-Some-clause-none : goal.returns-in_err-limit-in-Some
 returns-in_err-limit-in-Some-clause-none c = λ none limit has.
     let found = found_of c.args.simulate.now in
     let named : first_of (codes "limit") (rows_of found) ≡ Some c.in-Some.word.now =
-        sym (first_value-rows found (codes "limit")) ∙ sym c.in-Some.ensures in
+    sym (first_value-rows found (codes "limit")) ∙ sym c.in-Some.ensures in
     c.read_limit.ensures.none c.in_err-limit-in-Some.was limit
-        (subst (λ (word : Option (List ℕ)). IsLimit word limit) named has)
+    (subst (λ (word : Option (List ℕ)). IsLimit word limit) named has)
 
 pub returns-in_ok-limit-in-Some-clause-some : goal.returns-in_ok-limit-in-Some-clause-some
 returns-in_ok-limit-in-Some-clause-some c =
     let found = found_of c.args.simulate.now in
     let named : first_of (codes "limit") (rows_of found) ≡ Some c.in-Some.word.now =
-        sym (first_value-rows found (codes "limit")) ∙ sym c.in-Some.ensures in
+    sym (first_value-rows found (codes "limit")) ∙ sym c.in-Some.ensures in
     subst (λ (word : Option (List ℕ)). IsLimit word c.in_ok-limit-in-Some.limit) (sym named)
-        c.in_ok-limit-in-Some.ensures.some
+    c.in_ok-limit-in-Some.ensures.some
 
 pub returns-in-None-clause-some : goal.returns-in-None-clause-some
 returns-in-None-clause-some c =
     let found = found_of c.args.simulate.now in
     let named : first_of (codes "limit") (rows_of found) ≡ None = sym (first_value-rows found (codes "limit"))
-        ∙ sym c.in-None.ensures in
+    ∙ sym c.in-None.ensures in
     subst (λ (word : Option (List ℕ)). IsLimit word 1000000) (sym named) refl

@@ -19,7 +19,7 @@ returns-in-Ok g c =
     let parts : two_parts c.args.input.now ≡ Some cut = search rules in
     let catalog = catalog_view c.in_ok-catalog.catalog in
     let same : texts_view c.as_slice.result.now ≡ lines_of cut.rest = ap texts_view c.as_slice.ensures.value
-        ∙ c.in_ok-texts.ensures in
+    ∙ c.in_ok-texts.ensures in
     let sound = rw c.in-Ok.is at c.in_ok-verdict_of.ensures.sound in
     let first = rw c.in-Ok.is at c.in_ok-verdict_of.ensures.unrefused in
     accepted c.args.input.now cut catalog parts c.in_ok-catalog.ensures.catalog
@@ -39,9 +39,9 @@ returns g c =
     let parts : two_parts c.args.input.now ≡ Some cut = search rules in
     let catalog = catalog_view c.in_ok-catalog.catalog in
     let again : catalog_view c.in_ok-catalog-in-Err.catalog ≡ catalog =
-        cc (c.in_ok-catalog.ensures.catalog, c.in_ok-catalog-in-Err.ensures.catalog) in
+    cc (c.in_ok-catalog.ensures.catalog, c.in_ok-catalog-in-Err.ensures.catalog) in
     let same : texts_view c.as_slice.result.now ≡ lines_of cut.rest = ap texts_view c.as_slice.ensures.value
-        ∙ c.in_ok-texts.ensures in
+    ∙ c.in_ok-texts.ensures in
     let first = rw c.in-Err.is at c.in_ok-verdict_of.ensures.refused in
     let wrong = rw c.in-Err.is at c.in_ok-verdict_of.ensures.wrong in
     refused c.args.input.now cut catalog parts c.in_ok-catalog.ensures.catalog
@@ -51,6 +51,6 @@ returns g c =
     (subst (λ (lines : List (List ℕ)). ShardingIsWrong catalog (plan_of catalog) (trees_in lines) refusal) same wrong)
     c.write_refused.ensures.status
     (subst (λ (named : CatalogOf Expr). OnOk result (Appends old new (ended (refused_line named refusal)))) again
-        c.write_refused.ensures.written)
+    c.write_refused.ensures.written)
     (subst (λ (named : CatalogOf Expr). IfErr result (StopsText (ended (refused_line named refusal)) old new)) again
-        c.write_refused.ensures.stopped)
+    c.write_refused.ensures.stopped)

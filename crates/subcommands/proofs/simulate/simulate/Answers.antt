@@ -21,12 +21,12 @@ returns-in-Ok g c =
     let old = g.W.Write.contents c.args.writer.now in
     let new = g.W.Write.contents c.write_steps.new.writer in
     let cut : CutTwice = record
-        { first = c.in_ok-text.text.now; second = c.in_ok-text.certificates.now; third = c.in_ok-text.script.now } in
+    { first = c.in_ok-text.text.now; second = c.in_ok-text.certificates.now; third = c.in_ok-text.script.now } in
     let parts : three_parts c.args.input.now ≡ Some cut = search rules in
     let catalog = catalog_view c.in_ok-catalog.catalog in
     let steps = map line_view c.in_ok-lines.lines.items in
     let same : texts_view c.as_slice.result.now ≡ lines_of cut.second = ap texts_view c.as_slice.ensures.value
-        ∙ c.in_ok-texts.ensures in
+    ∙ c.in_ok-texts.ensures in
     let sound = rw c.in-Ok.is at c.in_ok-verdict.ensures.sound in
     let kept = rw c.in-Ok.is at c.in_ok-verdict.ensures.kept in
     let unrefused = rw c.in-Ok.is at c.in_ok-verdict.ensures.unrefused in
@@ -35,7 +35,7 @@ returns-in-Ok g c =
     steps c.in_ok-lines.ensures.read old new c.write_steps.result sound
     (subst (λ (lines : List (List ℕ)). IsFirstRefusal catalog (trees_in lines) None) same unrefused)
     (subst (λ (checked : CheckedOf). WritesSteps checked c.args.limit steps old new c.write_steps.result) kept
-        c.write_steps.ensures)
+    c.write_steps.ensures)
 
 pub returns : goal.returns
 returns g c =
@@ -44,13 +44,13 @@ returns g c =
     let result = c.write_refused.result in
     let refusal = c.in-Err.refusal in
     let cut : CutTwice = record
-        { first = c.in_ok-text.text.now; second = c.in_ok-text.certificates.now; third = c.in_ok-text.script.now } in
+    { first = c.in_ok-text.text.now; second = c.in_ok-text.certificates.now; third = c.in_ok-text.script.now } in
     let parts : three_parts c.args.input.now ≡ Some cut = search rules in
     let catalog = catalog_view c.in_ok-catalog.catalog in
     let again : catalog_view c.in_ok-catalog-in-Err.catalog ≡ catalog =
-        cc (c.in_ok-catalog.ensures.catalog, c.in_ok-catalog-in-Err.ensures.catalog) in
+    cc (c.in_ok-catalog.ensures.catalog, c.in_ok-catalog-in-Err.ensures.catalog) in
     let same : texts_view c.as_slice.result.now ≡ lines_of cut.second = ap texts_view c.as_slice.ensures.value
-        ∙ c.in_ok-texts.ensures in
+    ∙ c.in_ok-texts.ensures in
     let first = rw c.in-Err.is at c.in_ok-verdict.ensures.refused in
     let wrong = rw c.in-Err.is at c.in_ok-verdict.ensures.wrong in
     sharding_refused c.args.limit c.args.input.now cut catalog parts c.in_ok-catalog.ensures.catalog
@@ -60,6 +60,6 @@ returns g c =
     (subst (λ (lines : List (List ℕ)). ShardingIsWrong catalog (plan_of catalog) (trees_in lines) refusal) same wrong)
     c.write_refused.ensures.status
     (subst (λ (named : CatalogOf Expr). OnOk result (Appends old new (ended (refused_line named refusal)))) again
-        c.write_refused.ensures.written)
+    c.write_refused.ensures.written)
     (subst (λ (named : CatalogOf Expr). IfErr result (StopsText (ended (refused_line named refusal)) old new)) again
-        c.write_refused.ensures.stopped)
+    c.write_refused.ensures.stopped)

@@ -25,22 +25,22 @@ loop-line-preserved g c =
     let items = c.args.lines.items in
     let done = length c.loop-line.yielded in
     let turn = YieldsList-turn
-        (YieldsList-from_vec {s = c.into_iter-line-iterator.result} items (search rules) (search rules))
+    (YieldsList-from_vec {s = c.into_iter-line-iterator.result} items (search rules) (search rules))
     c.loop-line.yielded c.loop-line.line-iterator c.loop-line.yielded_by c.next.result c.next.new.self c.in-Some.line
-        c.in-Some.is c.next.ensures.steps in
+    c.in-Some.is c.next.ensures.steps in
     let left_is = left_next items done c.in-Some.line turn.0 turn.1 in
     let more : length (c.loop-line.yielded ++ c.in-Some.line ∷ []) ≡ done + 1 =
-        length_push c.loop-line.yielded c.in-Some.line in
+    length_push c.loop-line.yielded c.in-Some.line in
     let room : c.loop-line.now < 100000 = omega (arith, turn.0, c.requires.few, c.loop-line.invariant.now_is) in
     record {
       now_is = omega (arith, more, c.loop-line.invariant.now_is);
       so_far = rw more
           (so_far_next (checked_view c.args.checked) c.args.limit (map line_view items)
-              (map line_view (drop done items)) (line_view c.in-Some.line) (map line_view (drop (done + 1) items))
+          (map line_view (drop done items)) (line_view c.in-Some.line) (map line_view (drop (done + 1) items))
           c.loop-line.now (c.loop-line.now + 1) c.loop-line.world c.step_text.new.world (contents c.args.writer.now)
-              (contents c.loop-line.writer) (contents c.write_text.new.writer) c.as_str.result.now
+          (contents c.loop-line.writer) (contents c.write_text.new.writer) c.as_str.result.now
           left_is refl room c.loop-line.invariant.so_far (rw c.as_str.ensures.value c.in_ok-text.ensures)
-              c.in_ok-write_text.ensures.written);
+          c.in_ok-write_text.ensures.written);
     }
 
 pub returns-in_err-text : goal.returns-in_err-text
@@ -49,15 +49,15 @@ returns-in_err-text g c =
     let items = c.args.lines.items in
     let done = length c.loop-line.yielded in
     let turn = YieldsList-turn
-        (YieldsList-from_vec {s = c.into_iter-line-iterator.result} items (search rules) (search rules))
+    (YieldsList-from_vec {s = c.into_iter-line-iterator.result} items (search rules) (search rules))
     c.loop-line.yielded c.loop-line.line-iterator c.loop-line.yielded_by c.next.result c.next.new.self c.in-Some.line
-        c.in-Some.is c.next.ensures.steps in
+    c.in-Some.is c.next.ensures.steps in
     memory_returned (checked_view c.args.checked) c.args.limit (map line_view items) (map line_view (drop done items))
-        (line_view c.in-Some.line) (map line_view (drop (done + 1) items))
+    (line_view c.in-Some.line) (map line_view (drop (done + 1) items))
     c.loop-line.now c.loop-line.world (contents c.args.writer.now) (contents c.loop-line.writer)
-        c.from_residual-in_err-text.result
+    c.from_residual-in_err-text.result
     (left_next items done c.in-Some.line turn.0 turn.1) c.loop-line.invariant.so_far
-        c.from_residual-in_err-text.ensures.1
+    c.from_residual-in_err-text.ensures.1
 
 pub returns-in_err-write_text : goal.returns-in_err-write_text
 returns-in_err-write_text g c =
@@ -65,17 +65,17 @@ returns-in_err-write_text g c =
     let items = c.args.lines.items in
     let done = length c.loop-line.yielded in
     let turn = YieldsList-turn
-        (YieldsList-from_vec {s = c.into_iter-line-iterator.result} items (search rules) (search rules))
+    (YieldsList-from_vec {s = c.into_iter-line-iterator.result} items (search rules) (search rules))
     c.loop-line.yielded c.loop-line.line-iterator c.loop-line.yielded_by c.next.result c.next.new.self c.in-Some.line
-        c.in-Some.is c.next.ensures.steps in
+    c.in-Some.is c.next.ensures.steps in
     let room : c.loop-line.now < 100000 = omega (arith, turn.0, c.requires.few, c.loop-line.invariant.now_is) in
     stop_returned (checked_view c.args.checked) c.args.limit (map line_view items) (map line_view (drop done items))
-        (line_view c.in-Some.line) (map line_view (drop (done + 1) items))
+    (line_view c.in-Some.line) (map line_view (drop (done + 1) items))
     c.loop-line.now c.loop-line.world c.step_text.new.world (contents c.args.writer.now) (contents c.loop-line.writer)
-        (contents c.write_text.new.writer) c.as_str.result.now
+    (contents c.write_text.new.writer) c.as_str.result.now
     c.in_err-write_text.field-0.0 c.from_residual-in_err-write_text.result
     (left_next items done c.in-Some.line turn.0 turn.1) room c.loop-line.invariant.so_far
-        (rw c.as_str.ensures.value c.in_ok-text.ensures) c.in_err-write_text.ensures.stopped
+    (rw c.as_str.ensures.value c.in_ok-text.ensures) c.in_err-write_text.ensures.stopped
     c.from_residual-in_err-write_text.ensures.1
 
 pub returns : goal.returns
@@ -84,9 +84,9 @@ returns g c =
     let items = c.args.lines.items in
     let done = length c.loop-line.yielded in
     let end = YieldsList-end
-        (YieldsList-from_vec {s = c.into_iter-line-iterator.result} items (search rules) (search rules))
+    (YieldsList-from_vec {s = c.into_iter-line-iterator.result} items (search rules) (search rules))
     c.loop-line.yielded c.loop-line.line-iterator c.loop-line.yielded_by c.next.result c.next.new.self c.in-None.is
-        c.next.ensures.steps in
+    c.next.ensures.steps in
     all_written (checked_view c.args.checked) c.args.limit (map line_view items) (map line_view (drop done items))
-        c.loop-line.now c.loop-line.world (contents c.args.writer.now) (contents c.loop-line.writer)
+    c.loop-line.now c.loop-line.world (contents c.args.writer.now) (contents c.loop-line.writer)
     (none_left items done (omega (arith, end.1))) c.loop-line.invariant.so_far

@@ -9,8 +9,8 @@ pub returns-then-not-is_free : goal.returns-then-not-is_free
 returns-then-not-is_free c = record {
   fault = ap (λ b. unless b DuplicateKey None)
       (taken_values (seen_at c.args.rows.now.maps.items) (keys_in (Some c.args.table.now)) c.args.row.now
-          c.row.result.now c.in_ok-values.values.items c.deref.result.now c.is_free.result c.row.ensures.shows
-          c.in_ok-values.ensures c.deref.ensures.value c.is_free.ensures ∙ c.if-not-is_free.true);
+      c.row.result.now c.in_ok-values.values.items c.deref.result.now c.is_free.result c.row.ensures.shows
+      c.in_ok-values.ensures c.deref.ensures.value c.is_free.ensures ∙ c.if-not-is_free.true);
   keeps = keeps_here c.args.rows.now;
   ok = tt;
 }
@@ -19,8 +19,8 @@ pub returns : goal.returns
 returns c = record {
   fault = ap (λ b. unless b DuplicateKey None)
       (taken_values (seen_at c.args.rows.now.maps.items) (keys_in (Some c.args.table.now)) c.args.row.now
-          c.row.result.now c.in_ok-values.values.items c.deref.result.now c.is_free.result c.row.ensures.shows
-          c.in_ok-values.ensures c.deref.ensures.value c.is_free.ensures ∙ c.if-not-is_free.false);
+      c.row.result.now c.in_ok-values.values.items c.deref.result.now c.is_free.result c.row.ensures.shows
+      c.in_ok-values.ensures c.deref.ensures.value c.is_free.ensures ∙ c.if-not-is_free.false);
   keeps = c.in_ok-put.ensures.keeps;
   ok = subst (λ values. PutsRow c.args.rows.now c.put.new.self values (Some c.args.row.now))
       (c.in_ok-values.ensures ∙ ap (values_in (keys_in (Some c.args.table.now))) c.row.ensures.shows)

@@ -19,6 +19,6 @@ returns c = record {
     records = ap (λ part. r.Update c.args.number part c.into_shared.result)
         (c.in_ok-part.ensures ∙ ap (λ gone. part_in c.args.table.now gone (Some c.args.row.now)) c.shared.ensures.shows)
         ∙ ap (r.Update c.args.number (part_in c.args.table.now c.in_ok-gone.gone (Some c.args.row.now)))
-            (c.into_shared.ensures ∙ c.in_ok-new.ensures.ok);
+        (c.into_shared.ensures ∙ c.in_ok-new.ensures.ok);
   };
 }

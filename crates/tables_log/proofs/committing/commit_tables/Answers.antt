@@ -7,5 +7,5 @@ use Rattle.tables_log.proofs.committing.commit_tables.Goals as goal
 pub settle-requires : goal.settle-requires
 settle-requires c =
     stages_settled (setting_in (checked_view c.args.checked.now)) c.args.tables.now c.stage.new.tables
-        c.args.commands.now c.args.time c.args.number (arc_value c.in-Ok.commit)
+    c.args.commands.now c.args.time c.args.number (arc_value c.in-Ok.commit)
     c.requires.settled c.stage.ensures.keeps c.in-Ok.ensures.ok

@@ -10,13 +10,13 @@ returns-in-Some-clause-room g c =
     let updates = c.in_ok-insert.ensures.updates in
     let pushed : c.push_reserved-in-Some.new.self.items ≡ undo ++ (c.args.key, c.in-Some.was) ∷ [] =
     c.push_reserved-in-Some.ensures.items
-        ∙ ap (λ places. places ++ (c.args.copy, c.in-Some.was) ∷ []) c.reserve-2.ensures.items
+    ∙ ap (λ places. places ++ (c.args.copy, c.in-Some.was) ∷ []) c.reserve-2.ensures.items
     ∙ ap (λ key. undo ++ (key, c.in-Some.was) ∷ []) c.requires.same in
     room_same g.K.Ord.cmp new new (undo ++ (c.args.key, c.in-Some.was) ∷ []) c.push_reserved-in-Some.new.self.items
-        pushed (λ other has. has)
+    pushed (λ other has. has)
     (room_undone g.met.K.Ord.total base new undo c.args.key c.in-Some.was
     (stay_after g.met.K.Ord.total base new c.args.key (Some c.args.value) updates)
-        (there_after g.met.K.Ord.total base new c.args.key (Some c.args.value) updates) c.requires.room)
+    (there_after g.met.K.Ord.total base new c.args.key (Some c.args.value) updates) c.requires.room)
 
 pub returns-in-Some-clause-keeps : goal.returns-in-Some-clause-keeps
 returns-in-Some-clause-keeps g c = λ other.
@@ -25,11 +25,11 @@ returns-in-Some-clause-keeps g c = λ other.
     let undo = c.args.undo.now.items in
     let pushed : c.push_reserved-in-Some.new.self.items ≡ undo ++ (c.args.key, c.in-Some.was) ∷ [] =
     c.push_reserved-in-Some.ensures.items
-        ∙ ap (λ places. places ++ (c.args.copy, c.in-Some.was) ∷ []) c.reserve-2.ensures.items
+    ∙ ap (λ places. places ++ (c.args.copy, c.in-Some.was) ∷ []) c.reserve-2.ensures.items
     ∙ ap (λ key. undo ++ (key, c.in-Some.was) ∷ []) c.requires.same in
     kept_same g.K.Ord.cmp new new c.args.made.now.items c.reserve.new.self.items
-        (undo ++ (c.args.key, c.in-Some.was) ∷ []) c.push_reserved-in-Some.new.self.items
+    (undo ++ (c.args.key, c.in-Some.was) ∷ []) c.push_reserved-in-Some.new.self.items
     c.reserve.ensures.items pushed (λ key. refl) other
     ∙ keeps_undone g.met.K.Ord.total base new c.args.made.now.items undo c.args.key c.in-Some.was (Some c.args.value)
-        (sym c.in_ok-insert.ensures.old ∙ c.in-Some.is)
+    (sym c.in_ok-insert.ensures.old ∙ c.in-Some.is)
     (below_after g.K.Ord.cmp base new c.args.key (Some (Some c.args.value)) c.in_ok-insert.ensures.updates) other

@@ -11,9 +11,9 @@ returns-in-Some-clause-room g c =
     let pushed : c.push_reserved.new.self.items ≡ undo ++ (c.args.key, c.in-Some.was) ∷ [] =
     c.push_reserved.ensures.items ∙ ap (λ places. places ++ (c.args.key, c.in-Some.was) ∷ []) c.reserve.ensures.items in
     room_same g.K.Ord.cmp new new (undo ++ (c.args.key, c.in-Some.was) ∷ []) c.push_reserved.new.self.items pushed
-        (λ other has. has)
+    (λ other has. has)
     (room_undone g.met.K.Ord.total base new undo c.args.key c.in-Some.was
-        (λ other has. c.clear_place.ensures.stay other ∙ has)
+    (λ other has. c.clear_place.ensures.stay other ∙ has)
     (c.clear_place.ensures.stay c.args.key ∙ ap is_some (sym c.clear_place.ensures.was ∙ c.in-Some.is)) c.requires)
 
 pub returns-in-Some-clause-keeps : goal.returns-in-Some-clause-keeps
@@ -24,8 +24,8 @@ returns-in-Some-clause-keeps g c = λ other.
     let pushed : c.push_reserved.new.self.items ≡ undo ++ (c.args.key, c.in-Some.was) ∷ [] =
     c.push_reserved.ensures.items ∙ ap (λ places. places ++ (c.args.key, c.in-Some.was) ∷ []) c.reserve.ensures.items in
     kept_same g.K.Ord.cmp new new c.args.made.now c.args.made.now (undo ++ (c.args.key, c.in-Some.was) ∷ [])
-        c.push_reserved.new.self.items
+    c.push_reserved.new.self.items
     refl pushed (λ key. refl) other
     ∙ keeps_undone g.met.K.Ord.total base new c.args.made.now undo c.args.key c.in-Some.was None
-        (sym c.clear_place.ensures.was ∙ c.in-Some.is)
+    (sym c.clear_place.ensures.was ∙ c.in-Some.is)
     c.clear_place.ensures.clears other

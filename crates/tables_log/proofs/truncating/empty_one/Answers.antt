@@ -8,12 +8,12 @@ use Rattle.tables_log.proofs.truncating.empty_one.Goals as goal
 pub returns-clause-keeps : goal.returns-clause-keeps
 returns-clause-keeps c =
     keeps_tables c.args.tables.now c.args.number
-        (slice_index_or c.args.tables.now c.args.number c.index-tables-number.result) c.empty.new.self
+    (slice_index_or c.args.tables.now c.args.number c.index-tables-number.result) c.empty.new.self
     (slice_get-get_or c.args.tables.now c.args.number c.index-tables-number.result (omega arith)) c.empty.ensures.keeps
 
 pub returns-clause-empties : goal.returns-clause-empties
 returns-clause-empties c =
     empties_here c.args.tables.now c.args.number
-        (slice_index_or c.args.tables.now c.args.number c.index-tables-number.result) c.empty.new.self
+    (slice_index_or c.args.tables.now c.args.number c.index-tables-number.result) c.empty.new.self
     (slice_get-get_or c.args.tables.now c.args.number c.index-tables-number.result (omega arith))
-        c.empty.ensures.empties
+    c.empty.ensures.empties

@@ -11,14 +11,14 @@ use Rattle.test_subscriber.proofs.intake.hear_held.Goals as goal
 pub returns-in_err-hear_frame-clause-stops : goal.returns-in_err-hear_frame-clause-stops
 returns-in_err-hear_frame-clause-stops c =
     let stops : StopsFor (told c.in_err-hear_frame.field-0.0)
-        (hear_cut (cut c.args.inbox.now.limit c.args.inbox.now.bytes) (machine_view c.args.replica.now))
+    (hear_cut (cut c.args.inbox.now.limit c.args.inbox.now.bytes) (machine_view c.args.replica.now))
     (cut c.args.inbox.now.limit c.args.inbox.now.bytes) (machine_view c.args.replica.now)
-        (stopped (machine_view c.hear_frame.new.self)) =
+    (stopped (machine_view c.hear_frame.new.self)) =
     stops_after c.args.inbox.now c.loop-frame.inbox c.in_ok-frame.field-0 c.in-Some.frame c.next.new.self
     (machine_view c.args.replica.now) (machine_view c.loop-frame.replica) (machine_view c.hear_frame.new.self)
-        c.in_err-hear_frame.field-0.0
+    c.in_err-hear_frame.field-0.0
     c.loop-frame.invariant c.in-Some.is c.in_ok-frame.ensures.given c.in_err-hear_frame.ensures.fault
-        c.in_err-hear_frame.ensures.stays in
+    c.in_err-hear_frame.ensures.stays in
     search rules
 
 pub loop-frame-preserved-in_ok-hear_frame : goal.loop-frame-preserved-in_ok-hear_frame
@@ -36,5 +36,5 @@ loop-frame-preserved c =
 pub returns-clause-ok : goal.returns-clause-ok
 returns-clause-ok c =
     hears_held c.args.inbox.now c.loop-frame.inbox c.in_ok-frame.field-0 c.next.new.self
-        (machine_view c.args.replica.now) (machine_view c.loop-frame.replica)
+    (machine_view c.args.replica.now) (machine_view c.loop-frame.replica)
     c.loop-frame.invariant c.in_default.not-Some c.in_ok-frame.ensures.given

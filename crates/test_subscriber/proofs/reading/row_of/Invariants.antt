@@ -10,5 +10,5 @@ invariant-loop-cell l =
     (length l.values.items ≡ length l.yielded)
     × (length l.kinds ≡ length l.fn.cells.items)
     × (after (map datum_view l.values.items)
-        (row_in (drop (length l.yielded) l.kinds) (drop (length l.yielded) l.fn.cells.items))
-        ≡ row_in l.kinds l.fn.cells.items)
+    (row_in (drop (length l.yielded) l.kinds) (drop (length l.yielded) l.fn.cells.items))
+    ≡ row_in l.kinds l.fn.cells.items)

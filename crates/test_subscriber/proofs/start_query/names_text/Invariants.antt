@@ -10,4 +10,4 @@ use Rattle.test_subscriber.proofs.start_query.names_text.Given as goal
 abbrev pub invariant-loop-name : goal.invariant-loop-name
 invariant-loop-name l =
     l.text.items ++ flat_map (λ name. codes "," ++ in_quotes 34 name) (map string_bytes (drop l.name-index l.others))
-        ≡ names_text (map string_bytes l.names)
+    ≡ names_text (map string_bytes l.names)

@@ -6,4 +6,4 @@ use Rattle.copy_both.proofs.ear.Ear.listen.Goals as goal
 pub returns-in-Closed-clause-answer : goal.returns-in-Closed-clause-answer
 returns-in-Closed-clause-answer c =
     ended_answers (ear_phase c.args.self.now) (ear_heard c.args.self.now c.args.book.now c.args.piece.now c.args.sent)
-        c.in-Closed.is
+    c.in-Closed.is

@@ -8,7 +8,7 @@ use Rattle.copy_both.proofs.frames.Frames.begin.Goals as goal
 pub returns : goal.returns
 returns c =
     let roomy : Frames = record
-        { alloc = c.args.self.now.alloc; head = c.args.self.now.head; bytes = c.reserve.new.self } in
+    { alloc = c.args.self.now.alloc; head = c.args.self.now.head; bytes = c.reserve.new.self } in
     let adds : AddsFrame roomy c.add.new.self (begin_of c.args.commit.now) = search rules in
     added_in_room c.args.self.now roomy c.add.new.self (begin_of c.args.commit.now) refl c.in_ok-reserve.ensures.items
-        adds
+    adds

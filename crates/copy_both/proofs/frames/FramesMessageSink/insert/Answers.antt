@@ -16,21 +16,21 @@ encode_insert-requires c = row_room c.args.new.now c.requires.1
 pub close_frame-requires-clause-room : goal.close_frame-requires-clause-room
 close_frame-requires-clause-room c =
     frame_short c.args.self.now.bytes.items c.open_frame.new.out.items c.encode_insert.new.out.items
-        c.len-start.result c.args.self.now.head
+    c.len-start.result c.args.self.now.head
     (spelling_of (m.Insert (oid_of c.args.table) (cells_of c.args.new.now)))
-        (c.len-start.ensures ∙ c.args.self.now.bytes.ok.0) c.in_ok-open_frame.ensures
+    (c.len-start.ensures ∙ c.args.self.now.bytes.ok.0) c.in_ok-open_frame.ensures
     (c.in_ok-encode_insert.ensures.ok
-        ∙ ap (λ (n : ℕ). c.open_frame.new.out.items ++ spelling_of (m.Insert n (cells_of c.args.new.now)))
-        c.oid_of.ensures)
+    ∙ ap (λ (n : ℕ). c.open_frame.new.out.items ++ spelling_of (m.Insert n (cells_of c.args.new.now)))
+    c.oid_of.ensures)
     (plain_insert c.args.table c.args.new.now c.requires.0 c.requires.1).short
 
 pub returns : goal.returns
 returns c =
     takes_message AddsFrame c.args.self.now _ (m.Insert (oid_of c.args.table) (cells_of c.args.new.now))
     (frame_added c.args.self.now _ c.open_frame.new.out.items c.encode_insert.new.out.items c.len-start.result
-        (m.Insert (oid_of c.args.table) (cells_of c.args.new.now)) refl
+    (m.Insert (oid_of c.args.table) (cells_of c.args.new.now)) refl
     (c.len-start.ensures ∙ c.args.self.now.bytes.ok.0) c.in_ok-open_frame.ensures
     (c.in_ok-encode_insert.ensures.ok
-        ∙ ap (λ (n : ℕ). c.open_frame.new.out.items ++ spelling_of (m.Insert n (cells_of c.args.new.now)))
-        c.oid_of.ensures)
+    ∙ ap (λ (n : ℕ). c.open_frame.new.out.items ++ spelling_of (m.Insert n (cells_of c.args.new.now)))
+    c.oid_of.ensures)
     c.close_frame.ensures c.in_ok-encode_insert.ensures.texts)

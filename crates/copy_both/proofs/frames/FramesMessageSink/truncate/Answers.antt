@@ -11,15 +11,15 @@ use Rattle.copy_both.proofs.frames.FramesMessageSink.truncate.Goals as goal
 pub close_frame-requires-clause-room : goal.close_frame-requires-clause-room
 close_frame-requires-clause-room c =
     frame_short c.args.self.now.bytes.items c.open_frame.new.out.items c.encode_truncate.new.out.items
-        c.len-start.result c.args.self.now.head
+    c.len-start.result c.args.self.now.head
     (spelling_of (m.Truncate 0 (map oid_of c.args.tables.now))) (c.len-start.ensures ∙ c.args.self.now.bytes.ok.0)
-        c.in_ok-open_frame.ensures
+    c.in_ok-open_frame.ensures
     c.in_ok-encode_truncate.ensures.ok (plain_truncate c.args.tables.now c.requires.0 c.requires.1).short
 
 pub returns : goal.returns
 returns c =
     takes_message AddsFrame c.args.self.now _ (m.Truncate 0 (map oid_of c.args.tables.now))
     (frame_added c.args.self.now _ c.open_frame.new.out.items c.encode_truncate.new.out.items c.len-start.result
-        (m.Truncate 0 (map oid_of c.args.tables.now)) refl
+    (m.Truncate 0 (map oid_of c.args.tables.now)) refl
     (c.len-start.ensures ∙ c.args.self.now.bytes.ok.0) c.in_ok-open_frame.ensures c.in_ok-encode_truncate.ensures.ok
-        c.close_frame.ensures tt)
+    c.close_frame.ensures tt)

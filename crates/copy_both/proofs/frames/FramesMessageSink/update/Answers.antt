@@ -22,11 +22,11 @@ pub close_frame-requires-clause-room : goal.close_frame-requires-clause-room
 close_frame-requires-clause-room c =
     let message : ℕ → Msg = λ n. m.Update n (maybe_old_of (part_view c.args.old.now)) (cells_of c.args.new.now) in
     frame_short c.args.self.now.bytes.items c.open_frame.new.out.items c.encode_update.new.out.items
-        c.len-start.result c.args.self.now.head
+    c.len-start.result c.args.self.now.head
     (spelling_of (message (oid_of c.args.table))) (c.len-start.ensures ∙ c.args.self.now.bytes.ok.0)
-        c.in_ok-open_frame.ensures
+    c.in_ok-open_frame.ensures
     (c.in_ok-encode_update.ensures.ok
-        ∙ ap (λ (n : ℕ). c.open_frame.new.out.items ++ spelling_of (message n)) c.oid_of.ensures)
+    ∙ ap (λ (n : ℕ). c.open_frame.new.out.items ++ spelling_of (message n)) c.oid_of.ensures)
     (plain_update c.args.table (part_view c.args.old.now) c.args.new.now c.requires.0 c.requires.1 c.requires.2).short
 
 pub returns : goal.returns
@@ -34,8 +34,8 @@ returns c =
     let message : ℕ → Msg = λ n. m.Update n (maybe_old_of (part_view c.args.old.now)) (cells_of c.args.new.now) in
     takes_message AddsFrame c.args.self.now _ (message (oid_of c.args.table))
     (frame_added c.args.self.now _ c.open_frame.new.out.items c.encode_update.new.out.items c.len-start.result
-        (message (oid_of c.args.table)) refl
+    (message (oid_of c.args.table)) refl
     (c.len-start.ensures ∙ c.args.self.now.bytes.ok.0) c.in_ok-open_frame.ensures
     (c.in_ok-encode_update.ensures.ok
-        ∙ ap (λ (n : ℕ). c.open_frame.new.out.items ++ spelling_of (message n)) c.oid_of.ensures)
+    ∙ ap (λ (n : ℕ). c.open_frame.new.out.items ++ spelling_of (message n)) c.oid_of.ensures)
     c.close_frame.ensures c.in_ok-encode_update.ensures.texts)

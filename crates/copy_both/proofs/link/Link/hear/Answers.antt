@@ -20,33 +20,33 @@ returns-in_err-refuse-in-Err-BadStart-clause-left c =
     let Left : ℕ → Result Heard LinkFault → Type 0 =
     λ (sent : ℕ) (r : Result Heard LinkFault).
     HearLeaves (ear_phase (link_ear link)) (link_ear link) c.listen.new.self c.args.book.now c.listen.new.book
-        c.args.piece.now sent r in
+    c.args.piece.now sent r in
     let sent : c.unwrap_or-sent.result ≡ link_sent link = cc in
     let is : c.from_residual.result ≡ Err fault.OutOfMemory =
-        only_memory c.from_residual.result c.from_residual.ensures.1 in
+    only_memory c.from_residual.result c.from_residual.ensures.1 in
     let at_state : Left c.unwrap_or-sent.result (Err (fault.BadStart c.in-Err-BadStart.state)) =
     subst (λ (f : LinkFault). Left c.unwrap_or-sent.result (Err f)) c.in-Err-BadStart.field-0-is
-        c.in-Err-BadStart.ensures.left in
+    c.in-Err-BadStart.ensures.left in
     subst (λ (r : Result Heard LinkFault). Left (link_sent link) r) (sym is)
     (unanswered (ear_phase (link_ear link)) (link_ear link) c.listen.new.self c.args.book.now c.listen.new.book
-        c.args.piece.now (link_sent link)
+    c.args.piece.now (link_sent link)
     c.in-Err-BadStart.state (subst (λ (n : ℕ). Left n (Err (fault.BadStart c.in-Err-BadStart.state))) sent at_state))
 
 pub invariant_of-self-in-Ok-answer_heard : goal.invariant_of-self-in-Ok-answer_heard
 invariant_of-self-in-Ok-answer_heard c =
     let link = c.args.self.now in
     let started : voice_stage c.answer_heard.new.voice
-        ≡ stage_by (link_checked link) (link_stage link) c.listen.new.self.session.started (heard_view c.in-Ok.heard)
-        =
+    ≡ stage_by (link_checked link) (link_stage link) c.listen.new.self.session.started (heard_view c.in-Ok.heard)
+    =
     c.in-Ok-answer_heard.ensures.ok.stage_is
     ∙ ap (λ (s : Option (ℕ × ℕ)). stage_by (link_checked link) (link_stage link) s (heard_view c.in-Ok.heard))
-        c.started.ensures in
+    c.started.ensures in
     record {
       together =
           together_after (link_checked link) (link_ear link) c.listen.new.self c.args.book.now c.listen.new.book
-              c.args.piece.now c.unwrap_or-sent.result
+          c.args.piece.now c.unwrap_or-sent.result
           (heard_view c.in-Ok.heard) (link_stage link) (voice_stage c.answer_heard.new.voice) c.in-Ok.ensures.answer
-              c.in-Ok.ensures.left link.together started;
+          c.in-Ok.ensures.left link.together started;
     }
 
 pub returns-in-Err-answer_heard-clause-left : goal.returns-in-Err-answer_heard-clause-left
@@ -56,13 +56,13 @@ returns-in-Err-answer_heard-clause-left c =
     let Left : ℕ → LinkFault → Type 0 =
     λ (n : ℕ) (f : LinkFault).
     HearLeaves (ear_phase (link_ear link)) (link_ear link) c.close-in-Err-answer_heard.new.self c.args.book.now
-        c.listen.new.book c.args.piece.now n (Err f) in
+    c.listen.new.book c.args.piece.now n (Err f) in
     subst (λ (f : LinkFault). Left (link_sent link) f) (sym c.in-Err-answer_heard.ensures.memory)
     (subst (λ (n : ℕ). Left n fault.OutOfMemory) sent
     (unsaid (ear_phase (link_ear link)) (link_ear link) c.listen.new.self c.close-in-Err-answer_heard.new.self
-        c.args.book.now c.listen.new.book
+    c.args.book.now c.listen.new.book
     c.args.piece.now c.unwrap_or-sent.result (told_hearing c.in-Ok.heard) c.in-Ok.ensures.answer c.in-Ok.ensures.left
-        c.close-in-Err-answer_heard.ensures))
+    c.close-in-Err-answer_heard.ensures))
 
 pub invariant_of-self : goal.invariant_of-self
 invariant_of-self c =
@@ -70,10 +70,10 @@ invariant_of-self c =
     record {
       together =
           over_after (ear_phase (link_ear link)) (link_ear link) c.listen.new.self c.args.book.now c.listen.new.book
-              c.args.piece.now c.unwrap_or-sent.result
+          c.args.piece.now c.unwrap_or-sent.result
           c.in-Err-BadStart.field-0 refl c.in-Err-BadStart.ensures.left
           ∙ sym (ap said_state (refused_closed c.refuse.result link.voice c.refuse.new.self c.refusal.result.now
-              c.refuse.ensures.ok c.refuse.ensures.err));
+          c.refuse.ensures.ok c.refuse.ensures.err));
     }
 
 pub invariant_of-self-in-Err : goal.invariant_of-self-in-Err
@@ -82,7 +82,7 @@ invariant_of-self-in-Err c =
     record {
       together =
           over_after (ear_phase (link_ear link)) (link_ear link) c.listen.new.self c.args.book.now c.listen.new.book
-              c.args.piece.now c.unwrap_or-sent.result
+          c.args.piece.now c.unwrap_or-sent.result
           c.in-Err.fault refl c.in-Err.ensures.left
           ∙ sym (ap said_state c.close.ensures.stage_is);
     }
@@ -95,11 +95,11 @@ returns-in-Ok-answer_heard-clause-says c =
     of_all_heard
     (λ (started : Option (ℕ × ℕ)) (heard : HeardOf).
     Says link.voice c.answer_heard.new.voice (concat (frames_by checked (link_stage link) started heard c.args.now))
-        (stage_by checked (link_stage link) started heard))
+    (stage_by checked (link_stage link) started heard))
     (link_ear link) c.listen.new.self c.args.book.now c.listen.new.book c.args.piece.now (heard_view c.in-Ok.heard)
-        c.started.result c.unwrap_or-sent.result (link_sent link)
+    c.started.result c.unwrap_or-sent.result (link_sent link)
     sent c.in-Ok.ensures.answer c.in-Ok.ensures.left c.in-Ok.ensures.exact c.started.ensures
-        c.in-Ok-answer_heard.ensures.ok
+    c.in-Ok-answer_heard.ensures.ok
 
 pub returns-in-Err-answer_heard-clause-says : goal.returns-in-Err-answer_heard-clause-says
 returns-in-Err-answer_heard-clause-says c =
@@ -107,12 +107,12 @@ returns-in-Err-answer_heard-clause-says c =
     let checked : CheckedOf = link_checked link in
     let sent : c.unwrap_or-sent.result ≡ link_sent link = cc in
     let first : SaysFirst link.voice c.answer_heard.new.voice
-        (frames_said checked (link_stage link) (link_heard link c.args.book.now c.args.piece.now) c.args.now) =
+    (frames_said checked (link_stage link) (link_heard link c.args.book.now c.args.piece.now) c.args.now) =
     of_all_heard
     (λ (started : Option (ℕ × ℕ)) (heard : HeardOf). SaysFirst link.voice c.answer_heard.new.voice
-        (frames_by checked (link_stage link) started heard c.args.now))
+    (frames_by checked (link_stage link) started heard c.args.now))
     (link_ear link) c.listen.new.self c.args.book.now c.listen.new.book c.args.piece.now (heard_view c.in-Ok.heard)
-        c.started.result c.unwrap_or-sent.result (link_sent link)
+    c.started.result c.unwrap_or-sent.result (link_sent link)
     sent c.in-Ok.ensures.answer c.in-Ok.ensures.left c.in-Ok.ensures.exact c.started.ensures
-        c.in-Err-answer_heard.ensures.err in
+    c.in-Err-answer_heard.ensures.err in
     rw c.in-Err-answer_heard.ensures.memory first

@@ -21,30 +21,30 @@ returns-clause-taken c =
     let exact : c.in_ok-frames.frames.items ≡ frames_with head messages =
     c.in_ok-frames.ensures.frames
     ∙ ap (λ (told : List Bool). frames_with head (messages_for checked c.args.self.now.slot told c.args.commit.now))
-        c.as_mut_slice-told.ensures.value in
+    c.as_mut_slice-told.ensures.value in
     elim c.if-is_empty.branch [
       | then-is_empty w ↦
           let none : length c.in_ok-frames.frames.items ≡ 0 = first_of (search rules, grind (arith, common_steps)) in
           w.taken-is ∙ ap Skipped c.number-number.ensures.shows
-              ∙ sym (skipped_if head c.args.commit.now.number messages (ap length (sym exact) ∙ none))
+          ∙ sym (skipped_if head c.args.commit.now.number messages (ap length (sym exact) ∙ none))
       | else-is_empty w ↦
           let some : length c.in_ok-frames.frames.items ≡ 0 → ⊥ =
-              first_of (search rules, grind (arith, common_steps)) in
+          first_of (search rules, grind (arith, common_steps)) in
           w.taken-is ∙ ap Sent c.number-number.ensures.shows
-              ∙ sym (sent_if head c.args.commit.now.number messages (λ none. some (ap length exact ∙ none)))
+          ∙ sym (sent_if head c.args.commit.now.number messages (λ none. some (ap length exact ∙ none)))
     ]
 
 pub returns-clause-said : goal.returns-clause-said
 returns-clause-said c =
     let messages : List Bool → List Msg =
-        λ told. messages_for (checked_view c.args.checked.now) c.args.self.now.slot told c.args.commit.now in
+    λ told. messages_for (checked_view c.args.checked.now) c.args.self.now.slot told c.args.commit.now in
     let framed : ℕ → List Msg → List ℕ =
-        λ n messages. frames_with (record { start = 64 * n; end = 64 * n; clock = c.args.now }) messages in
+    λ n messages. frames_with (record { start = 64 * n; end = 64 * n; clock = c.args.now }) messages in
     c.in_ok-append_frames.ensures.ok
     ∙ ap (λ (x : List ℕ). c.args.out.now.items ++ x) (c.in_ok-frames.ensures.frames
     ∙ ap (λ (told : List Bool). framed c.from-lsn.result (messages told)) c.as_mut_slice-told.ensures.value
     ∙ ap (λ (n : ℕ). framed n (messages c.args.self.now.told.items))
-        (c.from-lsn.ensures ∙ c.number-number.ensures.shows))
+    (c.from-lsn.ensures ∙ c.number-number.ensures.shows))
 
 -- the messages are those of the definition
 pub returns-clause-read_back : goal.returns-clause-read_back
@@ -52,7 +52,7 @@ returns-clause-read_back c =
     let checked : CheckedOf = checked_view c.args.checked.now in
     let messages : List Bool → List Msg = λ told. messages_for checked c.args.self.now.slot told c.args.commit.now in
     messages_sent checked c.args.self.now.slot c.args.self.now.told.items c.args.commit.now
-        (messages c.args.self.now.told.items) c.number-number.ensures.sendable
+    (messages c.args.self.now.told.items) c.number-number.ensures.sendable
     (checked_limited c.args.checked.now) refl
     (subst (λ (told : List Bool). All HasTexts (messages told)) c.as_mut_slice-told.ensures.value
-        c.in_ok-frames.ensures.texts)
+    c.in_ok-frames.ensures.texts)

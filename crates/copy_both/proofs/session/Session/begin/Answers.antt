@@ -10,30 +10,30 @@ use Rattle.copy_both.proofs.session.Session.begin.Goals as goal
 pub returns-in-Refused-clause-begun : goal.returns-in-Refused-clause-begun
 returns-in-Refused-clause-begun c =
     refused_begin (served_by c.args.self.now c.args.book.now) (book_slots c.args.book.now) c.args.frame.now.kind
-        c.args.frame.now.body c.in-Refused.state
+    c.args.frame.now.body c.in-Refused.state
     c.args.self.now.response.items c.ask.new.self.response.items
     (sym c.in-Refused.is ∙ c.in_ok-state.ensures.asked) c.in_ok-state.ensures.ok
 
 pub returns-in-Ok-clause-begun : goal.returns-in-Ok-clause-begun
 returns-in-Ok-clause-begun c =
     taken_begin (served_by c.args.self.now c.args.book.now) (book_slots c.args.book.now) (book_slots c.start.new.self)
-        c.args.frame.now.kind c.args.frame.now.body
+    c.args.frame.now.kind c.args.frame.now.body
     c.in-Stream.slot c.in-Stream.position c.in-Ok.start c.args.self.now.response.items c.ask.new.self.response.items
     (sym c.in-Stream.is ∙ c.in_ok-state.ensures.asked) c.in-Ok.ensures.accepted c.in-Ok.ensures.at
-        c.in-Ok.ensures.ok.slots_are c.in_ok-state.ensures.ok
+    c.in-Ok.ensures.ok.slots_are c.in_ok-state.ensures.ok
 
 pub returns-in_ok-refuse-in-Err-clause-begun : goal.returns-in_ok-refuse-in-Err-clause-begun
 returns-in_ok-refuse-in-Err-clause-begun c =
     let refusal : CheckedOf → RefusalOf =
-        λ k. book_refusal (slot_name k.catalog.subscriptions c.in-Stream.slot) c.in-Err.error in
+    λ k. book_refusal (slot_name k.catalog.subscriptions c.in-Stream.slot) c.in-Err.error in
     let middle : List ℕ = c.ask.new.self.response.items in
     refused_start (served_by c.args.self.now c.args.book.now) (book_slots c.args.book.now)
-        (book_slots c.start.new.self) c.args.frame.now.kind c.args.frame.now.body
+    (book_slots c.start.new.self) c.args.frame.now.kind c.args.frame.now.body
     c.in-Stream.slot c.in-Stream.position c.in-Err.error c.in_ok-refuse-in-Err.field-0 c.args.self.now.response.items
-        middle c.refuse.new.self.response.items
+    middle c.refuse.new.self.response.items
     (sym c.in-Stream.is ∙ c.in_ok-state.ensures.asked) c.in-Err.ensures.refused c.in-Err.ensures.err.slots_are
-        c.in_ok-state.ensures.ok
+    c.in_ok-state.ensures.ok
     (c.in_ok-refuse-in-Err.ensures.state
-        ∙ ap (λ (k : CheckedOf). state_of (refusal k)) c.in_ok-state.ensures.kept.checked)
+    ∙ ap (λ (k : CheckedOf). state_of (refusal k)) c.in_ok-state.ensures.kept.checked)
     (c.in_ok-refuse-in-Err.ensures.ok
-        ∙ ap (λ (k : CheckedOf). middle ++ error_response (refusal k)) c.in_ok-state.ensures.kept.checked)
+    ∙ ap (λ (k : CheckedOf). middle ++ error_response (refusal k)) c.in_ok-state.ensures.kept.checked)

@@ -14,5 +14,5 @@ append_error_response-requires c =
     let same : c.as_slice-subscriptions.result.now ≡ subscriptions =
     c.as_slice-subscriptions.ensures.value ∙ ap (λ (k : CatalogOf Expr). k.subscriptions) c.catalog.ensures.shows in
     subst CanBeSent (sym (c.book_refusal-refusal.ensures
-        ∙ ap (λ (s : List Subscription). book_refusal (slot_name s c.args.slot) c.args.error) same))
+    ∙ ap (λ (s : List Subscription). book_refusal (slot_name s c.args.slot) c.args.error) same))
     (book_is_sent subscriptions c.args.slot c.args.error c.catalog.ensures.names.subscriptions.plain)

@@ -6,6 +6,11 @@ use Rattle.copy_both.proofs.voice.Voice.passed.Goals as goal
 pub returns-then-count-len-clause-room : goal.returns-then-count-len-clause-room
 returns-then-count-len-clause-room c = λ none.
     let gone : length (drop c.args.count c.args.self.now.out.items) ≡ 0 =
-        ap length (sym c.advance.ensures.items ∙ none) in
-    absurd (omega (arith, gone, length-drop c.args.count c.args.self.now.out.items, c.if-count-len.true,
-        c.len.ensures.value))
+    ap length (sym c.advance.ensures.items ∙ none) in
+    absurd (omega (
+      arith,
+      gone,
+      length-drop c.args.count c.args.self.now.out.items,
+      c.if-count-len.true,
+      c.len.ensures.value,
+    ))

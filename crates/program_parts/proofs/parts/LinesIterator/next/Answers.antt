@@ -13,9 +13,9 @@ returns-clause-steps c =
 pub returns-clause-goes : goal.returns-clause-goes
 returns-clause-goes c =
     let left : lines_of c.args.self.now.rest.now ≡ c.first_line.result.0.now ∷ lines_of c.first_line.result.1.now =
-        returns-clause-steps c in
+    returns-clause-steps c in
     let fewer : length (lines_of c.first_line.result.1.now) < length (lines_of c.args.self.now.rest.now) =
-        omega (arith, ap length left) in
+    omega (arith, ap length left) in
     record {
       on = λ finite. (search rules, search rules, fewer);
       keeps = search rules;

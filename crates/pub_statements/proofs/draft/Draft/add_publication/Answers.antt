@@ -13,7 +13,7 @@ pub invariant_of-self-2 : goal.invariant_of-self-2
 invariant_of-self-2 c =
     let self = c.args.self.now in
     let free = sym (position-map (λ (p : DraftPublicationOf Expr). bytes_eq c.args.publication.name p.name)
-        draft_publication_view self.publications.items) ∙ c.requires in
+    draft_publication_view self.publications.items) ∙ c.requires in
     record {
       same_publications = names-push (λ (p : DraftPublication). p.name) (string_bytes c.in_ok-name.name)
           self.publication_names c.add.new.self self.publications.items c.push_reserved.new.self.items

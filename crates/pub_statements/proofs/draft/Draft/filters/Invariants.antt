@@ -7,5 +7,5 @@ use Rattle.pub_statements.proofs.draft.Draft.filters.Given as goal
 abbrev pub invariant-loop-publication : goal.invariant-loop-publication
 invariant-loop-publication l =
     map (λ f. expr_view f.now) l.filters.items
-        ++ filters_on (λ f. f) l.number (map draft_publication_view (drop l.publication-index l.publication-items))
+    ++ filters_on (λ f. f) l.number (map draft_publication_view (drop l.publication-index l.publication-items))
     ≡ filters_on (λ f. f) l.number (map draft_publication_view l.publication-items)

@@ -13,6 +13,6 @@ returns c =
     let self = c.args.self.now in
     c.find.ensures.value
     ∙ position-by_names c.args.name.now (λ (p : DraftPublication). p.name) self.publication_names
-        self.publications.items self.same_publications
+    self.publications.items self.same_publications
     ∙ sym (position-map (λ (p : DraftPublicationOf Expr). bytes_eq c.args.name.now p.name) draft_publication_view
-        self.publications.items)
+    self.publications.items)

@@ -8,4 +8,4 @@ returns c =
     let self = c.args.self.now in
     c.find.ensures.value
     ∙ position-by_names c.args.name.now (λ (s : Subscription). s.name) self.subscription_names
-        self.subscriptions.items self.same_subscriptions
+    self.subscriptions.items self.same_subscriptions

@@ -24,7 +24,7 @@ invariant_of-result c =
       length-map drafts (resolved_publication c.args.self.tables.items),
     ) in
     let names : map (λ (p : PublicationOf Expr). p.name) (map (resolved_publication c.args.self.tables.items) drafts)
-        ≡ map (λ (p : Publication). p.name) publications =
+    ≡ map (λ (p : Publication). p.name) publications =
     resolved_names c.args.self.tables.items drafts ∙ sym (resolved_names c.as_slice.result.now drafts)
     ∙ sym (ap (map (λ (p : PublicationOf Expr). p.name)) c.in_ok-publications.ensures) ∙ names_viewed publications in
     let entries : map (resolved_publication c.args.self.tables.items) drafts ≡ map publication_view publications =

@@ -18,7 +18,7 @@ returns-clause-ok c =
     let old = c.self.inside.names.keys in
     let grown : List (List ℕ) = map string_bytes old ++ name ∷ [] in
     let is_there : list_any (λ k. bytes_eq name (string_bytes k)) old
-        ≡ list_any (bytes_eq name) (map string_bytes old) = sym (list_any-map (bytes_eq name) string_bytes old) in
+    ≡ list_any (bytes_eq name) (map string_bytes old) = sym (list_any-map (bytes_eq name) string_bytes old) in
     rw (← c.self.view_is) (ap (map string_bytes) c.in_ok-insert.ensures.keys
     ∙ map-grown string_bytes (list_any (λ k. bytes_eq name (string_bytes k)) old) old c.args.name
     ∙ ap (λ (b : Bool). if b then map string_bytes old else grown) is_there)

@@ -7,5 +7,5 @@ use Rattle.pub_statements.proofs.names.Names.find.Goals as goal
 pub returns-clause-value : goal.returns-clause-value
 returns-clause-value c =
     rw (← c.self.view_is)
-        (c.get_index_of.ensures.index
-        ∙ sym (position-map (bytes_eq c.args.name.now) string_bytes c.self.inside.names.keys))
+    (c.get_index_of.ensures.index
+    ∙ sym (position-map (bytes_eq c.args.name.now) string_bytes c.self.inside.names.keys))

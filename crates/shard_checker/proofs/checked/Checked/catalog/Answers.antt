@@ -13,17 +13,17 @@ returns-clause-sound c = kept_sound (catalog_view c.args.self.now.catalog) c.arg
 pub returns-clause-covered : goal.returns-clause-covered
 returns-clause-covered c = let kept = c.args.self.now in
     own_covered (catalog_view kept.catalog) (plan_view kept.plan)
-        (kept_own (catalog_view kept.catalog) (plan_view kept.plan) kept.own) (returns-clause-sound c)
+    (kept_own (catalog_view kept.catalog) (plan_view kept.plan) kept.own) (returns-clause-sound c)
 
 pub returns-clause-apart : goal.returns-clause-apart
 returns-clause-apart c = let kept = c.args.self.now in
     own_apart (catalog_view kept.catalog) (plan_view kept.plan)
-        (kept_own (catalog_view kept.catalog) (plan_view kept.plan) kept.own) (returns-clause-sound c)
+    (kept_own (catalog_view kept.catalog) (plan_view kept.plan) kept.own) (returns-clause-sound c)
 
 pub returns-clause-divided : goal.returns-clause-divided
 returns-clause-divided c = let kept = c.args.self.now in
     own_divided (catalog_view kept.catalog) (plan_view kept.plan)
-        (kept_own (catalog_view kept.catalog) (plan_view kept.plan) kept.own) (returns-clause-sound c)
+    (kept_own (catalog_view kept.catalog) (plan_view kept.plan) kept.own) (returns-clause-sound c)
 
 pub returns-clause-names : goal.returns-clause-names
 returns-clause-names c = checked_named c.args.self.now

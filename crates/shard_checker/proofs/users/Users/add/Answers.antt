@@ -9,19 +9,19 @@ returns-in_ok-list-in-Atom c =
     let users = c.args.self.now in
     let place = c.in-Atom.place in
     lists_atom users (record { of_atoms = with_items users.of_atoms c.list.new.lists; of_steps = users.of_steps })
-        c.args.block c.args.step place c.in-Atom.is
+    c.args.block c.args.step place c.in-Atom.is
     (lists_within users.of_atoms c.deref_mut.result.now c.list.new.lists place c.args.block c.deref_mut.ensures.value
-        c.in_ok-list-in-Atom.ensures) refl
+    c.in_ok-list-in-Atom.ensures) refl
 
 pub returns-in_ok-list-in-Not : goal.returns-in_ok-list-in-Not
 returns-in_ok-list-in-Not c =
     let users = c.args.self.now in
     let part = c.in-Not.part in
     lists_part users (record
-        { of_atoms = users.of_atoms; of_steps = with_items users.of_steps c.list-in-Not.new.lists }) c.args.block
-        c.args.step part c.in-Not.is
+    { of_atoms = users.of_atoms; of_steps = with_items users.of_steps c.list-in-Not.new.lists }) c.args.block
+    c.args.step part c.in-Not.is
     (lists_within users.of_steps c.deref_mut-in-Not.result.now c.list-in-Not.new.lists part c.args.block
-        c.deref_mut-in-Not.ensures.value c.in_ok-list-in-Not.ensures) refl
+    c.deref_mut-in-Not.ensures.value c.in_ok-list-in-Not.ensures) refl
 
 pub returns-in_ok-list-in-And-2 : goal.returns-in_ok-list-in-And-2
 returns-in_ok-list-in-And-2 c =
@@ -30,8 +30,8 @@ returns-in_ok-list-in-And-2 c =
     let second = c.list-in-And-2 in
     let middle = with_items users.of_steps first.new.lists in
     lists_parts users (record { of_atoms = users.of_atoms; of_steps = with_items middle second.new.lists })
-        c.args.block c.args.step c.in-And.left c.in-And.right middle.items c.in-And.is
+    c.args.block c.args.step c.in-And.left c.in-And.right middle.items c.in-And.is
     (lists_within users.of_steps c.deref_mut-in-And.result.now first.new.lists c.in-And.left c.args.block
-        c.deref_mut-in-And.ensures.value c.in_ok-list-in-And.ensures)
+    c.deref_mut-in-And.ensures.value c.in_ok-list-in-And.ensures)
     (lists_within middle c.deref_mut-in-And-2.result.now second.new.lists c.in-And.right c.args.block
-        c.deref_mut-in-And-2.ensures.value c.in_ok-list-in-And-2.ensures) refl
+    c.deref_mut-in-And-2.ensures.value c.in_ok-list-in-And-2.ensures) refl

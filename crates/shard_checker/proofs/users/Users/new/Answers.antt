@@ -19,4 +19,4 @@ loop-number-preserved c =
 pub returns-clause-used : goal.returns-clause-used
 returns-clause-used c =
     users_all c.loop-number.number c.args.steps.now c.loop-number.users c.loop-number.invariant.so_far
-        c.loop-number-test.false c.loop-number.invariant.for_steps
+    c.loop-number-test.false c.loop-number.invariant.for_steps

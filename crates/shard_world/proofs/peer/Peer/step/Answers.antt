@@ -6,5 +6,5 @@ use Rattle.shard_world.proofs.peer.Peer.step.Goals as goal
 pub returns-in-Err-clause-moves : goal.returns-in-Err-clause-moves
 returns-in-Err-clause-moves c =
     drops_connection (checked_view (arc_value c.args.checked.now)) c.args.now c.args.event c.args.book.now
-        c.try_step.new.book c.drop_connection.new.book c.args.self.now c.try_step.new.self
+    c.try_step.new.book c.drop_connection.new.book c.args.self.now c.try_step.new.self
     c.drop_connection.new.self c.in-Err.ensures.stops c.drop_connection.ensures

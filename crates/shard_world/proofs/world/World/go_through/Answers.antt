@@ -14,13 +14,13 @@ returns-in-Err c =
     ∙ ap (λ first. first ++ drop (index + 1) events) (sym (take_more events index Open c.loop-event-test.true))
     ∙ take-append-drop (index + 1) events)
     (walks_end c.args.now c.args.subscriber c.args.self.now c.loop-event.self c.go_on.new.self (take index events)
-        (drop (index + 1) events) _ c.in-Err.answer c.loop-event.invariant c.in-Err.ensures.ends c.in-Err.ensures.err)
+    (drop (index + 1) events) _ c.in-Err.answer c.loop-event.invariant c.in-Err.ensures.ends c.in-Err.ensures.err)
 
 pub loop-event-preserved : goal.loop-event-preserved
 loop-event-preserved c =
     let events = c.args.events.now in
     let index = c.loop-event.event-index in
     subst (WalksAll c.args.self.now c.go_on.new.self c.args.now c.args.subscriber)
-        (sym (take_more events index Open c.loop-event-test.true))
+    (sym (take_more events index Open c.loop-event-test.true))
     (walks_more c.args.now c.args.subscriber c.args.self.now c.loop-event.self c.go_on.new.self (take index events) _
-        c.in_default.field-0 c.loop-event.invariant c.in_default.ensures.goes c.in_default.ensures.ok)
+    c.in_default.field-0 c.loop-event.invariant c.in_default.ensures.goes c.in_default.ensures.ok)

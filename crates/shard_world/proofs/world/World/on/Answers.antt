@@ -11,9 +11,13 @@ returns-in-Some-clause-steps c =
     let code = c.args.self.now in
     let at : slice_get (world_peers code) c.args.subscriber ≡ Some c.in-Some.peer.now =
     slice_get_read code.peers.items code.peers.len c.args.subscriber c.in-Some.peer.now code.peers.ok.0
-        (c.in-Some.ensures.variant.0 refl) c.in-Some.ensures.value in
-    moves_one code (record
-        { alloc = code.alloc; checked = code.checked; book = c.step.new.book; peers =
-        with_item code.peers c.args.subscriber c.step.new.self }) refl
+    (c.in-Some.ensures.variant.0 refl) c.in-Some.ensures.value in
+    moves_one code (record {
+      alloc = code.alloc;
+      checked = code.checked;
+      book = c.step.new.book;
+      peers =
+          with_item code.peers c.args.subscriber c.step.new.self;
+    }) refl
     c.args.subscriber c.args.now c.args.event c.in-Some.peer.now c.step.new.self c.step.result c.ranges.now.fits at
-        refl c.step.ensures.moves
+    refl c.step.ensures.moves

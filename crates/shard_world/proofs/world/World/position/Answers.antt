@@ -10,8 +10,8 @@ returns-in-Some c there most events world is =
     let peers = c.deref.result.now in
     let found = c.in-Some.ensures.lookup in
     let read : slice_get peers c.args.subscriber ≡ Some c.in-Some.peer.now =
-        slice_get_read peers (length peers) c.args.subscriber c.in-Some.peer.now refl found.3.0 found.1 in
+    slice_get_read peers (length peers) c.args.subscriber c.in-Some.peer.now refl found.3.0 found.1 in
     let at : slice_get (world_peers c.args.self.now) c.args.subscriber ≡ Some c.in-Some.peer.now =
-        ap (λ its. slice_get its c.args.subscriber) (sym c.deref.ensures.value) ∙ read in
+    ap (λ its. slice_get its c.args.subscriber) (sym c.deref.ensures.value) ∙ read in
     c.position.ensures ∙ position_shown c.args.self.now c.args.subscriber c.in-Some.peer.now at there most events
-        world is
+    world is

@@ -7,9 +7,9 @@ use Rattle.shard_world.proofs.world.World.pump_through.Goals as goal
 pub returns : goal.returns
 returns c =
     pumped_by c.args.self.now c.go_through.new.self c.take_all.new.self c.go_through-2.new.self c.args.now
-        c.args.subscriber c.ranges.now.fits
+    c.args.subscriber c.ranges.now.fits
     (subst (Walks c.args.self.now c.go_through.new.self c.args.now c.args.subscriber (Hear all_bytes ∷ []))
-        c.in_default.is c.go_through.ensures)
+    c.in_default.is c.go_through.ensures)
     (subst (Takes c.go_through.new.self c.take_all.new.self c.args.now c.args.subscriber) c.in_default-take_all.is
-        c.take_all.ensures)
+    c.take_all.ensures)
     c.go_through-2.result c.go_through-2.ensures

@@ -18,9 +18,9 @@ loop-now-preserved c =
     sym (map-append timed_view (take index events) (item ∷ [])) ∙ ap (map timed_view) (sym more) in (
       subst (λ its. RunsOn c.args.self.now c.step.new.self its c.push_reserved.new.self.items) asked
           (subst (RunsOn c.args.self.now c.step.new.self (map timed_view (take index events) ++ timed_view item ∷ []))
-              (sym c.push_reserved.ensures.items)
+          (sym c.push_reserved.ensures.items)
           (runs_more c.args.self.now c.loop-now.self c.step.new.self (map timed_view (take index events))
-              c.loop-now.answers.items (timed_view item).0 (timed_view item).1 c.step.result kept.0 c.step.ensures)),
+          c.loop-now.answers.items (timed_view item).0 (timed_view item).1 c.step.result kept.0 c.step.ensures)),
       omega (arith, kept.1, c.push_reserved.ensures.len),
       omega (arith, kept.2, c.push_reserved.ensures.capacity),
     )

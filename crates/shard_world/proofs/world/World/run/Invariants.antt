@@ -6,4 +6,4 @@ use Rattle.shard_world.proofs.world.World.run.Given as goal
 abbrev pub invariant-loop-now : goal.invariant-loop-now
 invariant-loop-now l =
     RunsOn l.fn.self l.self (map timed_view (take l.now-index l.events)) l.answers.items
-        × (l.answers.len ≡ l.now-index) × (length l.events ≤ l.answers.cap)
+    × (l.answers.len ≡ l.now-index) × (length l.events ≤ l.answers.cap)

@@ -10,5 +10,5 @@ unfolding spec.eat
 returns-else-is_ahead-clause-takes c =
     let ts = to_read c.args.self.now in
     ap (λ ahead. if ahead then Ok (true, rest_of ts) else Ok (false, ts))
-        (sym c.is-is_ahead.ensures ∙ c.if-is_ahead.false)
+    (sym c.is-is_ahead.ensures ∙ c.if-is_ahead.false)
     ∙ ap (λ taken. Ok (taken, ts)) (sym c.if-is_ahead.false)

@@ -6,4 +6,4 @@ use Rattle.subcommands.proofs.eval.carriers.carriers_of.Given as goal
 abbrev pub invariant-loop-publication : goal.invariant-loop-publication
 invariant-loop-publication l =
     map spec.carrier_view l.carriers.items ++ spec.carriers_of l.table (drop l.publication-index l.publications)
-        ≡ spec.carriers_of l.table l.publications
+    ≡ spec.carriers_of l.table l.publications

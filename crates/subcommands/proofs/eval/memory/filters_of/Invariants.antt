@@ -8,4 +8,4 @@ use Rattle.subcommands.proofs.eval.memory.filters_of.Given as goal
 abbrev pub invariant-loop-carrier : goal.invariant-loop-carrier
 invariant-loop-carrier l =
     filters_view l.filters.items ++ spec.filters_of (map carrier_view (drop l.carrier-index l.carriers))
-        ≡ spec.filters_of (map carrier_view l.carriers)
+    ≡ spec.filters_of (map carrier_view l.carriers)

@@ -10,5 +10,5 @@ use Rattle.subcommands.proofs.make.findings.push_owners.Given as goal
 abbrev pub invariant-loop-owner : goal.invariant-loop-owner
 invariant-loop-owner l =
     string_bytes l.line ++ flat_map (λ owner. codes "," ++ subscriber_name l.subscriptions owner)
-        (drop l.owner-index l.others)
+    (drop l.owner-index l.others)
     ≡ string_bytes l.fn.line ++ spaced (owners_text l.subscriptions l.owners ∷ [])

@@ -8,5 +8,5 @@ use Rattle.subcommands.proofs.simulate.views.push_tables.Given as goal
 abbrev pub invariant-loop-number : goal.invariant-loop-number
 invariant-loop-number l =
     string_bytes l.text ++ text_of
-        (rows_lines l.before l.tables l.number (map (λ rows. rows.items) (drop l.number l.rows)))
+    (rows_lines l.before l.tables l.number (map (λ rows. rows.items) (drop l.number l.rows)))
     ≡ string_bytes l.fn.text ++ text_of (rows_lines l.before l.tables 0 (map (λ rows. rows.items) l.rows))

@@ -28,13 +28,13 @@ invariant_of-self-in-Break-branch-3 c = record {
     wide =
         ap widths (written c.args.self.now.tables.len c.commit_tables.new.tables c.args.self.now.tables.items
         (same_count c.commit_tables.new.tables c.deref_mut.result.now c.in_err-commit.ensures.kept.width
-            ∙ ap length c.deref_mut.ensures.value ∙ sym c.args.self.now.tables.ok.0))
+        ∙ ap length c.deref_mut.ensures.value ∙ sym c.args.self.now.tables.ok.0))
         ∙ c.in_err-commit.ensures.kept.width ∙ ap widths c.deref_mut.ensures.value ∙ c.args.self.now.maps.wide;
   };
   settled =
       subst IsSettled (sym (written c.args.self.now.tables.len c.commit_tables.new.tables c.args.self.now.tables.items
       (same_count c.commit_tables.new.tables c.deref_mut.result.now c.in_err-commit.ensures.kept.width
-          ∙ ap length c.deref_mut.ensures.value ∙ sym c.args.self.now.tables.ok.0)))
+      ∙ ap length c.deref_mut.ensures.value ∙ sym c.args.self.now.tables.ok.0)))
       c.commit_tables.ensures.settled;
   bounded = grind (arith, common_steps);
 }
@@ -50,13 +50,13 @@ invariant_of-self-2 c = record {
     wide =
         ap widths (written c.args.self.now.tables.len c.commit_tables.new.tables c.args.self.now.tables.items
         (same_count c.commit_tables.new.tables c.deref_mut.result.now c.in_ok-commit.ensures.ok.width
-            ∙ ap length c.deref_mut.ensures.value ∙ sym c.args.self.now.tables.ok.0))
+        ∙ ap length c.deref_mut.ensures.value ∙ sym c.args.self.now.tables.ok.0))
         ∙ c.in_ok-commit.ensures.ok.width ∙ ap widths c.deref_mut.ensures.value ∙ c.args.self.now.maps.wide;
   };
   settled =
       subst IsSettled (sym (written c.args.self.now.tables.len c.commit_tables.new.tables c.args.self.now.tables.items
       (same_count c.commit_tables.new.tables c.deref_mut.result.now c.in_ok-commit.ensures.ok.width
-          ∙ ap length c.deref_mut.ensures.value ∙ sym c.args.self.now.tables.ok.0)))
+      ∙ ap length c.deref_mut.ensures.value ∙ sym c.args.self.now.tables.ok.0)))
       c.commit_tables.ensures.settled;
   bounded = grind (arith, common_steps, bounded_more);
 }

@@ -10,4 +10,4 @@ returns-in-None-clause-found c =
 pub returns-in_ok-rows-in-Some-clause-found : goal.returns-in_ok-rows-in-Some-clause-found
 returns-in_ok-rows-in-Some-clause-found c =
     lists_table c.args.self.now.tables.items c.args.table c.in-Some.rows.now
-        (sym c.table.ensures ∙ ap option_copied c.in-Some.is) c.in_ok-rows-in-Some.ensures.found
+    (sym c.table.ensures ∙ ap option_copied c.in-Some.is) c.in_ok-rows-in-Some.ensures.found

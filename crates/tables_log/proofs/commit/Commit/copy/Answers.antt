@@ -6,5 +6,5 @@ use Rattle.tables_log.proofs.commit.Commit.copy.Goals as goal
 pub returns : goal.returns
 returns c =
     ap (commit_of c.self.inside.number c.self.inside.time)
-        (c.in_ok-changes.ensures ∙ ap (map change_view) c.as_slice.ensures.value)
+    (c.in_ok-changes.ensures ∙ ap (map change_view) c.as_slice.ensures.value)
     ∙ c.self.view_is

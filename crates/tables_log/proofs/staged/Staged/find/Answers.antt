@@ -14,5 +14,5 @@ returns-in-Some g c =
     let fits : FitsSigned w64 c.in-Some.number = search rules in
     simp to_z-of_z at c.find.ensures
     ∙ sym (found_number (shown int_cmp map.numbers.base map.numbers.fresh map.numbers.emptied)
-        (shown row_cmp map.rows.base map.rows.fresh map.rows.emptied)
+    (shown row_cmp map.rows.base map.rows.fresh map.rows.emptied)
     c.args.key.now c.in-Some.number (sym c.only_number.ensures ∙ c.in-Some.is))

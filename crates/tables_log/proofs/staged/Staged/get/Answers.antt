@@ -14,5 +14,5 @@ returns-in-Some g c =
     let fits : FitsSigned w64 c.in-Some.number = search rules in
     simp to_z-of_z at c.get.ensures
     ∙ sym (found_number (kept_under int_cmp map.numbers.base map.numbers.made.items map.numbers.undo.items)
-        (kept_under row_cmp map.rows.base map.rows.made.items map.rows.undo.items) c.args.key.now c.in-Some.number
-        (sym c.only_number.ensures ∙ c.in-Some.is))
+    (kept_under row_cmp map.rows.base map.rows.made.items map.rows.undo.items) c.args.key.now c.in-Some.number
+    (sym c.only_number.ensures ∙ c.in-Some.is))

@@ -18,7 +18,7 @@ returns-in-Some-clause-puts g c =
       sees = puts_number (shown int_cmp map.numbers.base map.numbers.fresh map.numbers.emptied)
           (shown int_cmp numbers.base numbers.fresh numbers.emptied)
           (shown row_cmp map.rows.base map.rows.fresh map.rows.emptied) c.args.key c.in-Some.number None
-              (sym c.only_number.ensures ∙ c.in-Some.is)
+          (sym c.only_number.ensures ∙ c.in-Some.is)
           (simp to_z-of_z at puts);
     }) c.take.ensures.puts
 
@@ -31,5 +31,5 @@ returns-in-None-clause-puts g c =
       sees = puts_row (shown int_cmp map.numbers.base map.numbers.fresh map.numbers.emptied)
           (shown row_cmp map.rows.base map.rows.fresh map.rows.emptied)
           (shown row_cmp rows.base rows.fresh rows.emptied) c.args.key None (sym c.only_number.ensures ∙ c.in-None.is)
-              puts;
+          puts;
     }) c.take-in-None.ensures.puts

@@ -7,5 +7,5 @@ unfolding kept
 returns-clause-found g c =
     let map = c.args.self.now in
     lists_maps map.numbers.base map.numbers.made.items map.numbers.undo.items map.rows.base map.rows.made.items
-        map.rows.undo.items
+    map.rows.undo.items
     c.list.ensures.ordered c.list.ensures.room c.list-2.ensures.ordered c.list-2.ensures.room map.kept_apart

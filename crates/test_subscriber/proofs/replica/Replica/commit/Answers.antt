@@ -19,15 +19,15 @@ returns c =
     })) (committed c.args.end_lsn (machine_view c.args.self.now)))
     (sym c.max-self.ensures)
     (subst (λ (xs : List TableCopy). Alike
-        (machine_with Idle (max c.args.self.now.position c.args.end_lsn) c.args.self.now.wants_reply xs)
+    (machine_with Idle (max c.args.self.now.position c.args.end_lsn) c.args.self.now.wants_reply xs)
     (committed c.args.end_lsn (machine_view c.args.self.now)))
     (sym (written_over c.args.self.now.copies.len c.settle.new.copies c.args.self.now.copies.items
     (c.settle.auto.copies ∙ ap length c.deref_mut.ensures.value ∙ sym c.args.self.now.copies.ok.0)))
     (subst (λ (xs : List TableCopy). Alike
-        (machine_with Idle (max c.args.self.now.position c.args.end_lsn) c.args.self.now.wants_reply
-        c.settle.new.copies)
+    (machine_with Idle (max c.args.self.now.position c.args.end_lsn) c.args.self.now.wants_reply
+    c.settle.new.copies)
     (committed c.args.end_lsn
-        (machine_with c.args.self.now.phase c.args.self.now.position c.args.self.now.wants_reply xs)))
+    (machine_with c.args.self.now.phase c.args.self.now.position c.args.self.now.wants_reply xs)))
     c.deref_mut.ensures.value
     (settled c.args.self.now.phase c.args.self.now.position c.args.end_lsn c.args.self.now.wants_reply
-        c.deref_mut.result.now c.settle.new.copies c.settle.ensures)))
+    c.deref_mut.result.now c.settle.new.copies c.settle.ensures)))

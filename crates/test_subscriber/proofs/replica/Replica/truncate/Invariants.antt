@@ -8,5 +8,5 @@ use Rattle.test_subscriber.proofs.replica.Replica.truncate.Given as goal
 abbrev pub invariant-loop-oid : goal.invariant-loop-oid
 invariant-loop-oid l =
     SameOutcome (hear_truncate (drop l.oid-index l.oids) (machine_view l.self))
-        (hear_truncate l.oids (machine_view l.initial.self))
+    (hear_truncate l.oids (machine_view l.initial.self))
     × Stays (machine_view l.initial.self) (machine_view l.self)
