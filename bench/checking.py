@@ -136,6 +136,41 @@ def by_lists(size):
     return tree_with(filled(size - nodes(tree_with("e 0")) + 1, list(range(2, LAST)), "e 0"))
 
 
+def of_no_list(size, counts, conditions, column):
+    """A catalog whose first subscription has these lists, and the certificate of so many nodes whose leaves say that no
+    value is left to what the lists are of. After some splits, by which that is found, come others that tell nothing."""
+    splits, further = counts
+    lines = [
+        f"CREATE TABLE t (n bigint PRIMARY KEY, {column});",
+        "ALTER TABLE t REPLICA IDENTITY FULL;",
+        *[f"CREATE PUBLICATION p{at} FOR TABLE t WHERE ({it});" for at, it in enumerate(conditions)],
+        *[f"CREATE SUBSCRIPTION s{at} CONNECTION '' PUBLICATION p{at};" for at in range(2)],
+    ]
+    return "\n".join(lines) + "\n", filled(size - 3 * splits - 3, further, "e 0")
+
+
+def below_lists(size):
+    """50 lists of 100 remainders, which are all that there are: leaves where the remainder is in none of them."""
+    lists = [", ".join(str(-2_500 + 100 * at + more) for more in range(100)) for at in range(50)]
+    numbers = " OR ".join(f"n = {at}" for at in range(13))
+    conditions = [" OR ".join(f"n % 2500 IN ({it})" for it in lists), f"({numbers}) AND n % 1 = 1"]
+    catalog, tree = of_no_list(size, (50, list(range(50, 63))), conditions, "note text")
+    for at in reversed(range(50)):
+        tree = f"s {at} o 0 {tree} n {at}"
+    return catalog, f"s 63 e 2 {tree} n 63"
+
+
+def in_two_lists(size):
+    """59 lists of 100 texts of 2,005 bytes: leaves where a text of the first is in neither of two that have its halves."""
+    rows = [[100 * at + more for more in range(100)] for at in range(59)]
+    rows[1][:50], rows[2][:50] = rows[0][:50], rows[0][50:]
+    lists = [", ".join(f"'{'x' * 2_000}{text:05}'" for text in row) for row in rows]
+    conditions = ["(" + " OR ".join(f"region IN ({it})" for it in lists) + ") AND n % 1 = 1", "n = n"]
+    catalog, tree = of_no_list(size, (3, list(range(3, 16))), conditions, "region text NOT NULL")
+    tree = f"s 0 s 1 o 1 s 2 o 1 {tree} n 2 n 1 o 1 n 0"
+    return catalog.replace(" WHERE (n = n)", ""), f"s 59 e 1 {tree} n 59"
+
+
 BOUNDS = 61
 KEYS = 100
 TEXTS = 52
@@ -155,6 +190,8 @@ def cases():
         yield "480 nodes that 31 share", "o 31", catalog, beside_whole(size, 31, BOUNDS, 1)
     for size in SIZES[1:]:
         yield f"lists of {KEYS} keys", "e 0", families.catalog(families.key_lists(SUBSCRIBERS, KEYS)), by_lists(size)
+        yield "50 lists of remainders", "e 0", *below_lists(size)
+        yield "59 lists of long texts", "e 0", *in_two_lists(size)
     yield "52 texts of 65,002 bytes", "o 1", whole_and_others(1, LONG, "note text"), beside_whole(10_000, 1, TEXTS, 1)
 
 
