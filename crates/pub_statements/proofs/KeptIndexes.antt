@@ -20,7 +20,7 @@ use Rattle.sql_reader.specs.Names.{name}
 use Rattle.sql_reader.specs.Reading.{Fault, ◌>>◌, with_rest, eat, expect, item_ahead}
 use Rattle.sql_reader.specs.Repetitions.{link}
 use Rattle.sql_reader.proofs.Keeping.{Gives, then-gives, any-gives, repeat-gives, link-gives}
-use Rattle.sql_reader.proofs.NamedColumns.{known_column-gives}
+use Rattle.sql_reader.proofs.NamedParts.{known_column-gives}
 use Rattle.sql_reader.proofs.Widths.{AreColumns, room-gives, below}
 use Rattle.pub_catalog.specs.CatalogLimits.{IsIndexOf, IsIdentity}
 use Rattle.pub_catalog.specs.Catalogs.{schema_at, columns_at, indexes_at, identified, indexed}

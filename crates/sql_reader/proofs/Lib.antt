@@ -11,13 +11,14 @@ pub mod Keeping
 pub mod Leaving
 pub mod Meanings
 pub mod NamedColumns
+pub mod NamedParts
 pub mod Nesting
 pub mod OrderLemmas
 pub mod Placing
 pub mod PlainNames
 pub mod PlainRows
+pub mod RepetitionLemmas
 pub mod Required
 pub mod SpelledRows
-pub mod RepetitionLemmas
 pub mod Undoubling
 pub mod Widths

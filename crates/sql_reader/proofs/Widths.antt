@@ -19,7 +19,7 @@ use Rattle.sql_reader.specs.Items.{Items}
 use Rattle.sql_reader.specs.Names.{name}
 use Rattle.sql_reader.specs.Reading.{Fault, with_rest, expect, item_ahead, refuse}
 use Rattle.sql_reader.specs.Repetitions.{link}
-use Rattle.sql_reader.proofs.NamedColumns.{known_column-gives}
+use Rattle.sql_reader.proofs.NamedParts.{known_column-gives}
 use Rattle.sql_reader.proofs.Keeping.{Gives, then-gives, any-gives, chosen_rule-gives, repeat-gives, link-gives}
 
 -- the numbers are those of columns that are there
