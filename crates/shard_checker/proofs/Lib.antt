@@ -3,6 +3,7 @@ pub mod BitSetLemmas
 pub mod BlockLemmas
 pub mod CandidateLemmas
 pub mod CandidateSetLemmas
+pub mod CatalogReasons
 pub mod EmptyLemmas
 pub mod ExistingLemmas
 pub mod FactLemmas
@@ -19,7 +20,6 @@ pub mod OwnerLemmas
 pub mod PlaceLemmas
 pub mod PlanFacts
 pub mod RangeLemmas
-pub mod WalkInvariantLemmas
 pub mod ReasonLemmas
 pub mod RemainingLemmas
 pub mod RowLemmas
@@ -27,11 +27,12 @@ pub mod ShardingLemmas
 pub mod SoundFacts
 pub mod SoundLemmas
 pub mod StandingLemmas
+pub mod StepLemmas
 pub mod TellingLemmas
 pub mod TermLemmas
 pub mod Testing
-pub mod StepLemmas
 pub mod TextLemmas
 pub mod TruthLemmas
 pub mod ValueLemmas
+pub mod WalkInvariantLemmas
 pub mod WalkLemmas
