@@ -5,13 +5,14 @@ pub mod CatchingUpLemmas
 pub mod DividedLemmas
 pub mod EndLemmas
 pub mod EndSteps
-pub mod JoinedPieces
+pub mod FirstPeerLemmas
+pub mod HeardStreams
 pub mod JoinedFeeding
 pub mod JoinedHearing
 pub mod JoinedLoss
+pub mod JoinedPieces
 pub mod JoinedSteps
 pub mod NeedsLemmas
-pub mod FirstPeerLemmas
 pub mod PrefixLemmas
 pub mod PublisherLemmas
 pub mod PumpEndLemmas

@@ -29,7 +29,8 @@ use Rattle.shard_world.specs.Refusals.{IsAnswered, HearsAreAnswered, KeepsAreAns
 use Rattle.shard_world.specs.World as w
 use Rattle.shard_world.specs.World.{Connection, place_of, spelled_up, down_of, log_in}
 use Rattle.shard_world.proofs.CaseLemmas.{is_open, is_shut}
-use Rattle.shard_world.proofs.JoinedPieces.{commits, connection, heard_all, heard_before, heard_is, linked, more, not_over, piece, start_view}
+use Rattle.shard_world.proofs.JoinedPieces.{commits, connection, heard_all, heard_before, heard_is, linked, more, piece, start_view}
+use Rattle.shard_world.proofs.HeardStreams.{not_over}
 use Rattle.shard_world.proofs.JoinedHearing.{heard_after}
 use Rattle.shard_world.proofs.JoinedSteps.{asked_bytes}
 

@@ -30,7 +30,7 @@ use Rattle.shard_world.specs.World.{Connection, Session, down_bytes, heard_of, h
 use Rattle.shard_world.proofs.CaseLemmas.{is_open}
 use Rattle.shard_world.proofs.CatchingUpLemmas.{start_stays}
 use Rattle.shard_world.proofs.JoinedPieces as ear
-use Rattle.shard_world.proofs.JoinedPieces.{none_delivered}
+use Rattle.shard_world.proofs.HeardStreams.{none_delivered}
 use Rattle.shard_world.proofs.JoinedHearing.{After, heard_after, served_of}
 use Rattle.shard_world.proofs.JoinedSteps.{GrowsBy, stream_grows}
 use Rattle.shard_world.proofs.PrefixLemmas.{IsPart, first_part}
