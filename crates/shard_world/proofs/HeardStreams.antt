@@ -1,4 +1,4 @@
--- What a connection has said when a piece is heard: its stream starts or goes on, or it still waits; and statuses say no
+-- What a connection has said when a piece is heard: its stream starts or goes on, or it still waits. Statuses say no
 -- more than what was sent.
 use Rattle.std.proofs.Common.{◌≡◌, ℕ, ◌+◌, ◌<◌, ◌≤◌, ◌^◌, min, false, List, [], ◌∷◌, ◌++◌, length, replicate, take, refl, sym, ap, subst, ◌∙◌, arith, append-nil, length-append}
 use Rattle.std.specs.Prelude.{Option, Some, None, Ok, All, slice_get}

@@ -155,7 +155,8 @@ module _ (count : ℕ) where
   unfolding wanted
   wanted-named part h = true_or_clash-named part.place (truth as_filter part.operand) (truth-named part.operand h)
 
-  pub negated-named : (place : ℕ) (right : PartOf Expr) → NamedPart right → Says NamedPart (negated as_filter place right)
+  pub negated-named : (place : ℕ) (right : PartOf Expr) → NamedPart right
+      → Says NamedPart (negated as_filter place right)
   unfolding negated
   negated-named place right h =
       map-says Named NamedPart _ (wanted as_filter right) (wanted-named right h) (λ filter n. n)
