@@ -1,11 +1,12 @@
 //! The order of values and rows, by which ordered maps keep them.
 
-ghost use Rattle.std.specs.Prelude.{◌≡◌, refl};
+ghost use Rattle.std.specs.Prelude.{◌≡◌, true, refl, Some, IfSome, slice_get};
 ghost use Rattle.std.specs.Cmp.{IsTotalOrder};
 ghost use Rattle.std.specs.Cmp.Rules.{comparing};
 ghost use Rattle.std.specs.FinMap.{IsAntisymmetric};
-ghost use Rattle.std.specs.Ordering.{on, eq_by_cmp, as_partial_cmp};
+ghost use Rattle.std.specs.Ordering.{on, is_ne, eq_by_cmp, as_partial_cmp};
 ghost use Rattle.std.proofs.Common.{rules};
+ghost use Rattle.filter_tree.specs.Datum.{Known, Number};
 ghost use Rattle.filter_tree.specs.Order.{rank_of, datum_cmp, row_cmp, OrdersValues, TiesSameRows};
 ghost use Rattle.filter_tree.specs.Values.{datum_view};
 
@@ -52,12 +53,13 @@ impl<A: Allocator> Ord for Value<A> {
     ghost matches_eq = { λ x y. refl };
 
     fn cmp(&self, other: &Value<A>) -> Ordering {
-        let kinds = rank(self).cmp(&rank(other));
         match (self, other) {
             (Value::Int(number), Value::Int(other_number)) => number.cmp(other_number),
             (Value::Bool(truth), Value::Bool(other_truth)) => truth.cmp(other_truth),
             (Value::Text(text), Value::Text(other_text)) => text.as_str().cmp(other_text.as_str()),
-            (Value::Null | Value::Int(_) | Value::Bool(_) | Value::Text(_), _) => kinds,
+            (Value::Null | Value::Int(_) | Value::Bool(_) | Value::Text(_), _) => {
+                rank(self).cmp(&rank(other))
+            }
         }
     }
 }
@@ -72,6 +74,34 @@ fn rank<A: Allocator>(value: &Value<A>) -> u8
         Value::Bool(_) => 2,
         Value::Text(_) => 3,
     }
+}
+
+/// The number that the row begins with, if it begins with one.
+fn first_number<A: Allocator>(row: &Row<A>) -> Option<i64>
+    ensures { IfSome result (λ number. slice_get row.now 0 ≡ Some (Known (Number number))) }
+{
+    match row.get(0) {
+        Some(Value::Int(number)) => Some(*number),
+        Some(Value::Null | Value::Bool(_) | Value::Text(_)) | None => None,
+    }
+}
+
+/// The order of the numbers that the rows begin with; `Equal` where one of them begins with none.
+fn order_of_first_numbers<A: Allocator>(row: &Row<A>, other: &Row<A>) -> Ordering
+    ensures { is_ne result ≡ true → row_cmp row.now other.now ≡ result }
+{
+    match (first_number(row), first_number(other)) {
+        (Some(number), Some(other_number)) => number.cmp(&other_number),
+        (None, _) | (_, None) => Ordering::Equal,
+    }
+}
+
+/// The order of all values of the rows. It is not inlined, so that numbers which differ are compared without a call.
+#[inline(never)]
+fn order_of_values<A: Allocator>(row: &Row<A>, other: &Row<A>) -> Ordering
+    ensures { result ≡ row_cmp row.now other.now }
+{
+    row.values().cmp(other.values())
 }
 
 impl<A: Allocator> PartialEq for Row<A> {
@@ -98,7 +128,8 @@ impl<A: Allocator> PartialOrd for Row<A> {
     }
 }
 
-/// By the first column in which the rows differ. A row that another one begins with comes before that one.
+/// By the first column in which the rows differ. A row that another one begins with comes before that one. Numbers that
+/// rows begin with are compared before all else, since keys most often differ there.
 ///
 /// PostgreSQL 15, 7.5 Sorting Rows.
 impl<A: Allocator> Ord for Row<A> {
@@ -111,7 +142,11 @@ impl<A: Allocator> Ord for Row<A> {
     ghost matches_eq = { λ x y. refl };
 
     fn cmp(&self, other: &Row<A>) -> Ordering {
-        self.values().cmp(other.values())
+        let by_numbers = order_of_first_numbers(self, other);
+        if by_numbers.is_ne() {
+            return by_numbers;
+        }
+        order_of_values(self, other)
     }
 }
 

@@ -2,7 +2,7 @@ use Rattle.std.proofs.Common.{sym, ◌∙◌}
 use Rattle.std.specs.Cmp.Derive.Mapped.{lex_map}
 use Rattle.filter_tree.specs.Order.{datum_cmp, row_cmp}
 use Rattle.filter_tree.specs.Values.{datum_view}
-use Rattle.filter_tree.proofs.order.RowOrd.cmp.Goals as goal
+use Rattle.filter_tree.proofs.order.order_of_values.Goals as goal
 
 -- the values of the two rows are compared as plain data
 pub returns : goal.returns
