@@ -1,6 +1,6 @@
 -- A map that is changed in place, beside what undoes the changes: what is seen in it, what was kept, and that each
 -- key that was changed has a place.
-use Rattle.std.specs.Prelude.{◌≡◌, Bool, true, List, [], ◌∷◌, map, is_some, Option, Some, None, Result, OnOk, OnErr, if◌then◌else◌}
+use Rattle.std.specs.Prelude.{◌≡◌, Bool, true, List, [], ◌∷◌, map, is_some, Option, Some, None, Result, IfOk, OnOk, OnErr, if◌then◌else◌}
 use Rattle.std.specs.BTreeMap.{BTreeMap, get, is_at}
 use Rattle.std.specs.List.{list_any}
 use Rattle.std.specs.Map.{lookup}
@@ -62,9 +62,10 @@ abbrev pub HasRoom : {K V : Type 0} → (K → K → Ordering) → BTreeMap K (O
 HasRoom {K} cmp base undo = (key : K) → is_some (was_in cmp undo key) ≡ true → has_place cmp base key ≡ true
 
 -- what a call leaves that puts this value, or none, under a key: what was kept stays, and so does what was seen where
--- memory is wanting
+-- memory is wanting. It says whether something was seen there.
 pub record PutsUnder {K V E : Type 0} (cmp : K → K → Ordering) (key : K) (value : Option V)
-    (old_kept old_seen : K → Option V) (result : Result (Unit {0}) E) (new_kept new_seen : K → Option V) : Type 0 where
+    (old_kept old_seen : K → Option V) (result : Result Bool E) (new_kept new_seen : K → Option V) : Type 0 where
   pub keeps : (other : K) → new_kept other ≡ old_kept other
+  pub was : IfOk result (λ was. was ≡ is_some (old_seen key))
   pub puts : OnOk result ((other : K) → new_seen other ≡ (if eq_by_cmp cmp key other then value else old_seen other))
   pub err : OnErr result ((other : K) → new_seen other ≡ old_seen other)

@@ -1,6 +1,6 @@
 //! Maps that are changed in place, beside what undoes the changes until they settle, which takes no memory.
 
-ghost use Rattle.std.specs.Prelude.{◌≡◌, true, false, [], None, Some, map, OnOk, OnErr, if◌then◌else◌};
+ghost use Rattle.std.specs.Prelude.{◌≡◌, true, false, [], None, Some, map, is_some, IfOk, OnOk, OnErr, if◌then◌else◌};
 ghost use Rattle.std.specs.BTreeMap.{get};
 ghost use Rattle.std.specs.Option.{option_map};
 ghost use Rattle.std.specs.Ordering.{eq_by_cmp};
@@ -178,7 +178,8 @@ fn rewind<K: Ord + Drop, V: Drop>(
     take_made(base, made);
 }
 
-/// Puts the value under the key, which is given twice. The only error is want of memory; then the map is as it was.
+/// Puts the value under the key, which is given twice, and says whether something was there. The only error is want of
+/// memory; then the map is as it was.
 fn put_in<K: Ord + Drop, V: Drop>(
     base: &mut BTreeMap<K, Option<V>, Global>,
     made: &mut Vec<K>,
@@ -186,9 +187,10 @@ fn put_in<K: Ord + Drop, V: Drop>(
     key: K,
     copy: K,
     value: V,
-) -> Result<(), AllocError>
+) -> Result<bool, AllocError>
     requires room { HasRoom K.cmp base.old undo.old.items }
     requires same { copy ≡ key }
+    ensures was { IfOk result (λ was. was ≡ is_some (below K.cmp base.old key)) }
     ensures room { HasRoom K.cmp base.new undo.new.items }
     ensures keeps { (other : K) → kept_under K.cmp base.new made.new.items undo.new.items other
         ≡ kept_under K.cmp base.old made.old.items undo.old.items other }
@@ -201,23 +203,26 @@ fn put_in<K: Ord + Drop, V: Drop>(
     match base.insert(key, Some(value))? {
         None => {
             made.push_reserved(copy);
-            Ok(())
+            Ok(false)
         }
         Some(was) => {
+            let had_value = was.is_some();
             undo.push_reserved((copy, was));
-            Ok(())
+            Ok(had_value)
         }
     }
 }
 
-/// Leaves nothing under the key. The only error is want of memory; then the map is as it was.
+/// Leaves nothing under the key, and says whether something was there. The only error is want of memory; then the map is
+/// as it was.
 fn take_in<K: Ord + Drop, V: Drop>(
     base: &mut BTreeMap<K, Option<V>, Global>,
     made: &[K],
     undo: &mut Vec<(K, Option<V>)>,
     key: K,
-) -> Result<(), AllocError>
+) -> Result<bool, AllocError>
     requires { HasRoom K.cmp base.old undo.old.items }
+    ensures was { IfOk result (λ was. was ≡ is_some (below K.cmp base.old key)) }
     ensures room { HasRoom K.cmp base.new undo.new.items }
     ensures keeps { (other : K) → kept_under K.cmp base.new made.now undo.new.items other
         ≡ kept_under K.cmp base.old made.now undo.old.items other }
@@ -227,37 +232,45 @@ fn take_in<K: Ord + Drop, V: Drop>(
 {
     undo.reserve(1)?;
     match clear_place(base, &key) {
-        None => Ok(()),
+        None => Ok(false),
         Some(was) => {
+            let had_value = was.is_some();
             undo.push_reserved((key, was));
-            Ok(())
+            Ok(had_value)
         }
     }
 }
 
-/// Puts the value under the key of a map that has nothing to undo. The only error is want of memory; then the map is as
-/// it was.
+/// Puts the value under the key of a map that has nothing to undo, and says whether something was there. The only error
+/// is want of memory; then the map is as it was.
 #[tactic(auto, using(crate::proofs::LayerLemmas::below_after, crate::proofs::LayerLemmas::below_unchanged))]
 fn put_alone<K: Ord + Drop, V: Drop>(
     fresh: &mut BTreeMap<K, Option<V>, Global>,
     key: K,
     value: V,
-) -> Result<(), AllocError>
+) -> Result<bool, AllocError>
+    ensures was { IfOk result (λ was. was ≡ is_some (below K.cmp fresh.old key)) }
     ensures puts { OnOk result ((other : K) → below K.cmp fresh.new other
         ≡ (if eq_by_cmp K.cmp key other then Some value else below K.cmp fresh.old other)) }
     ensures err { OnErr result ((other : K) → below K.cmp fresh.new other ≡ below K.cmp fresh.old other) }
 {
-    let _ = fresh.insert(key, Some(value))?;
-    Ok(())
+    match fresh.insert(key, Some(value))? {
+        None => Ok(false),
+        Some(was) => Ok(was.is_some()),
+    }
 }
 
-/// Takes the key of a map away that has nothing to undo.
+/// Takes the key of a map away that has nothing to undo, and says whether something was there.
 #[tactic(auto, using(crate::proofs::LayerLemmas::below_after))]
-fn take_alone<K: Ord + Drop, V: Drop>(fresh: &mut BTreeMap<K, Option<V>, Global>, key: &K)
-    ensures { (other : K) → below K.cmp fresh.new other
+fn take_alone<K: Ord + Drop, V: Drop>(fresh: &mut BTreeMap<K, Option<V>, Global>, key: &K) -> bool
+    ensures was { result ≡ is_some (below K.cmp fresh.old key.now) }
+    ensures takes { (other : K) → below K.cmp fresh.new other
         ≡ (if eq_by_cmp K.cmp key.now other then None else below K.cmp fresh.old other) }
 {
-    let _ = fresh.remove(key);
+    match fresh.remove(key) {
+        None => false,
+        Some(was) => was.is_some(),
+    }
 }
 
 impl<K: Ord + Drop, V: Drop> Layers<K, V> {
@@ -318,9 +331,9 @@ impl<K: Ord + Drop, V: Drop> Layers<K, V> {
         Ok(listed)
     }
 
-    /// Puts the value under the key, which is given twice. What is kept stays. The only error is want of memory; then
-    /// what is seen stays too.
-    pub(crate) fn put(&mut self, key: K, copy: K, value: V) -> Result<(), AllocError>
+    /// Puts the value under the key, which is given twice, and says whether something was seen there. What is kept
+    /// stays. The only error is want of memory; then what is seen stays too.
+    pub(crate) fn put(&mut self, key: K, copy: K, value: V) -> Result<bool, AllocError>
         requires { copy ≡ key }
         ensures { PutsUnder K.cmp key (Some value)
             (kept_under K.cmp self.old.base self.old.made.items self.old.undo.items)
@@ -342,8 +355,9 @@ impl<K: Ord + Drop, V: Drop> Layers<K, V> {
         }
     }
 
-    /// Leaves nothing under the key. What is kept stays. The only error is want of memory; then what is seen stays too.
-    pub(crate) fn take(&mut self, key: K) -> Result<(), AllocError>
+    /// Leaves nothing under the key, and says whether something was seen there. What is kept stays. The only error is
+    /// want of memory; then what is seen stays too.
+    pub(crate) fn take(&mut self, key: K) -> Result<bool, AllocError>
         ensures { PutsUnder K.cmp key None
             (kept_under K.cmp self.old.base self.old.made.items self.old.undo.items)
             (shown K.cmp self.old.base self.old.fresh self.old.emptied) result
@@ -351,8 +365,7 @@ impl<K: Ord + Drop, V: Drop> Layers<K, V> {
             (shown K.cmp self.new.base self.new.fresh self.new.emptied) }
     {
         if self.emptied {
-            take_alone(&mut self.fresh, &key);
-            Ok(())
+            Ok(take_alone(&mut self.fresh, &key))
         } else {
             take_in(&mut self.base, &self.made, &mut self.undo, key)
         }

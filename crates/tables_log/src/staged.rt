@@ -35,7 +35,7 @@ fn only_number(key: &Row) -> Option<i64>
 
 #[tactic(auto, unfolding(crate::specs::Staging::kept, crate::specs::Staging::seen))]
 impl<V: Drop> Staged<V> {
-    ghost use Rattle.std.specs.Prelude.{◌≡◌, List, None, Some, map, IfOk, OnOk};
+    ghost use Rattle.std.specs.Prelude.{◌≡◌, List, None, Some, map, is_some, IfOk, OnOk};
     ghost use Rattle.std.specs.Option.{option_map};
     ghost use Rattle.filter_tree.specs.Datum.{Datum};
     ghost use Rattle.tables_log.specs.Listing.{ListsFound};
@@ -84,9 +84,11 @@ impl<V: Drop> Staged<V> {
         Ok(self.rows.list(listed)?)
     }
 
-    /// Puts the value under the key.
-    fn put(&mut self, key: Row, value: V) -> Result<(), AllocError>
+    /// Puts the value under the key, and says whether something was seen there. What is kept stays. The only error is
+    /// want of memory.
+    pub fn put(&mut self, key: Row, value: V) -> Result<bool, AllocError>
         ensures keeps { Keeps self.old self.new }
+        ensures was { IfOk result (λ was. was ≡ is_some (seen self.old key)) }
         ensures puts { OnOk result (Puts self.old self.new key (Some value)) }
     {
         match only_number(&key) {
@@ -98,9 +100,11 @@ impl<V: Drop> Staged<V> {
         }
     }
 
-    /// Leaves nothing under the key.
-    fn take(&mut self, key: Row) -> Result<(), AllocError>
+    /// Leaves nothing under the key, and says whether something was seen there. What is kept stays. The only error is
+    /// want of memory.
+    pub fn take(&mut self, key: Row) -> Result<bool, AllocError>
         ensures keeps { Keeps self.old self.new }
+        ensures was { IfOk result (λ was. was ≡ is_some (seen self.old key)) }
         ensures puts { OnOk result (Puts self.old self.new key None) }
     {
         match only_number(&key) {
@@ -114,10 +118,11 @@ impl<V: Drop> Staged<V> {
         ensures keeps { Keeps self.old self.new }
         ensures puts { OnOk result (Puts self.old self.new key value) }
     {
-        match value {
-            None => self.take(key),
-            Some(value) => self.put(key, value),
-        }
+        let _was = match value {
+            None => self.take(key)?,
+            Some(value) => self.put(key, value)?,
+        };
+        Ok(())
     }
 
     /// Takes every key away. What is kept stays.
