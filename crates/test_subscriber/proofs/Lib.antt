@@ -11,3 +11,5 @@ pub mod MachineLemmas
 pub mod PassLemmas
 pub mod RelationLemmas
 pub mod StartQueryLemmas
+pub mod TakenLemmas
+pub mod WholeLemmas

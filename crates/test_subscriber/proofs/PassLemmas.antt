@@ -1,5 +1,5 @@
 -- What becomes of a subscriber's machine where all copies of tables change, or a new one comes.
-use Rattle.std.proofs.Common.{◌≡◌, ℕ, Bool, false, List, [], ◌∷◌, ◌++◌, refl, sym, ◌∙◌, ap, max, length, take, drop}
+use Rattle.std.proofs.Common.{◌≡◌, ℕ, Bool, false, List, ◌++◌, refl, sym, ◌∙◌, ap, max, length, take, drop}
 use Rattle.std.specs.Prelude.{Option, Some, None}
 use Rattle.filter_tree.specs.Datum.{Datum}
 use Rattle.test_subscriber.specs.Copies.{OfEach, SettlesCopy, ForgetsCopy}

@@ -1,6 +1,8 @@
 //! A subscriber's copy of a table.
 
-ghost use Rattle.std.specs.Prelude.{◌≡◌, map, IfOk};
+ghost use Rattle.std.specs.Prelude.{◌≡◌, true, List, length, map, IfOk};
+ghost use Rattle.filter_tree.specs.Datum.{Datum};
+ghost use Rattle.table_changes.specs.Columns.{values_at};
 
 use crate::fault::SubFault;
 use crate::reading::row_of;
@@ -29,6 +31,22 @@ fn copies(alloc: Global, rows: &[&Row]) -> Result<Vec<Row>, AllocError>
         copies.push(copy_row(alloc, row)?)?;
     }
     Ok(copies)
+}
+
+/// Whether these are the numbers of all columns, in their order, of rows of this width.
+#[tactic(auto, using(crate::proofs::WholeLemmas::completes_begin, crate::proofs::WholeLemmas::completes_go_on, crate::proofs::WholeLemmas::completes_end))]
+fn are_all(columns: &[usize], width: usize) -> bool
+    ensures { result ≡ true → (row : List Datum) → length row ≡ width → values_at columns.now row ≡ row }
+{
+    if columns.len() != width {
+        return false;
+    }
+    for (number, column) in columns.iter().enumerate() {
+        if *column != number {
+            return false;
+        }
+    }
+    true
 }
 
 impl TableCopy {
@@ -85,14 +103,24 @@ impl TableCopy {
         Ok(values_at(alloc, self.shape.key.as_slice(), row)?)
     }
 
+    /// The row's values in the columns of the replica identity, without a copy where these are all columns. The only
+    /// error is want of memory.
+    fn into_key(&self, alloc: Global, row: Row) -> Result<Row, AllocError>
+        ensures { IfOk result (λ key. key ≡ values_at self.now.shape.key row) }
+    {
+        if are_all(self.shape.key.as_slice(), row.len()) {
+            return Ok(row);
+        }
+        self.key_of(alloc, &row)
+    }
+
     /// Stages a row under its key, where there is none.
     fn place(&mut self, key: Row, row: Row) -> Result<(), SubFault>
         ensures { ChangesCopy (λ shape found. placed found key row) self.old result self.new }
     {
-        if self.rows.find(&key).is_some() {
+        if self.rows.put(key, row)? {
             return Err(SubFault::DuplicateKey);
         }
-        self.rows.stage(key, Some(row))?;
         Ok(())
     }
 
@@ -114,7 +142,7 @@ impl TableCopy {
             OldTuple::Key(tuple) | OldTuple::Full(tuple) => tuple,
         };
         let part = self.read(alloc, tuple)?;
-        Ok(self.key_of(alloc, &part)?)
+        Ok(self.into_key(alloc, part)?)
     }
 
     /// The key of the row that gives way to this one: by what is sent of the old row, or by the new row where nothing
@@ -129,13 +157,13 @@ impl TableCopy {
     }
 
     /// Stages the row in place of the one of this key, if there is one.
+    #[tactic(auto, using(crate::proofs::TakenLemmas::nothing_taken))]
     fn replace(&mut self, gone: Row, key: Row, row: Row) -> Result<(), SubFault>
         ensures { ChangesCopy (λ shape found. replaced found gone key row) self.old result self.new }
     {
-        if self.rows.find(&gone).is_none() {
+        if !self.rows.take(gone)? {
             return Ok(());
         }
-        self.rows.stage(gone, None)?;
         self.place(key, row)?;
         Ok(())
     }
@@ -161,7 +189,7 @@ impl TableCopy {
         ensures { ChangesCopy (λ shape found. deleted shape found old) self.old result self.new }
     {
         let key = self.key_in(alloc, old)?;
-        self.rows.stage(key, None)?;
+        let _was = self.rows.take(key)?;
         Ok(())
     }
 
