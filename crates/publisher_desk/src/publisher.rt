@@ -196,6 +196,13 @@ impl<P: Publishing> Publisher<P> {
         unreachable!()
     }
 
+    /// What the sender of the slot does next, as `next_step` says, if there is something to do now.
+    pub fn step_now<R: Wait>(&self, rt: &R, slot: usize, number: u64) -> Option<Step>
+        ensures { IfSome result (IsNext number) }
+    {
+        self.desk.lock(rt).step(slot, number)
+    }
+
     /// Lends the book under the lock, and what is wanted of each slot's connection. The book is of the checked catalog,
     /// and of some list of transactions.
     pub fn lend<U: SlotUse, R: Wait>(&self, rt: &R, user: &mut U) -> U::Answer

@@ -40,13 +40,22 @@ fn code(step: Step) -> u32 {
     }
 }
 
-/// The steps of a sender that tells of the only commit, and of one of no slot; and how many slots there are.
+/// What a step is that there may be, or 0.
+fn code_now(step: Option<Step>) -> u32 {
+    match step {
+        Some(step) => code(step),
+        None => 0,
+    }
+}
+
+/// The steps of a sender that tells of the only commit, and of one of no slot; what there is to do now, at the commit
+/// and after it; and how many slots there are.
 fn steps<P: Publishing, R: Wait>(
     rt: &R,
     alloc: Global,
     blank: Blank,
     checked: Arc<Checked, Global>,
-) -> Result<(u32, u32, u32, usize), Fail>
+) -> Result<((u32, u32, u32), (u32, u32), usize), Fail>
     requires name { blank.name ≡ P.name }
     requires parts { blank.parts ≡ P.parts }
     requires seats { blank.parts ≡ 1000 }
@@ -60,11 +69,13 @@ fn steps<P: Publishing, R: Wait>(
     let commands = vec![in alloc; put(alloc, 1, "a")?]?;
     commit(rt, &publisher, &mut seat, commands)?;
     let first = code(publisher.next_step(rt, 0, 1));
+    let now = code_now(publisher.step_now(rt, 0, 1));
+    let later = code_now(publisher.step_now(rt, 0, 2));
     publisher.finish(rt);
     let last = code(publisher.next_step(rt, 0, 2));
     let beside = code(publisher.next_step(rt, 1, 1));
     let slots = publisher.lend(rt, &mut Count);
-    Ok((first, last, beside, slots))
+    Ok(((first, last, beside), (now, later), slots))
 }
 
 #[test]
@@ -72,6 +83,6 @@ fn a_sender_is_told_what_to_do(rt: HostRuntime) -> Result<(), Fail> {
     let alloc = rt.alloc();
     let checked = accepted(alloc, WHOLE, &["o 0"])?;
     let told = steps::<Brand, _>(&rt, alloc, Blank::new(1_000), checked)?;
-    same(&rt, told, (1, 1_002, 1_001, 1));
+    same(&rt, told, ((1, 1_002, 1_001), (1, 0), 1));
     Ok(())
 }
