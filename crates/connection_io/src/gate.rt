@@ -1,9 +1,9 @@
 //! Gates, which hold a sender.
 
-/// What a sender passes directly before it writes a commit, outside of any lock. A gate may hold the sender as long as it
-/// likes; nobody else waits for it.
+/// What a sender passes before it writes a commit that it has encoded, outside of any lock. A gate may hold the sender as
+/// long as it likes, with what it encoded before and has not written yet; nobody else waits for it.
 pub trait Gate {
-    /// The sender of this slot, by the number of its subscription, is about to write the commit of this number, from 1.
+    /// The sender of this slot, by the number of its subscription, is to write the commit of this number, from 1.
     fn pass(&self, slot: usize, number: u32);
 }
 

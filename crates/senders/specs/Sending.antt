@@ -39,7 +39,16 @@ pub record Follows (old new : Told) (taken : List CommitOf) (bytes : List ℕ) :
   pub taken_is : new.taken ≡ old.taken ++ taken
   pub passed_is : new.passed ≡ old.passed ++ bytes
 
--- The voice goes on with what it told, and these bytes were written.
+-- The voice goes on with what it told, and these bytes were written; others may wait.
+pub record TellsOn (before after : Option (List ℕ)) (taken : List CommitOf) (voice : Voice) (told : Told) : Type 0 where
+  pub now : Told
+  pub bytes : List ℕ
+  pub put : Appends before after bytes
+  pub follows : Follows told now taken bytes
+  pub clocks : All IsClocked now.moves
+  pub tells : IsTelling voice now
+
+-- The voice goes on with what it told, and these bytes were written, which are all.
 pub record GoesOn (before after : Option (List ℕ)) (taken : List CommitOf) (voice : Voice) (told : Told) : Type 0 where
   pub now : Told
   pub bytes : List ℕ
@@ -57,11 +66,19 @@ pub record Breaks (before after : Option (List ℕ)) (taken : List CommitOf) (vo
   pub clocks : All IsClocked now.moves
   pub spells : Spells now (voice_output voice) []
 
--- Memory was refused while nothing waited.
+-- Memory was refused, and nothing waits.
 pub record Starves (before after : Option (List ℕ)) (taken : List CommitOf) (voice : Voice) (told : Told) : Type 0 where
   pub breaks : Breaks before after taken voice told
   pub none : voice_output voice ≡ []
 
+-- what is told when a sender stops, of which bytes may wait
+abbrev pub TellsAs : Stop → Option (List ℕ) → Option (List ℕ) → List CommitOf → Voice → Told → Type 0
+TellsAs stop.Told before after taken voice told = TellsOn before after taken voice told
+TellsAs stop.Finished before after taken voice told = TellsOn before after taken voice told
+TellsAs stop.WriteFault before after taken voice told = Breaks before after taken voice told
+TellsAs stop.OutOfMemory before after taken voice told = Breaks before after taken voice told
+
+-- and what is written then
 abbrev pub StopsAs : Stop → Option (List ℕ) → Option (List ℕ) → List CommitOf → Voice → Told → Type 0
 StopsAs stop.Told before after taken voice told = GoesOn before after taken voice told
 StopsAs stop.Finished before after taken voice told = GoesOn before after taken voice told

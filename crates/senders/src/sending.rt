@@ -1,15 +1,17 @@
 //! What is sent on connections.
 
-ghost use Rattle.std.specs.Prelude.{◌≡◌, [], map, true};
+ghost use Rattle.std.specs.Prelude.{◌≡◌, [], map, true, IfOk, MatchResult};
 ghost use Rattle.std.specs.Arc.{arc_value};
 ghost use Rattle.copy_frames.specs.Contents.{copy_both_response};
-ghost use Rattle.senders.specs.Sending.{IsQuiet, StopsAs, started_telling};
+ghost use Rattle.publisher_desk.specs.Lending.{IsNext};
+ghost use Rattle.senders.specs.Flushing.{Flushes};
+ghost use Rattle.senders.specs.Sending.{IsQuiet, StopsAs, TellsAs, started_telling};
 ghost use Rattle.senders.specs.declared.stop.Stop.TheVariants.{WriteFault};
 
 use crate::clock::clock;
 use crate::flushing::flush;
 use crate::stop::Stop;
-use connection_io::{Gate, Sink};
+use connection_io::{Failed, Gate, Sink};
 use copy_both::{Taken, Voice};
 use publisher_desk::{Publisher, Publishing, Step};
 use std::alloc::Global;
@@ -17,13 +19,40 @@ use std::sync::{Arc, Wait};
 use std::time::Clock;
 use tables_log::Commit;
 
-/// Sends on a connection whose stream has started, and of which CopyBothResponse was written: each commit from the
-/// start on as it comes, and replies, until the connection ends or all commits of a finished publisher are taken up.
-/// A commit is got under the lock, and without it is encoded, passes the gate, and is written. It answers which commits
-/// were taken up, and why it stopped.
+/// How many bytes wait at most before they are written though more could be taken up.
+const BATCH: usize = 65_536;
+
+/// What the sender of the slot does next, where it has told of all commits before this number. What waits is written
+/// before, unless it is less than `BATCH` and there is something to do now.
 ///
-/// PostgreSQL 15, 55.4. Streaming Replication Protocol.
-pub(crate) fn send_all<P: Publishing, W: Sink, G: Gate, R: Wait + Clock>(
+/// # Errors
+///
+/// `Failed` where the sink fails.
+fn await_step<P: Publishing, W: Sink, R: Wait>(
+    rt: &R,
+    publisher: &Publisher<P>,
+    slot: usize,
+    number: u64,
+    voice: &mut Voice,
+    writer: &mut W,
+) -> Result<Step, Failed>
+    ensures flushes { Flushes (W.taken writer.old) (W.taken writer.new) voice.old voice.new }
+    ensures next { IfOk result (IsNext number) }
+    ensures failed { MatchResult result (λ step. W.has_failed writer.new ≡ W.has_failed writer.old)
+        (λ failed. W.has_failed writer.new ≡ true) }
+{
+    let waiting = voice.output().len();
+    if 0 < waiting && waiting < BATCH {
+        if let Some(step) = publisher.step_now(rt, slot, number) {
+            return Ok(step);
+        }
+    }
+    flush(voice, writer)?;
+    Ok(publisher.next_step(rt, slot, number))
+}
+
+/// Tells what `send_all` sends, of which bytes may wait at the end.
+fn tell_all<P: Publishing, W: Sink, G: Gate, R: Wait + Clock>(
     rt: &R,
     publisher: &Publisher<P>,
     started: (usize, u64),
@@ -32,7 +61,7 @@ pub(crate) fn send_all<P: Publishing, W: Sink, G: Gate, R: Wait + Clock>(
     gate: &G,
 ) -> (Vec<Arc<Commit, Global>>, Stop)
     requires { IsQuiet voice.old (started_telling P.checked started.0 started.1 copy_both_response) }
-    ensures sent { StopsAs result.1 (W.taken writer.old) (W.taken writer.new)
+    ensures tells { TellsAs result.1 (W.taken writer.old) (W.taken writer.new)
         (map (λ commit. arc_value commit) result.0.items) voice.new
         (started_telling P.checked started.0 started.1 copy_both_response) }
     ensures failed { result.1 ≡ WriteFault → W.has_failed writer.new ≡ true }
@@ -45,7 +74,10 @@ pub(crate) fn send_all<P: Publishing, W: Sink, G: Gate, R: Wait + Clock>(
         if taken.reserve(1).is_err() {
             return (taken, Stop::OutOfMemory);
         }
-        match publisher.next_step(rt, started.0, number) {
+        let Ok(step) = await_step(rt, publisher, started.0, number, voice, writer) else {
+            return (taken, Stop::WriteFault);
+        };
+        match step {
             Step::Entry(commit) => {
                 let Ok(told) = voice.take_entry(&commit, clock(rt)) else {
                     return (taken, Stop::OutOfMemory);
@@ -64,9 +96,38 @@ pub(crate) fn send_all<P: Publishing, W: Sink, G: Gate, R: Wait + Clock>(
             Step::Finished => return (taken, Stop::Finished),
             Step::OutOfMemory => return (taken, Stop::OutOfMemory),
         }
-        if flush(voice, writer).is_err() {
-            return (taken, Stop::WriteFault);
-        }
     }
     unreachable!()
+}
+
+/// Sends on a connection whose stream has started, and of which CopyBothResponse was written: each commit from the
+/// start on as it comes, and replies, until the connection ends or all commits of a finished publisher are taken up.
+/// A commit is got under the lock, and without it is encoded and passes the gate. What several commits appended is
+/// written at once: when there is nothing to do now, when 64 KiB or more wait, and at the end. It answers which commits
+/// were taken up, and why it stopped.
+///
+/// PostgreSQL 15, 55.4. Streaming Replication Protocol.
+pub(crate) fn send_all<P: Publishing, W: Sink, G: Gate, R: Wait + Clock>(
+    rt: &R,
+    publisher: &Publisher<P>,
+    started: (usize, u64),
+    voice: &mut Voice,
+    writer: &mut W,
+    gate: &G,
+) -> (Vec<Arc<Commit, Global>>, Stop)
+    requires { IsQuiet voice.old (started_telling P.checked started.0 started.1 copy_both_response) }
+    ensures sent { StopsAs result.1 (W.taken writer.old) (W.taken writer.new)
+        (map (λ commit. arc_value commit) result.0.items) voice.new
+        (started_telling P.checked started.0 started.1 copy_both_response) }
+    ensures failed { result.1 ≡ WriteFault → W.has_failed writer.new ≡ true }
+{
+    let (taken, stop) = tell_all(rt, publisher, started, voice, writer, gate);
+    match stop {
+        Stop::WriteFault => return (taken, stop),
+        Stop::Told | Stop::Finished | Stop::OutOfMemory => {}
+    }
+    if flush(voice, writer).is_err() {
+        return (taken, Stop::WriteFault);
+    }
+    (taken, stop)
 }

@@ -1,11 +1,11 @@
 use Rattle.std.specs.Prelude.{map}
 use Rattle.std.specs.Arc.{arc_value}
 use Rattle.copy_frames.specs.Contents.{copy_both_response}
-use Rattle.senders.specs.Sending.{GoesOn, started_telling}
-use Rattle.senders.proofs.sending.send_all.Given as goal
+use Rattle.senders.specs.Sending.{TellsOn, started_telling}
+use Rattle.senders.proofs.sending.tell_all.Given as goal
 
 abbrev pub invariant-loop : goal.invariant-loop
 invariant-loop g l =
-    GoesOn (g.W.Sink.taken l.initial.writer) (g.W.Sink.taken l.writer)
+    TellsOn (g.W.Sink.taken l.initial.writer) (g.W.Sink.taken l.writer)
     (map (λ commit. arc_value commit) l.taken.items) l.voice
     (started_telling g.P.Publishing.checked l.started.0 l.started.1 copy_both_response)

@@ -1,0 +1,108 @@
+use Rattle.std.proofs.Common.{List, map, ap, subst, sym}
+use Rattle.std.specs.Prelude.{false}
+use Rattle.std.proofs.lemmas.List.Elements.{All-nil}
+use Rattle.stream_laws.specs.LayoutRoom.{IsClocked}
+use Rattle.tables_log.specs.Commits.{CommitOf}
+use Rattle.std.specs.Arc.{arc_value}
+use Rattle.copy_frames.specs.Contents.{copy_both_response}
+use Rattle.publisher_desk.specs.Lending.{IsNext}
+use Rattle.senders.specs.Sending.{TellsOn, started_telling}
+use Rattle.senders.proofs.SendingLemmas.{breaks_at, breaks_kept, on_err, on_ok, tells_entry, tells_first, tells_kept, tells_reply}
+use Rattle.senders.proofs.sending.tell_all.Goals as goal
+
+pub loop-init : goal.loop-init
+loop-init g c =
+    subst (λ (commits : List CommitOf). TellsOn (g.W.Sink.taken c.args.writer.now) (g.W.Sink.taken c.args.writer.now)
+    commits c.args.voice.now
+    (started_telling g.P.Publishing.checked c.args.started.0 c.args.started.1 copy_both_response))
+    (sym (ap (map (λ commit. arc_value commit)) c.new-taken.ensures.items))
+    (tells_first (g.W.Sink.taken c.args.writer.now) (g.W.Sink.taken c.args.writer.now)
+    (started_telling g.P.Publishing.checked c.args.started.0 c.args.started.1 copy_both_response) c.args.voice.now
+    (All-nil IsClocked) c.requires)
+
+pub loop-preserved-in-Sent : goal.loop-preserved-in-Sent
+loop-preserved-in-Sent g c =
+    let taken = g.W.Sink.taken in
+    let told = started_telling g.P.Publishing.checked c.args.started.0 c.args.started.1 copy_both_response in
+    tells_entry (λ commit. arc_value commit) (taken c.args.writer.now) (taken c.loop.writer)
+    (taken c.await_step.new.writer) told c.loop.taken.items c.reserve.new.self.items c.loop.voice
+    c.await_step.new.voice c.loop.invariant c.await_step.ensures.flushes c.reserve.ensures.items
+    c.push_reserved.new.self.items c.in-Entry.commit c.deref.result.now c.take_entry.new.self
+    c.next-in-loop.result c.in-Some-next.number c.clock.result c.clock.ensures c.next-in-loop.ensures
+    c.in-Some-next.is (subst (IsNext c.in-Some-next.number) c.in-Entry.is c.in-Ok.ensures.next) c.deref.ensures
+    c.in-Ok-take_entry.ensures.ok c.push_reserved.ensures.items
+
+pub loop-preserved-in_default-told : goal.loop-preserved-in_default-told
+loop-preserved-in_default-told g c =
+    let taken = g.W.Sink.taken in
+    let told = started_telling g.P.Publishing.checked c.args.started.0 c.args.started.1 copy_both_response in
+    tells_entry (λ commit. arc_value commit) (taken c.args.writer.now) (taken c.loop.writer)
+    (taken c.await_step.new.writer) told c.loop.taken.items c.reserve.new.self.items c.loop.voice
+    c.await_step.new.voice c.loop.invariant c.await_step.ensures.flushes c.reserve.ensures.items
+    c.push_reserved.new.self.items c.in-Entry.commit c.deref.result.now c.take_entry.new.self
+    c.next-in-loop.result c.in-Some-next.number c.clock.result c.clock.ensures c.next-in-loop.ensures
+    c.in-Some-next.is (subst (IsNext c.in-Some-next.number) c.in-Entry.is c.in-Ok.ensures.next) c.deref.ensures
+    c.in-Ok-take_entry.ensures.ok c.push_reserved.ensures.items
+
+pub loop-preserved : goal.loop-preserved
+loop-preserved g c =
+    let taken = g.W.Sink.taken in
+    let told = started_telling g.P.Publishing.checked c.args.started.0 c.args.started.1 copy_both_response in
+    tells_reply (λ commit. arc_value commit) (taken c.args.writer.now) (taken c.loop.writer)
+    (taken c.await_step.new.writer) told c.loop.taken.items c.reserve.new.self.items c.loop.voice
+    c.await_step.new.voice c.loop.invariant c.await_step.ensures.flushes c.reserve.ensures.items
+    c.keepalive.new.self c.clock-in-Reply.result false c.clock-in-Reply.ensures
+    (on_ok c.keepalive.result c.is_err-in-Reply.result _ c.is_err-in-Reply.ensures.value c.if-is_err-2.false
+    c.keepalive.ensures.ok)
+
+pub returns-in_default-await_step-clause-tells : goal.returns-in_default-await_step-clause-tells
+returns-in_default-await_step-clause-tells g c =
+    let taken = g.W.Sink.taken in
+    let told = started_telling g.P.Publishing.checked c.args.started.0 c.args.started.1 copy_both_response in
+    breaks_kept (λ commit. arc_value commit) (taken c.args.writer.now) (taken c.loop.writer)
+    (taken c.await_step.new.writer) told c.loop.taken.items c.reserve.new.self.items c.loop.voice
+    c.await_step.new.voice c.loop.invariant c.await_step.ensures.flushes c.reserve.ensures.items
+
+pub returns-in_default-take_entry-clause-tells : goal.returns-in_default-take_entry-clause-tells
+returns-in_default-take_entry-clause-tells g c =
+    let taken = g.W.Sink.taken in
+    let told = started_telling g.P.Publishing.checked c.args.started.0 c.args.started.1 copy_both_response in
+    breaks_at (λ commit. arc_value commit) (taken c.args.writer.now) (taken c.loop.writer)
+    (taken c.await_step.new.writer) told c.loop.taken.items c.reserve.new.self.items c.loop.voice
+    c.await_step.new.voice c.loop.invariant c.await_step.ensures.flushes c.reserve.ensures.items
+    c.take_entry.new.self c.in_default-take_entry.ensures.err
+
+pub returns-then-is_err-2-clause-tells : goal.returns-then-is_err-2-clause-tells
+returns-then-is_err-2-clause-tells g c =
+    let taken = g.W.Sink.taken in
+    let told = started_telling g.P.Publishing.checked c.args.started.0 c.args.started.1 copy_both_response in
+    breaks_at (λ commit. arc_value commit) (taken c.args.writer.now) (taken c.loop.writer)
+    (taken c.await_step.new.writer) told c.loop.taken.items c.reserve.new.self.items c.loop.voice
+    c.await_step.new.voice c.loop.invariant c.await_step.ensures.flushes c.reserve.ensures.items
+    c.keepalive.new.self
+    (on_err c.keepalive.result c.is_err-in-Reply.result _ c.is_err-in-Reply.ensures.value c.if-is_err-2.true
+    c.keepalive.ensures.err)
+
+pub returns-in-Ended-clause-tells : goal.returns-in-Ended-clause-tells
+returns-in-Ended-clause-tells g c =
+    let taken = g.W.Sink.taken in
+    let told = started_telling g.P.Publishing.checked c.args.started.0 c.args.started.1 copy_both_response in
+    tells_kept (λ commit. arc_value commit) (taken c.args.writer.now) (taken c.loop.writer)
+    (taken c.await_step.new.writer) told c.loop.taken.items c.reserve.new.self.items c.loop.voice
+    c.await_step.new.voice c.loop.invariant c.await_step.ensures.flushes c.reserve.ensures.items
+
+pub returns-in-Finished-clause-tells : goal.returns-in-Finished-clause-tells
+returns-in-Finished-clause-tells g c =
+    let taken = g.W.Sink.taken in
+    let told = started_telling g.P.Publishing.checked c.args.started.0 c.args.started.1 copy_both_response in
+    tells_kept (λ commit. arc_value commit) (taken c.args.writer.now) (taken c.loop.writer)
+    (taken c.await_step.new.writer) told c.loop.taken.items c.reserve.new.self.items c.loop.voice
+    c.await_step.new.voice c.loop.invariant c.await_step.ensures.flushes c.reserve.ensures.items
+
+pub returns-in-OutOfMemory-clause-tells : goal.returns-in-OutOfMemory-clause-tells
+returns-in-OutOfMemory-clause-tells g c =
+    let taken = g.W.Sink.taken in
+    let told = started_telling g.P.Publishing.checked c.args.started.0 c.args.started.1 copy_both_response in
+    breaks_kept (λ commit. arc_value commit) (taken c.args.writer.now) (taken c.loop.writer)
+    (taken c.await_step.new.writer) told c.loop.taken.items c.reserve.new.self.items c.loop.voice
+    c.await_step.new.voice c.loop.invariant c.await_step.ensures.flushes c.reserve.ensures.items
