@@ -21,7 +21,8 @@ pub(crate) struct Board {
     pub(crate) port: u16,
     /// The greatest number of a commit that has returned.
     returned: AtomicU64,
-    /// How much each slot's client has got: the start of its stream counts one, and each commit one.
+    /// How much each slot's client has got: 1 at the start of its stream, and 1 more than the number of a commit after
+    /// that commit.
     got: Vec<AtomicU64>,
     /// How many clients are connected.
     connected: AtomicU64,

@@ -65,9 +65,16 @@ fn hear(stream: &mut TcpStream, subscriber: &mut Subscriber, piece: &mut [u8]) -
     subscriber.feed(&piece[..count]).ok()
 }
 
-/// How much it has got, where it is sent each commit.
+/// How much it has got.
 fn got(subscriber: &Subscriber) -> u64 {
     subscriber.position() / 64
+}
+
+/// Feeds the bytes to the subscriber, if there is one. How much it has got then, where its stream has started.
+pub(crate) fn hears(subscriber: &mut Option<Subscriber>, bytes: &[u8]) -> Option<u64> {
+    let subscriber = subscriber.as_mut()?;
+    subscriber.feed(bytes).ok()?;
+    Some(got(subscriber).max(1))
 }
 
 /// The first read of a client. It is slow where the board says so.

@@ -3,9 +3,11 @@
 ghost use Rattle.std.specs.Prelude.{◌≡◌, true};
 
 use crate::board::{Board, LOST};
+use crate::clients::{hears, subscriber};
 use crate::work::Hold;
 use senders::{Failed, Sink, Source};
 use std::time::Clock;
+use test_subscriber::Subscriber;
 
 /// What a client writes: some bytes, and then it waits until it has got so much, and closes; but where its writer has
 /// failed it goes on with statuses. Or the first read of it fails.
@@ -104,9 +106,9 @@ impl<C: Clock> Source for Asking<'_, C> {
     }
 }
 
-/// What a client reads, kept in memory. It has room for so many bytes and then fails, and takes at most so many at a
-/// time. It tells the board how much it has got: what is said at once is in a push of its own, or in several of which
-/// the last is taken whole.
+/// What a client reads, kept in memory, and its subscriber. It has room for so many bytes and then fails, and takes at
+/// most so many at a time. It tells the board how much it has got after each push of which it takes all. It counts pushes,
+/// and keeps the length of the longest one.
 #[derive(Drop)]
 pub(crate) struct Kept<'a, C> {
     clock: &'a C,
@@ -114,8 +116,11 @@ pub(crate) struct Kept<'a, C> {
     slot: usize,
     room: usize,
     most: usize,
-    whole: u64,
+    subscriber: Option<Subscriber>,
+    got: u64,
     pub(crate) bytes: Vec<u8>,
+    pub(crate) pushes: usize,
+    pub(crate) longest: usize,
     failed: bool,
 }
 
@@ -133,15 +138,18 @@ impl<'a, C: Clock> Kept<'a, C> {
             slot,
             room,
             most,
-            whole: 0,
+            subscriber: subscriber(board.alloc, board.work, slot),
+            got: 0,
             bytes: Vec::new(board.alloc),
+            pushes: 0,
+            longest: 0,
             failed: false,
         }
     }
 
     /// Holds the sender of the first slot in its first write after the start, where the board says so.
     fn hold(&self) {
-        if self.slot != 0 || self.whole != 1 {
+        if self.slot != 0 || self.got != 1 {
             return;
         }
         match self.board.hold {
@@ -162,12 +170,20 @@ impl<'a, C: Clock> Kept<'a, C> {
         Failed
     }
 
-    /// Tells how much was got.
-    fn tell(&mut self)
+    /// Hears these bytes, and tells how much was got where they are all of a push.
+    fn hear(&mut self, bytes: &[u8], are_all: bool)
         ensures { self.new.failed ≡ self.old.failed }
     {
-        self.whole = self.whole.saturating_add(1);
-        self.board.gets(self.slot, self.whole);
+        self.pushes = self.pushes.saturating_add(1);
+        self.longest = self.longest.max(bytes.len());
+        let Some(got) = hears(&mut self.subscriber, bytes) else {
+            self.board.fail();
+            return;
+        };
+        if are_all {
+            self.got = got;
+            self.board.gets(self.slot, got);
+        }
     }
 }
 
@@ -181,9 +197,7 @@ impl<C: Clock> Sink for Kept<'_, C> {
             return Err(self.fail());
         }
         self.room -= count;
-        if count == bytes.len() {
-            self.tell();
-        }
+        self.hear(&bytes[..count], count == bytes.len());
         Ok(count)
     }
 

@@ -4,6 +4,7 @@ ghost use Rattle.std.specs.Prelude.{◌≡◌};
 ghost use Rattle.std.specs.Arc.{arc_value};
 ghost use Rattle.shard_checker.specs.CheckedView.{checked_view};
 
+use crate::batches::expect_batches;
 use crate::closing::{Lacks, expect_answer};
 use crate::faults::expect_faults;
 use crate::sharding::{HALVES, HALVES_SPLIT, shards, shards_split};
@@ -28,6 +29,7 @@ enum Use {
     Sockets(Hold),
     Memory(Work, Hold),
     Faults,
+    Batches,
     Closing(Lacks),
 }
 
@@ -49,6 +51,7 @@ fn publish<
             memory::expect_served(rt, alloc, publisher, seats, work, hold)
         }
         Use::Faults => expect_faults(rt, alloc, &publisher, seats),
+        Use::Batches => expect_batches(rt, alloc, &publisher, seats),
         Use::Closing(lacks) => expect_answer(rt, alloc, publisher, seats, lacks),
     }
 }
@@ -98,6 +101,11 @@ fn each_of_32_connections_is_served_all(rt: HostRuntime) -> Result<(), Fail> {
 #[test]
 fn readers_and_writers_fail_at_each_byte(rt: HostRuntime) -> Result<(), Fail> {
     expect(&rt, rt.alloc(), HALVES, HALVES_SPLIT, Use::Faults)
+}
+
+#[test]
+fn commits_that_wait_are_written_at_once(rt: HostRuntime) -> Result<(), Fail> {
+    expect(&rt, rt.alloc(), HALVES, HALVES_SPLIT, Use::Batches)
 }
 
 #[test]

@@ -74,11 +74,11 @@ impl Work {
         }
     }
 
-    /// What each subscriber gets in the end: the start of its stream, and the commits that it is sent.
+    /// How much each subscriber has got in the end: 1 more than the number of the last commit, which each is sent.
     pub(crate) fn in_all(self) -> u64 {
         match self {
             Work::Pairs => 101,
-            Work::Spread => 329,
+            Work::Spread => 10_001,
         }
     }
 
