@@ -75,7 +75,7 @@ false_front : (next : ℕ) (rest : List ℕ) → EndsValue next → front (codes
 unfolding front word
 false_front next rest ends = elim ends [ inl e ↦ rw e refl | inr e ↦ rw e refl ]
 
-pub open_front : (rest : List ℕ) → front (40 ∷ rest) ≡ Whole Open 1
+open_front : (rest : List ℕ) → front (40 ∷ rest) ≡ Whole Open 1
 unfolding front
 open_front rest = refl
 
@@ -83,7 +83,7 @@ close_front : (rest : List ℕ) → front (41 ∷ rest) ≡ Whole Close 1
 unfolding front
 close_front rest = refl
 
-pub comma_front : (rest : List ℕ) → front (44 ∷ rest) ≡ Whole Comma 1
+comma_front : (rest : List ℕ) → front (44 ∷ rest) ≡ Whole Comma 1
 unfolding front
 comma_front rest = refl
 
