@@ -1,28 +1,27 @@
 -- Values of one kind that have the same order to a constant compare with it alike.
-use Rattle.std.proofs.Common.{◌≡◌, ℕ, ◌<◌, ◌≤◌, ℤ, pos, negsuc, Bool, true, false, not, ◌&&◌, List, [], ◌∷◌, refl, sym, ap, ◌∙◌, arith, T}
+use Rattle.std.proofs.Common.{◌≡◌, ℕ, ◌<◌, ◌≤◌, ℤ, pos, negsuc, Bool, true, false, not, List, [], ◌∷◌, refl, sym, ap, ◌∙◌, arith}
 use Rattle.std.specs.Prelude.{int_lt, int_le, nat_lt, nat_le}
 use Rattle.std.specs.Cmp.{both_ways}
 use Rattle.std.specs.Cmp.Lexicographic.{slice_cmp}
 use Rattle.std.specs.List.{list_any, list_all}
-use Rattle.std.specs.Ordering.{nat_cmp, int_cmp, bool_cmp, int_eq, is_eq, is_lt, is_gt}
-use Rattle.std.specs.Bool.{beq}
+use Rattle.std.specs.Ordering.{nat_cmp, int_cmp, bool_cmp, is_eq, is_lt, is_gt}
 use Rattle.std.specs.Str.{bytes_eq}
 use Rattle.std.proofs.lemmas.Bool.{ltb-true, lt-ltb, le-ltb, leb-true, leb-false}
 use Rattle.std.proofs.lemmas.Map.Text.{is_eq-slice_cmp}
 use Rattle.std.proofs.lemmas.Slice.Eq.{bytes_eq-Decides}
 use Rattle.std.specs.declared.cmp.Ordering.{Ordering}
-use Rattle.std.specs.declared.cmp.Ordering.TheVariants.{Less, Equal, Greater}
-use Rattle.filter_tree.specs.Compare.{compare_numbers_of, compare_truths_of, compare_texts_of, compare_known, compare_of, equals, among_of, between_of, distinct_of}
+use Rattle.filter_tree.specs.Compare.{compare_numbers_of, compare_truths_of, compare_texts_of, compare_known, compare_of, equals, among_of, distinct_of}
 use Rattle.filter_tree.specs.Datum.{Constant, Number, Truth, Bytes, Datum, Missing, Known}
 use Rattle.filter_tree.specs.Expr.{AtomOf, Cmp, IsNull, In, Between, Distinct, is_missing, said_of}
-use Rattle.filter_tree.specs.Logic.{and_of, tri_of}
-use Rattle.filter_tree.specs.Order.{rank_of, datum_cmp}
+use Rattle.filter_tree.specs.Logic.{tri_of}
+use Rattle.filter_tree.specs.Order.{datum_cmp}
 use Rattle.filter_tree.specs.declared.filter.Op.{Op}
 use Rattle.filter_tree.specs.declared.filter.Op.TheVariants.{Eq, Ne, Lt, Le, Gt, Ge}
 use Rattle.filter_tree.specs.declared.value.Value.{Value}
 use Rattle.filter_tree.proofs.OrderLemmas.{orders_values}
 use Rattle.filter_tree.proofs.Tests.{by_test, both_true}
 use Rattle.filter_memo.specs.Covering.{has, has_constants}
+use Rattle.filter_memo.specs.Places.{kind_of}
 
 -- ---- numbers
 
@@ -115,7 +114,7 @@ texts_alike op s t u h = texts_by op s t u (equal_texts s u ∙ (ap is_eq h ∙ 
 
 -- ---- values
 
-known_alike : (op : Op) (v w k : Constant) → rank_of (Known v) ≡ rank_of (Known w)
+known_alike : (op : Op) (v w k : Constant) → kind_of (Known v) ≡ kind_of (Known w)
     → datum_cmp (Known k) (Known v) ≡ datum_cmp (Known k) (Known w) → compare_known op v k ≡ compare_known op w k
 known_alike op (Number m) (Number n) (Number j) r h =
     numbers_alike op m n j (sym (orders_values.numbers j m) ∙ (h ∙ orders_values.numbers j n))
@@ -136,12 +135,12 @@ known_alike op (Truth p) (Bytes t) k r h = absurd cc
 known_alike op (Bytes s) (Number n) k r h = absurd cc
 known_alike op (Bytes s) (Truth q) k r h = absurd cc
 
-not_null : (k : Constant) → rank_of (Known k) ≡ rank_of Missing → ⊥
+not_null : (k : Constant) → kind_of (Known k) ≡ kind_of Missing → ⊥
 not_null (Number n) r = absurd cc
 not_null (Truth t) r = absurd cc
 not_null (Bytes s) r = absurd cc
 
-module _ {A : _} (bounds : List (Value A)) (v w : Datum) (kind : rank_of v ≡ rank_of w)
+module _ {A : _} (bounds : List (Value A)) (v w : Datum) (kind : kind_of v ≡ kind_of w)
     (side : (k : Constant) → has bounds k ≡ true → datum_cmp (Known k) v ≡ datum_cmp (Known k) w) where
   -- values of one kind are both null, or neither is
   by_kind : {X : Type 0} (f : Datum → X) → ((a b : Constant) → v ≡ Known a → w ≡ Known b → f (Known a) ≡ f (Known b))
@@ -149,13 +148,13 @@ module _ {A : _} (bounds : List (Value A)) (v w : Datum) (kind : rank_of v ≡ r
   by_kind f known = by_cases v w refl refl where
     by_cases : (x y : Datum) → v ≡ x → w ≡ y → f v ≡ f w
     by_cases Missing Missing p q = ap f (p ∙ sym q)
-    by_cases Missing (Known b) p q = absurd (not_null b (sym (ap rank_of q) ∙ (sym kind ∙ ap rank_of p)))
-    by_cases (Known a) Missing p q = absurd (not_null a (sym (ap rank_of p) ∙ (kind ∙ ap rank_of q)))
+    by_cases Missing (Known b) p q = absurd (not_null b (sym (ap kind_of q) ∙ (sym kind ∙ ap kind_of p)))
+    by_cases (Known a) Missing p q = absurd (not_null a (sym (ap kind_of p) ∙ (kind ∙ ap kind_of q)))
     by_cases (Known a) (Known b) p q = ap f p ∙ (known a b p q ∙ sym (ap f q))
 
   known_side : (op : Op) (k : Constant) → has bounds k ≡ true → (a b : Constant) → v ≡ Known a → w ≡ Known b
       → compare_known op a k ≡ compare_known op b k
-  known_side op k h a b p q = known_alike op a b k (sym (ap rank_of p) ∙ (kind ∙ ap rank_of q))
+  known_side op k h a b p q = known_alike op a b k (sym (ap kind_of p) ∙ (kind ∙ ap kind_of q))
       (sym (ap (datum_cmp (Known k)) p) ∙ (side k h ∙ ap (datum_cmp (Known k)) q))
 
   compare_alike : (op : Op) (k : Constant) → has bounds k ≡ true → compare_of op v k ≡ compare_of op w k

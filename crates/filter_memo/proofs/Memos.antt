@@ -1,14 +1,14 @@
 -- Rows at the same places have the same text.
-use Rattle.std.proofs.Common.{◌≡◌, ℕ, Bool, true, false, ◌&&◌, ◌||◌, List, [], ◌∷◌, ◌++◌, ◌<◌, length, get_or, refl, sym, ap, subst, ◌∙◌, All, arith}
-use Rattle.std.specs.Prelude.{Option, Some, None, slice_get}
+use Rattle.std.proofs.Common.{◌≡◌, ℕ, true, ◌&&◌, List, [], ◌∷◌, ◌<◌, length, get_or, refl, sym, ap, subst, ◌∙◌}
+use Rattle.std.specs.Prelude.{Some, None, slice_get}
 use Rattle.std.specs.String.{string_bytes}
 use Rattle.std.proofs.lemmas.Option.{get_or_from_slice_get, slice_get_within}
-use Rattle.std.specs.List.{list_any, list_all}
+use Rattle.std.specs.List.{list_all}
 use Rattle.std.specs.List.Sorted.{IsSorted}
 use Rattle.std.proofs.lemmas.List.Elements.{All-nil, All-cons, All-head, All-tail}
 use Rattle.filter_tree.specs.Datum.{Datum}
 use Rattle.filter_tree.specs.Expr.{AtomOf, term_of, term_value, atom_meaning, said_of, Expr, Const, Atom, Not, And, Or, Is, meaning}
-use Rattle.filter_tree.specs.Logic.{and_of, or_of, not_of, is_of}
+use Rattle.filter_tree.specs.Logic.{not_of, is_of}
 use Rattle.filter_tree.specs.Same.{same_term}
 use Rattle.filter_tree.proofs.SameLemmas.{same_term_is}
 use Rattle.filter_tree.proofs.Tests.{by_test, both_true}

@@ -1,13 +1,13 @@
 -- Values at one place have the same order to each bound.
-use Rattle.std.proofs.Common.{◌≡◌, ℕ, zero, ◌<◌, ◌≤◌, Bool, true, false, List, [], ◌∷◌, length, refl, sym, ap, subst, ◌∙◌, arith}
-use Rattle.std.specs.Prelude.{◌⊎◌, slice_index_or}
+use Rattle.std.proofs.Common.{◌≡◌, ℕ, ◌<◌, true, List, [], ◌∷◌, length, refl, sym, ap, subst, ◌∙◌, arith}
+use Rattle.std.specs.Prelude.{Result, Ok, Err, slice_index_or}
 use Rattle.std.proofs.Common.{inl, inr}
 use Rattle.std.specs.Cmp.{Equal-is}
 use Rattle.std.specs.List.Sorted.{IsSorted, IsBinarySearchResult}
 use Rattle.std.specs.Ordering.{eq_by_cmp}
 use Rattle.std.proofs.lemmas.Bool.{cases_lt}
 use Rattle.std.proofs.lemmas.List.Sorted.{searchable_from_sorted}
-use Rattle.std.specs.declared.cmp.Ordering.TheVariants.{Less, Equal, Greater}
+use Rattle.std.specs.declared.cmp.Ordering.TheVariants.{Equal}
 use Rattle.filter_tree.specs.Datum.{Constant, Datum, Known}
 use Rattle.filter_tree.specs.Order.{datum_cmp, row_cmp}
 use Rattle.filter_tree.specs.Values.{datum_view}
@@ -15,7 +15,7 @@ use Rattle.filter_tree.specs.declared.value.Value.{Value}
 use Rattle.filter_tree.specs.declared.value.Value.TheVariants.{Null}
 use Rattle.filter_tree.proofs.OrderLemmas.{datum_total, row_tie}
 use Rattle.filter_memo.specs.Covering.{has}
-use Rattle.filter_memo.specs.Places.{value_cmp, searched, IsPlace}
+use Rattle.filter_memo.specs.Places.{value_cmp, IsPlace}
 use Rattle.filter_memo.specs.declared.place.Place.{Place}
 use Rattle.filter_memo.proofs.Finding.{index_of}
 
@@ -28,16 +28,15 @@ tied v w e =
 
 module _ {A : _} (bounds : List (Value A)) (sorted : IsSorted value_cmp bounds) (v w : Datum) where
   -- of a bound both are on one side
-  side_at : (is_bound : Bool) (index : ℕ)
-      → IsBinarySearchResult (λ bound. datum_cmp (datum_view bound) v) bounds (searched is_bound index)
-      → IsBinarySearchResult (λ bound. datum_cmp (datum_view bound) w) bounds (searched is_bound index)
+  side_at : (found : Result ℕ ℕ) → IsBinarySearchResult (λ bound. datum_cmp (datum_view bound) v) bounds found
+      → IsBinarySearchResult (λ bound. datum_cmp (datum_view bound) w) bounds found
       → (place : ℕ) → place < length bounds
       → datum_cmp (datum_view (slice_index_or bounds place Null)) v
       ≡ datum_cmp (datum_view (slice_index_or bounds place Null)) w
-  side_at true index at_v at_w place within =
+  side_at (Ok index) at_v at_w place within =
       let same : v ≡ w = sym (tied _ _ (at_v Null)) ∙ tied _ _ (at_w Null) in
       ap (λ datum. datum_cmp (datum_view (slice_index_or bounds place Null)) datum) same
-  side_at false index at_v at_w place within =
+  side_at (Err index) at_v at_w place within =
       let of_v = at_v (searchable_from_sorted datum_total (λ bound. datum_view bound) bounds v sorted) in
       let of_w = at_w (searchable_from_sorted datum_total (λ bound. datum_view bound) bounds w sorted) in
       elim (cases_lt place index) [
@@ -53,4 +52,4 @@ module _ {A : _} (bounds : List (Value A)) (sorted : IsSorted value_cmp bounds) 
       let is : datum_view (slice_index_or bounds bound.0 Null) ≡ Known constant =
       tied _ _ ((Equal-is _).0 (bound.1.1 Null)) in
       subst (λ datum. datum_cmp datum v ≡ datum_cmp datum w) is
-      (side_at place.is_bound place.index at_v.found at_w.found bound.0 bound.1.0)
+      (side_at place.found at_v.found at_w.found bound.0 bound.1.0)

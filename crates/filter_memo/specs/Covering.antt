@@ -1,9 +1,9 @@
 -- Which filters compare the terms of scales with nothing but the scales' bounds: row filters of PostgreSQL 15, "Logical
 -- Replication", 31.3 Row Filters.
-use Rattle.std.specs.Prelude.{Bool, true, ◌&&◌, List, [], ◌∷◌}
+use Rattle.std.specs.Prelude.{Bool, true, ◌&&◌, List}
 use Rattle.std.specs.List.{list_any, list_all}
 use Rattle.std.specs.Ordering.{eq_by_cmp}
-use Rattle.filter_tree.specs.Datum.{Constant, Number, Datum, Known}
+use Rattle.filter_tree.specs.Datum.{Constant, Number, Known}
 use Rattle.filter_tree.specs.Expr.{AtomOf, Cmp, IsNull, In, Between, Distinct, term_of, Expr, Const, Atom, Not, And, Or, Is}
 use Rattle.filter_tree.specs.Order.{datum_cmp}
 use Rattle.filter_tree.specs.Same.{same_term}

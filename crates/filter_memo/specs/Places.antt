@@ -1,14 +1,16 @@
 -- Where a value lies among sorted values: its kind, and where a binary search in the order of values (PostgreSQL 15,
 -- 7.5 Sorting Rows) finds it, or ends.
-use Rattle.std.specs.Prelude.{◌≡◌, ℕ, Bool, true, false, List, [], ◌∷◌, ◌++◌, Result, Ok, Err, All}
+use Rattle.std.specs.Prelude.{◌≡◌, List, [], ◌∷◌, ◌++◌, All}
 use Rattle.std.specs.List.Sorted.{IsSorted, IsBinarySearchResult}
 use Rattle.std.specs.Ordering.{on}
 use Rattle.std.specs.declared.cmp.Ordering.{Ordering}
-use Rattle.filter_tree.specs.Datum.{Datum}
+use Rattle.filter_tree.specs.Datum.{Number, Truth, Bytes, Datum, Missing, Known}
 use Rattle.filter_tree.specs.Expr.{term_value}
-use Rattle.filter_tree.specs.Order.{datum_cmp, rank_of}
+use Rattle.filter_tree.specs.Order.{datum_cmp}
 use Rattle.filter_tree.specs.Values.{datum_view}
 use Rattle.filter_tree.specs.declared.value.Value.{Value}
+use Rattle.filter_memo.specs.declared.place.Kind.{Kind}
+use Rattle.filter_memo.specs.declared.place.Kind.TheVariants.{Null, Int, Bool, Text}
 use Rattle.filter_memo.specs.declared.place.Place.{Place}
 use Rattle.filter_memo.specs.declared.scale.Scale.{Scale}
 
@@ -19,15 +21,15 @@ value_cmp = on (λ value. datum_view value) datum_cmp
 abbrev pub AreSorted : List Scale → Type 0
 AreSorted scales = All (λ scale. IsSorted value_cmp scale.bounds.items) scales
 
--- what a search answers: the place of a bound that is the value, or where the value would be put
-abbrev pub searched : Bool → ℕ → Result ℕ ℕ
-searched true index = Ok index
-searched false index = Err index
+abbrev pub kind_of : Datum → Kind
+kind_of Missing = Null
+kind_of (Known (Number number)) = Int
+kind_of (Known (Truth truth)) = Bool
+kind_of (Known (Bytes bytes)) = Text
 
 pub record IsPlace {A : _} (bounds : List (Value A)) (datum : Datum) (place : Place) : Type 0 where
-  pub kind : place.kind ≡ rank_of datum
-  pub found : IsBinarySearchResult (λ bound. datum_cmp (datum_view bound) datum) bounds
-      (searched place.is_bound place.index)
+  pub kind : place.kind ≡ kind_of datum
+  pub found : IsBinarySearchResult (λ bound. datum_cmp (datum_view bound) datum) bounds place.found
 
 -- on each scale the place of its term's value in the row
 abbrev pub ArePlaces : List Scale → List Datum → List Place → Type 0

@@ -8,7 +8,7 @@ ghost use Rattle.filter_memo.specs.Places.{ArePlaces};
 use crate::bounds::scales_of;
 use crate::covering::covers_all;
 use crate::locating::push_places;
-use crate::place::{Place, same_places};
+use crate::place::{Kind, Place, same_places};
 use crate::scale::Scale;
 use filter_tree::{Filter, Row};
 use std::alloc::{AllocError, Global};
@@ -54,14 +54,11 @@ fn width(scale: &Scale) -> usize {
 
 /// The number of a place on its scale, which places of one kind and of null do not share.
 fn number_of(place: &Place) -> usize {
-    if place.kind == 0 {
-        return 0;
+    match (place.kind, place.found) {
+        (Kind::Null, _) => 0,
+        (Kind::Int | Kind::Bool | Kind::Text, Err(index)) => index.wrapping_mul(2).wrapping_add(1),
+        (Kind::Int | Kind::Bool | Kind::Text, Ok(index)) => index.wrapping_mul(2).wrapping_add(2),
     }
-    place
-        .index
-        .wrapping_mul(2)
-        .wrapping_add(1)
-        .wrapping_add(usize::from(place.is_bound))
 }
 
 /// How many slots there are: one for each list of places, if these are not too many.

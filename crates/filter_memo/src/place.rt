@@ -1,29 +1,38 @@
 //! Places of values among sorted values.
 
 ghost use Rattle.std.specs.Prelude.{◌≡◌, IsTrue};
-ghost use Rattle.filter_tree.specs.Order.{rank_of};
 ghost use Rattle.filter_tree.specs.Values.{datum_view};
-ghost use Rattle.filter_memo.specs.Places.{IsPlace};
+ghost use Rattle.filter_memo.specs.Places.{IsPlace, kind_of};
 
 use filter_tree::Value;
 
-/// Where a value lies among bounds: it is the bound at the index, or would be put there.
+/// What a value is: null, or a constant of one of three kinds.
 #[derive(Clone, Copy, Debug, PartialEq, Eq)]
-pub struct Place {
-    pub kind: u8,
-    pub is_bound: bool,
-    pub index: usize,
+pub enum Kind {
+    Null,
+    Int,
+    Bool,
+    Text,
 }
 
-/// A number for each kind of value, 0 for null.
-fn kind_of(value: &Value) -> u8
-    ensures { result ≡ rank_of (datum_view value.now) }
-{
-    match value {
-        Value::Null => 0,
-        Value::Int(_) => 1,
-        Value::Bool(_) => 2,
-        Value::Text(_) => 3,
+/// Where a value lies among bounds: its kind, and the index of the bound that it is, or at which it would be put.
+#[derive(Clone, Copy, Debug, PartialEq, Eq)]
+pub struct Place {
+    pub kind: Kind,
+    pub found: Result<usize, usize>,
+}
+
+impl Kind {
+    /// The kind of the value.
+    fn of(value: &Value) -> Kind
+        ensures { result ≡ kind_of (datum_view value.now) }
+    {
+        match value {
+            Value::Null => Kind::Null,
+            Value::Int(_) => Kind::Int,
+            Value::Bool(_) => Kind::Bool,
+            Value::Text(_) => Kind::Text,
+        }
     }
 }
 
@@ -31,18 +40,9 @@ fn kind_of(value: &Value) -> u8
 pub fn place_of(bounds: &[Value], value: &Value) -> Place
     ensures { IsPlace bounds.now (datum_view value.now) result }
 {
-    let kind = kind_of(value);
-    match bounds.binary_search(value) {
-        Ok(index) => Place {
-            kind,
-            is_bound: true,
-            index,
-        },
-        Err(index) => Place {
-            kind,
-            is_bound: false,
-            index,
-        },
+    Place {
+        kind: Kind::of(value),
+        found: bounds.binary_search(value),
     }
 }
 
