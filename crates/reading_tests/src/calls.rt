@@ -1,5 +1,6 @@
 //! Calls that many tests make, under names of their own: a function without a contract costs the prover less.
 
+use filter_memo::{Memo, Places};
 use filter_tree::{Filter, Row, Text, Tri, copy_in, copy_row, eval, same_row};
 use pub_catalog::Catalog;
 use pub_reader::{ReadError, read_catalog};
@@ -49,6 +50,30 @@ pub fn says(filter: &Filter, row: &Row) -> Tri {
 /// What a filter says of the row that a text spells.
 pub fn said(alloc: Global, filter: &Filter, spelling: &str) -> Result<Tri, ReadError> {
     Ok(says(filter, &row_of(alloc, spelling)?))
+}
+
+/// A memo of what these filters say.
+pub fn memo_of(alloc: Global, filters: &[Filter]) -> Result<Memo, AllocError> {
+    let mut listed = Vec::new(alloc);
+    for filter in filters {
+        listed.push(filter)?;
+    }
+    Memo::new(alloc, listed.as_slice())
+}
+
+/// The places become those of the row.
+pub fn locate(memo: &Memo, places: &mut Places, row: &Row) -> Result<(), AllocError> {
+    memo.locate(places, row)
+}
+
+/// The text that the memo has of the places.
+pub fn found<'a>(memo: &'a Memo, places: &Places) -> Option<&'a str> {
+    memo.text(places)
+}
+
+/// The memo keeps the text of the places.
+pub fn keep(memo: &mut Memo, places: &Places, text: &str) -> Result<(), AllocError> {
+    memo.keep(places, text)
 }
 
 /// The limit that these filters pass.

@@ -1,4 +1,5 @@
 mod limits;
+mod memos;
 mod order;
 mod validity;
 
