@@ -19,7 +19,8 @@ BUILT = TESTING.parent.parent / "crates" / "refused_calls" / "out" / "refused_ca
 NAMED = os.environ.get("REFUSED_CALLS")
 
 CALLS = [
-    "Book::commit", "Link::take", "Link::hear", "Subscriber::feed", "World::step", "make", "Publisher::commit", "serve"]
+    "Book::commit", "Link::take", "Link::hear", "Subscriber::feed", "World::step", "make", "Memo", "Publisher::commit",
+    "serve"]
 
 # How long the program may take.
 SECONDS = 120

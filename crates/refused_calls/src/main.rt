@@ -16,6 +16,7 @@ mod connections;
 mod feeds;
 mod hears;
 mod makes;
+mod memos;
 mod publishers;
 mod refusals;
 mod serves;
@@ -43,6 +44,7 @@ enum Call {
     Feed,
     Step,
     Make,
+    Memo,
     SessionCommit,
     Serve,
 }
@@ -55,6 +57,7 @@ const CALLS: &[(Call, &str)] = &[
     (Call::Feed, "Subscriber::feed"),
     (Call::Step, "World::step"),
     (Call::Make, "make"),
+    (Call::Memo, "Memo"),
     (Call::SessionCommit, "Publisher::commit"),
     (Call::Serve, "serve"),
 ];
@@ -73,6 +76,7 @@ fn is_refused<R: Threads + Wait + Clock + Sync>(
         Call::Feed => feeds::is_refused(alloc, number),
         Call::Step => worlds::is_refused(alloc, number),
         Call::Make => makes::is_refused(alloc, number),
+        Call::Memo => memos::is_refused(alloc, number),
         Call::SessionCommit => sessions::is_refused(rt, alloc, number),
         Call::Serve => serves::is_refused(rt, alloc, number),
     }

@@ -1,0 +1,116 @@
+//! `Memo::new`, `Memo::locate` and `Memo::keep`.
+
+use crate::commands::row;
+use crate::refusals::{end_refusals, refuse};
+use anyhow::{Result, ensure};
+use filter_memo::{Memo, Places};
+use filter_tree::{Filter, Row};
+use pub_catalog::Catalog;
+use pub_reader::read_catalog;
+use std::alloc::{AllocError, Global};
+
+/// Filters of a number, its remainder, a text and a truth value.
+const CATALOG: &str = "CREATE TABLE t (id integer PRIMARY KEY, region text, is_open boolean);
+CREATE PUBLICATION near FOR TABLE t WHERE (id < 100 AND region IN ('as', 'eu'));
+CREATE PUBLICATION odd FOR TABLE t WHERE (id % 7 = 3 OR is_open IS DISTINCT FROM TRUE);";
+
+/// Rows, each with the publications that carry it. The first two lie at the same places.
+const ROWS: &[(&str, &str)] = &[
+    ("(7, 'eu', TRUE)", "near"),
+    ("(8, 'eu', TRUE)", "near"),
+    ("(10, 'eu', TRUE)", "near and odd"),
+    ("(100, 'eu', TRUE)", ""),
+    ("(7, 'us', TRUE)", ""),
+    ("(200, NULL, NULL)", "odd"),
+];
+
+fn rows(alloc: Global) -> Result<Vec<(Row, &'static str)>> {
+    let mut rows = Vec::new(alloc);
+    for (spelling, text) in ROWS {
+        rows.push((row(alloc, spelling)?, *text))?;
+    }
+    Ok(rows)
+}
+
+fn filters(alloc: Global, catalog: &Catalog) -> Result<Vec<&Filter>> {
+    let mut filters = Vec::new(alloc);
+    for publication in &catalog.publications {
+        for entry in &publication.entries {
+            if let Some(filter) = &entry.filter {
+                filters.push(filter)?;
+            }
+        }
+    }
+    Ok(filters)
+}
+
+/// Whether the text that is found is the row's. Where none is found, the row's is kept.
+fn is_told(
+    memo: &mut Memo,
+    places: &mut Places,
+    row: &Row,
+    text: &str,
+) -> Result<bool, AllocError> {
+    memo.locate(places, row)?;
+    if let Some(found) = memo.text(places) {
+        return Ok(found == text);
+    }
+    memo.keep(places, text)?;
+    Ok(true)
+}
+
+/// Whether no row has the text of another one.
+fn are_told(
+    memo: &mut Memo,
+    places: &mut Places,
+    rows: &[(Row, &str)],
+) -> Result<bool, AllocError> {
+    for (row, text) in rows {
+        if !is_told(memo, places, row, *text)? {
+            return Ok(false);
+        }
+    }
+    Ok(true)
+}
+
+/// That the text of each row is found.
+fn check_found(memo: &Memo, places: &mut Places, rows: &[(Row, &str)]) -> Result<()> {
+    for (row, text) in rows {
+        memo.locate(places, row)?;
+        ensure!(
+            memo.text(places) == Some(*text),
+            "the text {text:?} is not found"
+        );
+    }
+    Ok(())
+}
+
+/// Makes a memo and tells the rows' texts with the request of this number refused, and tests what follows: the memo, or
+/// a new one where there is none, has no text for a row but its own, and keeps all of them. Whether it was refused.
+pub fn is_refused(alloc: Global, number: u16) -> Result<bool> {
+    let catalog = read_catalog(alloc, CATALOG)?;
+    let filters = filters(alloc, &catalog)?;
+    let rows = rows(alloc)?;
+    let mut places = Places::new(alloc);
+    refuse(alloc, number)?;
+    let mut made = Memo::new(alloc, &filters).ok();
+    let told = match &mut made {
+        Some(memo) => are_told(memo, &mut places, &rows),
+        None => Err(AllocError),
+    };
+    let was_refused = end_refusals(alloc)?;
+    match told {
+        Ok(is_right) => ensure!(is_right, "a row has another one's text"),
+        Err(AllocError) => ensure!(was_refused, "memory is refused without a cause"),
+    }
+    let mut memo = match made {
+        Some(memo) => memo,
+        None => Memo::new(alloc, &filters)?,
+    };
+    ensure!(
+        are_told(&mut memo, &mut places, &rows)?,
+        "after the refusal a row has another one's text"
+    );
+    check_found(&memo, &mut places, &rows)?;
+    Ok(was_refused)
+}
