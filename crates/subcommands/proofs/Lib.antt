@@ -1,16 +1,7 @@
-pub mod Answering
-pub mod BadLines
-pub mod Digits
-pub mod Evaluating
 pub mod Exits
-pub mod Faults
-pub mod FindingLines
 pub mod Invocations
 pub mod RequestLemmas
-pub mod RowLines
-pub mod Saying
 pub mod ScriptLengths
 pub mod ScriptLines
 pub mod Simulating
 pub mod StepLines
-pub mod Verdicts

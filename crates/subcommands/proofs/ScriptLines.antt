@@ -1,6 +1,6 @@
 -- The lines of the steps of a script are written, step after step.
 use Rattle.std.proofs.Common.{◌≡◌, ℕ, ◌+◌, ◌<◌, ◌≤◌, inl, inr, ◌⊎◌, List, [], ◌∷◌, ◌++◌, length, map, drop, get_or, Option, refl, sym, ap, subst, ◌∙◌, append_assoc}
-use Rattle.std.specs.Prelude.{IsErrAnd, Result, Ok, Err}
+use Rattle.std.specs.Prelude.{IfErr, IsErrAnd, OnOk, Result, Ok, Err}
 use Rattle.std.proofs.lemmas.List.{at_drop_all, at_drop_more, length_push}
 use Rattle.std.proofs.lemmas.List.Concat.{flat_map-append}
 use Rattle.std.specs.Io.KnownBytes.{Appends}
@@ -8,6 +8,7 @@ use Rattle.std.proofs.KnownBytes.{Appends-nil, Appends-trans}
 use Rattle.pub_reader.specs.Scripts.{LineOf}
 use Rattle.pub_reader.specs.ScriptView.{line_view}
 use Rattle.pub_reader.specs.declared.script.Line.{Line}
+use Rattle.pub_statements.specs.Steps.{StepOf}
 use Rattle.shard_checker.specs.CheckedView.{CheckedOf}
 use Rattle.shard_world.specs.World as w
 use Rattle.shard_world.specs.WorldCalls.{IsWorld, world_checked}
@@ -15,11 +16,41 @@ use Rattle.shard_world.specs.declared.world.World.{World}
 use Rattle.program_parts.proofs.Writing.{first_after, unwritten}
 use Rattle.program_parts.specs.Output.{StopsText, WritesFirst, ended, text_of}
 use Rattle.subcommands.specs.Simulate.Steps.{IsStep, AreSteps, NoStep, OneMore, AreSomeSteps}
-use Rattle.subcommands.specs.Simulate.WorldSteps.{AreAllLines, AreBegunLines, MakesInto, MakesOn, WritesSteps}
+use Rattle.subcommands.specs.Simulate.WorldSteps.{AreAllLines, AreBegunLines, MakesInto, MakesOn, StopsStep, WritesStep, WritesSteps}
 use Rattle.program_parts.specs.declared.failure.Failure.{Failure}
 use Rattle.program_parts.specs.declared.failure.Failure.TheVariants as f
 use Rattle.program_parts.specs.declared.failure.Status.{Status}
 use Rattle.program_parts.specs.declared.failure.Status.TheVariants.{Done}
+
+-- ---- the text of one step
+
+module _ (before after : World) (now : ℕ) (step : StepOf) (text : List ℕ) (old new : Option (List ℕ))
+    (makes : MakesOn before after now step text) where
+  stopped : (failure : Failure) → StopsText text old new failure → StopsStep before after now step old new failure
+  stopped f.Output stops = record { text = text; makes = makes; first = stops }
+  stopped f.OutOfMemory stops = stops
+  stopped (f.CommandLine why) stops = absurd stops
+  stopped (f.Input fault) stops = absurd stops
+
+  pub step_written : {T : Type 0} (result : Result T Failure) → OnOk result (Appends old new text)
+      → OnOk result (WritesStep before after now step old new)
+  step_written (Ok given) appends = record { text = text; makes = makes; appends = appends }
+  step_written (Err failure) appends = tt
+
+  pub step_stopped : {T : Type 0} (result : Result T Failure) → IfErr result (StopsText text old new)
+      → IfErr result (StopsStep before after now step old new)
+  step_stopped (Ok given) stops = tt
+  step_stopped (Err failure) stops = stopped failure stops
+
+-- for want of memory nothing is written
+pub step_unmade : {T : Type 0} (before after : World) (now : ℕ) (step : StepOf) (known : Option (List ℕ))
+    (result : Result T Failure) → IsErrAnd result (λ failure. failure ≡ f.OutOfMemory)
+    → IfErr result (StopsStep before after now step known known)
+step_unmade before after now step known (Ok given) is = tt
+step_unmade before after now step known (Err failure) is =
+    subst (λ (failed : Failure). StopsStep before after now step known known failed) (sym is) refl
+
+-- ---- the lines that are left
 
 -- the first of the lines that are left
 pub left_next : (items : List Line) (count : ℕ) (line : Line) → count < length items → line ≡ get_or items count line
@@ -106,12 +137,12 @@ module _ (checked : CheckedOf) (most : ℕ) where
       ∙ sym (append_assoc first (step ∷ []) later)
 
   pub so_far_next : (steps left : List LineOf) (step : LineOf) (later : List LineOf) (count next : ℕ)
-      (before after : World) (old new newer : Option (List ℕ)) (text : List ℕ)
+      (before after : World) (old new newer : Option (List ℕ))
       → left ≡ step ∷ later → next ≡ count + 1 → count < 100000 → IsSoFar steps left count before old new
-      → MakesOn before after (count + 1) step.step text → Appends new newer text
+      → WritesStep before after (count + 1) step.step new newer
       → IsSoFar steps later next after old newer
-  so_far_next steps left step later count next before after old new newer text left_is next_is room now makes grows =
-      let made = made_after steps left count before after old new step text now makes room in
+  so_far_next steps left step later count next before after old new newer left_is next_is room now writes =
+      let made = made_after steps left count before after old new step writes.text now writes.makes room in
       record {
         first = now.first ++ step ∷ [];
         lines = now.lines ++ made.own;
@@ -122,8 +153,8 @@ module _ (checked : CheckedOf) (most : ℕ) where
         are = made.are;
         is_world = made.is_world;
         same = made.same;
-        appends = subst (λ (t : List ℕ). Appends old newer t) (lines_text now.lines made.own text made.text_is)
-            (Appends-trans old new newer (text_of now.lines) text now.appends grows);
+        appends = subst (λ (t : List ℕ). Appends old newer t) (lines_text now.lines made.own writes.text made.text_is)
+            (Appends-trans old new newer (text_of now.lines) writes.text now.appends writes.appends);
       }
 
   -- ---- writing stops
@@ -153,60 +184,41 @@ module _ (checked : CheckedOf) (most : ℕ) where
       subst (λ (failed : Failure). WritesSteps checked most steps old new (Err failed)) (sym is)
       (record { lines = []; begun = inl refl; appends = unwritten old new same })
 
-  -- memory runs out in a step
-  pub memory_returned : (steps left : List LineOf) (step : LineOf) (later : List LineOf) (count : ℕ) (code : World)
-      (old new : Option (List ℕ)) (result : Result Status Failure) → left ≡ step ∷ later
-      → IsSoFar steps left count code old new → IsErrAnd result (λ failure. failure ≡ f.OutOfMemory)
-      → WritesSteps checked most steps old new result
-  memory_returned steps left step later count code old new (Ok told) left_is now is = absurd is
-  memory_returned steps left step later count code old new (Err failure) left_is now is =
-      subst (λ (failed : Failure). WritesSteps checked most steps old new (Err failed)) (sym is)
-      (record {
-        lines = now.lines;
-        begun =
-            inr (some_at steps left now.first step later now.lines now.world left_is now.split now.are);
-        appends =
-            now.appends;
-      })
-
-  step_stopped : (steps left : List LineOf) (step : LineOf) (later : List LineOf) (count : ℕ) (before after : World)
-      (old new newer : Option (List ℕ)) (text : List ℕ) (failure : Failure)
+  steps_stopped : (steps left : List LineOf) (step : LineOf) (later : List LineOf) (count : ℕ) (before after : World)
+      (old new newer : Option (List ℕ)) (failure : Failure)
       → left ≡ step ∷ later → count < 100000 → IsSoFar steps left count before old new
-      → MakesOn before after (count + 1) step.step text → StopsText text new newer failure
+      → StopsStep before after (count + 1) step.step new newer failure
       → WritesSteps checked most steps old newer (Err failure)
-  step_stopped steps left step later count before after old new newer text (f.CommandLine why) left_is room now makes
-      stops = absurd stops
-  step_stopped steps left step later count before after old new newer text (f.Input fault) left_is room now makes
-      stops = absurd stops
-  step_stopped steps left step later count before after old new newer text f.OutOfMemory left_is room now makes stops
-      = record {
-        lines = now.lines;
-        begun = inr (some_at steps left now.first step later now.lines now.world left_is now.split now.are);
-        appends = subst (λ (n : Option (List ℕ)). Appends old n (text_of now.lines)) (sym stops) now.appends;
-      }
-  step_stopped steps left step later count before after old new newer text f.Output left_is room now makes stops =
-      let made = made_after steps left count before after old new step text now makes room in
+  steps_stopped steps left step later count before after old new newer (f.CommandLine why) left_is room now stops =
+      absurd stops
+  steps_stopped steps left step later count before after old new newer (f.Input fault) left_is room now stops =
+      absurd stops
+  steps_stopped steps left step later count before after old new newer f.OutOfMemory left_is room now stops = record {
+    lines = now.lines;
+    begun = inr (some_at steps left now.first step later now.lines now.world left_is now.split now.are);
+    appends = subst (λ (n : Option (List ℕ)). Appends old n (text_of now.lines)) (sym stops) now.appends;
+  }
+  steps_stopped steps left step later count before after old new newer f.Output left_is room now stops =
+      let made = made_after steps left count before after old new step stops.text now stops.makes room in
       record {
         lines = now.lines ++ made.own;
         part = some_or_all steps later (now.first ++ step ∷ []) (now.lines ++ made.own) made.next
             (split_next steps now.first left step later now.split left_is) made.are;
-        first = subst (λ (t : List ℕ). WritesFirst t old newer) (lines_text now.lines made.own text made.text_is)
-            (first_after (text_of now.lines) text old new newer now.appends stops);
+        first = subst (λ (t : List ℕ). WritesFirst t old newer) (lines_text now.lines made.own stops.text made.text_is)
+            (first_after (text_of now.lines) stops.text old new newer now.appends stops.first);
       }
 
   -- the same of what a `?` gives
   pub stop_returned : (steps left : List LineOf) (step : LineOf) (later : List LineOf) (count : ℕ)
-      (before after : World) (old new newer : Option (List ℕ)) (text : List ℕ) (failure : Failure)
-      (result : Result Status Failure)
+      (before after : World) (old new newer : Option (List ℕ)) (failure : Failure) (result : Result Status Failure)
       → left ≡ step ∷ later → count < 100000 → IsSoFar steps left count before old new
-      → MakesOn before after (count + 1) step.step text → StopsText text new newer failure
+      → StopsStep before after (count + 1) step.step new newer failure
       → IsErrAnd result (λ failed. failed ≡ failure) → WritesSteps checked most steps old newer result
-  stop_returned steps left step later count before after old new newer text failure (Ok told) left_is room now makes
-      stops is = absurd is
-  stop_returned steps left step later count before after old new newer text failure (Err failed) left_is room now
-      makes stops is =
+  stop_returned steps left step later count before after old new newer failure (Ok told) left_is room now stops is =
+      absurd is
+  stop_returned steps left step later count before after old new newer failure (Err failed) left_is room now stops is =
       subst (λ (told : Failure). WritesSteps checked most steps old newer (Err told)) (sym is)
-      (step_stopped steps left step later count before after old new newer text failure left_is room now makes stops)
+      (steps_stopped steps left step later count before after old new newer failure left_is room now stops)
 
   -- no step is left
   pub all_written : (steps left : List LineOf) (count : ℕ) (code : World) (old new : Option (List ℕ)) → left ≡ []

@@ -10,8 +10,8 @@ use Rattle.clap.specs.declared.error.kind.ErrorKind.{ErrorKind}
 use Rattle.clap.specs.declared.error.kind.ErrorKind.TheVariants as kind
 use Rattle.subcommands.specs.declared.arguments.Invocation.{Invocation}
 use Rattle.subcommands.specs.declared.arguments.Invocation.TheVariants.{Help, Answer}
-use Rattle.subcommands.specs.declared.arguments.RowOutput.{RowOutput}
-use Rattle.subcommands.specs.declared.arguments.RowOutput.TheVariants.{Answers, Insert}
+use Rattle.catalog_commands.specs.declared.eval.row_output.RowOutput.{RowOutput}
+use Rattle.catalog_commands.specs.declared.eval.row_output.RowOutput.TheVariants.{Answers, Insert}
 use Rattle.subcommands.specs.declared.arguments.Request.{Request}
 use Rattle.subcommands.specs.declared.arguments.Request.TheVariants.{Eval, Check, Make, Simulate}
 use Rattle.program_parts.specs.declared.failure.Failure.{Failure}

@@ -1,16 +1,15 @@
 -- What the words of a command line ask of the input, and which lines answer it.
 use Rattle.std.specs.Prelude.{◌≡◌, ℕ, ◌⊎◌, List, [], Option, Result}
-use Rattle.subcommands.specs.Check.Checking as checking
+use Rattle.catalog_commands.specs.Check.Checking as checking
 use Rattle.subcommands.specs.CommandLine.{IsRequest}
-use Rattle.subcommands.specs.Eval.Evaluation as evaluation
-use Rattle.subcommands.specs.Make.Making as making
+use Rattle.catalog_commands.specs.Eval.Evaluation as evaluation
+use Rattle.catalog_commands.specs.Make.Making as making
 use Rattle.program_parts.specs.Inputs.{IsInput}
 use Rattle.program_parts.specs.Output.{Ends}
 use Rattle.subcommands.specs.Simulate.Simulation as simulation
 use Rattle.subcommands.specs.declared.arguments.Request.{Request}
 use Rattle.subcommands.specs.declared.arguments.Request.TheVariants.{Eval, Check, Make, Simulate}
 use Rattle.program_parts.specs.declared.failure.Failure.{Failure}
-use Rattle.program_parts.specs.declared.failure.Failure.TheVariants as f
 use Rattle.program_parts.specs.declared.failure.InputFault.{InputFault}
 use Rattle.program_parts.specs.declared.failure.InputFault.TheVariants as i
 use Rattle.program_parts.specs.declared.failure.Status.{Status}

@@ -1,4 +1,5 @@
 pub mod Answers
+pub mod Givings
 pub mod StepActions
 pub mod Simulation
 pub mod Steps

@@ -7,20 +7,12 @@ ghost use Rattle.subcommands.specs.CommandLine.{eval, pgshard, simulate, HasLimi
 ghost use Rattle.subcommands.specs.CommandLine.{IsHelpKind, IsOfError, IsOfWords, IsSimulate, IsTaken, SpellsLimit};
 ghost use Rattle.subcommands.specs.declared.arguments.Request.{Request as RequestType};
 
+use catalog_commands::RowOutput;
 use clap::error::ErrorKind;
 use clap::{Arg, ArgAction, ArgMatches, Command};
 use program_parts::Failure;
 use std::alloc::{AllocError, Global};
 use std::convert::AsStr;
-
-/// What is printed of each row that fits its table.
-#[derive(Clone, Copy, Debug, PartialEq, Eq)]
-pub enum RowOutput {
-    /// What each publication says of it.
-    Answers,
-    /// The Insert message that carries it to a subscriber.
-    Insert,
-}
 
 /// What the program is asked of its input.
 #[derive(Clone, Copy, Debug, PartialEq, Eq)]

@@ -3,9 +3,6 @@
 #![tactic(auto)]
 
 mod arguments;
-mod check;
-mod eval;
-mod make;
 mod program;
 mod simulate;
 

@@ -7,10 +7,8 @@ ghost use Rattle.subcommands.specs.Outcomes.{IsEnding, IsOutcome, IsRun};
 ghost use Rattle.subcommands.specs.Requests.{EndsRequest};
 
 use crate::arguments::{Invocation, Request, parse};
-use crate::check::check_input;
-use crate::eval::evaluate;
-use crate::make::make_input;
 use crate::simulate::simulate;
+use catalog_commands::{check_input, evaluate, make_input};
 use program_parts::{Failure, Input, Status, read_input, report, write_line};
 use std::alloc::Global;
 use std::convert::AsStr;

@@ -1,6 +1,6 @@
 //! `simulate`: what becomes of the rows of a sharding, step by step.
 
-ghost use Rattle.std.specs.Prelude.{◌≡◌, ◌≤◌, IfErr, IfOk, Ok, length, map};
+ghost use Rattle.std.specs.Prelude.{◌≡◌, ◌≤◌, IfErr, IfOk, Ok, OnOk, length, map};
 ghost use Rattle.std.specs.String.{string_bytes};
 ghost use Rattle.pub_catalog.specs.CatalogView.{catalog_view};
 ghost use Rattle.pub_reader.specs.Scripts.{script_by};
@@ -8,11 +8,14 @@ ghost use Rattle.pub_reader.specs.ScriptView.{line_view};
 ghost use Rattle.pub_statements.specs.StepView.{step_view};
 ghost use Rattle.shard_checker.specs.CheckedView.{checked_view};
 ghost use Rattle.shard_world.specs.WorldCalls.{world_checked};
+ghost use Rattle.program_parts.specs.Certificates.{IsOfLines};
+ghost use Rattle.program_parts.specs.Parts as parts;
 ghost use Rattle.subcommands.specs.CommandLine.{IsWithin};
 ghost use Rattle.subcommands.specs.Requests.{EndsRequest};
+ghost use Rattle.subcommands.specs.Simulate.Givings.{Gives, HasVerdict, IsOfParts};
 ghost use Rattle.subcommands.specs.Simulate.StepActions.{action_of, action_view};
 ghost use Rattle.subcommands.specs.Simulate.Simulation.{IsOfScript};
-ghost use Rattle.subcommands.specs.Simulate.WorldSteps.{MakesOn, WritesSteps};
+ghost use Rattle.subcommands.specs.Simulate.WorldSteps.{MakesOn, StopsStep, WritesStep, WritesSteps};
 ghost use Rattle.subcommands.specs.declared.arguments.Request.TheVariants.{Simulate};
 
 pub mod answers;
@@ -25,7 +28,7 @@ use program_parts::{
 };
 use pub_catalog::Catalog;
 use pub_reader::{ErrorKind, Line, Step, read_catalog, read_script};
-use shard_checker::Checked;
+use shard_checker::{CheckError, Checked};
 use shard_world::{Event, PeerEvent, World};
 use std::alloc::{AllocError, Global};
 use std::io::Write;
@@ -75,6 +78,25 @@ fn step_text(
     }
 }
 
+/// Makes a step, and writes its lines.
+fn write_step<'a, W: Write>(
+    alloc: Global,
+    catalog: &Catalog,
+    world: &mut World,
+    step: Step,
+    now: u64,
+    writer: &mut W,
+) -> Result<(), Failure<'a>>
+    requires { catalog_view catalog.now ≡ (world_checked world.old).catalog }
+    ensures written { OnOk result (WritesStep world.old world.new now (step_view step) (W.contents writer.old)
+        (W.contents writer.new)) }
+    ensures stopped { IfErr result (StopsStep world.old world.new now (step_view step) (W.contents writer.old)
+        (W.contents writer.new)) }
+{
+    let text = step_text(alloc, catalog, world, step, now)?;
+    write_text(text.as_str(), writer)
+}
+
 /// Makes the steps of a script, and writes the lines of each: the first at the time 1, each of the others one
 /// microsecond later.
 fn write_steps<'a, W: Write>(
@@ -95,8 +117,7 @@ fn write_steps<'a, W: Write>(
     let mut now = 0;
     for line in lines {
         now += 1;
-        let text = step_text(alloc, catalog, &mut world, line.step, now)?;
-        write_text(text.as_str(), writer)?;
+        write_step(alloc, catalog, &mut world, line.step, now, writer)?;
     }
     Ok(Status::Done)
 }
@@ -122,10 +143,43 @@ pub fn read_steps<'a>(
     }
 }
 
+/// The verdict on a sharding by the texts of its certificates, one a line.
+fn verdict_by<'a>(
+    alloc: Global,
+    catalog: Catalog,
+    certificates: &str,
+) -> Result<Result<Checked, CheckError>, Failure<'a>>
+    ensures ok { IfOk result (HasVerdict (catalog_view catalog) certificates.now) }
+    ensures err { IfErr result (IsOfLines (parts.lines_of certificates.now)) }
+{
+    let texts = lines_of(alloc, certificates)?;
+    let verdict = verdict_of(alloc, catalog, texts.as_slice())?;
+    Ok(verdict)
+}
+
+/// The verdict on the sharding of the first part by the certificates of the second, and the steps of the third. A fault
+/// of the catalog goes before one of a certificate, and that before one of the script.
+fn read_parts<'a>(
+    alloc: Global,
+    text: &str,
+    certificates: &str,
+    script: &str,
+) -> Result<(Result<Checked, CheckError>, Vec<Line>), Failure<'a>>
+    ensures ok { IfOk result (λ given. Gives (record
+        { first = text.now; second = certificates.now; third = script.now }) given.0 given.1.items) }
+    ensures err { IfErr result (IsOfParts (record
+        { first = text.now; second = certificates.now; third = script.now })) }
+{
+    let catalog = read_catalog(alloc, text)?;
+    let lines = read_steps(alloc, &catalog, script);
+    let verdict = verdict_by(alloc, catalog, certificates)?;
+    let lines = lines?;
+    Ok((verdict, lines))
+}
+
 /// Answers an input: a catalog, the texts of the certificates of its tables, one a line, and a script, with lines `%%`
-/// between them. The log takes at most so many commits. A fault of the catalog goes before one of a certificate, and
-/// that before one of the script. The check takes the catalog, so that for the names in a refusal its text is read once
-/// more.
+/// between them. The log takes at most so many commits. The check takes the catalog, so that for the names in a refusal
+/// its text is read once more.
 pub fn simulate<'a, W: Write>(
     alloc: Global,
     limit: u32,
@@ -136,11 +190,7 @@ pub fn simulate<'a, W: Write>(
     ensures { EndsRequest (Simulate limit) input.now (W.contents writer.old) (W.contents writer.new) result }
 {
     let (text, certificates, script) = three_parts(input).ok_or(InputFault::Parts)?;
-    let catalog = read_catalog(alloc, text)?;
-    let lines = read_steps(alloc, &catalog, script);
-    let texts = lines_of(alloc, certificates)?;
-    let verdict = verdict_of(alloc, catalog, texts.as_slice())?;
-    let lines = lines?;
+    let (verdict, lines) = read_parts(alloc, text, certificates, script)?;
     match verdict {
         Ok(checked) => write_steps(alloc, checked, limit, lines, writer),
         Err(refusal) => {

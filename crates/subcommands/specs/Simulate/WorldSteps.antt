@@ -1,14 +1,16 @@
 -- What a step of a script does to the program's own world, and what a script writes.
-use Rattle.std.specs.Prelude.{◌≡◌, ℕ, ◌+◌, ◌⊎◌, List, [], ◌++◌, Option, Result}
+use Rattle.std.specs.Prelude.{◌≡◌, ℕ, ◌⊎◌, List, [], ◌++◌, Option, Result}
+use Rattle.std.specs.Io.KnownBytes.{Appends}
 use Rattle.pub_reader.specs.Scripts.{LineOf}
 use Rattle.pub_statements.specs.Steps.{StepOf}
 use Rattle.shard_checker.specs.CheckedView.{CheckedOf}
 use Rattle.shard_world.specs.World as w
 use Rattle.shard_world.specs.WorldCalls.{IsWorld, world_checked}
 use Rattle.shard_world.specs.declared.world.World.{World}
-use Rattle.program_parts.specs.Output.{Writes, text_of}
+use Rattle.program_parts.specs.Output.{Writes, WritesFirst, text_of}
 use Rattle.subcommands.specs.Simulate.Steps.{AreFirstSteps, AreSomeSteps, IsStep}
 use Rattle.program_parts.specs.declared.failure.Failure.{Failure}
+use Rattle.program_parts.specs.declared.failure.Failure.TheVariants as f
 use Rattle.program_parts.specs.declared.failure.Status.{Status}
 use Rattle.program_parts.specs.declared.failure.Status.TheVariants.{Done}
 
@@ -31,6 +33,26 @@ abbrev pub MakesOn : World → World → ℕ → StepOf → List ℕ → Type 0
 MakesOn before after now step text =
     (most : ℕ) (events : List (ℕ × w.Event)) (world : w.World) → IsWorld before most events world
     → MakesInto before after most events world now step text
+
+-- the step is made, and its lines are written
+pub record WritesStep (before after : World) (now : ℕ) (step : StepOf) (old new : Option (List ℕ)) : Type 0 where
+  pub text : List ℕ
+  pub makes : MakesOn before after now step text
+  pub appends : Appends old new text
+
+-- or the first bytes of them
+pub record WritesFirstOfStep (before after : World) (now : ℕ) (step : StepOf) (old new : Option (List ℕ)) : Type 0
+  where
+    pub text : List ℕ
+    pub makes : MakesOn before after now step text
+    pub first : WritesFirst text old new
+
+-- a step stops: for want of memory before its first byte, or because the writer fails
+abbrev pub StopsStep : World → World → ℕ → StepOf → Option (List ℕ) → Option (List ℕ) → Failure → Type 0
+StopsStep before after now step old new f.Output = WritesFirstOfStep before after now step old new
+StopsStep before after now step old new f.OutOfMemory = new ≡ old
+StopsStep before after now step old new (f.CommandLine why) = ⊥
+StopsStep before after now step old new (f.Input fault) = ⊥
 
 -- ---- a script
 

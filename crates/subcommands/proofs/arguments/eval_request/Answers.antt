@@ -2,7 +2,7 @@ use Rattle.std.proofs.Common.{◌≡◌, ◌∙◌, ap, sym, Bool, if◌then◌e
 use Rattle.std.specs.Prelude.{option_map}
 use Rattle.clap.specs.Words.{found_of}
 use Rattle.clap.proofs.WalkLemmas.{first_value-rows, one_text-rows}
-use Rattle.subcommands.specs.declared.arguments.RowOutput.TheVariants.{Answers, Insert}
+use Rattle.catalog_commands.specs.declared.eval.row_output.RowOutput.TheVariants.{Answers, Insert}
 use Rattle.subcommands.proofs.arguments.eval_request.Goals.{then-get_flag, else-get_flag}
 use Rattle.subcommands.proofs.arguments.eval_request.Goals as goal
 

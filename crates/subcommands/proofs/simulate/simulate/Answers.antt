@@ -1,65 +1,40 @@
-use Rattle.std.proofs.Common.{rules, ℕ, ◌≡◌, ◌∙◌, List, Some, None, OnOk, IfErr, map, sym, ap, subst}
-use Rattle.std.specs.Io.KnownBytes.{Appends}
-use Rattle.filter_tree.specs.Expr.{Expr}
+use Rattle.std.proofs.Common.{rules, ◌≡◌, Some, Ok, Err}
 use Rattle.pub_catalog.specs.CatalogView.{catalog_view}
-use Rattle.pub_catalog.specs.Catalogs.{CatalogOf}
-use Rattle.pub_reader.specs.ScriptView.{line_view}
-use Rattle.replica_identity.specs.Plans.{plan_of}
-use Rattle.shard_checker.specs.CatalogTruth.{ShardingIsWrong}
-use Rattle.shard_checker.specs.CheckedView.{CheckedOf}
-use Rattle.shard_checker.specs.Texts.{text_fault, texts_view, trees_in}
-use Rattle.subcommands.proofs.Simulating.{sharding_refused, steps_made}
-use Rattle.program_parts.specs.Verdicts.{IsFirstRefusal}
-use Rattle.program_parts.specs.Refusals.{refused_line}
-use Rattle.program_parts.specs.Output.{StopsText, ended}
-use Rattle.program_parts.specs.Parts.{CutTwice, lines_of, three_parts}
-use Rattle.subcommands.specs.Simulate.WorldSteps.{WritesSteps}
+use Rattle.program_parts.specs.Parts.{CutTwice, three_parts}
+use Rattle.subcommands.proofs.Simulating.{none_returned, sharding_refused, steps_made}
+use Rattle.subcommands.specs.Simulate.Givings.{Gives}
 use Rattle.subcommands.proofs.simulate.simulate.Goals as goal
+
+pub returns-in_err-verdict : goal.returns-in_err-verdict
+returns-in_err-verdict g c =
+    let cut : CutTwice = record
+    { first = c.in_ok-text.text.now; second = c.in_ok-text.certificates.now; third = c.in_ok-text.script.now } in
+    let parts : three_parts c.args.input.now ≡ Some cut = search rules in
+    none_returned c.args.limit c.args.input.now (g.W.Write.contents c.args.writer.now) c.in_err-verdict.field-0.0
+    c.from_residual-in_err-verdict.result (c.in_err-verdict.ensures.err c.args.input.now parts)
+    c.from_residual-in_err-verdict.ensures.1
 
 pub returns-in-Ok : goal.returns-in-Ok
 returns-in-Ok g c =
-    let old = g.W.Write.contents c.args.writer.now in
-    let new = g.W.Write.contents c.write_steps.new.writer in
     let cut : CutTwice = record
     { first = c.in_ok-text.text.now; second = c.in_ok-text.certificates.now; third = c.in_ok-text.script.now } in
     let parts : three_parts c.args.input.now ≡ Some cut = search rules in
-    let catalog = catalog_view c.in_ok-catalog.catalog in
-    let steps = map line_view c.in_ok-lines.lines.items in
-    let same : texts_view c.as_slice.result.now ≡ lines_of cut.second = ap texts_view c.as_slice.ensures.value
-    ∙ c.in_ok-texts.ensures in
-    let sound = rw c.in-Ok.is at c.in_ok-verdict.ensures.sound in
-    let kept = rw c.in-Ok.is at c.in_ok-verdict.ensures.kept in
-    let unrefused = rw c.in-Ok.is at c.in_ok-verdict.ensures.unrefused in
-    steps_made c.args.limit c.args.input.now cut catalog parts c.in_ok-catalog.ensures.catalog
-    (ap (text_fault 1) (sym same) ∙ c.in_ok-verdict.ensures.read)
-    steps c.in_ok-lines.ensures.read old new c.write_steps.result sound
-    (subst (λ (lines : List (List ℕ)). IsFirstRefusal catalog (trees_in lines) None) same unrefused)
-    (subst (λ (checked : CheckedOf). WritesSteps checked c.args.limit steps old new c.write_steps.result) kept
-    c.write_steps.ensures)
+    let given : Gives cut (Ok c.in-Ok.checked) c.in_ok-verdict.lines.items = rw c.in-Ok.is at
+    c.in_ok-verdict.ensures.ok in
+    steps_made c.args.limit c.args.input.now cut parts c.in-Ok.checked c.in_ok-verdict.lines.items
+    (g.W.Write.contents c.args.writer.now) (g.W.Write.contents c.write_steps.new.writer) c.write_steps.result given
+    c.write_steps.ensures
 
-pub returns : goal.returns
-returns g c =
-    let old = g.W.Write.contents c.args.writer.now in
-    let new = g.W.Write.contents c.write_refused.new.writer in
-    let result = c.write_refused.result in
-    let refusal = c.in-Err.refusal in
+pub returns-in_ok-catalog-in-Err : goal.returns-in_ok-catalog-in-Err
+returns-in_ok-catalog-in-Err g c =
     let cut : CutTwice = record
     { first = c.in_ok-text.text.now; second = c.in_ok-text.certificates.now; third = c.in_ok-text.script.now } in
     let parts : three_parts c.args.input.now ≡ Some cut = search rules in
-    let catalog = catalog_view c.in_ok-catalog.catalog in
-    let again : catalog_view c.in_ok-catalog-in-Err.catalog ≡ catalog =
-    cc (c.in_ok-catalog.ensures.catalog, c.in_ok-catalog-in-Err.ensures.catalog) in
-    let same : texts_view c.as_slice.result.now ≡ lines_of cut.second = ap texts_view c.as_slice.ensures.value
-    ∙ c.in_ok-texts.ensures in
-    let first = rw c.in-Err.is at c.in_ok-verdict.ensures.refused in
-    let wrong = rw c.in-Err.is at c.in_ok-verdict.ensures.wrong in
-    sharding_refused c.args.limit c.args.input.now cut catalog parts c.in_ok-catalog.ensures.catalog
-    (ap (text_fault 1) (sym same) ∙ c.in_ok-verdict.ensures.read)
-    (map line_view c.in_ok-lines.lines.items) c.in_ok-lines.ensures.read refusal old new result
-    (subst (λ (lines : List (List ℕ)). IsFirstRefusal catalog (trees_in lines) (Some refusal)) same first)
-    (subst (λ (lines : List (List ℕ)). ShardingIsWrong catalog (plan_of catalog) (trees_in lines) refusal) same wrong)
-    c.write_refused.ensures.status
-    (subst (λ (named : CatalogOf Expr). OnOk result (Appends old new (ended (refused_line named refusal)))) again
-    c.write_refused.ensures.written)
-    (subst (λ (named : CatalogOf Expr). IfErr result (StopsText (ended (refused_line named refusal)) old new)) again
-    c.write_refused.ensures.stopped)
+    let given : Gives cut (Err c.in-Err.refusal) c.in_ok-verdict.lines.items = rw c.in-Err.is at
+    c.in_ok-verdict.ensures.ok in
+    let again : catalog_view c.in_ok-catalog-in-Err.catalog ≡ given.catalog =
+    cc (given.reads, c.in_ok-catalog-in-Err.ensures.catalog) in
+    sharding_refused c.args.limit c.args.input.now cut parts c.in-Err.refusal c.in_ok-verdict.lines.items
+    (catalog_view c.in_ok-catalog-in-Err.catalog)
+    (g.W.Write.contents c.args.writer.now) (g.W.Write.contents c.write_refused.new.writer) c.write_refused.result given
+    again c.write_refused.ensures.status c.write_refused.ensures.written c.write_refused.ensures.stopped

@@ -5,7 +5,7 @@ use Rattle.std.proofs.lemmas.List.{length_push}
 use Rattle.pub_reader.specs.ScriptView.{line_view}
 use Rattle.shard_checker.specs.CheckedView.{checked_view}
 use Rattle.shard_world.specs.WorldCalls.{world_checked}
-use Rattle.subcommands.proofs.ScriptLines.{left_next, none_left, so_far_at_start, so_far_next, memory_returned, stop_returned, all_written}
+use Rattle.subcommands.proofs.ScriptLines.{left_next, none_left, so_far_at_start, so_far_next, stop_returned, all_written}
 use Rattle.subcommands.proofs.simulate.write_steps.Goals as goal
 
 pub loop-line-init : goal.loop-line-init
@@ -37,30 +37,13 @@ loop-line-preserved g c =
       so_far = rw more
           (so_far_next (checked_view c.args.checked) c.args.limit (map line_view items)
           (map line_view (drop done items)) (line_view c.in-Some.line) (map line_view (drop (done + 1) items))
-          c.loop-line.now (c.loop-line.now + 1) c.loop-line.world c.step_text.new.world (contents c.args.writer.now)
-          (contents c.loop-line.writer) (contents c.write_text.new.writer) c.as_str.result.now
-          left_is refl room c.loop-line.invariant.so_far (rw c.as_str.ensures.value c.in_ok-text.ensures)
-          c.in_ok-write_text.ensures.written);
+          c.loop-line.now (c.loop-line.now + 1) c.loop-line.world c.write_step.new.world (contents c.args.writer.now)
+          (contents c.loop-line.writer) (contents c.write_step.new.writer)
+          left_is refl room c.loop-line.invariant.so_far c.in_ok-write_step.ensures.written);
     }
 
-pub returns-in_err-text : goal.returns-in_err-text
-returns-in_err-text g c =
-    let contents = g.W.Write.contents in
-    let items = c.args.lines.items in
-    let done = length c.loop-line.yielded in
-    let turn = YieldsList-turn
-    (YieldsList-from_vec {s = c.into_iter-line-iterator.result} items (search rules) (search rules))
-    c.loop-line.yielded c.loop-line.line-iterator c.loop-line.yielded_by c.next.result c.next.new.self c.in-Some.line
-    c.in-Some.is c.next.ensures.steps in
-    memory_returned (checked_view c.args.checked) c.args.limit (map line_view items) (map line_view (drop done items))
-    (line_view c.in-Some.line) (map line_view (drop (done + 1) items))
-    c.loop-line.now c.loop-line.world (contents c.args.writer.now) (contents c.loop-line.writer)
-    c.from_residual-in_err-text.result
-    (left_next items done c.in-Some.line turn.0 turn.1) c.loop-line.invariant.so_far
-    c.from_residual-in_err-text.ensures.1
-
-pub returns-in_err-write_text : goal.returns-in_err-write_text
-returns-in_err-write_text g c =
+pub returns-in_err-write_step : goal.returns-in_err-write_step
+returns-in_err-write_step g c =
     let contents = g.W.Write.contents in
     let items = c.args.lines.items in
     let done = length c.loop-line.yielded in
@@ -71,12 +54,10 @@ returns-in_err-write_text g c =
     let room : c.loop-line.now < 100000 = omega (arith, turn.0, c.requires.few, c.loop-line.invariant.now_is) in
     stop_returned (checked_view c.args.checked) c.args.limit (map line_view items) (map line_view (drop done items))
     (line_view c.in-Some.line) (map line_view (drop (done + 1) items))
-    c.loop-line.now c.loop-line.world c.step_text.new.world (contents c.args.writer.now) (contents c.loop-line.writer)
-    (contents c.write_text.new.writer) c.as_str.result.now
-    c.in_err-write_text.field-0.0 c.from_residual-in_err-write_text.result
+    c.loop-line.now c.loop-line.world c.write_step.new.world (contents c.args.writer.now) (contents c.loop-line.writer)
+    (contents c.write_step.new.writer) c.in_err-write_step.field-0.0 c.from_residual-in_err-write_step.result
     (left_next items done c.in-Some.line turn.0 turn.1) room c.loop-line.invariant.so_far
-    (rw c.as_str.ensures.value c.in_ok-text.ensures) c.in_err-write_text.ensures.stopped
-    c.from_residual-in_err-write_text.ensures.1
+    c.in_err-write_step.ensures.stopped c.from_residual-in_err-write_step.ensures.1
 
 pub returns : goal.returns
 returns g c =

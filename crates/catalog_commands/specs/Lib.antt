@@ -1,0 +1,4 @@
+pub mod BadCatalogs
+pub mod Check
+pub mod Eval
+pub mod Make
