@@ -1,3 +1,4 @@
+pub mod Exits
 pub mod Limits
 pub mod LineCuts
 pub mod Reports

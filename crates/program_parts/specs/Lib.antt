@@ -2,6 +2,7 @@ pub mod Certificates
 pub mod Failures
 pub mod Inputs
 pub mod Names
+pub mod Outcomes
 pub mod Output
 pub mod Parts
 pub mod Refusals

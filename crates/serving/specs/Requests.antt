@@ -3,7 +3,6 @@ use Rattle.std.specs.Prelude.{◌≡◌, ◌⊎◌, ℕ, List, Option, IsErrAnd,
 use Rattle.program_parts.specs.Inputs.{IsInput, IsOfReading}
 use Rattle.program_parts.specs.declared.failure.Failure.{Failure}
 use Rattle.program_parts.specs.declared.failure.InputFault.{InputFault}
-use Rattle.program_parts.specs.declared.failure.InputFault.TheVariants as i
 use Rattle.program_parts.specs.declared.failure.Status.{Status}
 use Rattle.script_server.specs.CommandLine.{IsRequest}
 use Rattle.script_server.specs.Serving.{EndsService, IsFault, IsServing}
@@ -36,15 +35,6 @@ pub record HasFault (words : List (List ℕ)) (known : Option (List ℕ)) (fault
   pub input : List ℕ
   pub asked : IsAsked words known service input
   pub is : IsFault input fault
-
--- The input has this fault. Of Unread nothing is said, since a reader may fail at any time.
-abbrev pub IsReason : List (List ℕ) → Option (List ℕ) → InputFault → Type 0
-IsReason words known i.Unread = Unit {0}
-IsReason words known i.Parts = HasFault words known i.Parts
-IsReason words known (i.Catalog error) = HasFault words known (i.Catalog error)
-IsReason words known (i.Table name) = HasFault words known (i.Table name)
-IsReason words known (i.Certificate line error) = HasFault words known (i.Certificate line error)
-IsReason words known (i.Script error) = HasFault words known (i.Script error)
 
 -- ---- of a reader
 

@@ -88,7 +88,7 @@ fn answer_words<
 }
 
 /// Does what the words ask, and reports a failure.
-#[tactic(auto, using(crate::proofs::Exits::whole_outcome))]
+#[tactic(auto, using(program_parts::proofs::Exits::whole_outcome))]
 fn outcome<
     S: AsStr,
     I: Read + Drop,
@@ -110,7 +110,7 @@ fn outcome<
 }
 
 /// Does what the words of `serve` ask, and gives the exit status.
-#[tactic(auto, using(crate::proofs::Exits::ran, crate::proofs::Exits::ran_at_once, crate::proofs::Exits::ran_unflushed))]
+#[tactic(auto, using(program_parts::proofs::Exits::ran, program_parts::proofs::Exits::ran_at_once, program_parts::proofs::Exits::ran_unflushed))]
 fn run_serve<
     S: AsStr,
     I: Read + Drop,

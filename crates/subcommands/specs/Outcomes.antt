@@ -1,74 +1,32 @@
 -- What a run of the program writes, and its exit status: an output that is right for the words of its command line
 -- and for its input, or where the writer fails the first bytes of one.
-use Rattle.std.specs.Prelude.{◌≡◌, ℕ, ◌⊎◌, List, [], ◌∷◌, ◌++◌, Option, Result, Ok, Err, codes}
-use Rattle.std.specs.Io.KnownBytes.{Appends}
-use Rattle.subcommands.specs.CommandLine.{AsksHelp, IsMisworded}
-use Rattle.program_parts.specs.Failures.{fault_line, number_of}
-use Rattle.program_parts.specs.Output.{WritesFirst, text_of}
-use Rattle.subcommands.specs.Requests.{AnswersWords, BeginsWords, IsReason}
+use Rattle.std.specs.Prelude.{ℕ, List, Option, Result}
+use Rattle.program_parts.specs.Outcomes as outcomes
+use Rattle.program_parts.specs.Outcomes.{Asked}
 use Rattle.program_parts.specs.declared.failure.Failure.{Failure}
-use Rattle.program_parts.specs.declared.failure.Failure.TheVariants as f
-use Rattle.program_parts.specs.declared.failure.InputFault.{InputFault}
 use Rattle.program_parts.specs.declared.failure.Status.{Status}
-use Rattle.program_parts.specs.declared.failure.Status.TheVariants.{Done, Refused, CommandLine, Input, Output, OutOfMemory}
+use Rattle.subcommands.specs.CommandLine.{AsksHelp, IsMisworded}
+use Rattle.subcommands.specs.Requests.{AnswersWords, BeginsWords, HasFault}
+
+-- what the words ask of what the reader gives
+abbrev pub asking : List (List ℕ) → Option (List ℕ) → Asked
+asking words known = record {
+  Answers = AnswersWords words known;
+  Begins = BeginsWords words known;
+  HasFault = HasFault words known;
+  AsksHelp = AsksHelp words;
+  IsMisworded = IsMisworded words;
+}
 
 module _ (words : List (List ℕ)) (known : Option (List ℕ)) where
-  -- an answer that is cut short: no line of it, or its first lines
-  abbrev pub IsCutShort : List (List ℕ) → Type 0
-  IsCutShort lines = (lines ≡ []) ⊎ BeginsWords words known lines
-
-  -- ---- the right outputs, where no write fails
-
-  -- Status 0 or 1: the answer. 0: some text, where the words ask for the help or the version. 2: a line, and some text.
-  -- 3: the line of a fault of the input. 5: no line of the answer or its first ones, and the line of want of memory.
-  pub data IsOutput : Status → List ℕ → Type 0 where
-    Answered : (lines : List (List ℕ)) (status : Status) → AnswersWords words known lines status
-        → IsOutput status (text_of lines)
-    Shown : (text : List ℕ) → AsksHelp words → IsOutput Done text
-    Misworded : (text : List ℕ) → IsMisworded words → IsOutput CommandLine (text_of (codes "command line" ∷ text ∷ []))
-    Rejected : (fault : InputFault) → IsReason words known fault → IsOutput Input (text_of (fault_line fault ∷ []))
-    CutShort : (lines : List (List ℕ)) → IsCutShort lines
-        → IsOutput OutOfMemory (text_of (lines ++ codes "out of memory" ∷ []))
-
-  -- ---- what is written
-
-  pub record WritesOutput (old new : Option (List ℕ)) (status : Status) : Type 0 where
-    pub text : List ℕ
-    pub is : IsOutput status text
-    pub appends : Appends old new text
-
-  pub record WritesFirstOutput (old new : Option (List ℕ)) : Type 0 where
-    pub status : Status
-    pub text : List ℕ
-    pub is : IsOutput status text
-    pub first : WritesFirst text old new
-
   -- where the writer fails, the first bytes of an output, and else the whole of one that is right for the status
   abbrev pub IsOutcome : Option (List ℕ) → Option (List ℕ) → Status → Type 0
-  IsOutcome old new Output = WritesFirstOutput old new
-  IsOutcome old new Done = WritesOutput old new Done
-  IsOutcome old new Refused = WritesOutput old new Refused
-  IsOutcome old new CommandLine = WritesOutput old new CommandLine
-  IsOutcome old new Input = WritesOutput old new Input
-  IsOutcome old new OutOfMemory = WritesOutput old new OutOfMemory
+  IsOutcome old new status = outcomes.IsOutcome (asking words known) old new status
 
   -- the same of the number of a status
-  pub record IsRun (old new : Option (List ℕ)) (number : ℕ) : Type 0 where
-    pub status : Status
-    pub numbered : number ≡ number_of status
-    pub outcome : IsOutcome old new status
-
-  -- ---- before a failure is reported
-
-  pub record WritesCutShort (old new : Option (List ℕ)) : Type 0 where
-    pub lines : List (List ℕ)
-    pub begun : IsCutShort lines
-    pub appends : Appends old new (text_of lines)
+  abbrev pub IsRun : Option (List ℕ) → Option (List ℕ) → ℕ → Type 0
+  IsRun old new number = outcomes.IsRun (asking words known) old new number
 
   -- what is written when an answer or a failure is known, before the failure's own lines
   abbrev pub IsEnding : Option (List ℕ) → Option (List ℕ) → Result Status Failure → Type 0
-  IsEnding old new (Ok status) = WritesOutput old new status
-  IsEnding old new (Err (f.CommandLine text)) = IsMisworded words × (new ≡ old)
-  IsEnding old new (Err (f.Input fault)) = IsReason words known fault × (new ≡ old)
-  IsEnding old new (Err f.Output) = WritesFirstOutput old new
-  IsEnding old new (Err f.OutOfMemory) = WritesCutShort old new
+  IsEnding old new result = outcomes.IsEnding (asking words known) old new result

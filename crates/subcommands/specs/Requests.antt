@@ -11,7 +11,6 @@ use Rattle.subcommands.specs.declared.arguments.Request.{Request}
 use Rattle.subcommands.specs.declared.arguments.Request.TheVariants.{Eval, Check, Make, Simulate}
 use Rattle.program_parts.specs.declared.failure.Failure.{Failure}
 use Rattle.program_parts.specs.declared.failure.InputFault.{InputFault}
-use Rattle.program_parts.specs.declared.failure.InputFault.TheVariants as i
 use Rattle.program_parts.specs.declared.failure.Status.{Status}
 
 -- ---- of a request and its input
@@ -73,12 +72,3 @@ pub record HasFault (words : List (List ℕ)) (known : Option (List ℕ)) (fault
   pub input : List ℕ
   pub asked : IsAsked words known request input
   pub is : IsFault request input fault
-
--- The input has this fault. Of Unread nothing is said, since a reader may fail at any time.
-abbrev pub IsReason : List (List ℕ) → Option (List ℕ) → InputFault → Type 0
-IsReason words known i.Unread = Unit {0}
-IsReason words known i.Parts = HasFault words known i.Parts
-IsReason words known (i.Catalog error) = HasFault words known (i.Catalog error)
-IsReason words known (i.Table name) = HasFault words known (i.Table name)
-IsReason words known (i.Certificate line error) = HasFault words known (i.Certificate line error)
-IsReason words known (i.Script error) = HasFault words known (i.Script error)

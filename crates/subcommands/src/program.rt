@@ -54,7 +54,7 @@ fn answer_words<'a, S: AsStr, R: Read + Drop, W: Write>(
     }
 }
 
-#[tactic(auto, using(crate::proofs::Exits::whole_outcome))]
+#[tactic(auto, using(program_parts::proofs::Exits::whole_outcome))]
 fn outcome<S: AsStr, R: Read + Drop, W: Write>(
     alloc: Global,
     words: &[S],
@@ -77,7 +77,7 @@ fn outcome<S: AsStr, R: Read + Drop, W: Write>(
 ///
 /// With the statuses 2 and 3 a line says why, and nothing else is written. With 5 the first lines of the answer may be
 /// written before the line `out of memory`. With 4 what is written are the first bytes of what would have been.
-#[tactic(auto, using(crate::proofs::Exits::ran, crate::proofs::Exits::ran_at_once, crate::proofs::Exits::ran_unflushed))]
+#[tactic(auto, using(program_parts::proofs::Exits::ran, program_parts::proofs::Exits::ran_at_once, program_parts::proofs::Exits::ran_unflushed))]
 pub fn run<S: AsStr, R: Read + Drop, W: Write>(
     alloc: Global,
     words: &[S],
