@@ -48,8 +48,8 @@ module _ (input : List ℕ) (cut : Cut) (catalog : CatalogOf Expr) (parts : two_
         → OnOk result (Appends old new (ended (refused_line catalog error)))
         → IfErr result (StopsText (ended (refused_line catalog error)) old new) → EndsCheck input old new result
     refused error old new result refusal wrong same appends stops =
-        line_ends (IsCheck input) (λ lines. lines ≡ []) (IsFault input) refl (refused_line catalog error) Refused old new
-        result
+        line_ends (IsCheck input) (λ lines. lines ≡ []) (IsFault input) refl (refused_line catalog error) Refused
+        old new result
         (record {
           cut = cut;
           catalog = catalog;

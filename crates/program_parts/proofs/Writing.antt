@@ -114,26 +114,26 @@ module _ (W V : List (List ℕ) → Status → Type 0) (B C : List (List ℕ) �
   ends_as whole begun old new (Err (f.Input fault)) now = absurd now
 
 -- no line at all is a beginning of an answer
-module _ (W : List (List ℕ) → Status → Type 0) (B : List (List ℕ) → Type 0) (IsThere : InputFault → Type 0) (none : B [])
-  where
-    -- memory runs out before the first line of an answer
-    pub memory_ends : (old new : Option (List ℕ)) → new ≡ old → Ends W B IsThere old new (Err f.OutOfMemory)
-    memory_ends old new e = record { lines = []; begun = none; appends = unwritten old new e }
+module _ (W : List (List ℕ) → Status → Type 0) (B : List (List ℕ) → Type 0) (IsThere : InputFault → Type 0)
+    (none : B []) where
+  -- memory runs out before the first line of an answer
+  pub memory_ends : (old new : Option (List ℕ)) → new ≡ old → Ends W B IsThere old new (Err f.OutOfMemory)
+  memory_ends old new e = record { lines = []; begun = none; appends = unwritten old new e }
 
-    -- the one line of an answer is written, or its writing stops
-    pub line_ends : (line : List ℕ) (status : Status) (old new : Option (List ℕ)) (result : Result Status Failure)
-        → W (line ∷ []) status → IfOk result (λ s. s ≡ status) → OnOk result (Appends old new (ended line))
-        → IfErr result (StopsText (ended line) old new) → Ends W B IsThere old new result
-    line_ends line status old new (Ok told) is same appends stops = record {
-      lines = line ∷ [];
-      whole = subst (λ (s : Status). W (line ∷ []) s) (sym same) is;
-      appends = subst (λ (t : List ℕ). Appends old new t) (sym (text_of-one line)) appends;
-    }
-    line_ends line status old new (Err (f.CommandLine why)) is same appends stops = absurd stops
-    line_ends line status old new (Err (f.Input fault)) is same appends stops = absurd stops
-    line_ends line status old new (Err f.OutOfMemory) is same appends stops = memory_ends old new stops
-    line_ends line status old new (Err f.Output) is same appends stops = record {
-      lines = line ∷ [];
-      part = inr (status, is);
-      first = subst (λ (t : List ℕ). WritesFirst t old new) (sym (text_of-one line)) stops;
-    }
+  -- the one line of an answer is written, or its writing stops
+  pub line_ends : (line : List ℕ) (status : Status) (old new : Option (List ℕ)) (result : Result Status Failure)
+      → W (line ∷ []) status → IfOk result (λ s. s ≡ status) → OnOk result (Appends old new (ended line))
+      → IfErr result (StopsText (ended line) old new) → Ends W B IsThere old new result
+  line_ends line status old new (Ok told) is same appends stops = record {
+    lines = line ∷ [];
+    whole = subst (λ (s : Status). W (line ∷ []) s) (sym same) is;
+    appends = subst (λ (t : List ℕ). Appends old new t) (sym (text_of-one line)) appends;
+  }
+  line_ends line status old new (Err (f.CommandLine why)) is same appends stops = absurd stops
+  line_ends line status old new (Err (f.Input fault)) is same appends stops = absurd stops
+  line_ends line status old new (Err f.OutOfMemory) is same appends stops = memory_ends old new stops
+  line_ends line status old new (Err f.Output) is same appends stops = record {
+    lines = line ∷ [];
+    part = inr (status, is);
+    first = subst (λ (t : List ℕ). WritesFirst t old new) (sym (text_of-one line)) stops;
+  }

@@ -40,8 +40,8 @@ use Rattle.program_parts.specs.declared.failure.Status.TheVariants.{Done, Refuse
 -- ---- the verdict by the lines of a text
 
 pub verdict_has : (catalog : CatalogOf Expr) (text : List ℕ) (texts : List (List ℕ))
-    (verdict : Result Checked CheckError) → texts ≡ lines_of text → text_fault 1 texts ≡ None → OnOk verdict (IsSound catalog)
-    → IfOk verdict (λ checked. checked_view checked ≡ checked_by catalog)
+    (verdict : Result Checked CheckError) → texts ≡ lines_of text → text_fault 1 texts ≡ None
+    → OnOk verdict (IsSound catalog) → IfOk verdict (λ checked. checked_view checked ≡ checked_by catalog)
     → OnOk verdict (IsFirstRefusal catalog (trees_in texts) None)
     → IfErr verdict (λ error. IsFirstRefusal catalog (trees_in texts) (Some error))
     → IfErr verdict (ShardingIsWrong catalog (plan_of catalog) (trees_in texts))
