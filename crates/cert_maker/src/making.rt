@@ -11,13 +11,16 @@ ghost use Rattle.cert_maker.specs.declared.made.Made.TheVariants.{Unknown};
 
 use crate::made::Made;
 use bumpalo::Bump;
-use cert_search::{Found, look, owners_of};
+use cert_search::{Found, MAX_STEPS, look, owners_of};
 use filter_tree::{Row, Table, valid};
 use pub_catalog::Catalog;
 use replica_identity::{Plan, Share};
 use shard_checker::{CheckError, check_one, shares_in};
 use split_cert::{Cert, is_within_limits};
 use std::alloc::{AllocError, Global};
+
+/// The most steps of all searches of a catalog, which its tables share alike.
+const RUN_STEPS: u64 = 1_000_000_000;
 
 /// The answer with a certificate, if the check accepts it and it is no larger than those that are read.
 fn tested_cert<'b>(
@@ -52,16 +55,25 @@ fn tested_row<'b>(
     }
 }
 
-/// The answer for a table with these shares.
+/// How many steps are left to the search for each of so many tables.
+fn steps_of(tables: usize) -> u64 {
+    match u64::try_from(tables) {
+        Ok(tables) if tables > 0 => MAX_STEPS.min(RUN_STEPS / tables),
+        Ok(_) | Err(_) => 0,
+    }
+}
+
+/// The answer for a table with these shares, after so many steps at most.
 fn tested<'b>(
     alloc: Global,
     arena: &'b Bump,
     table: &Table,
     shares: &[&Share],
+    steps: u64,
 ) -> Result<Made<'b>, AllocError>
     ensures { IfOk result (IsRight table.now (shares_view shares.now)) }
 {
-    match look(alloc, arena, &*table, &*shares)? {
+    match look(alloc, arena, &*table, &*shares, steps)? {
         Found::Cert(cert) => Ok(tested_cert(alloc, table, shares, cert)),
         Found::Row(row) => tested_row(alloc, table, shares, row),
         Found::Unknown => Ok(Made::Unknown),
@@ -82,7 +94,8 @@ fn answer<'b>(
         (table_shares (plan_view plan.now) number 0 (catalog_view catalog.now).subscriptions)) }
 {
     let shares = shares_in(alloc, plan, number, catalog.subscriptions.as_slice())?;
-    Ok(tested(alloc, arena, table, &shares)?)
+    let steps = steps_of(catalog.tables.as_slice().len());
+    Ok(tested(alloc, arena, table, &shares, steps)?)
 }
 
 /// A certificate of the catalog's table of this number, from 0, or a row that shows that there is none. The plan is the
@@ -91,7 +104,8 @@ fn answer<'b>(
 /// A certificate is answered only if `check_one` accepts it with the table and its shares, and if it has at most
 /// 1,000,000 nodes and at most 64 splits on a path, so that `read_in` reads what `write` gives for it. A row is
 /// answered only if it fits the table and no subscriber takes it, or several do. `Unknown` is answered where neither
-/// was found, and for a table that isn't there. The search goes on to no further node after `MAX_STEPS` steps.
+/// was found, and for a table that isn't there. The search goes on to no further node after `MAX_STEPS` steps,
+/// or after this table's part of those that all tables share.
 /// `OutOfMemory` may come in place of any answer for a table that is there.
 pub fn make<'b>(
     alloc: Global,

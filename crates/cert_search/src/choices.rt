@@ -1,9 +1,9 @@
 //! Values for the columns of a row that agrees with what is known of atoms.
 
-use crate::board::Board;
 use crate::facts::Nullness;
 use crate::numbers::{meets, number_for};
 use crate::problem::Problem;
+use crate::state::SearchState;
 use crate::texts::number;
 use filter_tree::{ColType, Column};
 use shard_checker::Range;
@@ -18,21 +18,21 @@ pub fn empty_text(problem: &Problem<'_>) -> i64 {
 }
 
 /// A text that meets what is known: the empty one, one that no atom names, or one that an atom names.
-fn text_for(problem: &Problem<'_>, board: &mut Board, column: usize) -> Option<i64> {
+fn text_for(problem: &Problem<'_>, state: &mut SearchState, column: usize) -> Option<i64> {
     let empty = empty_text(problem);
-    if meets(problem, board, column, empty) {
+    if meets(problem, state, column, empty) {
         return Some(empty);
     }
     let unnamed = problem.texts.unnamed();
-    if meets(problem, board, column, unnamed) {
+    if meets(problem, state, column, unnamed) {
         return Some(unnamed);
     }
-    named_for(problem, board, column)
+    named_for(problem, state, column)
 }
 
-fn named_for(problem: &Problem<'_>, board: &mut Board, column: usize) -> Option<i64> {
+fn named_for(problem: &Problem<'_>, state: &mut SearchState, column: usize) -> Option<i64> {
     for (place, _) in problem.texts.list.iter().enumerate() {
-        if meets(problem, board, column, number(place)) {
+        if meets(problem, state, column, number(place)) {
             return Some(number(place));
         }
     }
@@ -56,17 +56,17 @@ fn whole_range(kind: ColType) -> Range {
 /// A value of the column that meets what is known.
 fn choice(
     problem: &Problem<'_>,
-    board: &mut Board,
+    state: &mut SearchState,
     place: usize,
     column: &Column,
 ) -> Option<Choice> {
-    if board.facts.nullness(place) != Nullness::Present {
+    if state.facts.nullness(place) != Nullness::Present {
         return Some(None);
     }
     match column.kind {
-        ColType::Text => Some(Some(text_for(problem, board, place)?)),
+        ColType::Text => Some(Some(text_for(problem, state, place)?)),
         ColType::SmallInt | ColType::Integer | ColType::BigInt | ColType::Boolean => {
-            Some(Some(number_for(problem, board, place, whole_range(column.kind))?))
+            Some(Some(number_for(problem, state, place, whole_range(column.kind))?))
         }
     }
 }
@@ -75,11 +75,11 @@ fn choice(
 pub fn choices(
     alloc: Global,
     problem: &Problem<'_>,
-    board: &mut Board,
+    state: &mut SearchState,
 ) -> Result<Option<Vec<Choice>>, AllocError> {
     let mut choices = Vec::new(alloc);
     for (place, column) in problem.columns.iter().enumerate() {
-        match choice(problem, board, place, column) {
+        match choice(problem, state, place, column) {
             None => return Ok(None),
             Some(choice) => choices.push(choice)?,
         }

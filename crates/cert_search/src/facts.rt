@@ -14,11 +14,16 @@ pub enum Nullness {
     Open,
 }
 
-/// What is known of a column: whether it is null, and a term to which no number is left, if there is one.
+/// What is known of a column.
 #[derive(Clone, Copy)]
 pub struct ColumnFacts {
     pub nullness: Nullness,
+    /// A term to which no number is left, if there is one.
     pub emptied: Option<usize>,
+    /// The bits of the column's atoms that are true.
+    held: u64,
+    /// The bits of those that are false.
+    refused: u64,
 }
 
 /// What is known of a term, where its column isn't null: whether a number is left to it, and the bits of the atoms that
@@ -37,15 +42,19 @@ const NONE: Left = Left {
     all: u64::MAX,
 };
 
+/// Nothing is known of a column.
+const UNKNOWN: ColumnFacts = ColumnFacts {
+    nullness: Nullness::Open,
+    emptied: None,
+    held: 0,
+    refused: 0,
+};
+
 /// What is known of each column and of each term.
 #[derive(Drop)]
 pub struct Facts {
-    pub columns: Vec<ColumnFacts>,
-    pub left: Vec<Left>,
-    /// The bits of the atoms that are true.
-    held: u64,
-    /// The bits of those that are false.
-    refused: u64,
+    columns: Vec<ColumnFacts>,
+    left: Vec<Left>,
 }
 
 /// Whether all of the atoms that are true of numbers, and none that is false, have their bits in this set.
@@ -106,57 +115,8 @@ fn said_by(kind: &AtomKind, value: Tri) -> Nullness {
     }
 }
 
-impl Facts {
-    /// Facts of a problem, with room for what will be found.
-    pub fn new(alloc: Global, problem: &Problem<'_>) -> Result<Facts, AllocError> {
-        let mut columns = Vec::new(alloc);
-        for _ in problem.columns {
-            columns.push(ColumnFacts {
-                nullness: Nullness::Open,
-                emptied: None,
-            })?;
-        }
-        let mut left = Vec::new(alloc);
-        for _ in &problem.terms {
-            left.push(NONE)?;
-        }
-        Ok(Facts {
-            columns,
-            left,
-            held: 0,
-            refused: 0,
-        })
-    }
-
-    /// Finds what the atoms with these values tell.
-    pub fn find(&mut self, problem: &Problem<'_>, known: &[Mask]) {
-        self.forget(problem);
-        self.take_all(problem, known);
-        self.leave_all(problem);
-    }
-
-    fn forget(&mut self, problem: &Problem<'_>) {
-        self.held = 0;
-        self.refused = 0;
-        for (number, column) in problem.columns.iter().enumerate() {
-            let nullness = if column.not_null {
-                Nullness::Present
-            } else {
-                Nullness::Open
-            };
-            let emptied = None;
-            put(&mut self.columns, number, ColumnFacts { nullness, emptied });
-        }
-    }
-
-    fn take_all(&mut self, problem: &Problem<'_>, known: &[Mask]) {
-        for (number, plain) in problem.atoms.iter().enumerate() {
-            if let Some(value) = value_at(known, number) {
-                self.take(plain, value);
-            }
-        }
-    }
-
+impl ColumnFacts {
+    /// Adds what the atom tells by this value.
     fn take(&mut self, plain: &PlainAtom, value: Tri) {
         match value {
             Tri::True => self.held |= plain.bit,
@@ -165,35 +125,51 @@ impl Facts {
         }
         let nullness = said_by(&plain.kind, value);
         if nullness != Nullness::Open {
-            if let Some(column) = self.columns.get_mut(plain.column) {
-                column.nullness = nullness;
-            }
-        }
-    }
-
-    fn leave_all(&mut self, problem: &Problem<'_>) {
-        for (number, domain) in problem.terms.iter().enumerate() {
-            let left = left_to(domain, self.held, self.refused);
-            put(&mut self.left, number, left);
-            if !left.has_number {
-                self.empty(domain.column, number);
-            }
+            self.nullness = nullness;
         }
     }
 
     /// Takes the column for null, unless it surely isn't, since no number is left to this term of it.
-    fn empty(&mut self, number: usize, term: usize) {
-        if let Some(column) = self.columns.get_mut(number) {
-            column.emptied = Some(term);
-            if column.nullness == Nullness::Open {
-                column.nullness = Nullness::Null;
+    fn empty(&mut self, term: usize) {
+        self.emptied = Some(term);
+        if self.nullness == Nullness::Open {
+            self.nullness = Nullness::Null;
+        }
+    }
+}
+
+impl Facts {
+    /// Facts of a problem, with room for what will be found.
+    pub fn new(alloc: Global, problem: &Problem<'_>) -> Result<Facts, AllocError> {
+        Ok(Facts {
+            columns: vec![in alloc; UNKNOWN; problem.columns.len()]?,
+            left: vec![in alloc; NONE; problem.terms.len()]?,
+        })
+    }
+
+    /// Finds what the atoms of the column of this number, with these values, tell of it.
+    pub fn find(&mut self, problem: &Problem<'_>, known: &[Mask], number: usize) {
+        let mut facts = told(problem, known, number);
+        for term in problem.terms_of(number) {
+            if let Some(domain) = problem.terms.get(*term) {
+                let left = left_to(domain, facts.held, facts.refused);
+                put(&mut self.left, *term, left);
+                if !left.has_number {
+                    facts.empty(*term);
+                }
             }
         }
+        put(&mut self.columns, number, facts);
+    }
+
+    fn column(&self, number: usize) -> ColumnFacts {
+        self.columns.get(number).copied().unwrap_or(UNKNOWN)
     }
 
     /// Whether the values of the atoms leave the term a number that these atoms are true of.
     pub fn leaves(&self, domain: &Domain, holding: u64) -> bool {
-        agrees(holding, self.held & domain.bits, self.refused)
+        let column = self.column(domain.column);
+        agrees(holding, column.held & domain.bits, column.refused)
     }
 
     fn left(&self, term: usize) -> Left {
@@ -202,19 +178,13 @@ impl Facts {
 
     /// Whether the column of this number is null.
     pub fn nullness(&self, column: usize) -> Nullness {
-        match self.columns.get(column) {
-            None => Nullness::Open,
-            Some(column) => column.nullness,
-        }
+        self.column(column).nullness
     }
 
     /// The term that has no value left where the atom has one that the facts don't leave to it: a term to which no
     /// number is left unless the column is null, or else the atom's own.
     pub fn empty_term(&self, plain: &PlainAtom) -> usize {
-        match self.columns.get(plain.column) {
-            None => plain.term,
-            Some(column) => column.emptied.unwrap_or(plain.term),
-        }
+        self.column(plain.column).emptied.unwrap_or(plain.term)
     }
 
     /// Which values the atom may have, where these are known.
@@ -231,6 +201,20 @@ impl Facts {
             (_, Nullness::Open) => or_of_null(by_left(self.left(plain.term), plain.bit), kind),
         }
     }
+}
+
+/// What the declaration of the column of this number and its atoms with these values tell.
+fn told(problem: &Problem<'_>, known: &[Mask], number: usize) -> ColumnFacts {
+    let mut facts = UNKNOWN;
+    if problem.is_declared(number) {
+        facts.nullness = Nullness::Present;
+    }
+    for atom in problem.atoms_of(number) {
+        if let (Some(plain), Some(value)) = (problem.atom(*atom), value_at(known, *atom)) {
+            facts.take(plain, value);
+        }
+    }
+    facts
 }
 
 /// Which values an atom may have while nothing is known of it.

@@ -3,18 +3,22 @@
 #![tactic(auto)]
 
 mod atoms;
-mod board;
 mod cells;
 mod choices;
+mod closing;
+mod conditions;
 mod facts;
-mod formula;
+mod keys;
 mod masks;
 mod numbers;
 mod owners;
+mod parts;
 mod problem;
 mod rows;
 mod scores;
 mod search;
+mod state;
+mod stop;
 mod texts;
 
 pub use owners::owners_of;

@@ -31,27 +31,14 @@ pub fn is_settled(mask: Mask) -> bool {
     (mask.truth ^ mask.falsity ^ mask.null) & !(mask.truth & mask.falsity & mask.null)
 }
 
-/// As `Mask::and` of sets that aren't empty, with no branch.
-pub fn both(left: Mask, right: Mask) -> Mask {
-    Mask {
-        truth: left.truth & right.truth,
-        falsity: left.falsity | right.falsity,
-        null: (left.null & (right.truth | right.null)) | (left.truth & right.null),
-    }
+/// Whether the sets have a value in common.
+pub fn meets(one: Mask, other: Mask) -> bool {
+    (one.truth & other.truth) | (one.falsity & other.falsity) | (one.null & other.null)
 }
 
-/// As `Mask::or` of sets that aren't empty, with no branch.
-pub fn either(left: Mask, right: Mask) -> Mask {
-    Mask {
-        truth: left.truth | right.truth,
-        falsity: left.falsity & right.falsity,
-        null: (left.null & (right.falsity | right.null)) | (left.falsity & right.null),
-    }
-}
-
-/// Whether the set has true alone.
-pub fn is_sure(mask: Mask) -> bool {
-    mask.truth && !mask.falsity && !mask.null
+/// Whether each value of the first set is in the second.
+pub fn is_within(one: Mask, other: Mask) -> bool {
+    !((one.truth & !other.truth) | (one.falsity & !other.falsity) | (one.null & !other.null))
 }
 
 /// The set at a number; past the end any value.

@@ -1,9 +1,9 @@
 //! Numbers of a column that agree with what is known of its atoms.
 
 use crate::atoms::PlainAtom;
-use crate::board::Board;
 use crate::cells::{Cell, cell_with, nearest};
 use crate::problem::{Domain, Problem};
+use crate::state::SearchState;
 use filter_tree::Tri;
 use shard_checker::Range;
 
@@ -36,19 +36,19 @@ pub fn value_of(problem: &Problem<'_>, plain: &PlainAtom, number: i64) -> Tri {
 }
 
 /// Whether what is known leaves the term the number that it has where its column has this one.
-fn term_meets(board: &mut Board, domain: &Domain, number: i64) -> bool {
-    board.add_steps(1);
+fn term_meets(state: &mut SearchState, domain: &Domain, number: i64) -> bool {
+    state.add_steps(1);
     match cell_with(&domain.cells, term_number(domain, number)) {
         None => false,
-        Some(cell) => board.facts.leaves(domain, cell.holding),
+        Some(cell) => state.facts.leaves(domain, cell.holding),
     }
 }
 
 /// Whether what is known leaves the column this number.
-pub fn meets(problem: &Problem<'_>, board: &mut Board, column: usize, number: i64) -> bool {
-    board.add_steps(problem.term_count());
+pub fn meets(problem: &Problem<'_>, state: &mut SearchState, column: usize, number: i64) -> bool {
+    state.add_steps(problem.term_count());
     for domain in &problem.terms {
-        if domain.column == column && !term_meets(board, domain, number) {
+        if domain.column == column && !term_meets(state, domain, number) {
             return false;
         }
     }
@@ -62,7 +62,7 @@ fn is_in(range: Range, number: i64) -> bool {
 /// A number of the range that meets what is known, at most so far from the one of the range that is nearest to zero.
 fn near_number(
     problem: &Problem<'_>,
-    board: &mut Board,
+    state: &mut SearchState,
     column: usize,
     range: Range,
     most: i64,
@@ -74,10 +74,10 @@ fn near_number(
         if !is_in(range, above) && !is_in(range, below) {
             return None;
         }
-        if is_in(range, above) && meets(problem, board, column, above) {
+        if is_in(range, above) && meets(problem, state, column, above) {
             return Some(above);
         }
-        if is_in(range, below) && meets(problem, board, column, below) {
+        if is_in(range, below) && meets(problem, state, column, below) {
             return Some(below);
         }
     }
@@ -86,7 +86,7 @@ fn near_number(
 
 /// The first of the numbers from this one, a step apart, whose remainder by a divisor of this size the term may have.
 fn with_remainder(
-    board: &mut Board,
+    state: &mut SearchState,
     domain: &Domain,
     start: i64,
     step: i64,
@@ -94,7 +94,7 @@ fn with_remainder(
 ) -> Option<i64> {
     let mut number = start;
     for _ in 0..size.min(MAX_REMAINDERS) {
-        if term_meets(board, domain, number) {
+        if term_meets(state, domain, number) {
             return Some(number);
         }
         number = number.checked_add(step)?;
@@ -138,7 +138,7 @@ fn period(problem: &Problem<'_>, column: usize) -> Option<i64> {
 /// they stay.
 fn with_remainders(
     problem: &Problem<'_>,
-    board: &mut Board,
+    state: &mut SearchState,
     column: usize,
     start: i64,
     step: i64,
@@ -147,7 +147,7 @@ fn with_remainders(
     for domain in &problem.terms {
         if let (true, Some(divisor)) = (domain.column == column, domain.divisor) {
             let size = divisor.checked_abs()?;
-            number = with_remainder(board, domain, number, step, size)?;
+            number = with_remainder(state, domain, number, step, size)?;
             step = common_step(step, size)?;
         }
     }
@@ -157,15 +157,15 @@ fn with_remainders(
 /// A number of the range from this one on, in the direction of the step, that meets what is known.
 fn stepwise(
     problem: &Problem<'_>,
-    board: &mut Board,
+    state: &mut SearchState,
     column: usize,
     range: Range,
     start: i64,
     step: i64,
 ) -> Option<i64> {
-    let (mut number, step) = with_remainders(problem, board, column, start, step)?;
+    let (mut number, step) = with_remainders(problem, state, column, start, step)?;
     for _ in 0..MAX_ROUNDS {
-        if is_in(range, number) && meets(problem, board, column, number) {
+        if is_in(range, number) && meets(problem, state, column, number) {
             return Some(number);
         }
         number = number.checked_add(step)?;
@@ -176,20 +176,20 @@ fn stepwise(
 /// A number of the range that meets what is known, where the column's remainders stay by this step.
 fn number_in(
     problem: &Problem<'_>,
-    board: &mut Board,
+    state: &mut SearchState,
     column: usize,
     range: Range,
     period: i64,
 ) -> Option<i64> {
-    let near = near_number(problem, board, column, range, period.min(MAX_FAR));
+    let near = near_number(problem, state, column, range, period.min(MAX_FAR));
     if near.is_some() || period <= MAX_FAR {
         return near;
     }
-    let above = stepwise(problem, board, column, range, range.least.max(0), 1);
+    let above = stepwise(problem, state, column, range, range.least.max(0), 1);
     if above.is_some() {
         return above;
     }
-    stepwise(problem, board, column, range, range.greatest.min(0), -1)
+    stepwise(problem, state, column, range, range.greatest.min(0), -1)
 }
 
 /// The number that is nearer to zero, if there is one.
@@ -217,20 +217,20 @@ fn may_be_nearer(found: Option<i64>, cell: Cell) -> bool {
 /// A number of the cells of the column itself that meets what is known.
 fn number_in_cells(
     problem: &Problem<'_>,
-    board: &mut Board,
+    state: &mut SearchState,
     column: usize,
     domain: &Domain,
     period: i64,
 ) -> Option<i64> {
-    let last = board.steps.saturating_add(MAX_STEPS_IN_CELLS);
+    let last = state.steps.saturating_add(MAX_STEPS_IN_CELLS);
     let mut found = None;
     for cell in domain.cells.iter().rev() {
-        board.add_steps(1);
-        if board.steps < last
-            && board.facts.leaves(domain, cell.holding)
+        state.add_steps(1);
+        if state.steps < last
+            && state.facts.leaves(domain, cell.holding)
             && may_be_nearer(found, *cell)
         {
-            let number = number_in(problem, board, column, cell.range, period);
+            let number = number_in(problem, state, column, cell.range, period);
             found = nearer(found, number);
         }
     }
@@ -250,13 +250,13 @@ fn itself<'q>(problem: &'q Problem<'_>, column: usize) -> Option<&'q Domain> {
 /// A number of the column that meets what is known, of these numbers of its type.
 pub fn number_for(
     problem: &Problem<'_>,
-    board: &mut Board,
+    state: &mut SearchState,
     column: usize,
     whole: Range,
 ) -> Option<i64> {
     let period = period(problem, column).unwrap_or(i64::MAX);
     match itself(problem, column) {
-        None => number_in(problem, board, column, whole, period),
-        Some(domain) => number_in_cells(problem, board, column, domain, period),
+        None => number_in(problem, state, column, whole, period),
+        Some(domain) => number_in_cells(problem, state, column, domain, period),
     }
 }

@@ -3,7 +3,7 @@
 
 use crate::atoms::{PlainAtom, plain_atoms};
 use crate::cells::{Cell, Class, bits_of, cells_of, classes_of};
-use crate::formula::{Formula, formula_of_share};
+use crate::conditions::{Condition, add_taking};
 use crate::texts::Texts;
 use filter_tree::{Atom, ColType, Column, Term};
 use replica_identity::Share;
@@ -23,12 +23,31 @@ pub struct Domain {
     pub classes: Vec<Class>,
 }
 
-/// What a subscriber takes, the numbers of the atoms that decide it, and how many nodes the formula has.
+/// The numbers of the atoms and of the terms of a column, and how many classes of numbers these and those are.
 #[derive(Drop)]
-pub struct Claim {
-    pub formula: Formula,
-    pub atoms: Vec<usize>,
-    pub size: u64,
+struct Subjects {
+    atoms: Vec<usize>,
+    terms: Vec<usize>,
+    breadth: u64,
+}
+
+/// What a subscriber takes: the conditions from this place up to its end, of which the last one is that it takes a row.
+#[derive(Clone, Copy)]
+pub struct ShareFormula {
+    pub start: usize,
+    pub end: usize,
+}
+
+impl ShareFormula {
+    /// The place of the condition that the subscriber takes a row.
+    pub fn root(self) -> usize {
+        self.end.saturating_sub(1)
+    }
+
+    /// How many conditions these are.
+    pub fn size(self) -> u64 {
+        count(self.end.saturating_sub(self.start))
+    }
 }
 
 /// Which share takes the rows of a table.
@@ -37,10 +56,14 @@ pub struct Problem<'a> {
     pub columns: &'a [Column],
     pub terms: Vec<Domain>,
     pub atoms: Vec<PlainAtom>,
-    pub claims: Vec<Claim>,
+    subjects: Vec<Subjects>,
+    pub conditions: Vec<Condition>,
+    pub shares: Vec<ShareFormula>,
     pub texts: Texts<'a>,
     /// How many columns, terms, classes of numbers and atoms there are.
     pub breadth: u64,
+    /// Whether there are atoms of several columns.
+    pub has_several_columns: bool,
 }
 
 /// A count with 64 bits.
@@ -105,31 +128,86 @@ fn domains_of(
     Ok(domains)
 }
 
-fn claim_of<A: Allocator>(
+/// Adds the conditions of the shares, and gives where those of each are.
+fn formulas_of<A: Allocator>(
     alloc: Global,
-    atoms: &[&Atom<A>],
-    share: &Share<A>,
-) -> Result<Claim, AllocError> {
-    let formula = formula_of_share(alloc, atoms, share)?;
-    let mut numbers = Vec::new(alloc);
-    formula.gather(&mut numbers)?;
-    Ok(Claim {
-        size: formula.size(),
-        formula,
-        atoms: numbers,
-    })
-}
-
-fn claims_of<A: Allocator>(
-    alloc: Global,
+    conditions: &mut Vec<Condition>,
     atoms: &[&Atom<A>],
     shares: &[&Share<A>],
-) -> Result<Vec<Claim>, AllocError> {
-    let mut claims = Vec::new(alloc);
+) -> Result<Vec<ShareFormula>, AllocError> {
+    let mut formulas = Vec::new(alloc);
     for share in shares {
-        claims.push(claim_of(alloc, atoms, *share)?)?;
+        let start = conditions.len();
+        add_taking(alloc, conditions, atoms, *share)?;
+        formulas.push(ShareFormula {
+            start,
+            end: conditions.len(),
+        })?;
     }
-    Ok(claims)
+    Ok(formulas)
+}
+
+/// The numbers of the atoms of a column.
+fn atoms_of(alloc: Global, atoms: &[PlainAtom], column: usize) -> Result<Vec<usize>, AllocError> {
+    let mut numbers = Vec::new(alloc);
+    for (number, plain) in atoms.iter().enumerate() {
+        if plain.column == column {
+            numbers.push(number)?;
+        }
+    }
+    Ok(numbers)
+}
+
+/// The numbers of the terms of a column.
+fn terms_of(alloc: Global, terms: &[Domain], column: usize) -> Result<Vec<usize>, AllocError> {
+    let mut numbers = Vec::new(alloc);
+    for (number, domain) in terms.iter().enumerate() {
+        if domain.column == column {
+            numbers.push(number)?;
+        }
+    }
+    Ok(numbers)
+}
+
+fn classes_of_column(terms: &[Domain], column: usize) -> u64 {
+    let mut classes = 0u64;
+    for domain in terms {
+        if domain.column == column {
+            classes = classes.saturating_add(count(domain.classes.len()));
+        }
+    }
+    classes
+}
+
+fn subjects_of(
+    alloc: Global,
+    columns: &[Column],
+    terms: &[Domain],
+    atoms: &[PlainAtom],
+) -> Result<Vec<Subjects>, AllocError> {
+    let mut subjects = Vec::new(alloc);
+    for (column, _) in columns.iter().enumerate() {
+        let atoms = atoms_of(alloc, atoms, column)?;
+        subjects.push(Subjects {
+            breadth: classes_of_column(terms, column).saturating_add(count(atoms.len())),
+            atoms,
+            terms: terms_of(alloc, terms, column)?,
+        })?;
+    }
+    Ok(subjects)
+}
+
+/// Whether the atoms are of several columns.
+fn are_of_several_columns(atoms: &[PlainAtom]) -> bool {
+    let Some(first) = atoms.first() else {
+        return false;
+    };
+    for plain in atoms {
+        if plain.column != first.column {
+            return true;
+        }
+    }
+    false
 }
 
 fn count_classes(terms: &[Domain]) -> u64 {
@@ -160,19 +238,56 @@ impl<'a> Problem<'a> {
         let texts = Texts::new(alloc, atoms)?;
         let plain = plain_atoms(alloc, &texts, terms, atoms)?;
         let domains = domains_of(alloc, columns, &texts, &plain, terms)?;
+        let mut conditions = Vec::new(alloc);
+        let formulas = formulas_of(alloc, &mut conditions, atoms, shares)?;
         Ok(Problem {
             columns,
             breadth: breadth_of(columns, &domains, &plain),
+            has_several_columns: are_of_several_columns(&plain),
+            subjects: subjects_of(alloc, columns, &domains, &plain)?,
             terms: domains,
             atoms: plain,
-            claims: claims_of(alloc, atoms, shares)?,
+            conditions,
+            shares: formulas,
             texts,
         })
     }
 
-    /// How many atoms there are.
-    pub fn atom_count(&self) -> u64 {
-        count(self.atoms.len())
+    /// The numbers of the atoms of the column of this number.
+    pub fn atoms_of(&self, column: usize) -> &[usize] {
+        match self.subjects.get(column) {
+            None => &[],
+            Some(subjects) => &subjects.atoms,
+        }
+    }
+
+    /// The numbers of the terms of the column of this number.
+    pub fn terms_of(&self, column: usize) -> &[usize] {
+        match self.subjects.get(column) {
+            None => &[],
+            Some(subjects) => &subjects.terms,
+        }
+    }
+
+    /// How many atoms and classes of numbers the column of this number has.
+    pub fn breadth_of(&self, column: usize) -> u64 {
+        match self.subjects.get(column) {
+            None => 0,
+            Some(subjects) => subjects.breadth,
+        }
+    }
+
+    /// Whether the column of this number is declared NOT NULL.
+    pub fn is_declared(&self, column: usize) -> bool {
+        match self.columns.get(column) {
+            None => false,
+            Some(column) => column.not_null,
+        }
+    }
+
+    /// How many conditions there are.
+    pub fn condition_count(&self) -> u64 {
+        count(self.conditions.len())
     }
 
     /// How many terms there are.

@@ -3,6 +3,7 @@
 use crate::atoms::{AtomKind, PlainAtom};
 use crate::cells::Class;
 use crate::choices::{Choice, empty_text};
+use crate::conditions::{Outcome, evaluate, outcome_at};
 use crate::numbers::value_of;
 use crate::owners::is_counter;
 use crate::problem::Problem;
@@ -255,14 +256,16 @@ fn masks_with(
 }
 
 /// How many shares take the row, by the values of its atoms.
-fn count_takers(problem: &Problem<'_>, masks: &[Mask]) -> usize {
+fn count_takers(alloc: Global, problem: &Problem<'_>, masks: &[Mask]) -> Result<usize, AllocError> {
+    let mut outcomes = vec![in alloc; Outcome::Open; problem.conditions.len()]?;
     let mut count = 0usize;
-    for claim in &problem.claims {
-        if claim.formula.mask(masks).truth {
+    for share in &problem.shares {
+        evaluate(&problem.conditions, *share, masks, &mut outcomes);
+        if outcome_at(&outcomes, share.root()) == Outcome::Met {
             count = count.saturating_add(1);
         }
     }
-    count
+    Ok(count)
 }
 
 /// The row of these values, if it fits the table and not exactly one share takes it. The row is made only where the
@@ -275,7 +278,7 @@ pub fn counter_of(
     choices: &[Choice],
 ) -> Result<Option<Row>, AllocError> {
     let masks = masks_with(alloc, problem, choices)?;
-    if count_takers(problem, &masks) == 1 {
+    if count_takers(alloc, problem, &masks)? == 1 {
         return Ok(None);
     }
     let row = row_of(alloc, problem, choices)?;

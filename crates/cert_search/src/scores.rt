@@ -1,28 +1,15 @@
 //! Which atom the rows at a node are split by.
 
-use crate::board::{Board, Standing};
-use crate::masks::{is_settled, is_sure, mask_at, put};
-use crate::problem::{Claim, Problem};
+use crate::conditions::{Condition, Outcome, is_at, outcome_at, outcome_of};
+use crate::masks::{is_settled, mask_at, put};
+use crate::problem::{Problem, ShareFormula};
+use crate::state::{SearchState, Standing};
 use filter_tree::{Mask, Tri};
 use std::alloc::{AllocError, Global};
 
-/// What the path is to tell of a share.
-#[derive(Clone, Copy)]
-pub enum Aim {
-    TakesNone,
-    TakesAll,
-}
-
-fn is_met(aim: Aim, mask: Mask) -> bool {
-    match aim {
-        Aim::TakesNone => !mask.truth,
-        Aim::TakesAll => is_sure(mask),
-    }
-}
-
 /// How much is left to decide in the branches of a split: in the worst one, and in all.
 #[derive(Clone, Copy, PartialEq, Eq, PartialOrd, Ord)]
-pub struct Score {
+struct Score {
     worst: u64,
     sum: u64,
 }
@@ -33,44 +20,76 @@ const WORST: Score = Score {
     sum: u64::MAX,
 };
 
-impl Board {
-    /// Whether a split by this atom lets the path tell that the claim takes nothing.
-    fn closes(&mut self, claim: &Claim, atom: usize) -> bool {
-        self.count(claim);
-        let open = mask_at(&self.known, atom);
-        let likely = mask_at(&self.likely, atom);
-        put(&mut self.known, atom, likely);
-        let closes = !claim.formula.mask(&self.known).truth;
-        put(&mut self.known, atom, open);
-        closes
+/// The conditions that are live of shares that are undecided, and how many atoms make a difference to each.
+#[derive(Drop)]
+struct Pending {
+    places: Vec<usize>,
+    /// By the places of all conditions.
+    weights: Vec<u32>,
+}
+
+fn weight_at(weights: &[u32], place: usize) -> u32 {
+    weights.get(place).copied().unwrap_or(0)
+}
+
+/// How many atoms make a difference to a condition of which this is known.
+fn weight_of(condition: Condition, outcome: Outcome, weights: &[u32]) -> u32 {
+    if outcome != Outcome::Open {
+        return 0;
+    }
+    match condition {
+        Condition::Const(_) => 0,
+        Condition::Value(..) => 1,
+        Condition::Both(left, right) | Condition::Either(left, right) => {
+            weight_at(weights, left).saturating_add(weight_at(weights, right))
+        }
+    }
+}
+
+impl SearchState {
+    /// The conditions to weigh, where the path leaves these shares undecided.
+    fn pending(&self, alloc: Global, problem: &Problem<'_>) -> Result<Pending, AllocError> {
+        let mut places = Vec::new(alloc);
+        for (number, share) in problem.shares.iter().enumerate() {
+            if self.standing_of(number) == Standing::Undecided {
+                self.add_live(&mut places, *share)?;
+            }
+        }
+        Ok(Pending {
+            places,
+            weights: vec![in alloc; 0; problem.conditions.len()]?,
+        })
     }
 
-    /// Votes for each atom that closes the claim by its value that is left.
-    fn vote(&mut self, claim: &Claim) {
-        for atom in &claim.atoms {
-            if self.is_forced(*atom) && self.closes(claim, *atom) {
-                let votes = self.votes.get(*atom).copied().unwrap_or(0);
-                put(&mut self.votes, *atom, votes.saturating_add(1));
+    fn add_live(&self, places: &mut Vec<usize>, share: ShareFormula) -> Result<(), AllocError> {
+        for place in share.start..share.end {
+            if is_at(&self.live, place) {
+                places.push(place)?;
+            }
+        }
+        Ok(())
+    }
+
+    /// Gives each atom a vote for each condition on it that is open.
+    fn vote_for_open(&mut self, problem: &Problem<'_>, places: &[usize]) {
+        self.votes.fill(0);
+        for place in places {
+            if outcome_at(&self.expected, *place) == Outcome::Open {
+                if let Some(Condition::Value(atom, _)) = problem.conditions.get(*place) {
+                    self.vote(*atom);
+                }
             }
         }
     }
 
-    fn clear_votes(&mut self, problem: &Problem<'_>) {
-        for (atom, _) in problem.atoms.iter().enumerate() {
-            put(&mut self.votes, atom, 0);
-        }
-    }
-
-    fn vote_all(&mut self, problem: &Problem<'_>) {
-        for (share, claim) in problem.claims.iter().enumerate() {
-            if self.standing_of(share) == Standing::Excluded {
-                self.vote(claim);
-            }
-        }
+    /// Gives the atom one more vote.
+    pub fn vote(&mut self, atom: usize) {
+        let votes = self.votes.get(atom).copied().unwrap_or(0);
+        put(&mut self.votes, atom, votes.saturating_add(1));
     }
 
     /// The atom with the most votes, if there is a vote.
-    fn most_voted(&self) -> Option<usize> {
+    pub fn most_voted(&self) -> Option<usize> {
         let mut most = 0;
         let mut found = None;
         for (atom, votes) in self.votes.iter().enumerate() {
@@ -82,127 +101,88 @@ impl Board {
         found
     }
 
-    /// Adds to the values on the path those that the facts leave to the claim's atoms, one after another and the forced
-    /// ones first, until the path meets the aim. The answer is the atom of the last one.
-    pub fn needed(
-        &mut self,
-        alloc: Global,
-        claim: &Claim,
-        aim: Aim,
-    ) -> Result<Option<usize>, AllocError> {
-        let mut trial = Vec::new(alloc);
-        trial.extend_from_slice(&self.known)?;
-        if let Some(atom) = self.added(&mut trial, claim, aim, true) {
-            return Ok(Some(atom));
-        }
-        Ok(self.added(&mut trial, claim, aim, false))
-    }
-
-    fn added(
-        &mut self,
-        trial: &mut [Mask],
-        claim: &Claim,
-        aim: Aim,
-        forced: bool,
-    ) -> Option<usize> {
-        for atom in &claim.atoms {
-            if !self.is_known(*atom) && self.is_forced(*atom) == forced {
-                self.count(claim);
-                put(trial, *atom, mask_at(&self.likely, *atom));
-                if is_met(aim, claim.formula.mask(trial)) {
-                    return Some(*atom);
-                }
+    /// How much is left to decide, by the values that the facts leave.
+    fn weight(&mut self, problem: &Problem<'_>, pending: &mut Pending) -> u64 {
+        for place in &pending.places {
+            if let Some(condition) = problem.conditions.get(*place) {
+                let outcome = outcome_of(*condition, &self.likely, &self.expected);
+                put(&mut self.expected, *place, outcome);
+                let weight = weight_of(*condition, outcome, &pending.weights);
+                put(&mut pending.weights, *place, weight);
             }
         }
-        None
+        self.total(problem, &pending.weights)
     }
 
-    /// An atom by which the path would tell that a share takes nothing, where the facts already tell so.
-    pub fn closing(
-        &mut self,
-        alloc: Global,
-        problem: &Problem<'_>,
-        share: usize,
-    ) -> Result<Option<usize>, AllocError> {
-        self.add_steps(problem.atom_count().saturating_mul(2));
-        self.clear_votes(problem);
-        self.vote_all(problem);
-        if let Some(atom) = self.most_voted() {
-            return Ok(Some(atom));
-        }
-        match problem.claims.get(share) {
-            None => Ok(None),
-            Some(claim) => self.needed(alloc, claim, Aim::TakesNone),
-        }
-    }
-
-    /// How much is left to decide, by what was found of the atoms.
-    fn weight(&mut self, problem: &Problem<'_>) -> u64 {
-        let mut weight = 0u64;
-        for (share, claim) in problem.claims.iter().enumerate() {
-            if self.standing_of(share) == Standing::Undecided {
-                self.count(claim);
-                let weighed = claim.formula.weighed(&self.likely);
-                if weighed.mask.truth {
-                    weight = weight.saturating_add(u64::from(weighed.weight));
-                }
+    fn total(&self, problem: &Problem<'_>, weights: &[u32]) -> u64 {
+        let mut total = 0u64;
+        for (number, share) in problem.shares.iter().enumerate() {
+            if self.standing_of(number) == Standing::Undecided {
+                total = total.saturating_add(u64::from(weight_at(weights, share.root())));
             }
         }
-        weight
-    }
-
-    /// How much is left to decide where the atom has this value.
-    fn weight_after(&mut self, problem: &Problem<'_>, atom: usize, value: Tri) -> u64 {
-        self.decide(atom, value);
-        self.look(problem);
-        let weight = self.weight(problem);
-        self.forget(problem, atom);
-        weight
+        total
     }
 
     /// The score of a split by this atom, to which the facts leave these values, or a worse one than the best.
-    fn score(&mut self, problem: &Problem<'_>, atom: usize, left: Mask, best: Score) -> Score {
+    fn score(
+        &mut self,
+        problem: &Problem<'_>,
+        pending: &mut Pending,
+        atom: usize,
+        left: Mask,
+        best: Score,
+    ) -> Score {
         let mut score = Score { worst: 0, sum: 0 };
         for value in [Tri::True, Tri::False, Tri::Null] {
             if left.has(value) && score.worst <= best.worst {
-                let weight = self.weight_after(problem, atom, value);
+                self.decide(problem, atom, value, false);
+                self.refresh(problem);
+                let weight = self.weight(problem, pending);
                 score = Score {
                     worst: score.worst.max(weight),
                     sum: score.sum.saturating_add(weight),
                 };
             }
         }
+        self.forget(problem, atom, false);
         score
     }
 
-    /// An atom that makes a difference to the first share that is undecided.
-    pub fn first_open(&mut self, problem: &Problem<'_>) -> Option<usize> {
-        let share = self.first(Standing::Undecided)?;
-        let claim = problem.claims.get(share)?;
-        self.count(claim);
-        claim.formula.opened(&self.likely).first
-    }
-
-    /// The atom that leaves the least to decide, among those with several values left by the facts. What was found of
-    /// the atoms is lost.
-    pub fn halving(
-        &mut self,
-        alloc: Global,
-        problem: &Problem<'_>,
-    ) -> Result<Option<usize>, AllocError> {
-        let mut likely = Vec::new(alloc);
-        likely.extend_from_slice(&self.likely)?;
+    /// The atom whose split has the best score, among those with a vote.
+    fn best_voted(&mut self, problem: &Problem<'_>, pending: &mut Pending) -> Option<usize> {
+        let breadth = u64::try_from(pending.places.len()).unwrap_or(u64::MAX);
         let mut best = WORST;
         let mut found = None;
-        for (atom, mask) in likely.iter().enumerate() {
-            if !is_settled(*mask) {
-                let score = self.score(problem, atom, *mask, best);
+        for (atom, _) in problem.atoms.iter().enumerate() {
+            let left = mask_at(&self.likely, atom);
+            if self.votes.get(atom).copied().unwrap_or(0) > 0 && !is_settled(left) {
+                self.add_steps(breadth.saturating_mul(3));
+                let score = self.score(problem, pending, atom, left, best);
                 if score < best {
                     best = score;
                     found = Some(atom);
                 }
             }
         }
+        found
+    }
+
+    /// An atom that leaves the least to decide, or, without care, one that the most conditions are on. What the facts
+    /// tell of conditions is lost.
+    pub fn halving(
+        &mut self,
+        alloc: Global,
+        problem: &Problem<'_>,
+        with_care: bool,
+    ) -> Result<Option<usize>, AllocError> {
+        let mut pending = self.pending(alloc, problem)?;
+        self.vote_for_open(problem, &pending.places);
+        if !with_care {
+            return Ok(self.most_voted());
+        }
+        let found = self.best_voted(problem, &mut pending);
+        self.refresh(problem);
         Ok(found)
     }
 }

@@ -1,59 +1,26 @@
 //! The search for a certificate, from the root, and for a row where there is none.
 
-use crate::board::{Board, Standing};
 use crate::choices::choices;
-use crate::masks::{is_sure, mask_at};
+use crate::conditions::{Outcome, outcome_at};
+use crate::masks::{is_settled, mask_at};
+use crate::parts::{Parts, Shape};
 use crate::problem::Problem;
 use crate::rows::{counter_of, simple_counter};
-use crate::scores::Aim;
+use crate::state::{SearchState, Standing};
+use crate::stop::Stop;
 use bumpalo::Bump;
 use filter_tree::{Mask, Row, Table, Tri};
 use replica_identity::Share;
 use shard_checker::{numbered_atoms, numbered_terms};
-use split_cert::{Cert, MAX_NODES, MAX_SPLITS};
-use std::alloc::{AllocError, AllocFailed, Global};
+use split_cert::{Cert, MAX_SPLITS};
+use std::alloc::{AllocError, Global};
 
-/// After so many steps a search goes on to no further node. A step is a look at a node of a share's filter, or at an
-/// atom, a term, a column or a class of numbers that the atoms of a term don't tell apart.
+/// The most steps of a search. A step is a look at a condition of a share's filter, or at an atom, a term, a column or a
+/// class of numbers that the atoms of a term don't tell apart.
 pub const MAX_STEPS: u64 = 200_000_000;
 
-/// After so many nodes splits are no longer chosen with care, so that the search ends sooner.
-const CAREFUL_NODES: usize = 20_000;
-
-/// Nor after so many steps.
-const CAREFUL_STEPS: u64 = MAX_STEPS / 2;
-
-/// Why the search for a certificate ends without one.
-#[derive(Clone, Copy, Debug)]
-enum Stop {
-    /// A row was found that shows that there is none.
-    Counter,
-    TooLarge,
-    TooLong,
-    OutOfMemory,
-}
-
-impl From<AllocError> for Stop {
-    ghost use Rattle.std.specs.Prelude.{◌≡◌};
-    ghost use Rattle.cert_search.specs.declared.search.Stop.TheVariants.{OutOfMemory};
-
-    ghost from_gives = { λ _ stop. stop ≡ OutOfMemory };
-
-    fn from(_: AllocError) -> Stop {
-        Stop::OutOfMemory
-    }
-}
-
-impl<T: Drop> From<AllocFailed<T>> for Stop {
-    ghost use Rattle.std.specs.Prelude.{◌≡◌};
-    ghost use Rattle.cert_search.specs.declared.search.Stop.TheVariants.{OutOfMemory};
-
-    ghost from_gives = { λ _ stop. stop ≡ OutOfMemory };
-
-    fn from(_: AllocFailed<T>) -> Stop {
-        Stop::OutOfMemory
-    }
-}
+/// What a node costs at least, in steps.
+const NODE_STEPS: u64 = 100;
 
 /// A split by an atom, and the values that the facts leave to it. Where it has another one, no number is left to the
 /// term.
@@ -81,20 +48,12 @@ struct Search<'a, 'q> {
     table: &'a Table,
     shares: &'a [&'a Share],
     problem: &'q Problem<'a>,
-    board: Board,
-    nodes: usize,
-    /// Some leaf has rows that not exactly one share takes, but none was found.
-    is_broken: bool,
+    /// After so many steps the search goes on to no further node. Splits are chosen with care in the first half.
+    most_steps: u64,
+    state: SearchState,
+    parts: Parts,
     /// A row that not exactly one share takes.
     counter: Option<Row>,
-}
-
-/// The number of an atom, a term or a share, as a certificate has it.
-fn number(place: usize) -> Result<u32, Stop> {
-    match u32::try_from(place) {
-        Ok(number) => Ok(number),
-        Err(_) => Err(Stop::TooLarge),
-    }
 }
 
 impl<'a, 'q> Search<'a, 'q> {
@@ -104,106 +63,100 @@ impl<'a, 'q> Search<'a, 'q> {
         table: &'a Table,
         shares: &'a [&'a Share],
         problem: &'q Problem<'a>,
+        most_steps: u64,
     ) -> Result<Search<'a, 'q>, AllocError> {
         Ok(Search {
             alloc,
             table,
             shares,
             problem,
-            board: Board::new(alloc, problem)?,
-            nodes: 0,
-            is_broken: false,
+            most_steps,
+            state: SearchState::new(alloc, problem)?,
+            parts: Parts::new(alloc),
             counter: None,
         })
     }
 
-    /// A certificate whose nodes are in the arena, if the search ends with one that isn't broken.
+    /// A certificate whose nodes are in the arena, if the search ends with one.
     fn find<'b>(&mut self, arena: &'b Bump) -> Result<Cert<&'b Bump>, Stop> {
-        self.grow(arena, MAX_SPLITS)
-    }
-
-    fn count_node(&mut self) -> Result<(), Stop> {
-        if self.nodes >= MAX_NODES {
-            return Err(Stop::TooLarge);
-        }
-        if self.board.steps > MAX_STEPS {
+        let root = self.grow(MAX_SPLITS)?;
+        if self.parts.is_broken(root) {
             return Err(Stop::TooLong);
         }
-        self.nodes += 1;
-        Ok(())
+        self.parts.certificate(arena, root)
     }
 
     /// A tree for the rows at the end of the path, to which so many splits may still be added.
     #[cycle(tree)]
-    fn grow<'b>(&mut self, arena: &'b Bump, may_split: usize) -> Result<Cert<&'b Bump>, Stop> {
-        self.count_node()?;
+    fn grow(&mut self, may_split: usize) -> Result<usize, Stop> {
+        if self.state.steps > self.most_steps {
+            return Err(Stop::TooLong);
+        }
+        self.state.add_steps(NODE_STEPS);
+        self.state.refresh(self.problem);
+        let splits = MAX_SPLITS.saturating_sub(may_split);
+        self.state.follow(self.problem, splits);
+        if !self.problem.has_several_columns {
+            // Each path tells other values of the column, so no key would be found again.
+            return self.made(may_split);
+        }
+        let key = self.state.key(self.alloc, self.problem)?;
+        if let Some(part) = self.parts.with_key(&key) {
+            return Ok(part);
+        }
+        let part = self.made(may_split)?;
+        self.parts.keep(key, part)?;
+        Ok(part)
+    }
+
+    /// A tree for the rows at the end of the path, where what the path tells is found.
+    #[cycle(tree)]
+    fn made(&mut self, may_split: usize) -> Result<usize, Stop> {
         match self.step()? {
-            Step::Owner(share) => Ok(Cert::Owner(number(share)?)),
+            Step::Owner(share) => Ok(self.parts.add(Shape::Owner(share))?),
             Step::Split(fork) => {
                 if may_split == 0 {
                     return Err(Stop::TooLarge);
                 }
-                self.split(arena, may_split - 1, fork)
+                self.split(may_split - 1, fork)
             }
             Step::Fault => self.fault(),
         }
     }
 
     #[cycle(tree)]
-    fn split<'b>(
-        &mut self,
-        arena: &'b Bump,
-        may_split: usize,
-        fork: Fork,
-    ) -> Result<Cert<&'b Bump>, Stop> {
+    fn split(&mut self, may_split: usize, fork: Fork) -> Result<usize, Stop> {
         // Rows with a null are forgotten most often, and this branch is the smallest.
-        let if_null = self.branch(arena, may_split, fork, Tri::Null)?;
-        let if_true = self.branch(arena, may_split, fork, Tri::True)?;
-        let if_false = self.branch(arena, may_split, fork, Tri::False)?;
-        Ok(Cert::Split(number(fork.atom)?, if_true, if_false, if_null))
+        let if_null = self.branch(may_split, fork, Tri::Null)?;
+        let if_true = self.branch(may_split, fork, Tri::True)?;
+        let if_false = self.branch(may_split, fork, Tri::False)?;
+        self.state
+            .forget(self.problem, fork.atom, is_settled(fork.left));
+        let split = Shape::Split(fork.atom, if_true, if_false, if_null);
+        Ok(self.parts.add(split)?)
     }
 
     /// The branch where the atom has this value.
     #[cycle(tree)]
-    fn branch<'b>(
-        &mut self,
-        arena: &'b Bump,
-        may_split: usize,
-        fork: Fork,
-        value: Tri,
-    ) -> Result<Box<Cert<&'b Bump>, &'b Bump>, Stop> {
-        let cert = if fork.left.has(value) {
-            self.board.decide(fork.atom, value);
-            let grown = self.grow(arena, may_split)?;
-            self.board.forget(self.problem, fork.atom);
-            grown
-        } else {
-            self.impossible(fork, value)?
-        };
-        Ok(Box::new(arena, cert)?)
-    }
-
-    /// A leaf without rows, since the facts don't leave the atom this value.
-    fn impossible<'b>(&mut self, fork: Fork, value: Tri) -> Result<Cert<&'b Bump>, Stop> {
-        self.count_node()?;
-        if value == Tri::Null && fork.is_never_null {
-            Ok(Cert::NeverNull(number(fork.atom)?))
-        } else {
-            Ok(Cert::Empty(number(fork.term)?))
+    fn branch(&mut self, may_split: usize, fork: Fork, value: Tri) -> Result<usize, Stop> {
+        if !fork.left.has(value) {
+            return Ok(self.parts.add(impossible(fork, value))?);
         }
+        self.state
+            .decide(self.problem, fork.atom, value, is_settled(fork.left));
+        self.grow(may_split)
     }
 
     /// What to do at the end of the path.
     fn step(&mut self) -> Result<Step, Stop> {
-        self.board.look(self.problem);
-        self.board.judge(self.problem);
-        let sure = self.board.how_many(Standing::Sure);
-        let undecided = self.board.how_many(Standing::Undecided);
+        self.state.classify(self.problem);
+        let sure = self.state.how_many(Standing::Sure);
+        let undecided = self.state.how_many(Standing::Undecided);
         if sure > 1 || (sure == 0 && undecided == 0) {
             return Ok(Step::Fault);
         }
-        if let Some(share) = self.board.first(Standing::Excluded) {
-            let atom = self.board.closing(self.alloc, self.problem, share)?;
+        if self.state.how_many(Standing::Excluded) > 0 {
+            let atom = self.state.closing(self.alloc, self.problem)?;
             return self.split_by(atom);
         }
         if undecided > 0 {
@@ -218,52 +171,53 @@ impl<'a, 'q> Search<'a, 'q> {
         let plain = self.problem.atom(atom).ok_or(Stop::TooLong)?;
         Ok(Step::Split(Fork {
             atom,
-            left: mask_at(&self.board.likely, atom),
-            is_never_null: plain.kind.is_never_null() || self.is_declared(plain.column),
-            term: self.board.facts.empty_term(plain),
+            left: mask_at(&self.state.likely, atom),
+            is_never_null: plain.kind.is_never_null() || self.problem.is_declared(plain.column),
+            term: self.state.facts.empty_term(plain),
         }))
     }
 
-    /// Whether the column is declared NOT NULL.
-    fn is_declared(&self, column: usize) -> bool {
-        match self.problem.columns.get(column) {
-            None => false,
-            Some(column) => column.not_null,
-        }
-    }
-
     fn halve(&mut self) -> Result<Step, Stop> {
-        if self.nodes > CAREFUL_NODES || self.board.steps > CAREFUL_STEPS {
-            let atom = self.board.first_open(self.problem);
-            return self.split_by(atom);
-        }
-        let atom = self.board.halving(self.alloc, self.problem)?;
-        self.board.look(self.problem);
+        let with_care = self.state.steps <= self.most_steps / 2;
+        let atom = self.state.halving(self.alloc, self.problem, with_care)?;
         self.split_by(atom)
     }
 
     /// One share takes all rows, and no other does: a leaf, once the path tells so.
     fn settle(&mut self) -> Result<Step, Stop> {
-        let share = self.board.first(Standing::Sure).ok_or(Stop::TooLong)?;
-        let claim = self.problem.claims.get(share).ok_or(Stop::TooLong)?;
-        if is_sure(claim.formula.mask(&self.board.known)) {
-            return Ok(Step::Owner(share));
+        let number = self.state.first(Standing::Sure).ok_or(Stop::TooLong)?;
+        let share = self
+            .problem
+            .shares
+            .get(number)
+            .copied()
+            .ok_or(Stop::TooLong)?;
+        if outcome_at(&self.state.told, share.root()) == Outcome::Met {
+            return Ok(Step::Owner(number));
         }
-        let atom = self.board.needed(self.alloc, claim, Aim::TakesAll)?;
+        let atom = self.state.settling(self.alloc, self.problem, share)?;
         self.split_by(atom)
     }
 
-    /// Looks for a row here that no share takes, or several; without one, something that only fills a leaf.
-    fn fault<'b>(&mut self) -> Result<Cert<&'b Bump>, Stop> {
-        self.board.count_all(self.problem);
-        if let Some(chosen) = choices(self.alloc, self.problem, &mut self.board)? {
+    /// Looks for a row here that no share takes, or several.
+    fn fault(&mut self) -> Result<usize, Stop> {
+        self.state.add_steps(self.problem.breadth);
+        if let Some(chosen) = choices(self.alloc, self.problem, &mut self.state)? {
             self.counter = counter_of(self.alloc, self.problem, self.table, self.shares, &chosen)?;
             if self.counter.is_some() {
                 return Err(Stop::Counter);
             }
         }
-        self.is_broken = true;
-        Ok(Cert::Owner(0))
+        Ok(self.parts.add(Shape::Broken)?)
+    }
+}
+
+/// A leaf without rows, since the facts don't leave the atom this value.
+fn impossible(fork: Fork, value: Tri) -> Shape {
+    if value == Tri::Null && fork.is_never_null {
+        Shape::NeverNull(fork.atom)
+    } else {
+        Shape::Empty(fork.term)
     }
 }
 
@@ -287,22 +241,27 @@ fn row_instead<'b>(search: Search<'_, '_>, otherwise: Found<'b>) -> Result<Found
 
 fn ended<'b>(mut search: Search<'_, '_>, arena: &'b Bump) -> Result<Found<'b>, AllocError> {
     match search.find(arena) {
-        Ok(cert) if !search.is_broken => Ok(Found::Cert(cert)),
-        Ok(_) | Err(Stop::Counter | Stop::TooLong) => row_instead(search, Found::Unknown),
+        Ok(cert) => Ok(Found::Cert(cert)),
+        Err(Stop::Counter | Stop::TooLong) => row_instead(search, Found::Unknown),
         Err(Stop::TooLarge) => row_instead(search, Found::TooLarge),
         Err(Stop::OutOfMemory) => Err(AllocError),
     }
 }
 
-/// Looks for a certificate of the table with these shares, and for a row that shows that there is none.
+/// Looks for a certificate of the table with these shares, and for a row that shows that there is none, in about so many
+/// steps at most.
 pub fn look<'a, 'b>(
     alloc: Global,
     arena: &'b Bump,
     table: &'a Table,
     shares: &'a [&'a Share],
+    most_steps: u64,
 ) -> Result<Found<'b>, AllocError> {
     let atoms = numbered_atoms(alloc, shares)?;
     let terms = numbered_terms(alloc, shares)?;
     let problem = Problem::new(alloc, table.columns.as_slice(), shares, &atoms, &terms)?;
-    ended(Search::new(alloc, table, shares, &problem)?, arena)
+    ended(
+        Search::new(alloc, table, shares, &problem, most_steps)?,
+        arena,
+    )
 }

@@ -20,6 +20,7 @@ pub mod RepliesLemmas
 pub mod SeenStreamLemmas
 pub mod SessionLemmas
 pub mod ShortNames
+pub mod SkipLemmas
 pub mod SlotChanges
 pub mod StartLemmas
 pub mod StartsTold

@@ -48,6 +48,7 @@ pub record IsTelling (voice : Voice) (told : Told) : Type 0 where
   pub checked_is : voice_checked voice ≡ told.checked
   pub place : Place
   pub stage_is : voice_stage voice ≡ voices.Started place
+  pub slot : place.slot ≡ told.start.slot
   pub done : place.done ≡ first_of told + length told.taken
   pub follow : Follow (first_of told) told.taken
   pub takes : takes_in told.moves ≡ length told.taken

@@ -2,6 +2,7 @@
 -- Streaming Replication Protocol"). A voice that is closed says no more.
 use Rattle.std.specs.Prelude.{◌≡◌, ℕ, ◌+◌, Bool, true, false, List, [], ◌∷◌, ◌++◌, All, length, drop, Option, Some, None, Result, Ok, Err}
 use Rattle.std.specs.Arc.{arc_value}
+use Rattle.row_owners.specs.Owners.{concerns}
 use Rattle.shard_checker.specs.CheckedView.{CheckedOf, checked_view}
 use Rattle.tables_log.specs.Commits.{CommitOf}
 use Rattle.pgoutput_msgs.specs.Sent.{IsSent}
@@ -121,6 +122,18 @@ abbrev pub EntryIsReadBack : CheckedOf → StageOf → CommitOf → Type 0
 EntryIsReadBack checked NotStarted commit = Unit {0}
 EntryIsReadBack checked (Started place) commit = AreReadBack checked place commit
 EntryIsReadBack checked Closed commit = Unit {0}
+
+-- ---- a commit is passed over, of which the subscriber of the stream gets nothing
+
+abbrev pub IsQuietFor : CheckedOf → StageOf → CommitOf → Type 0
+IsQuietFor checked NotStarted commit = Unit {0}
+IsQuietFor checked (Started place) commit = concerns checked.plan commit.changes place.slot ≡ false
+IsQuietFor checked Closed commit = Unit {0}
+
+-- where a connection is then, which told nothing of the commit of this number
+abbrev pub place_past : streams.Place → ℕ → streams.Place
+place_past place number =
+    record { slot = place.slot; done = place.done + 1; told = place.told; sent = streams.end_of number }
 
 -- ---- keepalive
 

@@ -27,7 +27,7 @@ impl Place {
     ghost use Rattle.pgoutput_msgs.specs.Telling.{messages_for};
     ghost use Rattle.copy_both.specs.Streams.{place_at, place_after, take_bytes};
     ghost use Rattle.copy_both.specs.Tellings.{telling_of};
-    ghost use Rattle.copy_both.specs.Voices.{AreReadBack, place_view, taken_of};
+    ghost use Rattle.copy_both.specs.Voices.{AreReadBack, place_past, place_view, taken_of};
 
     /// Where a connection is that starts at the position, before the Relation of any of so many tables was sent.
     pub(crate) fn new(
@@ -85,5 +85,13 @@ impl Place {
         self.done += 1;
         self.sent = lsn + 64;
         Ok(taken)
+    }
+    /// Takes the commit of the next number up, of which nothing is told.
+    pub(crate) fn skip(&mut self, number: u32)
+        requires { number ≡ self.old.done + 1 }
+        ensures { place_view self.new ≡ place_past (place_view self.old) number }
+    {
+        self.done += 1;
+        self.sent = 64 * u64::from(number) + 64;
     }
 }

@@ -34,13 +34,13 @@ pub struct Voice {
 }
 
 impl Voice {
-    ghost use Rattle.std.specs.Prelude.{◌≡◌, ◌≤◌, ◌++◌, [], length, IfSome, OnOk, OnErr};
+    ghost use Rattle.std.specs.Prelude.{◌≡◌, ◌≤◌, ◌++◌, ℕ, [], length, IfSome, OnOk, OnErr};
     ghost use Rattle.std.specs.Arc.{arc_value};
     ghost use Rattle.filter_tree.specs.Memory.{Answers, NeedsMemoryOnlyIf};
     ghost use Rattle.shard_checker.specs.CheckedView.{checked_view};
     ghost use Rattle.copy_frames.specs.Contents.{copy_both_response};
     ghost use Rattle.copy_both.specs.Voices as spec;
-    ghost use Rattle.copy_both.specs.Voices.{EntryIsReadBack, IsStarted, Says, Closes, told_fault, voice_checked, voice_stage, voice_output, voice_room};
+    ghost use Rattle.copy_both.specs.Voices.{EntryIsReadBack, IsQuietFor, IsStarted, Says, Closes, told_fault, voice_checked, voice_stage, voice_output, voice_room};
     ghost use Rattle.copy_both.specs.declared.link_fault.LinkFault.TheVariants.{OutOfMemory};
 
     /// A voice that has not started and has nothing to say.
@@ -145,6 +145,21 @@ impl Voice {
             Stage::Started(place) => {
                 Ok(place.take(self.alloc, &self.checked, commit, now, &mut self.out)?)
             }
+        }
+    }
+
+    /// Takes the next commit up, of which the subscriber gets nothing: it is skipped, as `take_entry` skips it by any
+    /// clock. Nothing is said, no memory is taken, and the commit's changes aren't looked at. The commit is that of the
+    /// number `next()`, where there is one. Where the stream doesn't run, nothing changes.
+    pub fn skip(&mut self, commit: &Commit)
+        requires next { IfSome (spec.next_of (voice_stage self.old)) (λ next. commit.now.number ≡ next) }
+        requires quiet { IsQuietFor (voice_checked self.old) (voice_stage self.old) commit.now }
+        ensures { (clock : ℕ) → Says self.old self.new
+            (spec.entry_bytes (voice_checked self.old) (voice_stage self.old) commit.now clock)
+            (spec.entry_stage (voice_checked self.old) (voice_stage self.old) commit.now) }
+    {
+        if let Stage::Started(place) = &mut self.stage {
+            place.skip(commit.number());
         }
     }
 

@@ -14,6 +14,7 @@ pub mod RowLemmas
 pub mod RowWriting
 pub mod SeenMessageLemmas
 pub mod SentLemmas
+pub mod SilentLemmas
 pub mod SinkLemmas
 pub mod SpellingLaws
 pub mod TellingLemmas

@@ -6,6 +6,7 @@ pub mod Reading
 pub mod Room
 pub mod SeenMessages
 pub mod Sent
+pub mod Silent
 pub mod Sinks
 pub mod Spelling
 pub mod Telling

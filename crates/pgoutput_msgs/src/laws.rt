@@ -4,6 +4,7 @@ ghost use Rattle.pgoutput_msgs.specs.Introducing.{CommitsIntroduce, CommitsInTur
 ghost use Rattle.pgoutput_msgs.specs.ReadBack.{RowsReadBack, ValidRowsReadBack, RecordedRowsReadBack};
 ghost use Rattle.pgoutput_msgs.specs.SeenMessages.{MessagesTellWhatIsSeen};
 ghost use Rattle.pgoutput_msgs.specs.Sent.{MessagesAreReadBack};
+ghost use Rattle.pgoutput_msgs.specs.Silent.{QuietAreSilent};
 ghost use Rattle.pgoutput_msgs.specs.Transactions.{CommitsTellTransactions};
 ghost use Rattle.pgoutput_msgs.specs.Laws.{NoneIsProperPrefix, EachSpellsOne, SpellingsAreDecoded, DecodedAreSpellings, NothingMayFollow};
 
@@ -73,4 +74,12 @@ pub fn messages_tell_what_is_seen()
 /// PostgreSQL 15, 55.5.3. Logical Replication Protocol Message Flow.
 pub fn commits_tell_transactions()
     ensures { CommitsTellTransactions }
+{}
+
+/// A law, and no code: no message tells a subscriber of a commit of whose changes it gets nothing, and no Relation is
+/// sent for it. So such a commit may be passed over without a look at its changes.
+///
+/// PostgreSQL 15, "Logical Replication", 31.3.3 UPDATE Transformations.
+pub fn quiet_commits_are_silent()
+    ensures { QuietAreSilent }
 {}

@@ -35,7 +35,8 @@ pub use encoding::{encode, fits};
 pub use error::MsgError;
 pub use laws::{
     commits_tell_transactions, messages_are_read_back, messages_tell_what_is_seen,
-    no_spelling_begins_another, relations_come_once, rows_are_read_back, spellings_are_decoded,
+    no_spelling_begins_another, quiet_commits_are_silent, relations_come_once, rows_are_read_back,
+    spellings_are_decoded,
 };
 pub use message::Msg;
 pub use relation::{Relation, RelationColumn, ReplicaIdentity};

@@ -20,10 +20,10 @@ use Rattle.pub_reader.specs.CatalogMeaning.{MeansAsWritten}
 use Rattle.pub_catalog.specs.declared.catalog.Catalog.{Catalog}
 use Rattle.pub_catalog.specs.CatalogView.{catalog_view}
 use Rattle.pub_catalog.specs.Catalogs.{EntryOf, PublicationOf, CatalogOf, entry_map, publication_map, catalog_map}
-use Rattle.pub_statements.specs.Drafts.{CoverageOf, DraftPublicationOf, DraftOf, no_draft, is_covered, whole_from, resolved_entries, resolved_publication, resolved, coverage_map, draft_publication_map, draft_map}
+use Rattle.pub_reader.specs.Drafts.{CoverageOf, DraftPublicationOf, DraftOf, no_draft, is_covered, whole_from, resolved_entries, resolved_publication, resolved, coverage_map, draft_publication_map, draft_map}
 use Rattle.pub_reader.specs.Statements.{created_by, created, create, statement_by, statement, ended_statement, statements, finished, catalog_by}
-use Rattle.pub_statements.proofs.CarryingDrafts.{verdict_map, create_schema-carried, create_table-carried, alter_table-carried, create_index-carried, create_subscription-carried}
-use Rattle.pub_statements.proofs.CarryingObjects.{create_publication-carried}
+use Rattle.pub_reader.proofs.CarryingDrafts.{verdict_map, create_schema-carried, create_table-carried, alter_table-carried, create_index-carried, create_subscription-carried}
+use Rattle.pub_reader.proofs.CarryingObjects.{create_publication-carried}
 use Rattle.filter_tree.proofs.Tests.{by_test}
 
 -- ---- the end of the catalog

@@ -27,20 +27,20 @@ use Rattle.sql_reader.proofs.Keeping.{Gives, then-gives, any-gives, chosen-gives
 use Rattle.sql_reader.proofs.NamedColumns.{expression-named}
 use Rattle.pub_catalog.specs.CatalogEntries.{FilterNamesWithin, IsKnownEntry, AllCarryKnown}
 use Rattle.pub_catalog.specs.Catalogs.{EntryOf, columns_at, indexes_at, identified, indexed}
-use Rattle.pub_statements.specs.declared.coverage.ObjectKind.{ObjectKind}
-use Rattle.pub_statements.specs.declared.coverage.ObjectKind.TheVariants as o
-use Rattle.pub_statements.specs.Drafts.{CoverageOf, DraftPublicationOf, DraftOf, no_draft, nothing_covered, find_schema, find_table, filters_in, filters_on, is_covered, whole_from, resolved, resolved_publication}
-use Rattle.pub_statements.specs.Identities.{replica_identity, alter_table}
-use Rattle.pub_statements.specs.Indexes.{index_body, indexed_table, create_index}
-use Rattle.pub_statements.specs.Objects.{ObjectsOf, schema_by, schema_mentioned, is_of, is_filtered, table_mentioned, limited, named_schema, current_schema, schema_object_by, schema_object, in_schema, taken_schema, ended, where_clause, filter_by, filter_clause, taken_table, table_object, taken_by, tables_by, after_tables, tables_object, object_of, object_by, object, first_by, first_object, objects}
-use Rattle.pub_statements.specs.Publications.{publication_name, all_tables, listed_objects, scope_by, scope, for_by, for_clause, create_publication}
-use Rattle.pub_statements.specs.Publishing.{parameters_clause}
-use Rattle.pub_statements.specs.Schemas.{known, create_schema, check_new_schema}
+use Rattle.pub_reader.specs.declared.coverage.ObjectKind.{ObjectKind}
+use Rattle.pub_reader.specs.declared.coverage.ObjectKind.TheVariants as o
+use Rattle.pub_reader.specs.Drafts.{CoverageOf, DraftPublicationOf, DraftOf, no_draft, nothing_covered, find_schema, find_table, filters_in, filters_on, is_covered, whole_from, resolved, resolved_publication}
+use Rattle.pub_reader.specs.Identities.{replica_identity, alter_table}
+use Rattle.pub_reader.specs.Indexes.{index_body, indexed_table, create_index}
+use Rattle.pub_reader.specs.Objects.{ObjectsOf, schema_by, schema_mentioned, is_of, is_filtered, table_mentioned, limited, named_schema, current_schema, schema_object_by, schema_object, in_schema, taken_schema, ended, where_clause, filter_by, filter_clause, taken_table, table_object, taken_by, tables_by, after_tables, tables_object, object_of, object_by, object, first_by, first_object, objects}
+use Rattle.pub_reader.specs.Publications.{publication_name, all_tables, listed_objects, scope_by, scope, for_by, for_clause, create_publication}
+use Rattle.pub_reader.specs.Publishing.{parameters_clause}
+use Rattle.pub_reader.specs.Schemas.{known, create_schema, check_new_schema}
 use Rattle.pub_reader.specs.Statements.{created_by, created, create, statement_by, statement, ended_statement, statements}
-use Rattle.pub_statements.specs.Subscriptions.{subscription_name, subscription_body, create_subscription}
-use Rattle.pub_statements.specs.TableNames.{known_table, name_in_schema, table_in_schema, table_named, table_number, new_name}
-use Rattle.pub_statements.specs.Tables.{table_of, table_body, create_table}
-use Rattle.pub_statements.proofs.KeptIndexes.{length-identified, length-indexed}
+use Rattle.pub_reader.specs.Subscriptions.{subscription_name, subscription_body, create_subscription}
+use Rattle.pub_reader.specs.TableNames.{known_table, name_in_schema, table_in_schema, table_named, table_number, new_name}
+use Rattle.pub_reader.specs.Tables.{table_of, table_body, create_table}
+use Rattle.pub_reader.proofs.KeptIndexes.{length-identified, length-indexed}
 
 -- ---- tables that are found
 

@@ -19,20 +19,20 @@ use Rattle.sql_reader.specs.Reading.{with_rest, eat, expect, is_ahead, item_ahea
 use Rattle.sql_reader.specs.Repetitions.{each}
 use Rattle.sql_reader.proofs.Keeping.{Gives, then-gives, any-gives, repeat-gives, each-gives}
 use Rattle.sql_reader.proofs.Widths.{IsNarrow, room-gives, below, elements-gives}
-use Rattle.pub_statements.specs.declared.table_name.NewName.{NewName}
+use Rattle.pub_reader.specs.declared.table_name.NewName.{NewName}
 use Rattle.pub_catalog.specs.CatalogLimits.{IsIndexOf, IsIdentity, IsNamed, IsLimitedTable, IsLimited}
 use Rattle.pub_catalog.specs.Catalogs.{columns_at, indexes_at, identified, indexed}
-use Rattle.pub_statements.specs.Drafts.{DraftOf, no_draft, resolved, resolved_publication, find_relation, find_publication, find_subscription}
-use Rattle.pub_statements.specs.Identities.{replica_identity, alter_table}
-use Rattle.pub_statements.specs.Indexes.{index_body, indexed_table, create_index}
-use Rattle.pub_statements.specs.Publications.{check_new_publication, publication_name, for_clause, create_publication}
-use Rattle.pub_statements.specs.Publishing.{parameters_clause}
-use Rattle.pub_statements.specs.Schemas.{create_schema, check_new_schema}
+use Rattle.pub_reader.specs.Drafts.{DraftOf, no_draft, resolved, resolved_publication, find_relation, find_publication, find_subscription}
+use Rattle.pub_reader.specs.Identities.{replica_identity, alter_table}
+use Rattle.pub_reader.specs.Indexes.{index_body, indexed_table, create_index}
+use Rattle.pub_reader.specs.Publications.{check_new_publication, publication_name, for_clause, create_publication}
+use Rattle.pub_reader.specs.Publishing.{parameters_clause}
+use Rattle.pub_reader.specs.Schemas.{create_schema, check_new_schema}
 use Rattle.pub_reader.specs.Statements.{created_by, created, create, statement_by, statement, ended_statement, statements}
-use Rattle.pub_statements.specs.Subscriptions.{check_new_subscription, subscription_name, subscription_body, create_subscription}
-use Rattle.pub_statements.specs.TableNames.{table_number, check_new_table, new_named, table_head, new_name}
-use Rattle.pub_statements.specs.Tables.{keyed, table_of, table_tail, table_body, create_table}
-use Rattle.pub_statements.proofs.KeptIndexes.{IsSizedTable, HasRoom, length-identified, length-indexed, identified-limited, indexed-limited, replica_identity-gives, indexed_table-gives, index_body-gives}
+use Rattle.pub_reader.specs.Subscriptions.{check_new_subscription, subscription_name, subscription_body, create_subscription}
+use Rattle.pub_reader.specs.TableNames.{table_number, check_new_table, new_named, table_head, new_name}
+use Rattle.pub_reader.specs.Tables.{keyed, table_of, table_tail, table_body, create_table}
+use Rattle.pub_reader.proofs.KeptIndexes.{IsSizedTable, HasRoom, length-identified, length-indexed, identified-limited, indexed-limited, replica_identity-gives, indexed_table-gives, index_body-gives}
 
 -- the limits, as a catalog keeps them while it is read
 abbrev AreLimited : List Table → Type 0

@@ -21,18 +21,18 @@ use Rattle.sql_reader.specs.Reading.{Outcome, with_rest, look, eat, expect, is_a
 use Rattle.sql_reader.proofs.Keeping.{Gives, any-gives, then-gives}
 use Rattle.sql_reader.proofs.Leaving.{Leaves, then-leaves}
 use Rattle.sql_reader.proofs.PlainNames.{ArePlain, Any, NamesPlain, ColumnsPlain, any-plain, check-plain, expect-plain, look-plain, name-plain, elements-plain, rest_plain, reader_plain}
-use Rattle.pub_statements.specs.declared.table_name.NewName.{NewName}
+use Rattle.pub_reader.specs.declared.table_name.NewName.{NewName}
 use Rattle.pub_catalog.specs.CatalogLimits.{IsNamed}
-use Rattle.pub_statements.specs.DraftNames.{IsNamedDraft}
+use Rattle.pub_reader.specs.DraftNames.{IsNamedDraft}
 use Rattle.pub_catalog.specs.Catalogs.{columns_at, indexes_at, identified, indexed}
-use Rattle.pub_statements.specs.Drafts.{DraftOf, public_schema}
-use Rattle.pub_statements.specs.Identities.{replica_identity, alter_table}
-use Rattle.pub_statements.specs.Indexes.{index_body, indexed_table, create_index}
-use Rattle.pub_statements.specs.Schemas.{create_schema, known_schema, check_new_schema}
+use Rattle.pub_reader.specs.Drafts.{DraftOf, public_schema}
+use Rattle.pub_reader.specs.Identities.{replica_identity, alter_table}
+use Rattle.pub_reader.specs.Indexes.{index_body, indexed_table, create_index}
+use Rattle.pub_reader.specs.Schemas.{create_schema, known_schema, check_new_schema}
 use Rattle.pub_reader.specs.Statements.{created_by, created, create, statement_by, statement, ended_statement}
-use Rattle.pub_statements.specs.TableNames.{table_number, name_in_schema, check_new_table, new_in_schema, new_by, new_named, head_by, table_head, new_name}
-use Rattle.pub_statements.specs.Tables.{keyed, table_of, tail_by, table_tail, table_body, create_table}
-use Rattle.pub_statements.proofs.OwnNames.{first_of, create_publication-named, create_subscription-named}
+use Rattle.pub_reader.specs.TableNames.{table_number, name_in_schema, check_new_table, new_in_schema, new_by, new_named, head_by, table_head, new_name}
+use Rattle.pub_reader.specs.Tables.{keyed, table_of, tail_by, table_tail, table_body, create_table}
+use Rattle.pub_reader.proofs.OwnNames.{first_of, create_publication-named, create_subscription-named}
 
 -- ---- the name of a new table
 

@@ -1,5 +1,14 @@
 pub mod CarryingCatalogs
+pub mod CarryingDrafts
+pub mod CarryingObjects
+pub mod FoundIndexes
 pub mod KeptEntries
+pub mod KeptIndexes
 pub mod KeptLimits
 pub mod KeptNames
+pub mod Listing
+pub mod OwnNames
+pub mod Positions
+pub mod StepWords
+pub mod TableLemmas
 pub mod WholeTexts

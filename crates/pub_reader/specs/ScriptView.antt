@@ -1,5 +1,5 @@
 -- A line of a script that was read, as plain data.
-use Rattle.pub_statements.specs.StepView.{step_view}
+use Rattle.pub_reader.specs.StepView.{step_view}
 use Rattle.pub_reader.specs.declared.script.Line.{Line}
 use Rattle.pub_reader.specs.Scripts.{LineOf}
 

@@ -5,7 +5,7 @@ use Rattle.pub_reader.specs.Grammar.i
 use Rattle.pub_reader.specs.Grammar.{Rule, Verdict, ◌>>=◌, ◌>>◌, pure, here, expect, more_ahead, each, repeat}
 use Rattle.sql_reader.specs.Items.{items_of}
 use Rattle.sql_reader.specs.Rows.{without_rest}
-use Rattle.pub_statements.specs.Steps.{StepOf, counted_word, step_body}
+use Rattle.pub_reader.specs.Steps.{StepOf, counted_word, step_body}
 
 -- a step, and the place of its first word
 pub record LineOf : Type 0 where

@@ -6,13 +6,13 @@ use Rattle.pub_reader.specs.Grammar.{Item, Outcome, Rule, Verdict, ◌>>=◌, �
 use Rattle.sql_reader.specs.Expressions.{Forms}
 use Rattle.sql_reader.specs.Items.{items_of}
 use Rattle.pub_catalog.specs.Catalogs.{CatalogOf}
-use Rattle.pub_statements.specs.Drafts.{DraftOf, no_draft, resolved}
-use Rattle.pub_statements.specs.Identities.{alter_table}
-use Rattle.pub_statements.specs.Indexes.{create_index}
-use Rattle.pub_statements.specs.Publications.{create_publication}
-use Rattle.pub_statements.specs.Schemas.{create_schema}
-use Rattle.pub_statements.specs.Subscriptions.{create_subscription}
-use Rattle.pub_statements.specs.Tables.{create_table}
+use Rattle.pub_reader.specs.Drafts.{DraftOf, no_draft, resolved}
+use Rattle.pub_reader.specs.Identities.{alter_table}
+use Rattle.pub_reader.specs.Indexes.{create_index}
+use Rattle.pub_reader.specs.Publications.{create_publication}
+use Rattle.pub_reader.specs.Schemas.{create_schema}
+use Rattle.pub_reader.specs.Subscriptions.{create_subscription}
+use Rattle.pub_reader.specs.Tables.{create_table}
 
 module _ {S : Type 0} (forms : Forms S) where
   abbrev pub created_by : Option Item → DraftOf S → Rule (DraftOf S)

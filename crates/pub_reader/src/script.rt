@@ -6,9 +6,10 @@ ghost use Rattle.sql_reader.specs.ParsingContracts.{TakesSome, to_read, Reads, A
 ghost use Rattle.pub_reader.specs.Scripts as spec;
 ghost use Rattle.pub_reader.specs.ScriptView.{line_view};
 
+use crate::step::{Step, step_body};
+use crate::step_word::counted_word;
 use filter_tree::Table;
 use pub_catalog::Catalog;
-use pub_statements::{Step, counted_word, step_body};
 use sql_reader::{Item, ReadError, Reader};
 use std::alloc::Global;
 

@@ -7,16 +7,19 @@ ghost use Rattle.pub_catalog.specs.CatalogEntries.{AllCarryKnown};
 ghost use Rattle.pub_catalog.specs.CatalogLimits.{IsLimited};
 ghost use Rattle.pub_reader.specs.CatalogMeaning.{MeansAsWritten};
 ghost use Rattle.pub_catalog.specs.CatalogNames.{IsNamedCatalog};
-ghost use Rattle.pub_statements.specs.DraftNames.{IsNamedDraft};
+ghost use Rattle.pub_reader.specs.DraftNames.{IsNamedDraft};
 ghost use Rattle.pub_catalog.specs.CatalogView.{catalog_view};
-ghost use Rattle.pub_statements.specs.DraftView.{draft_view};
+ghost use Rattle.pub_reader.specs.DraftView.{draft_view};
 ghost use Rattle.pub_reader.specs.Statements as spec;
 
+use crate::draft::Draft;
+use crate::identity::alter_table;
+use crate::index::create_index;
+use crate::publication::create_publication;
+use crate::schema::create_schema;
+use crate::subscription::create_subscription;
+use crate::table::create_table;
 use pub_catalog::Catalog;
-use pub_statements::{
-    Draft, alter_table, create_index, create_publication, create_schema, create_subscription,
-    create_table,
-};
 use sql_reader::{Item, Keyword, ReadError, Reader};
 use std::alloc::Global;
 

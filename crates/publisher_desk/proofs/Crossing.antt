@@ -11,6 +11,7 @@ use Rattle.tables_log.proofs.Crossing.{book_field_send, checked_send, checked_sy
 use Rattle.publisher_desk.specs.declared.naming.Publishing as pub_
 use Rattle.publisher_desk.specs.contracts.desk.Desk as D
 use Rattle.publisher_desk.specs.contracts.desk.Desk.TheInside as DI
+use Rattle.publisher_desk.specs.contracts.moved.Moved as Mo
 use Rattle.publisher_desk.specs.contracts.publisher.Publisher as P
 use Rattle.publisher_desk.specs.contracts.publisher.Publisher.TheInside as PI
 use Rattle.publisher_desk.specs.contracts.wish.Wish as W
@@ -19,6 +20,9 @@ use Rattle.publisher_desk.proofs.seat.Seat.TheSendSync as SeS
 
 wish_send : IsSend W.the_row
 wish_send = search sendable depth 60
+
+moved_sync : IsSync Mo.the_field.row
+moved_sync = search (sendable, crosses) depth 200 fits 3000 parts 0
 
 module _ (Q : RattleType) (p : pub_.Ghosts Q.Denot) (l : led.Ghosts Q.Denot) where
   pub desk_send : IsSend (D.the_row Q p l)
@@ -31,7 +35,7 @@ module _ (Q : RattleType) (p : pub_.Ghosts Q.Denot) (l : led.Ghosts Q.Denot) whe
     search sendable,
     (
       Arc-sync C.the_row checked_send checked_sync,
-      (search (desk_send, crosses), (search (sendable, crosses) depth 40, tt)),
+      (search (desk_send, crosses), (moved_sync, tt)),
     ),
   )
 

@@ -4,12 +4,17 @@ use Rattle.std.specs.Prelude.{All, Option, Result, Ok, Err, IfOk, IfErr, OnOk, O
 use Rattle.std.proofs.lemmas.List.{length-replicate}
 use Rattle.std.proofs.lemmas.List.Elements.{All-replicate}
 use Rattle.filter_tree.specs.Datum.{Datum}
+use Rattle.row_owners.specs.Owners.{OwnedWhere}
+use Rattle.row_owners.specs.declared.owner_set.OwnerSet.{OwnerSet}
 use Rattle.shard_checker.specs.CheckedView.{CheckedOf, setting_in}
 use Rattle.table_changes.specs.Commands.{Command}
 use Rattle.table_changes.specs.CommandLists.{AreAlike}
 use Rattle.table_changes.proofs.CommandListLemmas.{are_alike}
 use Rattle.tables_log.specs.BookView.{book_checked, book_limit, book_log, book_rows, book_setting, book_slots}
 use Rattle.tables_log.specs.Committing.{IsNew, Commits, IsKept, ChangesSlots, RefusedBy}
+use Rattle.tables_log.specs.Commits.{CommitOf}
+use Rattle.tables_log.specs.Logs.{entry_at}
+use Rattle.tables_log.specs.Routes.{gets_some}
 use Rattle.tables_log.specs.Slots.{end_after}
 use Rattle.tables_log.specs.StandsFor.{Transaction, StandsFor, after}
 use Rattle.tables_log.specs.declared.book.Book.{Book}
@@ -202,3 +207,12 @@ slots_left old new slots changes =
       slots_are =
           refl;
     }
+
+-- ---- who is woken
+
+-- the subscribers that get something of a commit, by the plan of the checked catalog
+pub concerned_in : (one checked : CheckedOf) (log : List CommitOf) (set : OwnerSet) (number : ℕ) → one ≡ checked
+    → OwnedWhere set (gets_some one.plan (entry_at log number))
+    → OwnedWhere set (gets_some checked.plan (entry_at log number))
+concerned_in one checked log set number =
+    subst (λ (other : CheckedOf). OwnedWhere set (gets_some other.plan (entry_at log number)))

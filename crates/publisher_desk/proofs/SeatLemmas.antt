@@ -6,6 +6,8 @@ use Rattle.std.proofs.lemmas.List.Elements.{All-nil, All-push}
 use Rattle.std.proofs.lemmas.Option.{slice_get_within}
 use Rattle.table_changes.proofs.TableLemmas.{some_is}
 use Rattle.tables_log.proofs.PlaceLemmas.{number_is, number_apart, get_front, get_last}
+use Rattle.shard_checker.specs.CheckedView.{CheckedOf}
+use Rattle.publisher_desk.specs.Refusals.{IsReached}
 use Rattle.publisher_desk.specs.Seats.{number_of, receipts, highest, AreTimed, HasLater, HasTime, AreUpTo, IsForward, IsSeat}
 use Rattle.publisher_desk.specs.declared.note.Note.{Note}
 use Rattle.publisher_desk.specs.declared.note.Note.TheVariants.{Committed, Looked}
@@ -55,13 +57,15 @@ receipts_seen notes seen amount count same is low = let receipts_are : receipts 
     ap receipts same in omega (arith, is, low, receipts_are)
 
 -- a later note than those of the log
-pub behind : (notes seen : List Note) (high number amount tables table : ℕ) → notes ≡ seen → high ≡ highest notes
-    → amount ≡ receipts notes → number < high → amount ≤ number → table < tables
-    → HasLater seen number × (receipts seen ≤ number) × (table < tables)
-behind notes seen high number amount tables table same high_is counted low bound there = (
+pub behind : (notes seen : List Note) (high number amount tables table : ℕ) (checked : CheckedOf) → notes ≡ seen
+    → high ≡ highest notes → amount ≡ receipts notes → number < high → amount ≤ number → table < tables
+    → IsReached checked number
+    → HasLater seen number × (receipts seen ≤ number) × (table < tables) × IsReached checked number
+behind notes seen high number amount tables table checked same high_is counted low bound there reached = (
   later_found notes seen high number same high_is low,
   receipts_seen notes seen amount number same counted bound,
   there,
+  reached,
 )
 
 pub up_to_seen : (notes seen : List Note) (high number : ℕ) → notes ≡ seen → high ≡ highest notes → high ≤ number

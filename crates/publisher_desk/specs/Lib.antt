@@ -1,4 +1,5 @@
 pub mod Answers
+pub mod Counting
 pub mod Held
 pub mod Lending
 pub mod Nothing

@@ -5,12 +5,15 @@ ghost use Rattle.table_changes.specs.Commands.{command_view};
 ghost use Rattle.tables_log.specs.BookView.{book_log, book_rows};
 ghost use Rattle.tables_log.specs.Committing.{Commits, IsKept, RefusedBy};
 
+use crate::auditing::audit_all;
 use crate::naming::Publishing;
 use crate::note::copy_found;
+use crate::seat::Seat;
 use crate::slot_use::SlotUse;
 use crate::step::Step;
 use crate::wish::Wish;
 use filter_tree::Row;
+use row_owners::OwnerSet;
 use shard_checker::Checked;
 use std::alloc::{AllocError, Global};
 use std::marker::Model;
@@ -86,10 +89,15 @@ fn look_up(
 }
 
 impl<P: Publishing> Desk<P> {
-    ghost use Rattle.std.specs.Prelude.{◌≡◌, ◌+◌, ◌<◌, ◌≤◌, [], map, length, IfOk, IfErr, IfSome, OnOk, OnErr};
+    ghost use Rattle.std.specs.Prelude.{◌≡◌, ◌+◌, ◌<◌, ◌≤◌, [], map, length, Some, IfOk, IfErr, IfSome, OnOk, OnErr};
     ghost use Rattle.std.specs.Arc.{arc_value};
     ghost use Rattle.shard_checker.specs.CheckedView.{checked_view, setting_in};
     ghost use Rattle.table_changes.specs.Commands.{command_view};
+    ghost use Rattle.tables_log.specs.BookView.{book_log};
+    ghost use Rattle.row_owners.specs.Owners.{OwnedWhere};
+    ghost use Rattle.tables_log.specs.Logs.{entry_at};
+    ghost use Rattle.tables_log.specs.Routes.{gets_some};
+    ghost use Rattle.publisher_desk.specs.Counting.{IsCounted};
     ghost use Rattle.publisher_desk.specs.Answers.{IsFound, IsMade, IsRefused};
     ghost use Rattle.publisher_desk.specs.Held.{AddsEntry, IsBookOf};
     ghost use Rattle.publisher_desk.specs.Lending.{IsLent, IsStepOf, IsNext};
@@ -206,6 +214,24 @@ impl<P: Publishing> Desk<P> {
         Some(Step::Entry(commit))
     }
 
+    /// The subscribers that get something of the commit of this number.
+    pub(crate) fn concerned(&self, number: u32) -> OwnerSet
+        ensures { OwnedWhere result (gets_some P.checked.plan (entry_at self.now number)) }
+    {
+        self.book.concerned(number)
+    }
+
+    /// The slots whose sender has something to do beside commits.
+    pub(crate) fn wanted(&self) -> OwnerSet {
+        let mut slots = OwnerSet::none();
+        for (slot, wish) in self.wishes.iter().enumerate() {
+            if slot < 32 {
+                slots.put(slot, wish.wants_reply || wish.has_ended);
+            }
+        }
+        slots
+    }
+
     /// Lends the book, and what is wanted of each slot's connection.
     pub(crate) fn lend<U: SlotUse>(&mut self, user: &mut U) -> U::Answer
         ensures log { self.new ≡ self.old }
@@ -221,16 +247,22 @@ impl<P: Publishing> Desk<P> {
         self.is_finished = true;
     }
 
-    /// The book.
-    pub(crate) fn into_book(self) -> Book
-        ensures { IsBookOf P.checked P.limit result }
+    /// The book, whose commits the ledger compares with the receipts of the seats. `rest` has the parts of the ledger
+    /// of the seats that were never handed out.
+    pub(crate) fn into_counted(self, rest: Share<P>, seats: &mut [Seat<P>]) -> Book
+        requires none { rest.amount ≡ 0 }
+        ensures is { IsBookOf P.checked P.limit result }
+        ensures counted { IsCounted P.parts rest.parts seats.old (length (book_log result)) }
+        ensures same { seats.new ≡ seats.old }
     {
         let Desk {
             book,
-            counted: _,
+            mut counted,
             wishes: _,
             is_finished: _,
         } = self;
+        let mut all = rest;
+        audit_all(&mut counted, &mut all, seats);
         book
     }
 }

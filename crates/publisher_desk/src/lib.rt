@@ -2,8 +2,10 @@
 //! for each of its commits and what it read.
 #![tactic(auto)]
 
+mod auditing;
 mod desk;
 mod laws;
+mod moved;
 mod naming;
 mod note;
 mod publisher;

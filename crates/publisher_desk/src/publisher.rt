@@ -3,6 +3,7 @@
 ghost use Rattle.std.specs.Prelude.{◌≡◌};
 
 use crate::desk::Desk;
+use crate::moved::Moved;
 use crate::naming::Publishing;
 use crate::note::{Note, Reading};
 use crate::read_fault::ReadFault;
@@ -16,7 +17,7 @@ use shard_checker::Checked;
 use std::alloc::{AllocError, Global};
 use std::marker::Model;
 use std::sync::ledger::Blank;
-use std::sync::{Arc, Condvar, Mutex, Wait};
+use std::sync::{Arc, Mutex, Wait};
 use table_changes::Command;
 use tables_log::{Book, CommitError};
 
@@ -30,7 +31,7 @@ pub struct Publisher<P: Publishing> {
     alloc: Global,
     checked: Arc<Checked, Global>,
     desk: Mutex<Desk<P>>,
-    moved: Condvar,
+    moved: Moved,
 }
 
 impl<P: Publishing> Model for Publisher<P> {
@@ -51,6 +52,8 @@ impl<P: Publishing> Publisher<P> {
     ghost use Rattle.shard_checker.specs.CheckedView.{checked_view, setting_in};
     ghost use Rattle.table_changes.specs.Commands.{command_view};
     ghost use Rattle.publisher_desk.specs.Answers.{IsMade, IsRead, IsRefused};
+    ghost use Rattle.tables_log.specs.BookView.{book_log};
+    ghost use Rattle.publisher_desk.specs.Counting.{IsCounted};
     ghost use Rattle.publisher_desk.specs.Held.{IsBookOf};
     ghost use Rattle.publisher_desk.specs.Lending.{IsLent, IsNext};
     ghost use Rattle.publisher_desk.specs.Receipts.{receipt_of};
@@ -77,13 +80,14 @@ impl<P: Publishing> Publisher<P> {
         ensures seats { IfOk result (λ made. made.1 ≡ 1000) }
     {
         let (counted, share) = blank.open::<P>();
+        let slots = checked.catalog().subscriptions.len();
         let book_of = Arc::try_clone(&checked)?;
         let desk = Desk::new(alloc, book_of, limit, counted)?;
         let publisher = Publisher {
             alloc,
             checked,
             desk: Mutex::new(desk),
-            moved: Condvar::new(),
+            moved: Moved::new(alloc, slots)?,
         };
         Ok((publisher, Seats::new(alloc, share)))
     }
@@ -113,11 +117,14 @@ impl<P: Publishing> Publisher<P> {
     {
         let Seat { notes, high, mark } = seat;
         notes.reserve(1)?;
-        let number = match self.desk.lock(rt).commit(mark, commands.as_slice(), time) {
+        let mut desk = self.desk.lock(rt);
+        let number = match desk.commit(mark, commands.as_slice(), time) {
             Ok(number) => number,
             Err(error) => return Err(error),
         };
-        self.moved.notify_all();
+        let concerned = desk.concerned(number);
+        drop(desk);
+        self.moved.wake_for(number, concerned);
         *high = (*high).max(number);
         notes.push_reserved(Note::Committed(Receipt::new(number, commands, time)));
         Ok(number)
@@ -186,12 +193,15 @@ impl<P: Publishing> Publisher<P> {
     pub fn next_step<R: Wait>(&self, rt: &R, slot: usize, number: u64) -> Step
         ensures { IsNext number result }
     {
+        let Some(moved) = self.moved.of(slot) else {
+            return Step::Ended;
+        };
         let mut desk = self.desk.lock(rt);
         for _ in rt.forever() {
             if let Some(step) = desk.step(slot, number) {
                 return step;
             }
-            desk = self.moved.wait(rt, desk);
+            desk = moved.wait(rt, desk);
         }
         unreachable!()
     }
@@ -208,27 +218,36 @@ impl<P: Publishing> Publisher<P> {
     pub fn lend<U: SlotUse, R: Wait>(&self, rt: &R, user: &mut U) -> U::Answer
         ensures { IsLent U.did P.checked user.old user.new result }
     {
-        let answer = self.desk.lock(rt).lend(user);
-        self.moved.notify_all();
+        let mut desk = self.desk.lock(rt);
+        let answer = desk.lend(user);
+        let wanted = desk.wanted();
+        drop(desk);
+        self.moved.wake(wanted);
         answer
     }
 
     /// No further commit comes: senders end when they have told of all.
     pub fn finish<R: Wait>(&self, rt: &R) {
         self.desk.lock(rt).finish();
-        self.moved.notify_all();
+        self.moved.wake_all();
     }
 
-    /// The book. It is of the checked catalog and of some list of transactions.
-    pub fn into_book(self) -> Book
-        ensures { IsBookOf P.checked P.limit result }
+    /// The book, when the sessions are over: it is of the checked catalog and of some list of transactions. `rest` are
+    /// the seats that were never handed out, and `seats` those that come back. The log has no fewer commits than these
+    /// have receipts, and exactly as many if no seat is held back: the ledger of commits says so. It takes time for the
+    /// notes of the seats.
+    pub fn into_counted(self, rest: Seats<P>, seats: &mut [Seat<P>]) -> Book
+        ensures is { IsBookOf P.checked P.limit result }
+        ensures counted { IsCounted P.parts rest seats.old (length (book_log result)) }
+        ensures same { seats.new ≡ seats.old }
     {
+        let Seats { share, .. } = rest;
         let Publisher {
             alloc: _,
             checked: _,
             desk,
             moved: _,
         } = self;
-        desk.into_inner().into_book()
+        desk.into_inner().into_counted(share, seats)
     }
 }

@@ -16,9 +16,9 @@ const SEATS: u64 = 1_000;
 /// a session's own seat.
 #[derive(Drop)]
 pub struct Seats<P: Publishing> {
-    alloc: Global,
-    left: u64,
-    share: Share<P>,
+    pub(crate) alloc: Global,
+    pub(crate) left: u64,
+    pub(crate) share: Share<P>,
 }
 
 impl<P: Publishing> Model for Seats<P> {

@@ -3,11 +3,11 @@
 #![tactic(auto)]
 
 ghost use Rattle.std.specs.Prelude.{◌≡◌, ◌⊎◌, IfErr};
-ghost use Rattle.program_parts.specs.Failures.{status_of_failure};
-ghost use Rattle.program_parts.specs.declared.failure.Status.TheVariants.{CommandLine, OutOfMemory};
+ghost use Rattle.commands.specs.Failures.{status_of_failure};
+ghost use Rattle.commands.specs.declared.failure.Status.TheVariants.{CommandLine, OutOfMemory};
 
-use program_parts::{Failure, Input, report};
-use serving::run_serving;
+use cli::run_serving;
+use commands::{Failure, Input, report};
 use std::io::{BufWriter, ErrorKind, Write};
 use std::process::ExitCode;
 use std::{env, io};

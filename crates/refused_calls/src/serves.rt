@@ -131,7 +131,7 @@ fn publish<P: Publishing + Sync, R: Threads + Wait + Clock + Sync>(
     // sender has stopped, and a sender waits for commits until no more can come)
     publisher.finish(rt);
     let (served, was_refused) = connect_twice(rt, alloc, &publisher, number)?;
-    check_closes(alloc, publisher, seat, served)?;
+    check_closes(alloc, publisher, seats, seat, served)?;
     Ok(was_refused)
 }
 

@@ -12,7 +12,7 @@ use crate::refusals::{end_refusals, refuse};
 use crate::sharding::checked;
 use crate::tables::check_book;
 use anyhow::{Context, Result, ensure};
-use senders::{Publisher, Publishing, Seat, Served, close};
+use senders::{Publisher, Publishing, Seat, Seats, Served, close};
 use shard_checker::Checked;
 use std::alloc::Global;
 use std::marker::Brand;
@@ -40,12 +40,13 @@ pub fn commit_first<P: Publishing, R: Wait>(
 pub fn check_closes<P: Publishing>(
     alloc: Global,
     publisher: Publisher<P>,
+    rest: Seats<P>,
     seat: Seat<P>,
     served: Vec<Served>,
 ) -> Result<()> {
     let mut seats = Vec::new(alloc);
     seats.push(seat)?;
-    let closed = close(publisher, seats, served)?;
+    let closed = close(publisher, rest, seats, served)?;
     check_book(alloc, &closed.book, COMMITS)
 }
 
@@ -98,7 +99,7 @@ fn publish<P: Publishing, R: Wait>(
     let mut seat = seats.seat().context("there is no seat")?;
     commit_first(rt, alloc, &publisher, &mut seat)?;
     let was_refused = commit_last(rt, alloc, &publisher, &mut seat, number)?;
-    check_closes(alloc, publisher, seat, Vec::new(alloc))?;
+    check_closes(alloc, publisher, seats, seat, Vec::new(alloc))?;
     Ok(was_refused)
 }
 

@@ -93,10 +93,11 @@ fn read_often<P: Publishing, R: Wait>(
 /// What the closing is answered.
 fn answer<P: Publishing>(
     publisher: Publisher<P>,
+    rest: Seats<P>,
     seats: Vec<Seat<P>>,
     served: Vec<Served>,
 ) -> Option<CloseError> {
-    close(publisher, seats, served).err()
+    close(publisher, rest, seats, served).err()
 }
 
 /// That a publisher with two commits is closed so.
@@ -125,7 +126,7 @@ fn expect_two<P: Publishing, R: Wait + Abort>(
         Lacks::Taken => Some(CloseError::TakenDiffers),
         Lacks::All | Lacks::Nothing => None,
     };
-    same(rt, answer(publisher, list, served), wanted);
+    same(rt, answer(publisher, seats, list, served), wanted);
     Ok(())
 }
 
@@ -140,7 +141,7 @@ pub(crate) fn expect_answer<P: Publishing, R: Wait + Abort>(
     if lacks == Lacks::All {
         same(
             rt,
-            answer(publisher, Vec::new(alloc), Vec::new(alloc)),
+            answer(publisher, seats, Vec::new(alloc), Vec::new(alloc)),
             None,
         );
         return Ok(());

@@ -1,5 +1,5 @@
 //! Tests of connections that threads serve, and of the closing comparison, by the public calls of `senders`; and of the
-//! whole program, by `run_serving` of `serving` and `run` of `subcommands`.
+//! whole program, by `run_serving` and `run` of `cli`.
 #![tactic(auto)]
 
 #[cfg(test)]

@@ -104,13 +104,13 @@ pub(crate) fn expect_served<P: Publishing + Sync, R: Threads + Wait + Clock + Ab
     rt: &R,
     alloc: Global,
     publisher: Publisher<P>,
-    mut seats: Seats<P>,
+    mut free: Seats<P>,
     work: Work,
     hold: Hold,
 ) -> Result<(), Fail> {
     let board = Board::new(alloc, work, hold, 0)?;
     let queries = queries(alloc, work)?;
-    let mut seats = take_seats(alloc, &mut seats, work.sessions())?;
+    let mut seats = take_seats(alloc, &mut free, work.sessions())?;
     let mut connections = connect(rt, &board, queries.as_slice())?;
     let gate = FirstHeld {
         clock: rt,
@@ -126,5 +126,5 @@ pub(crate) fn expect_served<P: Publishing + Sync, R: Threads + Wait + Clock + Ab
     );
     holds(rt, board.is_fine());
     let served = expect_each(rt, &board, connections)?;
-    expect_closed(rt, &board, publisher, seats, served)
+    expect_closed(rt, &board, publisher, free, seats, served)
 }

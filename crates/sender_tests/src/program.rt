@@ -5,13 +5,14 @@ use crate::checks::{holds, same};
 use crate::clients::follow_to;
 use crate::sharding::{HALVES, HALVES_SPLIT};
 use crate::work::{Hold, Work, regional_row};
-use program_parts::Input;
-use serving::run_serving;
+use cli::run_serving;
+use commands::Input;
 use std::alloc::{AllocError, Global};
 use std::io;
 use std::io::Write;
 use std::net::{Ipv4Addr, Net, TcpListener, TcpStream};
 use std::process::Abort;
+use std::rt::Files;
 use std::sync::Wait;
 use std::test::Fail;
 use std::thread::{Threads, join};
@@ -55,6 +56,8 @@ fn serve_input<
         + Threads
         + Wait
         + Clock
+        + Eprint
+        + Files
         + Net<Listener = TcpListener, Stream = TcpStream>
         + Sync,
 >(rt: &R, board: &Board, input: &str) -> Result<(u8, Vec<u8>), AllocError> {
@@ -107,6 +110,8 @@ fn expect_program<
         + Wait
         + Clock
         + Abort
+        + Eprint
+        + Files
         + Net<Listener = TcpListener, Stream = TcpStream>
         + Sync,
 >(rt: &R, alloc: Global) -> Result<(), Fail> {

@@ -5,7 +5,7 @@ use crate::checks::{holds, same};
 use crate::sessions::write;
 use crate::work::{Work, are_rows};
 use senders::{
-    Conn, End, Gate, Note, Publisher, Publishing, Seat, Served, Sink, Source, close, run_all,
+    Conn, End, Gate, Note, Publisher, Publishing, Seat, Seats, Served, Sink, Source, close, run_all,
 };
 use std::process::Abort;
 use std::sync::Wait;
@@ -79,10 +79,11 @@ pub(crate) fn expect_closed<P: Publishing>(
     rt: &impl Abort,
     board: &Board,
     publisher: Publisher<P>,
+    rest: Seats<P>,
     seats: Vec<Seat<P>>,
     served: Vec<Served>,
 ) -> Result<(), Fail> {
-    let closed = close(publisher, seats, served)?;
+    let closed = close(publisher, rest, seats, served)?;
     same(rt, closed.book.log_len() as usize, board.work.commits());
     same(rt, count_all(closed.seats.as_slice()), board.work.commits());
     same(rt, closed.served.len(), board.work.slots());

@@ -89,13 +89,13 @@ pub(crate) fn expect_served<
     rt: &R,
     alloc: Global,
     publisher: Publisher<P>,
-    mut seats: Seats<P>,
+    mut free: Seats<P>,
     hold: Hold,
 ) -> Result<(), Fail> {
     let listener = TcpListener::bind(rt, (Ipv4Addr::LOCALHOST, 0u16))?;
     let port = listener.local_addr()?.port();
     let board = Board::new(alloc, Work::Pairs, hold, port)?;
-    let mut seats = take_seats(alloc, &mut seats, 2)?;
+    let mut seats = take_seats(alloc, &mut free, 2)?;
     let (_, served) = join(
         rt,
         || follow_both(rt, &board),
@@ -104,5 +104,5 @@ pub(crate) fn expect_served<
     let served = served?;
     holds(rt, board.is_fine());
     same(rt, served.len(), 2);
-    expect_closed(rt, &board, publisher, seats, served)
+    expect_closed(rt, &board, publisher, free, seats, served)
 }

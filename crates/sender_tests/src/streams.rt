@@ -2,13 +2,13 @@
 //! in `tools/testing/failed`, with the built program.
 
 use crate::checks::{holds, same};
-use program_parts::Input;
+use cli::run;
+use commands::Input;
 use std::alloc::Global;
 use std::io;
 use std::io::{ErrorKind, Read, Write};
 use std::process::Abort;
 use std::test::Fail;
-use subcommands::run;
 
 /// A catalog, and two rows.
 const ROWS: &str = "CREATE TABLE t (id integer, region text, PRIMARY KEY (id));

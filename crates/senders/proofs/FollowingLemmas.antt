@@ -1,7 +1,6 @@
 -- What was written is a first part of a stream over the log, and who is fed it follows.
 use Rattle.std.proofs.Common.{◌≡◌, ℕ, List, [], ◌∷◌, ◌++◌, length, refl, sym, ◌∙◌, ap, subst, append-nil, append_assoc, length-append, arith}
 use Rattle.std.specs.Prelude.{◌≤◌, ◌<◌, ◌^◌, All, Bool, Option, unwrap_or}
-use Rattle.std.specs.Arc.{arc_value}
 use Rattle.std.proofs.lemmas.List.{length-map, nil_from_length}
 use Rattle.std.proofs.lemmas.List.Elements.{All-nil, All-cons, All-head, All-tail, All-append, All-contains}
 use Rattle.std.proofs.lemmas.List.Sorted.{All-permutation}
@@ -16,20 +15,21 @@ use Rattle.replica_identity.specs.Plans.{plan_view}
 use Rattle.table_changes.specs.Tables.{no_rows}
 use Rattle.tables_log.specs.BookView.{book_checked, book_log}
 use Rattle.tables_log.specs.Commits.{CommitOf}
+use Rattle.tables_log.specs.Routes.{commit_in}
 use Rattle.tables_log.specs.StandsFor.{Transaction, AreAccepted, StandsFor}
 use Rattle.tables_log.specs.declared.book.Book.{Book}
 use Rattle.copy_frames.specs.declared.frame.Frame.{Frame}
 use Rattle.copy_both.specs.Streams.{Move, count_before, stream}
 use Rattle.copy_both.specs.Tellings.{telling_of}
 use Rattle.copy_both.specs.VoiceLaws.{AreAt}
-use Rattle.served_connections.specs.declared.end.End.{End}
+use Rattle.senders.specs.declared.end.End.{End}
 use Rattle.publisher_desk.specs.Receipts.{ReceiptOf}
 use Rattle.publisher_desk.specs.Seats.{AreTimed, HasTime}
 use Rattle.publisher_desk.specs.declared.note.Note.{Note}
 use Rattle.publisher_desk.specs.declared.note.Note.TheVariants.{Committed, Looked}
-use Rattle.senders_close.specs.Gathering.{all_receipts, receipts_in}
-use Rattle.senders_close.specs.Histories.{transaction_of, transactions_of}
-use Rattle.senders_close.specs.TakenCommits.{IsTaken}
+use Rattle.senders.specs.Gathering.{all_receipts, receipts_in}
+use Rattle.senders.specs.Histories.{transaction_of, transactions_of}
+use Rattle.senders.specs.TakenCommits.{IsTaken}
 use Rattle.stream_laws.specs.Cutting.{whole_in}
 use Rattle.stream_laws.specs.Following.{Follows, IsPublished, IsSentItem, items_from, log_of}
 use Rattle.stream_laws.specs.FollowingBytes.{AreFirst, StopsFollowing, position_in}
@@ -222,8 +222,7 @@ closed_are_told checked limit seats served book closed =
     let each : All IsTimedReceipt order =
     All-permutation IsTimedReceipt (all_receipts seats) order closed.ordered.all (all_timed seats closed.timed) in
     let long : length closed.transactions ≡ length order = ap length closed.told ∙ length-map order transaction_of in
-    let logged : length (book_log book) ≡ length book.log.items =
-    length-map book.log.items (λ commit. arc_value commit) in
+    let logged : length (book_log book) ≡ length book.log.items = length-map book.log.items commit_in in
     record {
       accepted = subst (λ (c : CheckedOf). AreAccepted (setting_in c) no_rows closed.transactions) closed.named
           closed.stands.accepted;

@@ -1,6 +1,7 @@
 -- What a listener has heard, piece by piece.
-use Rattle.std.proofs.Common.{◌≡◌, ℕ, List, [], ◌++◌, length, refl, sym, ◌∙◌, ap, subst, append_assoc, append-nil, arith}
-use Rattle.std.specs.Prelude.{Bool, true, Option, Some, None, Result, Ok, Err, IfErr}
+use Rattle.std.proofs.Common.{◌≡◌, ◌≤◌, ℕ, List, [], ◌++◌, length, refl, sym, ◌∙◌, ap, subst, append_assoc, append-nil, arith}
+use Rattle.std.specs.Prelude.{Bool, true, Option, Some, None, Result, Ok, Err, IfErr, slice_get}
+use Rattle.std.proofs.Math.Nat.{le-max_left}
 use Rattle.std.proofs.KnownBytes.{Consumes-nil, Consumes-trans}
 use Rattle.shard_checker.specs.CheckedView.{CheckedOf}
 use Rattle.tables_log.specs.BookView.{book_log}
@@ -11,9 +12,11 @@ use Rattle.copy_both.specs.declared.ear.Ear.{Ear}
 use Rattle.copy_both.specs.declared.heard.Heard.{Heard}
 use Rattle.copy_both.specs.declared.link_fault.LinkFault.{LinkFault}
 use Rattle.copy_both.proofs.PiecesHeard.{pieces_are_heard}
-use Rattle.senders.specs.Hearing.{HearsPiece, IsExplained, IsSentFrom, StaysStarted}
+use Rattle.copy_both.specs.Hearing.{first_sent}
+use Rattle.publisher_desk.specs.declared.wish.Wish.{Wish}
+use Rattle.senders.specs.Hearing.{HearsPiece, IsExplained, IsSentFrom, StaysStarted, sent_after, sent_by}
 use Rattle.senders.specs.Listening.{EndsOf, HeardPiece, HearsLast, HearsMore, HearsNext, next_by, next_by_end, piece_of}
-use Rattle.connection_io.specs.declared.failed.Failed.{Failed}
+use Rattle.senders.specs.declared.failed.Failed.{Failed}
 use Rattle.senders.specs.Pieces.{Pulls, PullsNothing, PullsPiece}
 use Rattle.senders.specs.declared.ending.Ending.{Ending}
 use Rattle.senders.specs.declared.ending.Ending.TheVariants as ending
@@ -45,18 +48,27 @@ explained checked bytes old new book sent (Err fault) from stays refused explain
   answered = refused;
 }
 
-pub hears_piece : (checked : CheckedOf) (before after : Listener) (old new : Book) (heard : Result Heard LinkFault)
-    → HeardPiece before after old new heard
+from_first : (first : ℕ) (wish : Option Wish) → first ≤ sent_after first wish
+from_first first None = omega arith
+from_first first (Some wish) = le-max_left first wish.sent
+
+from_start : (started : Option (ℕ × ℕ)) (wishes : List Wish) → IsSentFrom started (sent_by started wishes)
+from_start None wishes = tt
+from_start (Some started) wishes = from_first (first_sent started.1) (slice_get wishes started.0)
+
+pub hears_piece : (checked : CheckedOf) (before after : Listener) (old new : Book) (wishes : List Wish)
+    (heard : Result Heard LinkFault) → HeardPiece before after old new wishes heard
     → HearsPiece checked (piece_of before) before.ear after.ear heard
-hears_piece checked before after old new heard did = record {
+hears_piece checked before after old new wishes heard did = record {
   each = λ bytes has.
-      let on = pieces_are_heard checked bytes (piece_of before) before.ear after.ear old new did.sent heard has
+      let sent : ℕ = sent_by (ear_started before.ear) wishes in
+      let on = pieces_are_heard checked bytes (piece_of before) before.ear after.ear old new sent heard has
       did.answer did.left in
       record {
         stays = on.stays;
         asks = on.asks;
-        explained = explained checked (bytes ++ piece_of before) before.ear after.ear old did.sent heard did.from
-            on.stays did.refused on.explains;
+        explained = explained checked (bytes ++ piece_of before) before.ear after.ear old sent heard
+            (from_start (ear_started before.ear) wishes) on.stays did.refused on.explains;
       };
 }
 

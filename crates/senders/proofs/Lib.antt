@@ -1,10 +1,16 @@
+pub mod ClosingLemmas
+pub mod ConnectionLemmas
 pub mod Crossing
 pub mod FlushingLemmas
 pub mod FollowingLemmas
+pub mod GatheringLemmas
 pub mod HearingLemmas
+pub mod NumberLemmas
 pub mod RefusedLemmas
+pub mod ReplayLemmas
 pub mod SendingLemmas
 pub mod ServingLemmas
 pub mod SpeakingLemmas
 pub mod StreamingLemmas
+pub mod TakenLemmas
 pub mod WritingLemmas

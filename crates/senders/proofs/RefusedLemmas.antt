@@ -9,9 +9,9 @@ use Rattle.copy_both.specs.Ears.{ear_refusal}
 use Rattle.copy_both.specs.HeardFrames.{HasHeard, frames_in}
 use Rattle.copy_both.specs.declared.link_fault.LinkFault.{LinkFault}
 use Rattle.copy_both.specs.declared.link_fault.LinkFault.TheVariants as fault
-use Rattle.served_connections.specs.declared.end.End.{End}
-use Rattle.served_connections.specs.declared.end.End.TheVariants as end
-use Rattle.served_connections.specs.declared.served.Served.{Served}
+use Rattle.senders.specs.declared.end.End.{End}
+use Rattle.senders.specs.declared.end.End.TheVariants as end
+use Rattle.senders.specs.declared.served.Served.{Served}
 use Rattle.senders.specs.Listening.{EndsAt, EndsFor}
 use Rattle.senders.specs.Refusing.{AnswersAs, cause_by}
 use Rattle.senders.specs.Serving.{IsAnswer, IsCause, IsServed, IsServedFor, IsWritten, commits_of, started_of}
@@ -75,6 +75,7 @@ module _ (checked : CheckedOf) (bytes : List ℕ) (source_failed source_ended : 
         (record { none = ap (map (λ commit. arc_value commit)) none; answer = answer.answer }));
     cause = subst (λ (o : Option ℕ). IsCause checked bytes (started_of o served.start) source_failed source_ended
         failed served.end) (sym no_slot) cause;
+    left = λ slot some sound client. cc;
   }
 
 -- the connection ended before a stream was started

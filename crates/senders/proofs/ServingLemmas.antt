@@ -1,20 +1,23 @@
 -- What came of a connection: what was read of it, and what was written.
-use Rattle.std.proofs.Common.{◌≡◌, ℕ, List, [], ◌++◌, sym, subst, inl, inr, arith}
-use Rattle.std.specs.Prelude.{Bool, Option, Some, None}
+use Rattle.std.proofs.Common.{◌≡◌, ℕ, List, [], ◌++◌, refl, sym, ◌∙◌, ap, subst, inl, inr, arith}
+use Rattle.std.proofs.lemmas.Bool.Decides.{nat_tests}
+use Rattle.std.specs.Prelude.{◌==◌, Bool, true, false, Option, Some, None}
 use Rattle.std.proofs.KnownBytes.{Consumes-trans}
 use Rattle.shard_checker.specs.CheckedView.{CheckedOf}
 use Rattle.copy_both.specs.Ears.{ear_refusal, ear_started}
-use Rattle.copy_both.specs.HeardFrames.{AsksFor, AsksIfStarted, HasHeard, frames_in}
+use Rattle.copy_frames.specs.Contents.{copy_done}
+use Rattle.copy_both.specs.HeardFrames.{AsksFor, AsksIfStarted, HasEnd, HasHeard, frames_in}
 use Rattle.copy_both.specs.Hearing.{first_sent}
 use Rattle.copy_both.specs.declared.ear.Ear.{Ear}
 use Rattle.copy_both.specs.declared.link_fault.LinkFault.TheVariants as fault
-use Rattle.served_connections.specs.declared.end.End.{End}
-use Rattle.served_connections.specs.declared.served.Served.{Served}
+use Rattle.senders.specs.declared.end.End.{End}
+use Rattle.senders.specs.declared.end.End.TheVariants as end
+use Rattle.senders.specs.declared.served.Served.{Served}
 use Rattle.senders.specs.Hearing.{HoldsFault}
 use Rattle.senders.specs.Listening.{EndsAt, EndsFor, EndsOf, HearsAll, StartsOn}
 use Rattle.senders.specs.Refusing.{cause_by}
 use Rattle.senders.specs.Running.{Heard, IsEndOf, Memory, RunsOn, Streams, Whole, Writing}
-use Rattle.senders.specs.Serving.{IsCause, IsEnded, IsLast, IsServed, IsServedFor, IsStream, IsWritten, commits_of, started_of}
+use Rattle.senders.specs.Serving.{IsCause, IsEnded, IsLast, IsLeft, IsServed, IsServedFor, IsStream, IsTail, IsWritten, commits_of, started_of}
 use Rattle.senders.specs.Serving as serving
 use Rattle.senders.specs.Speaking.{IsSaid}
 use Rattle.senders.specs.Speaking as speaking
@@ -74,6 +77,33 @@ module _ (checked : CheckedOf) (bytes : List ℕ) (slot start : ℕ) (source_fai
       (heard_cause checked bytes (Some (slot, start)) knows.response source_failed source_ended sink_failed ending
       (knows.ends ending some))
 
+  -- a frame of this kind ended it
+  left_by_kind : (written : List ℕ) (kind : ℕ) (is_done : Bool) → (kind == 99) ≡ is_done
+      → HasEnd (frames_in bytes) kind → (kind ≡ 99 → IsTail copy_done written)
+      → IsLeft source_ended (frames_in bytes) written
+  left_by_kind written kind true is has answered =
+      let same : kind ≡ 99 = grind (arith, nat_tests) in serving.Answered (answered same)
+  left_by_kind written kind false is has answered =
+      serving.Otherwise kind has (λ same. let yes : (kind == 99) ≡ true = ap (λ (k : ℕ). k == 99) same in cc)
+
+  left_by_ending : (written : List ℕ) (why_ended : Ending) → why ≡ Some why_ended → cause_by why_ended ≡ end.Client
+      → (why ≡ Some (ending.Frame 99) → IsTail copy_done written) → IsLeft source_ended (frames_in bytes) written
+  left_by_ending written ending.ReadFault some client answered = cc
+  left_by_ending written ending.NoMore some client answered = serving.NoMore (knows.ends ending.NoMore some)
+  left_by_ending written (ending.Frame kind) some client answered =
+      left_by_kind written kind (kind == 99) refl (knows.ends (ending.Frame kind) some)
+      (λ same. answered (some ∙ ap (λ (k : ℕ). Some (ending.Frame k)) same))
+  left_by_ending written (ending.Fault fault) some client answered = cc
+
+  left_by : (written : List ℕ) (is : End) → is ≡ end.Client
+      → (why ≡ Some (ending.Frame 99) → IsTail copy_done written) → IsEndOf why sink_failed is
+      → IsLeft source_ended (frames_in bytes) written
+  left_by written is client answered (Writing same failed) = cc
+  left_by written is client answered (Memory same) = cc
+  left_by written is client answered (Whole same) = cc
+  left_by written is client answered (Heard ended some same) =
+      left_by_ending written ended some (sym same ∙ client) answered
+
   stream_served : Streams checked slot start before after sink_failed why served
       → IsServedFor checked bytes source_failed source_ended before after sink_failed served
   stream_served streams =
@@ -103,6 +133,8 @@ module _ (checked : CheckedOf) (bytes : List ℕ) (slot start : ℕ) (source_fai
             (subst (λ (o : Option ℕ). IsCause checked bytes (started_of (Some slot) o) source_failed source_ended
             sink_failed served.end) (sym streams.start_is)
             (stream_cause served.end streams.ends));
+        left = λ other some sound client.
+            left_by streams.written served.end client (streams.answered sound client) streams.ends;
       }
 
 -- ---- what was read of it

@@ -1,13 +1,16 @@
 -- What is said last.
 use Rattle.std.proofs.Common.{◌≡◌, ◌⊎◌, ℕ, List, [], ◌++◌, refl, sym, ◌∙◌, ap, inl, inr}
-use Rattle.std.specs.Prelude.{Bool, true, false, Option, Some, Result, Ok, Err, OnOk, MatchResult}
-use Rattle.std.specs.Result.{is_ok}
+use Rattle.std.specs.Prelude.{Bool, false, true, Option, Some, Result, Ok, Err, OnOk, MatchResult}
 use Rattle.std.proofs.KnownBytes.{Appends-nil}
+use Rattle.tables_log.specs.Commits.{CommitOf}
+use Rattle.copy_frames.specs.Contents.{copy_done}
+use Rattle.copy_both.specs.VoiceLaws.{Told}
 use Rattle.copy_both.specs.Voices as voices
-use Rattle.copy_both.specs.Voices.{Says, StageOf, done_bytes, voice_output, voice_stage}
+use Rattle.copy_both.specs.Voices.{Says, done_bytes, voice_output, voice_stage}
 use Rattle.copy_both.specs.declared.voice.Voice.{Voice}
 use Rattle.senders.specs.Flushing.{Flushes}
-use Rattle.senders.specs.Speaking.{Closes, Done, IsQuietAt, IsSaid, Nothing, SaysLast}
+use Rattle.senders.specs.Sending.{StopsAs}
+use Rattle.senders.specs.Speaking.{Answers, Closes, Done, IsClosing, IsQuietAt, IsResting, Nothing, Refused, SaysLast}
 use Rattle.senders.specs.declared.ending.Ending.{Ending}
 use Rattle.senders.specs.declared.ending.Ending.TheVariants as ending
 use Rattle.senders.specs.declared.stop.Stop.{Stop}
@@ -17,22 +20,24 @@ use Rattle.senders.specs.declared.stop.Stop.TheVariants as stop
 abbrev pub IsQuietStop : Stop → Type 0
 IsQuietStop s = (s ≡ stop.Told) ⊎ (s ≡ stop.Finished)
 
-pub says_so : (s : Stop) (why : Option Ending) (before after : Option (List ℕ)) (was_failed failed : Bool)
-    → IsQuietStop s → Closes why before after failed → SaysLast s why before after was_failed failed
-says_so stop.Told why before after was_failed failed quiet closes = closes
-says_so stop.Finished why before after was_failed failed quiet closes = closes
-says_so stop.WriteFault why before after was_failed failed (inl is) closes = cc
-says_so stop.WriteFault why before after was_failed failed (inr is) closes = cc
-says_so stop.OutOfMemory why before after was_failed failed (inl is) closes = cc
-says_so stop.OutOfMemory why before after was_failed failed (inr is) closes = cc
+pub says_so : (s now : Stop) (why : Option Ending) (before after : Option (List ℕ)) (was_failed failed : Bool)
+    → IsQuietStop s → Closes s now why before after failed → SaysLast s now why before after was_failed failed
+says_so stop.Told now why before after was_failed failed quiet closes = closes
+says_so stop.Finished now why before after was_failed failed quiet closes = closes
+says_so stop.WriteFault now why before after was_failed failed (inl is) closes = cc
+says_so stop.WriteFault now why before after was_failed failed (inr is) closes = cc
+says_so stop.OutOfMemory now why before after was_failed failed (inl is) closes = cc
+says_so stop.OutOfMemory now why before after was_failed failed (inr is) closes = cc
 
-pub says_none : (s : Stop) (why : Option Ending) (known : Option (List ℕ)) (failed : Bool) → IsQuietStop s
-    → SaysLast s why known known failed failed
-says_none s why known failed quiet =
-    says_so s why known known failed failed quiet
+-- nothing was said
+says_empty : (s now : Stop) (why : Option Ending) (known : Option (List ℕ)) (failed : Bool) → IsQuietStop s
+    → IsClosing s now why [] → SaysLast s now why known known failed failed
+says_empty s now why known failed quiet closing =
+    says_so s now why known known failed failed quiet
     (record {
       last = [];
       said = Nothing refl;
+      closing = closing;
       written = [];
       rest = [];
       bytes = refl;
@@ -41,18 +46,22 @@ says_none s why known failed quiet =
       all = λ sound. refl;
     })
 
-quiet_at : (s : Stop) (voice : Voice) → IsQuietStop s → IsQuietAt s voice → voice_output voice ≡ []
-quiet_at stop.Told voice quiet none = none
-quiet_at stop.Finished voice quiet none = none
-quiet_at stop.WriteFault voice (inl is) none = cc
-quiet_at stop.WriteFault voice (inr is) none = cc
-quiet_at stop.OutOfMemory voice (inl is) none = cc
-quiet_at stop.OutOfMemory voice (inr is) none = cc
+pub says_none : (s : Stop) (why : Option Ending) (known : Option (List ℕ)) (failed : Bool) → IsQuietStop s
+    → (why ≡ Some (ending.Frame 99) → ⊥) → SaysLast s s why known known failed failed
+says_none s why known failed quiet not =
+    says_empty s s why known failed quiet (Answers refl (λ done. absurd (not done)))
 
-is_said : (why : Option Ending) (stage : StageOf) → why ≡ Some (ending.Frame 99) → IsSaid why (done_bytes stage)
-is_said why voices.NotStarted is = Nothing refl
-is_said why (voices.Started place) is = Done refl is
-is_said why voices.Closed is = Nothing refl
+pub says_refused : (s : Stop) (why : Option Ending) (known : Option (List ℕ)) (failed : Bool) → IsQuietStop s
+    → SaysLast s stop.OutOfMemory why known known failed failed
+says_refused s why known failed quiet = says_empty s stop.OutOfMemory why known failed quiet (Refused refl)
+
+resting_at : (s : Stop) (voice : Voice) → IsQuietStop s → IsQuietAt s voice → IsResting voice
+resting_at stop.Told voice quiet rests = rests
+resting_at stop.Finished voice quiet rests = rests
+resting_at stop.WriteFault voice (inl is) rests = cc
+resting_at stop.WriteFault voice (inr is) rests = cc
+resting_at stop.OutOfMemory voice (inl is) rests = cc
+resting_at stop.OutOfMemory voice (inr is) rests = cc
 
 none_left : {E : Type 0} (result : Result (Unit {0}) E) (rest : List ℕ) (was_failed failed : Bool)
     → OnOk result (rest ≡ [])
@@ -65,21 +74,29 @@ pub says_done : {E : Type 0} (s : Stop) (why : Option Ending) (before after : Op
     → why ≡ Some (ending.Frame 99) → Says old done (done_bytes (voice_stage old)) voices.Closed
     → Flushes before after done new → OnOk result (voice_output new ≡ [])
     → MatchResult result (λ done. failed ≡ was_failed) (λ error. failed ≡ true)
-    → SaysLast s why before after was_failed failed
+    → SaysLast s s why before after was_failed failed
 says_done s why before after was_failed failed old done new result quiet at is says flushes all fails =
-    says_so s why before after was_failed failed quiet
+    let rests : IsResting old = resting_at s old quiet at in
+    let whole : done_bytes (voice_stage old) ≡ copy_done = ap done_bytes rests.stage_is in
+    says_so s s why before after was_failed failed quiet
     (record {
       last = done_bytes (voice_stage old);
-      said = is_said why (voice_stage old) is;
+      said = Done whole is;
+      closing = Answers refl (λ done. whole);
       written = flushes.bytes;
       rest = voice_output new;
       bytes = sym flushes.whole ∙ says.output
-          ∙ ap (λ (waiting : List ℕ). waiting ++ done_bytes (voice_stage old)) (quiet_at s old quiet at);
+          ∙ ap (λ (waiting : List ℕ). waiting ++ done_bytes (voice_stage old)) rests.none;
       put = flushes.put;
       all = none_left result (voice_output new) was_failed failed all fails;
     })
 
-pub if_ok : {A E : Type 0} (result : Result A E) (test : Bool) (P : Type 0) → test ≡ is_ok result → test ≡ true
-    → OnOk result P → P
-if_ok (Ok value) test P is good holds = holds
-if_ok (Err error) test P is good holds = absurd (let no_value : false ≡ true = sym is ∙ good in cc)
+-- a sender that did not fail has written all, and its stream goes on
+pub rests : (s : Stop) (before after : Option (List ℕ)) (taken : List CommitOf) (voice : Voice) (told : Told)
+    → StopsAs s before after taken voice told → IsQuietAt s voice
+rests stop.Told before after taken voice told goes =
+    record { none = goes.quiet.none; place = goes.quiet.tells.place; stage_is = goes.quiet.tells.stage_is }
+rests stop.Finished before after taken voice told goes =
+    record { none = goes.quiet.none; place = goes.quiet.tells.place; stage_is = goes.quiet.tells.stage_is }
+rests stop.WriteFault before after taken voice told breaks = tt
+rests stop.OutOfMemory before after taken voice told starves = tt

@@ -1,12 +1,12 @@
 -- What was written of a stream, from its first bytes to its last.
 use Rattle.std.proofs.Common.{◌≡◌, ℕ, List, [], ◌++◌, length, map, refl, sym, ◌∙◌, ap, subst, append_assoc, append-nil}
-use Rattle.std.specs.Prelude.{◌≢◌, All, Bool, true, false, Option, Some, None}
+use Rattle.std.specs.Prelude.{◌≢◌, ◌||◌, All, Bool, true, false, Option, Some, None}
 use Rattle.std.specs.Arc.{arc_value}
 use Rattle.std.specs.Io.KnownBytes.{Appends}
 use Rattle.std.proofs.KnownBytes.{Appends-trans}
 use Rattle.shard_checker.specs.CheckedView.{CheckedOf}
 use Rattle.tables_log.specs.Commits.{CommitOf}
-use Rattle.copy_frames.specs.Contents.{copy_both_response}
+use Rattle.copy_frames.specs.Contents.{copy_both_response, copy_done}
 use Rattle.copy_both.specs.LinkLaws.{started_at}
 use Rattle.copy_both.specs.Streams.{Move, count_before, stream}
 use Rattle.copy_both.specs.StreamLaws.{Start}
@@ -15,17 +15,17 @@ use Rattle.copy_both.specs.VoiceLaws.{AreAt, Follow, Told, first_of, takes_in}
 use Rattle.copy_both.specs.Voices.{voice_output}
 use Rattle.copy_both.specs.declared.link_fault.LinkFault.TheVariants as fault
 use Rattle.copy_both.specs.declared.voice.Voice.{Voice}
-use Rattle.served_connections.specs.declared.end.End.{End}
-use Rattle.served_connections.specs.declared.end.End.TheVariants as end
-use Rattle.served_connections.specs.declared.served.Served.{Served}
+use Rattle.senders.specs.declared.end.End.{End}
+use Rattle.senders.specs.declared.end.End.TheVariants as end
+use Rattle.senders.specs.declared.served.Served.{Served}
 use Rattle.std.proofs.lemmas.List.Elements.{All-nil}
 use Rattle.stream_laws.specs.LayoutRoom.{IsClocked}
-use Rattle.senders.specs.Causes.{chosen, chosen_by, end_by, goes_first, unopened_by}
+use Rattle.senders.specs.Causes.{chosen, chosen_by, end_by, goes_first, is_refused, unopened_by}
 use Rattle.senders.specs.Refusing.{cause_by}
 use Rattle.senders.specs.Running.{Concludes, IsEndOf, IsWithout, Memory, Writing, Whole, Heard, Streams}
 use Rattle.senders.specs.Sending.{Breaks, Follows, GoesOn, Spells, StopsAs, started_telling}
 use Rattle.senders.specs.Serving.{commits_of}
-use Rattle.senders.specs.Speaking.{Closes, FailsToOpen, Nothing, Opens, SaysLast, SaysNothing, WritesPart}
+use Rattle.senders.specs.Speaking.{Answers, Closes, FailsToOpen, IsClosing, Nothing, Opens, Refused, SaysLast, SaysNothing, WritesPart}
 use Rattle.senders.specs.declared.ending.Ending.{Ending}
 use Rattle.senders.specs.declared.ending.Ending.TheVariants as ending
 use Rattle.senders.specs.declared.running.Sent.{Sent}
@@ -41,6 +41,17 @@ pub record Wrote (checked : CheckedOf) (slot start : ℕ) (taken : List CommitOf
   pub takes : takes_in moves ≡ length taken
   pub bytes : (log : List CommitOf) → AreAt log (count_before start) taken
       → passed ++ output ≡ stream (telling_of checked) log slot (length checked.catalog.tables) start moves
+
+-- CopyDone was said where the client said it, unless memory was refused, which is told then
+answered_by : (was now : Stop) (why : Option Ending) (last : List ℕ) (is : End)
+    → (now ≡ stop.OutOfMemory → is ≡ end.Client → ⊥) → IsClosing was now why last → is ≡ end.Client
+    → why ≡ Some (ending.Frame 99) → last ≡ copy_done
+answered_by was now why last is refused (Refused same) client done = absurd (refused same client)
+answered_by was now why last is refused (Answers same answers) client done = answers done
+
+whole_last : (written rest last : List ℕ) → written ++ rest ≡ last → rest ≡ [] → written ≡ last
+whole_last written rest last bytes none =
+    sym (append-nil written) ∙ ap (λ (x : List ℕ). written ++ x) (sym none) ∙ bytes
 
 module _ (checked : CheckedOf) (slot start : ℕ) where
   wrote : (taken : List CommitOf) (now : Told) (bytes output : List ℕ) → All IsClocked now.moves
@@ -71,9 +82,10 @@ module _ (checked : CheckedOf) (slot start : ℕ) where
       (taken : List CommitOf) (voice : Voice) (why : Option Ending) (was_failed failed : Bool)
       (served : Served) (slot_is : served.slot ≡ Some slot) (start_is : served.start ≡ Some start)
       (taken_is : commits_of served ≡ taken) (ends : IsEndOf why failed served.end) where
-    after_all : GoesOn opened sent taken voice (started_telling checked slot start copy_both_response)
-        → Closes why sent last failed → Streams checked slot start before last failed why served
-    after_all goes closes =
+    after_all : (was now : Stop) → GoesOn opened sent taken voice (started_telling checked slot start copy_both_response)
+        → Closes was now why sent last failed → (now ≡ stop.OutOfMemory → served.end ≡ end.Client → ⊥)
+        → Streams checked slot start before last failed why served
+    after_all was now goes closes refused =
         let front : List ℕ = copy_both_response ++ goes.bytes in
         let w : Wrote checked slot start taken front (voice_output voice) =
         wrote taken goes.now goes.bytes (voice_output voice) goes.clocks goes.follows
@@ -98,14 +110,21 @@ module _ (checked : CheckedOf) (slot start : ℕ) where
               ∙ w.bytes log (subst (AreAt log (count_before start)) taken_is are));
           all = λ sound memory. closes.all sound;
           whole = λ finished. record { front = closes.written; list_is = sym closes.bytes };
+          answered = λ sound client done. record {
+            front = front;
+            list_is = ap (λ (x : List ℕ). front ++ x)
+                (whole_last closes.written closes.rest closes.last closes.bytes (closes.all sound)
+                ∙ answered_by was now why closes.last served.end refused closes.closing client done);
+          };
           ends = ends;
         }
 
-    after_part : Breaks opened sent taken voice (started_telling checked slot start copy_both_response)
-        → SaysNothing sent last was_failed failed
+    after_part : (was now : Stop) → Breaks opened sent taken voice (started_telling checked slot start copy_both_response)
+        → SaysNothing was now sent last was_failed failed
         → (failed ≡ false → voice_output voice ≡ []) → (served.end ≡ end.Finished → ⊥)
+        → (failed ≡ false → served.end ≡ end.Client → ⊥)
         → Streams checked slot start before last failed why served
-    after_part breaks says all unfinished =
+    after_part was now breaks says all unfinished not_left =
         let front : List ℕ = copy_both_response ++ breaks.bytes in
         let w : Wrote checked slot start taken front (voice_output voice) =
         wrote taken breaks.now breaks.bytes (voice_output voice) breaks.clocks breaks.follows breaks.spells in
@@ -128,6 +147,7 @@ module _ (checked : CheckedOf) (slot start : ℕ) where
               ∙ sym (append-nil (stream (telling_of checked) log slot (length checked.catalog.tables) start w.moves));
           all = λ sound memory. all sound;
           whole = λ finished. absurd (unfinished finished);
+          answered = λ sound client done. absurd (not_left sound client);
           ends = ends;
         }
 
@@ -153,7 +173,20 @@ by_unfinished s false why not is = heard_unfinished why is
 unfinished : (s : Stop) (is_first : Bool) (why : Option Ending) → (s ≡ stop.Finished → ⊥)
     → chosen s is_first why ≡ end.Finished → ⊥
 unfinished s is_first None not is = stop_unfinished s not is
-unfinished s is_first (Some why) not is = by_unfinished s (goes_first is_first why) why not is
+unfinished s is_first (Some why) not is = by_unfinished s (is_refused s || goes_first is_first why) why not is
+
+refused_end : (s : Stop) (is_first : Bool) (why : Option Ending) → s ≡ stop.OutOfMemory
+    → chosen s is_first why ≡ end.Client → ⊥
+refused_end stop.OutOfMemory is_first None is client = cc
+refused_end stop.OutOfMemory is_first (Some why) is client = cc
+refused_end stop.Told is_first why is client = cc
+refused_end stop.Finished is_first why is client = cc
+refused_end stop.WriteFault is_first why is client = cc
+
+not_fault : (was now : Stop) (why : Option Ending) (last : List ℕ) → (was ≡ stop.WriteFault → ⊥)
+    → IsClosing was now why last → now ≡ stop.WriteFault → ⊥
+not_fault was now why last not (Refused same) is = cc
+not_fault was now why last not (Answers same answers) is = not (sym same ∙ is)
 
 stop_ends : (s : Stop) (why : Option Ending) (failed : Bool) (is : End) → (s ≡ stop.WriteFault → failed ≡ true)
     → is ≡ end_by s → IsEndOf why failed is
@@ -170,37 +203,49 @@ both_end s false why failed is fails same = Heard why refl same
 ends_by : (s : Stop) (is_first : Bool) (why : Option Ending) (failed : Bool) (is : End)
     → (s ≡ stop.WriteFault → failed ≡ true) → is ≡ chosen s is_first why → IsEndOf why failed is
 ends_by s is_first None failed is fails same = stop_ends s None failed is fails same
-ends_by s is_first (Some why) failed is fails same = both_end s (goes_first is_first why) why failed is fails same
+ends_by s is_first (Some why) failed is fails same =
+    both_end s (is_refused s || goes_first is_first why) why failed is fails same
 
 -- ---- all of a stream
 
 module _ (checked : CheckedOf) (slot start : ℕ) (before opened sent last : Option (List ℕ)) (voice : Voice)
     (why : Option Ending) (was_failed failed : Bool) (served : Served) where
-  by_stop : (s : Stop) (is_first : Bool) (taken : List CommitOf) → Appends before opened copy_both_response
+  by_stop : (s now : Stop) (is_first : Bool) (taken : List CommitOf) → Appends before opened copy_both_response
       → StopsAs s opened sent taken voice (started_telling checked slot start copy_both_response)
       → (s ≡ stop.WriteFault → was_failed ≡ true) → served.slot ≡ Some slot → served.start ≡ Some start
-      → commits_of served ≡ taken → served.end ≡ chosen s is_first why → SaysLast s why sent last was_failed failed
+      → commits_of served ≡ taken → served.end ≡ chosen now is_first why
+      → SaysLast s now why sent last was_failed failed
       → Streams checked slot start before last failed why served
-  by_stop stop.Told is_first taken put stops fails slot_is start_is taken_is end_is says =
+  by_stop stop.Told now is_first taken put stops fails slot_is start_is taken_is end_is says =
       after_all checked slot start before opened sent last put taken voice why was_failed failed served slot_is
       start_is taken_is
-      (ends_by stop.Told is_first why failed served.end (λ no. cc) end_is) stops says
-  by_stop stop.Finished is_first taken put stops fails slot_is start_is taken_is end_is says =
+      (ends_by now is_first why failed served.end
+      (λ same. absurd (not_fault stop.Told now why says.last (λ no. cc) says.closing same)) end_is)
+      stop.Told now stops says (λ same client. refused_end now is_first why same (sym end_is ∙ client))
+  by_stop stop.Finished now is_first taken put stops fails slot_is start_is taken_is end_is says =
       after_all checked slot start before opened sent last put taken voice why was_failed failed served slot_is
       start_is taken_is
-      (ends_by stop.Finished is_first why failed served.end (λ no. cc) end_is) stops says
-  by_stop stop.WriteFault is_first taken put stops fails slot_is start_is taken_is end_is says =
+      (ends_by now is_first why failed served.end
+      (λ same. absurd (not_fault stop.Finished now why says.last (λ no. cc) says.closing same)) end_is)
+      stop.Finished now stops says (λ same client. refused_end now is_first why same (sym end_is ∙ client))
+  by_stop stop.WriteFault now is_first taken put stops fails slot_is start_is taken_is end_is says =
       let failing : failed ≡ true = says.same ∙ fails refl in
+      let is : served.end ≡ chosen stop.WriteFault is_first why =
+      end_is ∙ ap (λ (s : Stop). chosen s is_first why) says.now_is in
       after_part checked slot start before opened sent last put taken voice why was_failed failed served slot_is
       start_is taken_is
-      (ends_by stop.WriteFault is_first why failed served.end (λ same. failing) end_is) stops says (λ sound. cc)
-      (λ finished. unfinished stop.WriteFault is_first why (λ no. cc) (sym end_is ∙ finished))
-  by_stop stop.OutOfMemory is_first taken put stops fails slot_is start_is taken_is end_is says =
+      (ends_by stop.WriteFault is_first why failed served.end (λ same. failing) is) stop.WriteFault now stops says
+      (λ sound. cc)
+      (λ finished. unfinished stop.WriteFault is_first why (λ no. cc) (sym is ∙ finished)) (λ sound client. cc)
+  by_stop stop.OutOfMemory now is_first taken put stops fails slot_is start_is taken_is end_is says =
+      let is : served.end ≡ chosen stop.OutOfMemory is_first why =
+      end_is ∙ ap (λ (s : Stop). chosen s is_first why) says.now_is in
       after_part checked slot start before opened sent last put taken voice why was_failed failed served slot_is
       start_is taken_is
-      (ends_by stop.OutOfMemory is_first why failed served.end (λ no. cc) end_is) stops.breaks says
+      (ends_by stop.OutOfMemory is_first why failed served.end (λ no. cc) is) stop.OutOfMemory now stops.breaks says
       (λ sound. stops.none)
-      (λ finished. unfinished stop.OutOfMemory is_first why (λ no. cc) (sym end_is ∙ finished))
+      (λ finished. unfinished stop.OutOfMemory is_first why (λ no. cc) (sym is ∙ finished))
+      (λ sound client. refused_end stop.OutOfMemory is_first why refl (sym is ∙ client))
 
 pub streams_to_its_end : (checked : CheckedOf) (slot start : ℕ) (before opened sent last : Option (List ℕ))
     (voice old_voice : Voice) (why : Option Ending) (was_failed failed : Bool) (served : Served) (did : Sent)
@@ -211,7 +256,8 @@ pub streams_to_its_end : (checked : CheckedOf) (slot start : ℕ) (before opened
     → Streams checked slot start before last failed why served
 streams_to_its_end checked slot start before opened sent last voice old_voice why was_failed failed served did opens
     stops fails concludes =
-    by_stop checked slot start before opened sent last voice why was_failed failed served did.stop did.is_first
+    by_stop checked slot start before opened sent last voice why was_failed failed served did.stop concludes.stop
+    did.is_first
     (map (λ commit. arc_value commit) did.taken.items) opens.put stops fails concludes.slot_is
     concludes.start_is (ap (λ taken. map (λ commit. arc_value commit) taken.items) concludes.taken_is)
     concludes.end_is concludes.says
@@ -223,9 +269,9 @@ module _ (checked : CheckedOf) (slot start : ℕ) (before last : Option (List �
   without : (written rest : List ℕ) → Appends before last written → written ++ rest ≡ copy_both_response
       → served.slot ≡ Some slot → served.start ≡ Some start → served.taken.items ≡ []
       → (failed ≡ false → served.end ≢ end.Link fault.OutOfMemory → rest ≡ []) → (served.end ≡ end.Finished → ⊥)
-      → IsEndOf why failed served.end
+      → (failed ≡ false → served.end ≡ end.Client → ⊥) → IsEndOf why failed served.end
       → Streams checked slot start before last failed why served
-  without written rest put bytes slot_is start_is none all not ends =
+  without written rest put bytes slot_is start_is none all not not_left ends =
       let no_commits : commits_of served ≡ [] = ap (map (λ commit. arc_value commit)) none in
       record {
         slot_is = slot_is;
@@ -242,6 +288,7 @@ module _ (checked : CheckedOf) (slot start : ℕ) (before last : Option (List �
         bytes = λ log are. bytes ∙ sym (append-nil copy_both_response) ∙ sym (append-nil (copy_both_response ++ []));
         all = all;
         whole = λ finished. absurd (not finished);
+        answered = λ sound client done. absurd (not_left sound client);
         ends = ends;
       }
 
@@ -250,13 +297,13 @@ module _ (checked : CheckedOf) (slot start : ℕ) (before last : Option (List �
       → Streams checked slot start before last failed why served
   not_opened is fails without_it not ends =
       without fails.written fails.rest fails.put fails.bytes without_it.slot_is without_it.start_is without_it.none
-      (λ sound memory. cc) (λ finished. not (sym without_it.end_is ∙ finished)) ends
+      (λ sound memory. cc) (λ finished. not (sym without_it.end_is ∙ finished)) (λ sound client. cc) ends
 
   starved : Appends before last [] → IsWithout slot start (end.Link fault.OutOfMemory) served
       → Streams checked slot start before last failed why served
   starved put is =
       without [] copy_both_response put refl is.slot_is is.start_is is.none
-      (λ sound memory. absurd (memory is.end_is)) (λ finished. cc) (Memory is.end_is)
+      (λ sound memory. absurd (memory is.end_is)) (λ finished. cc) (λ sound client. cc) (Memory is.end_is)
 
   pub streams_not : (s : Stop) → FailsToOpen before last failed s → IsWithout slot start (end_by s) served
       → Streams checked slot start before last failed why served
@@ -282,4 +329,4 @@ module _ (checked : CheckedOf) (slot start : ℕ) (before last : Option (List �
       → Streams checked slot start before last failed why served
   streams_no_further put is =
       without copy_both_response [] put (append-nil copy_both_response) is.slot_is is.start_is is.none
-      (λ sound memory. refl) (λ finished. cc) (Memory is.end_is)
+      (λ sound memory. refl) (λ finished. cc) (λ sound client. cc) (Memory is.end_is)

@@ -14,11 +14,11 @@ use Rattle.copy_frames.specs.declared.frame.Frame.{Frame}
 use Rattle.copy_both.specs.HeardFrames.{HasEnd}
 use Rattle.copy_both.specs.Streams.{Move, count_before}
 use Rattle.copy_both.specs.VoiceLaws.{AreAt, takes_in}
-use Rattle.served_connections.specs.declared.end.End.{End}
-use Rattle.served_connections.specs.declared.end.End.TheVariants.{Finished}
-use Rattle.served_connections.specs.declared.served.Served.{Served}
+use Rattle.senders.specs.declared.end.End.{End}
+use Rattle.senders.specs.declared.end.End.TheVariants.{Finished}
+use Rattle.senders.specs.declared.served.Served.{Served}
 use Rattle.publisher_desk.specs.declared.note.Note.{Note}
-use Rattle.senders_close.specs.Closing.{IsClosed}
+use Rattle.senders.specs.Closing.{IsClosed}
 use Rattle.stream_laws.specs.Following.{Follows, items_from}
 use Rattle.stream_laws.specs.Cutting.{whole_in}
 use Rattle.stream_laws.specs.FollowingBytes.{AreFirst, StopsFollowing, SubFollows, position_in}

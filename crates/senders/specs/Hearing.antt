@@ -1,6 +1,6 @@
 -- What a connection has heard of all bytes that were read from it: PostgreSQL 15, 55.4. Streaming Replication
 -- Protocol, and 55.7. Message Formats.
-use Rattle.std.specs.Prelude.{◌≡◌, ◌≤◌, ℕ, min, List, [], ◌++◌, Option, Some, None, Result, Ok, Err}
+use Rattle.std.specs.Prelude.{◌≡◌, ◌≤◌, ℕ, max, min, List, [], ◌++◌, slice_get, Option, Some, None, Result, Ok, Err}
 use Rattle.shard_checker.specs.CheckedView.{CheckedOf}
 use Rattle.tables_log.specs.Slots.{end_after}
 use Rattle.copy_both.specs.Ears.{ear_started, ear_refusal, IsAnsweredBy}
@@ -9,11 +9,22 @@ use Rattle.copy_both.specs.Hearing.{first_sent}
 use Rattle.copy_both.specs.declared.ear.Ear.{Ear}
 use Rattle.copy_both.specs.declared.heard.Heard.{Heard}
 use Rattle.copy_both.specs.declared.link_fault.LinkFault.{LinkFault}
+use Rattle.publisher_desk.specs.declared.wish.Wish.{Wish}
 
 -- A sent position is not before the start of the stream, which is 64 for a start at 0.
 abbrev pub IsSentFrom : Option (ℕ × ℕ) → ℕ → Type 0
 IsSentFrom None sent = Unit {0}
 IsSentFrom (Some started) sent = first_sent started.1 ≤ sent
+
+-- the sent position that statuses are held against: that up to which the slot's client was sent the log, by what its
+-- sender was given, and the first position of the stream at least
+abbrev pub sent_after : ℕ → Option Wish → ℕ
+sent_after first None = first
+sent_after first (Some wish) = max first wish.sent
+
+abbrev pub sent_by : Option (ℕ × ℕ) → List Wish → ℕ
+sent_by None wishes = 0
+sent_by (Some started) wishes = sent_after (first_sent started.1) (slice_get wishes started.0)
 
 -- The bytes have this fault, where the log has some number of commits, and some position from the start on was sent.
 pub record HoldsFault (checked : CheckedOf) (bytes : List ℕ) (started : Option (ℕ × ℕ)) (fault : LinkFault) : Type 0

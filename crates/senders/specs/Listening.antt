@@ -10,7 +10,8 @@ use Rattle.copy_both.specs.Voices.{told_fault}
 use Rattle.copy_both.specs.declared.ear.Ear.{Ear}
 use Rattle.copy_both.specs.declared.heard.Heard.{Heard}
 use Rattle.copy_both.specs.declared.link_fault.LinkFault.{LinkFault}
-use Rattle.senders.specs.Hearing.{Faults, IsSentFrom, StaysStarted}
+use Rattle.publisher_desk.specs.declared.wish.Wish.{Wish}
+use Rattle.senders.specs.Hearing.{Faults, StaysStarted, sent_by}
 use Rattle.senders.specs.declared.begun.Begun.{Begun}
 use Rattle.senders.specs.declared.begun.Begun.TheVariants as begun
 use Rattle.senders.specs.declared.ending.Ending.{Ending}
@@ -26,13 +27,14 @@ use Rattle.senders.specs.declared.next.Next.TheVariants as next
 abbrev pub piece_of : Listener → List ℕ
 piece_of listener = take listener.filled listener.piece.items
 
--- The ear heard the piece, with some sent position from its start on.
-pub record HeardPiece (before after : Listener) (old new : Book) (heard : Result Heard LinkFault) : Type 0 where
-  pub sent : ℕ
-  pub from : IsSentFrom (ear_started before.ear) sent
-  pub answer : Answers (λ heard. heard) told_fault (hear_answer before.ear old (piece_of before) sent) heard
+-- The ear heard the piece, with the sent position that the wishes have.
+pub record HeardPiece (before after : Listener) (old new : Book) (wishes : List Wish) (heard : Result Heard LinkFault) :
+    Type 0 where
+  pub answer : Answers (λ heard. heard) told_fault
+      (hear_answer before.ear old (piece_of before) (sent_by (ear_started before.ear) wishes)) heard
   pub refused : IfErr heard (λ fault. IsAnsweredBy fault [] (ear_refusal after.ear))
-  pub left : HearLeaves (ear_phase before.ear) before.ear after.ear old new (piece_of before) sent heard
+  pub left : HearLeaves (ear_phase before.ear) before.ear after.ear old new (piece_of before)
+      (sent_by (ear_started before.ear) wishes) heard
   pub room : length after.piece.items ≡ length before.piece.items
 
 -- ---- outside of it

@@ -1,7 +1,7 @@
 -- What a read of a connection gives: PostgreSQL 15, 55.4. Streaming Replication Protocol.
 use Rattle.std.specs.Prelude.{◌≡◌, ℕ, Bool, true, false, List, [], length, Option, Result, Ok, Err}
 use Rattle.std.specs.Io.KnownBytes.{Consumes}
-use Rattle.connection_io.specs.declared.failed.Failed.{Failed}
+use Rattle.senders.specs.declared.failed.Failed.{Failed}
 use Rattle.senders.specs.Listening.{piece_of}
 use Rattle.senders.specs.declared.listener.Listener.{Listener}
 

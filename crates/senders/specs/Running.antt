@@ -4,13 +4,14 @@ use Rattle.std.specs.Prelude.{◌≡◌, ◌≢◌, ℕ, Bool, true, false, List
 use Rattle.std.specs.Io.KnownBytes.{Appends}
 use Rattle.shard_checker.specs.CheckedView.{CheckedOf}
 use Rattle.tables_log.specs.Commits.{CommitOf}
+use Rattle.copy_frames.specs.Contents.{copy_done}
 use Rattle.copy_both.specs.Streams.{Move, count_before, stream}
 use Rattle.copy_both.specs.Tellings.{telling_of}
 use Rattle.copy_both.specs.VoiceLaws.{AreAt, Follow, takes_in}
 use Rattle.copy_both.specs.declared.link_fault.LinkFault.TheVariants as fault
-use Rattle.served_connections.specs.declared.end.End.{End}
-use Rattle.served_connections.specs.declared.end.End.TheVariants as end
-use Rattle.served_connections.specs.declared.served.Served.{Served}
+use Rattle.senders.specs.declared.end.End.{End}
+use Rattle.senders.specs.declared.end.End.TheVariants as end
+use Rattle.senders.specs.declared.served.Served.{Served}
 use Rattle.stream_laws.specs.LayoutRoom.{IsClocked}
 use Rattle.senders.specs.Causes.{chosen}
 use Rattle.senders.specs.Listening.{HearsAll}
@@ -18,8 +19,10 @@ use Rattle.senders.specs.Refusing.{cause_by}
 use Rattle.senders.specs.Serving.{IsTail, commits_of}
 use Rattle.senders.specs.Speaking.{IsSaid, SaysLast}
 use Rattle.senders.specs.declared.ending.Ending.{Ending}
+use Rattle.senders.specs.declared.ending.Ending.TheVariants as ending
 use Rattle.senders.specs.declared.listener.Listener.{Listener}
 use Rattle.senders.specs.declared.running.Sent.{Sent}
+use Rattle.senders.specs.declared.stop.Stop.{Stop}
 
 -- No commit was taken up.
 pub record IsWithout (slot start : ℕ) (is : End) (served : Served) : Type 0 where
@@ -34,8 +37,9 @@ pub record Concludes (slot start : ℕ) (sent : Sent) (why : Option Ending) (bef
   pub slot_is : served.slot ≡ Some slot
   pub start_is : served.start ≡ Some start
   pub taken_is : served.taken ≡ sent.taken
-  pub end_is : served.end ≡ chosen sent.stop sent.is_first why
-  pub says : SaysLast sent.stop why before after was_failed failed
+  pub stop : Stop
+  pub end_is : served.end ≡ chosen stop sent.is_first why
+  pub says : SaysLast sent.stop stop why before after was_failed failed
 
 -- the sink failed, memory was refused, all was taken up, or the listener ended so
 pub data IsEndOf (why : Option Ending) (failed : Bool) (is : End) : Type 0 where
@@ -62,6 +66,7 @@ pub record Streams (checked : CheckedOf) (slot start : ℕ) (before after : Opti
       → written ++ rest ≡ stream (telling_of checked) log slot (length checked.catalog.tables) start moves ++ last
   pub all : failed ≡ false → served.end ≢ end.Link fault.OutOfMemory → rest ≡ []
   pub whole : served.end ≡ end.Finished → IsTail rest last
+  pub answered : failed ≡ false → served.end ≡ end.Client → why ≡ Some (ending.Frame 99) → IsTail copy_done written
   pub ends : IsEndOf why failed served.end
 
 -- It was heard meanwhile.

@@ -14,9 +14,9 @@ use Rattle.copy_both.specs.Tellings.{telling_of}
 use Rattle.copy_both.specs.VoiceLaws.{AreAt, Follow, takes_in}
 use Rattle.copy_both.specs.declared.link_fault.LinkFault.TheVariants as fault
 use Rattle.copy_both.specs.declared.sql_state.SqlState.{SqlState}
-use Rattle.served_connections.specs.declared.end.End.{End}
-use Rattle.served_connections.specs.declared.end.End.TheVariants as end
-use Rattle.served_connections.specs.declared.served.Served.{Served}
+use Rattle.senders.specs.declared.end.End.{End}
+use Rattle.senders.specs.declared.end.End.TheVariants as end
+use Rattle.senders.specs.declared.served.Served.{Served}
 use Rattle.stream_laws.specs.LayoutRoom.{IsClocked}
 use Rattle.senders.specs.Hearing.{HoldsFault}
 
@@ -99,6 +99,13 @@ IsCause checked bytes started source_failed source_ended sink_failed end.Client 
     (source_ended ≡ true) ⊎ IsEnded (frames_in bytes)
 IsCause checked bytes started source_failed source_ended sink_failed end.Finished = Unit {0}
 
+-- why its client ended a stream: there was nothing more to read, a frame of another kind than CopyDone ended it, or
+-- CopyDone did, and was answered
+pub data IsLeft (source_ended : Bool) (frames : List Frame) (written : List ℕ) : Type 0 where
+  NoMore : source_ended ≡ true → IsLeft source_ended frames written
+  Otherwise : (kind : ℕ) → HasEnd frames kind → kind ≢ 99 → IsLeft source_ended frames written
+  Answered : IsTail copy_done written → IsLeft source_ended frames written
+
 -- ---- all of it
 
 abbrev pub commits_of : Served → List CommitOf
@@ -113,6 +120,8 @@ pub record IsServedFor (checked : CheckedOf) (bytes : List ℕ) (source_failed s
       served.end
   pub cause : IsCause checked bytes (started_of served.slot served.start) source_failed source_ended sink_failed
       served.end
+  pub left : (slot : ℕ) → served.slot ≡ Some slot → sink_failed ≡ false → served.end ≡ end.Client
+      → IsLeft source_ended (frames_in bytes) written
 
 -- The source gave some bytes, and this came of them.
 pub record IsServed (checked : CheckedOf) (left now_left : Option (List ℕ)) (source_failed source_ended : Bool)

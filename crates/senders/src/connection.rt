@@ -3,10 +3,12 @@
 ghost use Rattle.std.specs.Prelude.{◌<◌, ℕ, IsSomeAnd, length, slice_index_or};
 ghost use Rattle.senders.specs.Serving.{IsServed};
 
+use crate::gate::Gate;
+use crate::served::Served;
 use crate::serving::serve;
-use connection_io::{Gate, Sink, Source};
+use crate::sink::Sink;
+use crate::source::Source;
 use publisher_desk::{Publisher, Publishing};
-use served_connections::Served;
 use std::sync::Wait;
 use std::thread;
 use std::thread::Threads;

@@ -4,7 +4,8 @@ ghost use Rattle.std.specs.Prelude.{◌≡◌, [], MatchResult, OnOk, true};
 ghost use Rattle.copy_both.specs.Voices.{voice_output};
 ghost use Rattle.senders.specs.Flushing.{Flushes};
 
-use connection_io::{Failed, Sink};
+use crate::failed::Failed;
+use crate::sink::Sink;
 use copy_both::Voice;
 
 /// Writes all that waits, in as many pushes as the sink takes.

@@ -1,6 +1,6 @@
 //! How connections end and give their slots back.
 
-use copy_both::Ear;
+use crate::listener::Listener;
 use publisher_desk::{Publisher, Publishing, SlotUse, Wish};
 use std::sync::Wait;
 use tables_log::Book;
@@ -29,21 +29,22 @@ impl SlotUse for Leaving {
     }
 }
 
-/// Gives the slot back that an ear started, if it did.
-#[derive(Drop)]
-pub struct Losing {
-    pub(crate) ear: Ear,
+/// Gives the slot back that a listener started, if it did.
+struct Losing {
+    listener: Option<Listener>,
 }
 
 impl SlotUse for Losing {
-    ghost use Rattle.copy_both.specs.Ears.{Loses};
+    ghost use Rattle.senders.specs.Leaving.{GivesBack};
 
     type Answer = ();
 
-    ghost did = { λ before after old new wishes left answer. Loses before.ear after.ear old new };
+    ghost did = { λ before after old new wishes left answer. GivesBack before.listener after.listener old new };
 
     fn use_slots(&mut self, book: &mut Book, _wishes: &mut [Wish]) {
-        self.ear.lose(book);
+        if let Some(listener) = self.listener.take() {
+            listener.lose(book);
+        }
     }
 }
 
@@ -52,7 +53,15 @@ pub(crate) fn leave<P: Publishing, R: Wait>(rt: &R, publisher: &Publisher<P>, sl
     publisher.lend(rt, &mut Leaving { slot })
 }
 
-/// Gives the slot back that the ear started, if it did.
-pub(crate) fn lose<P: Publishing, R: Wait>(rt: &R, publisher: &Publisher<P>, ear: Ear) {
-    publisher.lend(rt, &mut Losing { ear });
+/// Gives the slot back that the listener started, if it did.
+pub(crate) fn lose<P: Publishing, R: Wait>(rt: &R, publisher: &Publisher<P>, listener: Listener) {
+    let mut losing = Losing {
+        listener: Some(listener),
+    };
+    publisher.lend(rt, &mut losing);
+    let Losing { listener: left } = losing;
+    match left {
+        None => {}
+        Some(_) => unreachable!(),
+    }
 }

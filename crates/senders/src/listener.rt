@@ -1,8 +1,11 @@
 //! What hears a connection.
 
 ghost use Rattle.std.specs.Prelude.{◌≡◌, ◌≤◌, length};
-ghost use Rattle.senders.specs.Hearing.{IsSentFrom};
+ghost use Rattle.copy_both.specs.Hearing.{first_sent};
+ghost use Rattle.senders.specs.Hearing.{sent_by};
 
+use crate::failed::Failed;
+use crate::source::Source;
 use copy_both::{Ear, Heard, LinkFault};
 use publisher_desk::{Publisher, Publishing, SlotUse, Wish};
 use shard_checker::Checked;
@@ -13,12 +16,12 @@ use tables_log::Book;
 /// How many bytes are read at most at a time.
 const PIECE: usize = 16_384;
 
-/// An ear, and the piece that it is to hear next: so many of the first bytes.
-#[derive(Drop)]
+/// An ear, and the piece that it is to hear next: so many of the first bytes. The slot that the ear started is given back
+/// by `lose`, and a listener can't be let go otherwise.
 pub struct Listener {
-    pub(crate) ear: Ear,
-    pub(crate) piece: Vec<u8>,
-    pub(crate) filled: usize,
+    ear: Ear,
+    piece: Vec<u8>,
+    filled: usize,
     ghost within: { filled ≤ length piece.items },
 }
 
@@ -29,14 +32,22 @@ pub struct Listened {
     pub was_over: bool,
 }
 
-/// The sent position that statuses are held against: it is not before the start of the stream.
+/// Where the first position of a stream is that starts here: after the first 64 bytes at least.
+fn first_position(start: u64) -> u64
+    ensures { result ≡ first_sent start }
+{
+    if start == 0 { 64 } else { start }
+}
+
+/// The sent position that statuses are held against: that up to which the slot's client was sent the log, but not before
+/// the start of the stream.
 fn sent_position(started: Option<(usize, u64)>, wishes: &[Wish]) -> u64
-    ensures { IsSentFrom started result }
+    ensures { result ≡ sent_by started wishes.now }
 {
     let Some((slot, start)) = started else {
         return 0;
     };
-    let first = if start == 0 { 64 } else { start };
+    let first = first_position(start);
     match wishes.get(slot) {
         None => first,
         Some(wish) => first.max(wish.sent),
@@ -69,8 +80,11 @@ impl Listener {
     ghost use Rattle.std.specs.Prelude.{◌≡◌, ◌<◌, [], None, IfOk, length};
     ghost use Rattle.std.specs.Arc.{arc_value};
     ghost use Rattle.shard_checker.specs.CheckedView.{checked_view};
+    ghost use Rattle.tables_log.specs.BookView.{book_slots};
+    ghost use Rattle.tables_log.specs.Committing.{ChangesSlots};
     ghost use Rattle.copy_both.specs.HeardFrames.{HasHeard};
-    ghost use Rattle.copy_both.specs.Ears.{ear_started};
+    ghost use Rattle.copy_both.specs.Ears.{ear_phase, ear_refusal, ear_started, slots_after_loss};
+    ghost use Rattle.senders.specs.Pieces.{Pulls};
 
     /// A listener that has heard nothing. The only error is want of memory.
     pub(crate) fn new(alloc: Global, checked: &Arc<Checked, Global>) -> Result<Listener, AllocError>
@@ -86,6 +100,44 @@ impl Listener {
             filled: 0,
         })
     }
+
+    /// Reads the next piece. None where the source has no more bytes.
+    pub(crate) fn pull<S: Source>(&mut self, reader: &mut S) -> Result<bool, Failed>
+        requires { 0 < length self.old.piece.items }
+        ensures { Pulls (S.left reader.old) (S.left reader.new) (S.has_failed reader.new) (S.has_ended reader.new)
+            self.old self.new result }
+    {
+        let count = reader.pull(self.piece.as_mut_slice())?;
+        self.filled = count;
+        Ok(0 < count)
+    }
+
+    /// The slot whose stream was started, and where in the log the stream starts, in bytes.
+    pub(crate) fn started(&self) -> Option<(usize, u64)>
+        ensures { result ≡ ear_started self.now.ear }
+    {
+        self.ear.started()
+    }
+
+    /// The response to a start that was refused; else nothing.
+    pub(crate) fn refusal(&self) -> &[u8]
+        ensures { result.now ≡ ear_refusal self.now.ear }
+    {
+        self.ear.refusal()
+    }
+
+    /// Gives the slot back that was started, if one was.
+    pub(crate) fn lose(self, book: &mut Book)
+        ensures { ChangesSlots book.old book.new
+            (slots_after_loss (ear_phase self.ear) (ear_started self.ear) (book_slots book.old)) }
+    {
+        let Listener {
+            mut ear,
+            piece: _,
+            filled: _,
+        } = self;
+        ear.lose(book);
+    }
 }
 
 impl SlotUse for Listener {
@@ -93,7 +145,7 @@ impl SlotUse for Listener {
 
     type Answer = Listened;
 
-    ghost did = { λ before after old new wishes left listened. HeardPiece before after old new listened.heard };
+    ghost did = { λ before after old new wishes left listened. HeardPiece before after old new wishes listened.heard };
 
     fn use_slots(&mut self, book: &mut Book, wishes: &mut [Wish]) -> Listened {
         let was_started = self.ear.started().is_some();

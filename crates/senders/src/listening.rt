@@ -3,26 +3,14 @@
 ghost use Rattle.std.specs.Prelude.{◌≡◌, ◌<◌, length};
 ghost use Rattle.senders.specs.Hearing.{HearsPiece};
 ghost use Rattle.senders.specs.Listening.{BeginsAs, HearsAll, HearsNext, next_after, piece_of};
-ghost use Rattle.senders.specs.Pieces.{Pulls};
 
 use crate::begun::Begun;
 use crate::ending::Ending;
 use crate::listener::{Listened, Listener};
 use crate::next::Next;
-use connection_io::{Failed, Source};
+use crate::source::Source;
 use publisher_desk::{Publisher, Publishing};
 use std::sync::Wait;
-
-/// Reads the next piece. None where the source has no more bytes.
-fn pull<S: Source>(listener: &mut Listener, reader: &mut S) -> Result<bool, Failed>
-    requires { 0 < length listener.old.piece.items }
-    ensures { Pulls (S.left reader.old) (S.left reader.new) (S.has_failed reader.new) (S.has_ended reader.new)
-        listener.old listener.new result }
-{
-    let count = reader.pull(listener.piece.as_mut_slice())?;
-    listener.filled = count;
-    Ok(0 < count)
-}
 
 /// Hears the piece under the lock.
 fn hear_piece<P: Publishing, R: Wait>(
@@ -60,7 +48,7 @@ fn hear_next<P: Publishing, S: Source, R: Wait>(
     ensures { HearsNext P.checked (S.left reader.old) (S.left reader.new) (S.has_failed reader.new)
         (S.has_ended reader.new) listener.old listener.new result }
 {
-    match pull(listener, reader) {
+    match listener.pull(reader) {
         Err(_) => return Next::Ends(Ending::ReadFault),
         Ok(false) => return Next::Ends(Ending::NoMore),
         Ok(true) => {}
@@ -82,7 +70,7 @@ pub(crate) fn begin<P: Publishing, S: Source, R: Wait>(
 {
     for _ in rt.forever() {
         let next = hear_next(rt, publisher, listener, reader);
-        match (listener.ear.started(), next) {
+        match (listener.started(), next) {
             (Some(started), Next::GoesOn(_)) => return Begun::Started(started),
             (Some(started), Next::Ends(why)) => return Begun::Ended(started, why),
             (None, Next::Ends(why)) => return Begun::Refused(why),

@@ -4,11 +4,11 @@ ghost use Rattle.std.specs.Prelude.{◌≡◌, [], None};
 ghost use Rattle.copy_both.specs.Ears.{ear_refusal};
 ghost use Rattle.senders.specs.Refusing.{AnswersAs, WritesFirst, cause_by};
 
+use crate::end::End;
 use crate::ending::Ending;
 use crate::listener::Listener;
-use connection_io::Sink;
+use crate::sink::Sink;
 use copy_both::LinkFault;
-use served_connections::End;
 
 /// Writes the first bytes that the sink takes: all, if it does not fail.
 fn write_all<W: Sink>(bytes: &[u8], writer: &mut W)
@@ -40,6 +40,6 @@ pub(crate) fn answer<W: Sink>(listener: &Listener, why: Ending, writer: &mut W)
         (ear_refusal listener.now.ear) }
 {
     if let Ending::Fault(LinkFault::BadStart(_)) = why {
-        write_all(listener.ear.refusal(), writer);
+        write_all(listener.refusal(), writer);
     }
 }

@@ -8,12 +8,14 @@ ghost use Rattle.senders.specs.Sending.{IsQuiet, StopsAs, started_telling};
 ghost use Rattle.senders.specs.declared.stop.Stop.TheVariants.{WriteFault};
 
 use crate::ending::Ending;
+use crate::gate::Gate;
 use crate::leaving::leave;
 use crate::listener::Listener;
 use crate::listening::listen;
 use crate::sending::send_all;
+use crate::sink::Sink;
+use crate::source::Source;
 use crate::stop::Stop;
-use connection_io::{Gate, Sink, Source};
 use copy_both::Voice;
 use publisher_desk::{Publisher, Publishing};
 use std::alloc::Global;

@@ -9,9 +9,11 @@ ghost use Rattle.senders.specs.Sending.{IsQuiet, StopsAs, TellsAs, started_telli
 ghost use Rattle.senders.specs.declared.stop.Stop.TheVariants.{WriteFault};
 
 use crate::clock::clock;
+use crate::failed::Failed;
 use crate::flushing::flush;
+use crate::gate::Gate;
+use crate::sink::Sink;
 use crate::stop::Stop;
-use connection_io::{Failed, Gate, Sink};
 use copy_both::{Taken, Voice};
 use publisher_desk::{Publisher, Publishing, Step};
 use std::alloc::Global;

@@ -9,18 +9,21 @@ ghost use Rattle.senders.specs.Speaking.{IsQuietAt};
 ghost use Rattle.senders.specs.Serving.{IsServed};
 
 use crate::begun::Begun;
+use crate::end::End;
 use crate::ending::Ending;
+use crate::gate::Gate;
 use crate::leaving::lose;
 use crate::listener::Listener;
 use crate::listening::begin;
 use crate::refusing::{answer, cause_of};
 use crate::running::{Sent, run_both, send, starts_threads};
+use crate::served::Served;
+use crate::sink::Sink;
+use crate::source::Source;
 use crate::speaking::{open, say_last};
 use crate::stop::Stop;
-use connection_io::{Gate, Sink, Source};
 use copy_both::{LinkFault, Voice};
 use publisher_desk::{Publisher, Publishing};
-use served_connections::{End, Served};
 use std::alloc::Global;
 use std::sync::Wait;
 use std::thread::Threads;
@@ -49,15 +52,25 @@ fn goes_first(is_first: bool, why: Ending) -> bool
     }
 }
 
-/// The cause of an end that is told: the sender's where it goes before the listener's, or where the listener has none;
-/// else the listener's.
+/// Whether the sender was refused memory.
+fn is_refused(stop: Stop) -> bool
+    ensures { result ≡ spec.is_refused stop }
+{
+    match stop {
+        Stop::Told | Stop::Finished | Stop::WriteFault => false,
+        Stop::OutOfMemory => true,
+    }
+}
+
+/// The cause of an end that is told: the sender's where it was refused memory or goes before the listener's, or where the
+/// listener has none; else the listener's.
 fn told_cause(stop: Stop, is_first: bool, why: Option<Ending>) -> End
     ensures { result ≡ chosen stop is_first why }
 {
     match why {
         None => end_of(stop),
         Some(why) => {
-            if goes_first(is_first, why) {
+            if is_refused(stop) || goes_first(is_first, why) {
                 end_of(stop)
             } else {
                 cause_of(why)
@@ -116,8 +129,8 @@ fn conclude<W: Sink>(
     ensures { Concludes started.0 started.1 sent why (W.taken writer.old) (W.taken writer.new)
         (W.has_failed writer.old) (W.has_failed writer.new) result }
 {
-    say_last(voice, sent.stop, why, writer);
-    let end = told_cause(sent.stop, sent.is_first, why);
+    let stop = say_last(voice, sent.stop, why, writer);
+    let end = told_cause(stop, sent.is_first, why);
     Served {
         slot: Some(started.0),
         start: Some(started.1),
@@ -222,7 +235,6 @@ pub fn serve<
             gate,
         ),
     };
-    let Listener { ear, .. } = listener;
-    lose(rt, publisher, ear);
+    lose(rt, publisher, listener);
     served
 }

@@ -1,13 +1,13 @@
 //! The first and the last that is said on a connection.
 
-ghost use Rattle.std.specs.Prelude.{◌≡◌, IfOk, IfErr, Some, true};
+ghost use Rattle.std.specs.Prelude.{◌≡◌, ◌≢◌, IfOk, IfErr, Some, true, false};
 ghost use Rattle.senders.specs.Speaking.{FailsToOpen, IsNewVoice, IsQuietAt, Opens, SaysLast};
 ghost use Rattle.senders.specs.declared.ending.Ending.TheVariants.{Frame};
 
 use crate::ending::Ending;
 use crate::flushing::flush;
+use crate::sink::Sink;
 use crate::stop::Stop;
-use connection_io::Sink;
 use copy_both::Voice;
 use publisher_desk::{Publisher, Publishing};
 use std::alloc::AllocError;
@@ -51,7 +51,8 @@ pub(crate) fn open<P: Publishing, W: Sink>(
 
 /// Whether the client ended its stream by CopyDone.
 fn is_done(why: Option<Ending>) -> bool
-    ensures { result ≡ true → why ≡ Some (Frame 99) }
+    ensures is { result ≡ true → why ≡ Some (Frame 99) }
+    ensures not { result ≡ false → why ≢ Some (Frame 99) }
 {
     let Some(why) = why else {
         return false;
@@ -62,20 +63,28 @@ fn is_done(why: Option<Ending>) -> bool
     }
 }
 
-/// Says CopyDone to a client that ended its stream by it, where the sender did not fail.
-pub(crate) fn say_last<W: Sink>(voice: &mut Voice, stop: Stop, why: Option<Ending>, writer: &mut W)
+/// Says CopyDone to a client that ended its stream by it, where the sender did not fail. It answers how the sender
+/// stopped: as before, or for want of memory for that.
+pub(crate) fn say_last<W: Sink>(
+    voice: &mut Voice,
+    stop: Stop,
+    why: Option<Ending>,
+    writer: &mut W,
+) -> Stop
     requires { IsQuietAt stop voice.old }
-    ensures { SaysLast stop why (W.taken writer.old) (W.taken writer.new) (W.has_failed writer.old)
+    ensures { SaysLast stop result why (W.taken writer.old) (W.taken writer.new) (W.has_failed writer.old)
         (W.has_failed writer.new) }
 {
     match stop {
-        Stop::WriteFault | Stop::OutOfMemory => return,
+        Stop::WriteFault | Stop::OutOfMemory => return stop,
         Stop::Told | Stop::Finished => {}
     }
     if !is_done(why) {
-        return;
+        return stop;
     }
-    if voice.done().is_ok() {
-        let _ = flush(voice, writer);
+    if voice.done().is_err() {
+        return Stop::OutOfMemory;
     }
+    let _ = flush(voice, writer);
+    stop
 }

@@ -1,5 +1,5 @@
 use crate::checks::{holds, same};
-use connection_io::{FromRead, Gate, OpenGate, Sink, Source, ToWrite};
+use senders::{FromRead, Gate, OpenGate, Sink, Source, ToWrite};
 use std::test::Fail;
 
 #[test]

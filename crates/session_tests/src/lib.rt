@@ -11,9 +11,9 @@ mod connections;
 mod limits;
 #[cfg(test)]
 mod seats;
-#[cfg(test)]
-mod senders;
 mod sharding;
+#[cfg(test)]
+mod steps;
 #[cfg(test)]
 mod threads;
 

@@ -102,7 +102,10 @@ fn both_sessions<P: Publishing + Sync, R: Threads + Wait + Sync>(
     if !(one && other) || note_count(&first) != 100 || note_count(&second) != 100 {
         return Err(Fail::from("a session did not read its own last write"));
     }
-    Ok(publisher.into_book().log_len())
+    let mut both = Vec::new(alloc);
+    both.push(first)?;
+    both.push(second)?;
+    Ok(publisher.into_counted(seats, both.as_mut_slice()).log_len())
 }
 
 #[test]

@@ -19,6 +19,7 @@ use Rattle.replica_identity.specs.contracts.shares.Plan as Pl
 use Rattle.shard_checker.specs.contracts.checked.Checked as C
 use Rattle.tables_log.specs.contracts.book.Book as B
 use Rattle.tables_log.specs.contracts.commit.Commit as M
+use Rattle.tables_log.specs.contracts.routed.Routed as E
 use Rattle.tables_log.specs.contracts.slots.Slot as S
 use Rattle.tables_log.specs.contracts.table_row.TableRow as W
 use Rattle.tables_log.specs.contracts.table_rows.TableRows as T
@@ -85,6 +86,9 @@ commit_send = search all depth 200 fits 3000 parts 0
 pub commit_sync : IsSync M.the_row
 commit_sync = search all depth 200 fits 3000 parts 0
 
+entry_send : IsSend E.the_row
+entry_send = search (commit_send, commit_sync, all) depth 200 fits 30000 parts 0
+
 shared_row_send : IsSend R.the_row
 shared_row_send = search all depth 200 fits 3000 parts 0
 
@@ -106,7 +110,7 @@ book_field_send = struct_send (shape B.the_type) (
       search sendable,
       (
         Vec-send T.the_row rows_send,
-        (Vec-send _ (Arc-send M.the_row commit_send commit_sync), (Vec-send S.the_row slot_send, tt)),
+        (Vec-send E.the_row entry_send, (Vec-send S.the_row slot_send, tt)),
       ),
     ),
   ),

@@ -7,6 +7,7 @@ pub mod ListingLemmas
 pub mod NumberLemmas
 pub mod PassLemmas
 pub mod PlaceLemmas
+pub mod RouteLemmas
 pub mod SameLemmas
 pub mod SendableLemmas
 pub mod SettleLemmas

@@ -8,6 +8,7 @@ use Rattle.table_changes.specs.Setting.{Setting}
 use Rattle.table_changes.specs.Tables.{Tables}
 use Rattle.tables_log.specs.Commits.{CommitOf}
 use Rattle.tables_log.specs.Places.{kept_in, listed_in}
+use Rattle.tables_log.specs.Routes.{commit_in}
 use Rattle.tables_log.specs.declared.book.Book.{Book}
 use Rattle.tables_log.specs.declared.slots.Slot.{Slot}
 
@@ -30,7 +31,7 @@ abbrev pub book_listed : Book → ℕ → List (List Datum)
 book_listed book table = listed_in book.tables.items table
 
 abbrev pub book_log : Book → List CommitOf
-book_log book = map (λ commit. arc_value commit) book.log.items
+book_log book = map commit_in book.log.items
 
 abbrev pub book_slots : Book → List Slot
 book_slots book = book.slots.items

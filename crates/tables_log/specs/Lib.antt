@@ -9,6 +9,7 @@ pub mod Listing
 pub mod Logs
 pub mod NumberKeys
 pub mod Places
+pub mod Routes
 pub mod Sendable
 pub mod Settling
 pub mod Slots

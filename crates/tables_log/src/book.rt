@@ -5,15 +5,18 @@ ghost use Rattle.std.specs.Arc.{arc_value};
 ghost use Rattle.shard_checker.specs.CheckedView.{checked_view};
 ghost use Rattle.tables_log.specs.Applying.{HasMaps};
 ghost use Rattle.tables_log.specs.Logs.{IsNumbered};
+ghost use Rattle.tables_log.specs.Routes.{commit_in, AreRouted};
 ghost use Rattle.tables_log.specs.Settling.{IsSettled};
 ghost use Rattle.tables_log.specs.Slots.{IsBounded};
 
 use crate::commit::Commit;
 use crate::committing::{check_count, commit_tables, empty_tables};
 use crate::error::{CommitError, StartError, StatusAhead};
+use crate::routed::{Routed, entries_after, passed_over};
 use crate::slots::{self, Slot};
 use crate::table_rows::TableRows;
 use filter_tree::Row;
+use row_owners::{OwnerSet, concerned};
 use shard_checker::Checked;
 use std::alloc::{AllocError, Global};
 use std::sync::Arc;
@@ -32,29 +35,33 @@ pub struct Book {
     checked: Arc<Checked, Global>,
     limit: u32,
     tables: Vec<TableRows>,
-    log: Vec<Arc<Commit, Global>>,
+    log: Vec<Routed>,
     slots: Vec<Slot>,
     ghost some: { 1 ≤ limit },
     ghost within: { limit ≤ 1000000000 },
     ghost room: { length log.items ≤ limit },
-    ghost numbered: { IsNumbered (map (λ commit. arc_value commit) log.items) },
+    ghost numbered: { IsNumbered (map commit_in log.items) },
+    ghost routed: { AreRouted (checked_view (arc_value checked)).plan log.items },
     ghost maps: { HasMaps (checked_view (arc_value checked)).catalog.tables tables.items },
     ghost settled: { IsSettled tables.items },
     ghost bounded: { IsBounded slots.items (length log.items) },
 }
 
 impl Book {
-    ghost use Rattle.std.specs.Prelude.{◌≡◌, ◌+◌, ◌*◌, ◌<◌, ◌≤◌, max, length, map, slice_get, IfOk, IfErr, IfSome, IsSome, OnOk, OnErr};
+    ghost use Rattle.std.specs.Prelude.{◌≡◌, ◌+◌, ◌-◌, ◌*◌, ◌<◌, ◌≤◌, max, length, map, slice_get, IfOk, IfErr, IfSome, IsSome, OnOk, OnErr};
     ghost use Rattle.std.specs.Arc.{arc_value};
     ghost use Rattle.std.specs.Option.{option_map, option_copied};
     ghost use Rattle.filter_tree.specs.Memory.{NeedsMemoryOnlyIf};
+    ghost use Rattle.row_owners.specs.Owners.{OwnedWhere};
     ghost use Rattle.shard_checker.specs.CheckedView.{checked_view};
     ghost use Rattle.table_changes.specs.Commands.{command_view};
-    ghost use Rattle.tables_log.specs.BookView.{book_limit, book_log, book_rows, book_listed, book_slots};
+    ghost use Rattle.tables_log.specs.BookView.{book_checked, book_limit, book_log, book_rows, book_listed, book_slots};
     ghost use Rattle.tables_log.specs.Committing.{IsNew, Commits, HasRoomFor, IsKept, ChangesSlots, RefusedBy};
     ghost use Rattle.tables_log.specs.Listing.{ListsFound};
     ghost use Rattle.tables_log.specs.Logs.{entry_at, IsNumbered};
     ghost use Rattle.tables_log.specs.Places.{IsInOrder};
+    ghost use Rattle.tables_log.specs.Routes as spec;
+    ghost use Rattle.tables_log.specs.Routes.{commit_in, gets_some, ArePassed, IsRouted};
     ghost use Rattle.tables_log.specs.Slots.{end_after, confirmed_at, start_fault, started, released, confirmed_up_to};
 
     /// A book of the catalog's tables, without rows and with an empty log, which may have so many commits, and with a
@@ -118,7 +125,11 @@ impl Book {
             number,
             time,
         )?;
-        self.log.push_reserved(commit);
+        let gets = concerned(&self.checked, commit.changes());
+        self.log.push_reserved(Routed {
+            commit,
+            concerned: gets,
+        });
         Ok(number)
     }
 
@@ -149,7 +160,7 @@ impl Book {
     {
         match self.place(number) {
             None => None,
-            Some(commit) => Some(&**commit),
+            Some(entry) => Some(&*entry.commit),
         }
     }
 
@@ -162,10 +173,42 @@ impl Book {
         ensures numbered { IfOk result (λ found. IfSome found (λ commit. (arc_value commit).number ≡ number)) }
         ensures logged { OnErr result (IsSome (entry_at (book_log self.now) number)) }
     {
-        let Some(commit) = self.place(number) else {
+        let Some(entry) = self.place(number) else {
             return Ok(None);
         };
-        Ok(Some(Arc::try_clone(commit)?))
+        Ok(Some(Arc::try_clone(&entry.commit)?))
+    }
+
+    /// The subscribers that get something of the commit of this number; none where there is no such commit.
+    ///
+    /// PostgreSQL 15, "Logical Replication", 31.3.3 UPDATE Transformations.
+    pub fn concerned(&self, number: u32) -> OwnerSet
+        ensures { OwnedWhere result (gets_some (book_checked self.now).plan (entry_at (book_log self.now) number)) }
+    {
+        match self.place(number) {
+            None => OwnerSet::none(),
+            Some(entry) => entry.concerned,
+        }
+    }
+
+    /// The commits after so many others, up to the first of which the subscriber gets something, and at most 64. They
+    /// are numbered from the next number on. No filter is asked: it takes time for these commits alone.
+    ///
+    /// The only errors are want of memory, and that a commit is shared too often.
+    pub fn passed_over(
+        &self,
+        subscriber: usize,
+        done: u32,
+    ) -> Result<Vec<Arc<Commit, Global>>, AllocError>
+        requires { subscriber < 32 }
+        ensures shows { IfOk result (λ commits. map (λ commit. arc_value commit) commits.items
+            ≡ spec.passed_over (book_checked self.now).plan subscriber (book_log self.now) done) }
+        ensures passed { IfOk result (λ commits.
+            ArePassed (book_checked self.now).plan subscriber done (map (λ commit. arc_value commit) commits.items)) }
+        ensures within { IfOk result (λ commits. length commits.items ≤ length (book_log self.now) - done) }
+    {
+        let entries = entries_after(self.log.as_slice(), done as usize);
+        Ok(passed_over(self.alloc, entries, subscriber)?)
     }
 
     /// The row of the table that has this primary key, if there is one. The key has its values in the order of the
@@ -263,8 +306,9 @@ impl Book {
     }
 
     /// The entry of this number.
-    fn place(&self, number: u32) -> Option<&Arc<Commit, Global>>
-        ensures { option_map (λ commit. arc_value commit.now) result ≡ entry_at (book_log self.now) number }
+    fn place(&self, number: u32) -> Option<&Routed>
+        ensures shows { option_map (λ entry. commit_in entry.now) result ≡ entry_at (book_log self.now) number }
+        ensures routed { IfSome result (λ entry. IsRouted (book_checked self.now).plan entry.now) }
     {
         if number == 0 {
             return None;

@@ -9,6 +9,7 @@ mod error;
 mod keys;
 mod laws;
 mod layers;
+mod routed;
 mod settling;
 mod slots;
 mod staged;

@@ -2,7 +2,7 @@ use Rattle.std.proofs.Common.{arith}
 use Rattle.sql_reader.specs.Items.{to_read}
 use Rattle.sql_reader.specs.Written.{as_filter}
 use Rattle.sql_reader.proofs.RepetitionLemmas.{turns}
-use Rattle.pub_statements.specs.DraftView.{draft_view}
+use Rattle.pub_reader.specs.DraftView.{draft_view}
 use Rattle.pub_reader.proofs.KeptNames.{statement_named}
 use Rattle.pub_reader.proofs.statement.statements.Goals as goal
 

@@ -3,8 +3,8 @@ use Rattle.sql_reader.specs.Items.{to_read, size}
 use Rattle.sql_reader.specs.Reading.{more_ahead}
 use Rattle.sql_reader.specs.Repetitions.{each, repeat}
 use Rattle.sql_reader.specs.Written.{as_filter}
-use Rattle.pub_statements.specs.DraftNames.{IsNamedDraft}
-use Rattle.pub_statements.specs.DraftView.{draft_view}
+use Rattle.pub_reader.specs.DraftNames.{IsNamedDraft}
+use Rattle.pub_reader.specs.DraftView.{draft_view}
 use Rattle.pub_reader.specs.Statements.{statements, ended_statement}
 use Rattle.pub_reader.proofs.statement.statements.Given as goal
 

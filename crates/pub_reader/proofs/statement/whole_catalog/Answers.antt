@@ -1,11 +1,11 @@
 use Rattle.std.proofs.Common.{rules, sym, subst}
 use Rattle.sql_reader.specs.Items.{to_read, items_of}
 use Rattle.sql_reader.specs.Written.{as_filter}
-use Rattle.pub_statements.specs.DraftNames.{IsNamedDraft}
-use Rattle.pub_statements.specs.DraftView.{draft_view}
+use Rattle.pub_reader.specs.DraftNames.{IsNamedDraft}
+use Rattle.pub_reader.specs.DraftView.{draft_view}
 use Rattle.pub_reader.proofs.KeptEntries.{resolved_entries_known}
 use Rattle.pub_reader.proofs.KeptLimits.{resolved_limited}
-use Rattle.pub_statements.proofs.OwnNames.{none_named, resolved_named}
+use Rattle.pub_reader.proofs.OwnNames.{none_named, resolved_named}
 use Rattle.pub_reader.proofs.statement.whole_catalog.Goals as goal
 
 -- what was read is named, since a reader's tokens are those of a text

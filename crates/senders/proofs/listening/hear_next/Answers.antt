@@ -10,13 +10,13 @@ returns g c =
     let failed = g.S.Source.has_failed c.pull.new.reader in
     let ended = g.S.Source.has_ended c.pull.new.reader in
     let pulls = pulled (left c.args.reader.now) (left c.pull.new.reader) failed ended c.args.listener.now
-    c.pull.new.listener c.pull.result c.in-Ok-true.field-0 c.in-Ok-true.is c.in-Ok-true.field-0-test
+    c.pull.new.self c.pull.result c.in-Ok-true.field-0 c.in-Ok-true.is c.in-Ok-true.field-0-test
     c.pull.ensures in
     subst
     (λ (next : Next). HearsNext g.P.Publishing.checked (left c.args.reader.now) (left c.pull.new.reader) failed ended
     c.args.listener.now c.hear_piece-listened.new.listener next)
     (sym c.next_of.ensures)
     (hears_next g.P.Publishing.checked (left c.args.reader.now) (left c.pull.new.reader) failed ended
-    c.args.listener.now c.pull.new.listener c.hear_piece-listened.new.listener pulls
+    c.args.listener.now c.pull.new.self c.hear_piece-listened.new.listener pulls
     c.hear_piece-listened.ensures.room c.hear_piece-listened.result.was_over c.hear_piece-listened.result.heard
     c.hear_piece-listened.ensures.hears)

@@ -1,8 +1,12 @@
 use Rattle.std.proofs.Common.{subst}
-use Rattle.std.specs.Prelude.{None}
-use Rattle.served_connections.specs.declared.end.End.{End}
+use Rattle.std.specs.Prelude.{None, map}
+use Rattle.std.specs.Arc.{arc_value}
+use Rattle.copy_frames.specs.Contents.{copy_both_response}
+use Rattle.senders.specs.Sending.{started_telling}
+use Rattle.senders.specs.declared.end.End.{End}
 use Rattle.senders.specs.Running.{IsWithout}
 use Rattle.senders.proofs.HearingLemmas.{hears_nothing}
+use Rattle.senders.proofs.SpeakingLemmas.{rests}
 use Rattle.senders.proofs.StreamingLemmas.{streams_no_further, streams_not, streams_to_its_end}
 use Rattle.senders.proofs.serving.serve_started.Goals as goal
 
@@ -29,6 +33,15 @@ returns-then-not-starts_threads g c = record {
       c.without_commits-then-not-starts_threads.result) c.end_of-then-not-starts_threads.ensures
       c.without_commits-then-not-starts_threads.ensures);
 }
+
+pub conclude-requires : goal.conclude-requires
+conclude-requires g c =
+    let taken = g.W.Sink.taken in
+    let both = c.run_both-sent in
+    rests both.result.0.stop (taken c.open.new.writer) (taken both.new.writer)
+    (map (λ commit. arc_value commit) both.result.0.taken.items) both.new.voice
+    (started_telling g.P.Publishing.checked c.args.started.0 c.args.started.1 copy_both_response)
+    both.ensures.sent
 
 pub returns : goal.returns
 returns g c =

@@ -16,10 +16,13 @@ returns-then-number-high-clause-refused g c =
     ∙ ap (λ (checked : CheckedOf). checked.catalog) c.self.invariant in
     let count : length c.catalog.result.now.tables.items ≡ length g.P.Publishing.checked.catalog.tables =
     ap (λ (catalog : CatalogOf Expr). length catalog.tables) known in
+    let found = c.in_ok-number.ensures.row in
     behind c.seat.inside.notes.items c.args.seat.now c.seat.inside.high c.in_ok-number.number
     c.seat.inside.mark.amount (length g.P.Publishing.checked.catalog.tables) c.args.table
+    g.P.Publishing.checked
     c.seat.view_is c.seat.invariant.high_is c.seat.invariant.counted c.if-number-high.true c.in_ok-number.ensures.above
     (omega (arith, count, c.catalog.result.now.tables.ok.0, c.len.ensures, c.if-table-len.false))
+    (record { transactions = found.transactions; number_is = found.number_is; accepted = found.accepted })
 
 pub invariant_of-seat-2 : goal.invariant_of-seat-2
 invariant_of-seat-2 g c =

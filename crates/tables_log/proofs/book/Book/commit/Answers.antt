@@ -1,6 +1,13 @@
-use Rattle.std.proofs.Common.{arith, rules, ap, subst, sym, length, ◌∙◌}
+use Rattle.std.proofs.Common.{arith, rules, ap, subst, sym, length, map, List, [], ◌∷◌, ◌++◌, ◌∙◌}
+use Rattle.std.specs.Arc.{arc_value}
 use Rattle.std.proofs.lemmas.Grind.{common_steps}
+use Rattle.replica_identity.specs.ChangeView.{change_view}
+use Rattle.shard_checker.specs.CheckedView.{CheckedOf, checked_view}
+use Rattle.tables_log.specs.Commits.{CommitOf}
+use Rattle.tables_log.specs.Routes.{AreRouted}
+use Rattle.tables_log.specs.declared.routed.Routed.{Routed}
 use Rattle.tables_log.proofs.BookLemmas.{numbered_pushed, bounded_more}
+use Rattle.tables_log.proofs.RouteLemmas.{routed_pushed, routed_entry}
 use Rattle.tables_log.specs.Places.{widths}
 use Rattle.tables_log.specs.Settling.{IsSettled}
 use Rattle.tables_log.proofs.PlaceLemmas.{same_count, written}
@@ -12,6 +19,7 @@ invariant_of-self c = record {
   within = c.args.self.now.within;
   room = grind (arith, common_steps);
   numbered = grind (arith, common_steps);
+  routed = grind (arith, common_steps);
   maps = c.args.self.now.maps;
   settled = c.args.self.now.settled;
   bounded = grind (arith, common_steps);
@@ -23,6 +31,7 @@ invariant_of-self-in-Break-branch-3 c = record {
   within = search rules;
   room = grind (arith, common_steps);
   numbered = grind (arith, common_steps);
+  routed = grind (arith, common_steps);
   maps = record {
     narrow = c.args.self.now.maps.narrow;
     wide =
@@ -45,6 +54,18 @@ invariant_of-self-2 c = record {
   within = search rules;
   room = grind (arith, common_steps);
   numbered = grind (arith, common_steps, numbered_pushed);
+  routed =
+      let checked : CheckedOf = checked_view (arc_value c.args.self.now.checked) in
+      let entry : Routed = record { commit = c.in_ok-commit.commit; concerned = c.concerned-gets.result } in
+      subst (AreRouted checked.plan)
+      (sym (c.push_reserved.ensures.items
+      ∙ ap (λ (entries : List Routed). entries ++ entry ∷ []) c.reserve.ensures.items))
+      (routed_pushed checked.plan c.args.self.now.log.items entry
+      (routed_entry (checked_view c.deref-2.result.now) checked entry (map change_view c.changes.result.now)
+      (ap checked_view c.deref-2.ensures)
+      (c.changes.ensures.shows ∙ ap (λ (commit : CommitOf). commit.changes) c.deref-3.ensures)
+      c.concerned-gets.ensures)
+      c.args.self.now.routed);
   maps = record {
     narrow = c.args.self.now.maps.narrow;
     wide =

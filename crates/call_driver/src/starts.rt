@@ -1,0 +1,114 @@
+//! Calls of `answer_start`: what the first frame of a client is answered.
+
+use crate::cells::{first, number};
+use crate::desk::Desk;
+use crate::digits::{bytes_of, hexadecimal};
+use crate::escapes::unescaped;
+use anyhow::Result;
+use bytes::BytesMut;
+use copy_both::{Offer, StartAnswer, answer_start};
+use pub_catalog::Catalog;
+use std::alloc::{AllocError, Global};
+
+/// Where the log ends, and which slots are in use.
+#[derive(Clone, Copy)]
+struct Given<'a> {
+    log_end: u64,
+    in_use: &'a [bool],
+}
+
+/// Which slots are in use: those with an `x` at their place.
+fn slots(alloc: Global, letters: &str) -> Result<Vec<bool>> {
+    let mut slots = Vec::new(alloc);
+    for letter in letters.chars() {
+        slots.push(letter == 'x')?;
+    }
+    Ok(slots)
+}
+
+/// What a frame is answered; a response is appended.
+fn asked(
+    alloc: Global,
+    catalog: &Catalog,
+    given: &Given<'_>,
+    kind: u8,
+    body: &[u8],
+    response: &mut BytesMut,
+) -> Result<StartAnswer, AllocError> {
+    let offer = Offer {
+        publications: catalog.publications.as_slice(),
+        subscriptions: catalog.subscriptions.as_slice(),
+        log_end: given.log_end,
+        in_use: given.in_use,
+    };
+    answer_start(alloc, &offer, kind, body, response)
+}
+
+/// The text of an ErrorResponse, which is after its first 27 bytes and before its last two.
+fn message(response: &[u8]) -> &str {
+    if response.len() < 29 {
+        return "";
+    }
+    str::from_utf8(&response[27..response.len() - 2]).unwrap_or("no text")
+}
+
+/// What a frame is answered. A response is put on the desk, after those that are there.
+fn answered(desk: &mut Desk, given: &Given<'_>, kind: u8, body: &[u8]) -> Result<String> {
+    let alloc = desk.alloc;
+    let mut response = BytesMut::new(alloc);
+    let answer = asked(alloc, desk.catalog()?, given, kind, body, &mut response)?;
+    desk.response.extend_from_slice(response.as_slice())?;
+    let message = message(response.as_slice());
+    match answer {
+        StartAnswer::Stream { slot, position } => {
+            Ok(format!(in alloc; "slot {slot} from {position}{message}")?)
+        }
+        StartAnswer::Refused(state) => Ok(format!(in alloc; "{} {message}", state.code())?),
+    }
+}
+
+/// What a Query of a text is answered.
+fn query(desk: &mut Desk, rest: &str) -> Result<String> {
+    let (log_end, rest) = first(rest);
+    let (letters, text) = first(rest);
+    let slots = slots(desk.alloc, letters)?;
+    let given = Given {
+        log_end: number(log_end)?,
+        in_use: slots.as_slice(),
+    };
+    let mut body = unescaped(desk.alloc, text)?.as_bytes().to_vec(desk.alloc)?;
+    body.push(0)?;
+    answered(desk, &given, b'Q', body.as_slice())
+}
+
+/// What a frame of a kind is answered.
+fn frame(desk: &mut Desk, rest: &str) -> Result<String> {
+    let (log_end, rest) = first(rest);
+    let (letters, rest) = first(rest);
+    let (kind, digits) = first(rest);
+    let slots = slots(desk.alloc, letters)?;
+    let given = Given {
+        log_end: number(log_end)?,
+        in_use: slots.as_slice(),
+    };
+    let body = bytes_of(desk.alloc, digits)?;
+    answered(desk, &given, kind.parse::<u8>()?, body.as_slice())
+}
+
+/// Puts a first frame's response after bytes.
+fn append(desk: &mut Desk, digits: &str) -> Result<String> {
+    let bytes = bytes_of(desk.alloc, digits)?;
+    desk.response.extend_from_slice(bytes.as_slice())?;
+    Ok(String::from_str(desk.alloc, "ok")?)
+}
+
+/// What the call answers.
+pub fn answer(desk: &mut Desk, call: &str, rest: &str) -> Result<Option<String>> {
+    Ok(Some(match call {
+        "query" => query(desk, rest)?,
+        "frame" => frame(desk, rest)?,
+        "append" => append(desk, rest)?,
+        "response" => hexadecimal(desk.alloc, desk.response.as_slice())?,
+        _ => return Ok(None),
+    }))
+}

@@ -1,0 +1,23 @@
+//! Tests of what `call_driver` cannot make: trees that no text is read as, tables that no catalog has, generic code at
+//! a second allocator and at a type, and what values show.
+#![tactic(auto)]
+
+#[cfg(test)]
+mod chains;
+#[cfg(test)]
+mod checks;
+#[cfg(test)]
+mod identities;
+#[cfg(test)]
+mod maps;
+#[cfg(test)]
+mod parts;
+#[cfg(test)]
+mod readers;
+#[cfg(test)]
+mod shardings;
+mod takers;
+#[cfg(test)]
+mod truths;
+
+pub use takers::{both_take, takes_one_alone};

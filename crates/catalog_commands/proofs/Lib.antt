@@ -1,8 +1,0 @@
-pub mod Answering
-pub mod BadLines
-pub mod Digits
-pub mod Evaluating
-pub mod FindingLines
-pub mod RowLines
-pub mod Saying
-pub mod Verdicts

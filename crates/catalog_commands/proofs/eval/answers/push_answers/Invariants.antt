@@ -1,8 +1,0 @@
-use Rattle.std.proofs.Common.{◌≡◌, map, take}
-use Rattle.std.specs.String.{string_bytes}
-use Rattle.catalog_commands.specs.Eval.Answers.{line_of}
-use Rattle.catalog_commands.specs.Eval.Carriers.{carrier_view}
-use Rattle.catalog_commands.proofs.eval.answers.push_answers.Given as goal
-
-abbrev pub invariant-loop-carrier : goal.invariant-loop-carrier
-invariant-loop-carrier l = string_bytes l.line ≡ line_of l.row (map carrier_view (take l.carrier-index l.carriers))

@@ -1,4 +1,0 @@
-pub mod BadCatalogs
-pub mod Check
-pub mod Eval
-pub mod Make

@@ -1,0 +1,4 @@
+pub mod Doubling
+pub mod Joins
+pub mod Pieces
+pub mod Steps

@@ -1,0 +1,3 @@
+pub mod CatalogText
+pub mod FilterText
+pub mod Waiting

@@ -1,0 +1,40 @@
+//! How tightly the parts of a filter bind.
+
+ghost use Rattle.std.specs.Prelude.{◌≡◌};
+ghost use Rattle.catalog_text.specs.FilterText as spec;
+
+/// What a part of a filter is, from what binds least to what binds most.
+///
+/// PostgreSQL 15, "SQL Syntax", 4.1.6 Operator Precedence.
+#[derive(Clone, Copy)]
+pub(crate) enum Level {
+    Or,
+    And,
+    Not,
+    /// `IS NULL` and the other tests that begin with IS.
+    Test,
+    /// A comparison, IN, BETWEEN or a constant.
+    Operand,
+}
+
+impl Level {
+    fn rank(self) -> u8
+        ensures { result ≡ spec.rank_of self }
+    {
+        match self {
+            Level::Or => 0,
+            Level::And => 1,
+            Level::Not => 2,
+            Level::Test => 3,
+            Level::Operand => 4,
+        }
+    }
+
+    /// Whether a part of this level binds less tightly than one of another, and so gets parentheses where the other is
+    /// wanted.
+    pub(crate) fn is_below(self, wanted: Level) -> bool
+        ensures { result ≡ spec.is_below self wanted }
+    {
+        self.rank() < wanted.rank()
+    }
+}

@@ -1,0 +1,224 @@
+//! What is known at a node of the tree that is looked for.
+
+use crate::conditions::{Condition, Outcome, evaluate, is_at, mark_live, outcome_at, outcome_of};
+use crate::facts::{Facts, open};
+use crate::masks::{is_settled, mask_at, put};
+use crate::problem::{Problem, ShareFormula};
+use filter_tree::{Mask, Tri};
+use std::alloc::{AllocError, Global};
+
+/// What is known of a share for the rows at a node.
+#[derive(Clone, Copy, PartialEq, Eq)]
+pub enum Standing {
+    /// By the atoms on the path it takes none of them.
+    Closed,
+    /// By the facts it takes none of them.
+    Excluded,
+    /// By the facts it takes them all.
+    Sure,
+    Undecided,
+}
+
+/// The values of atoms, those on the path and those that the facts leave, and what they tell of shares.
+#[derive(Drop)]
+pub struct SearchState {
+    pub known: Vec<Mask>,
+    pub likely: Vec<Mask>,
+    pub facts: Facts,
+    /// The columns whose facts have to be found again.
+    stale: Vec<bool>,
+    /// What the path tells of each condition.
+    pub told: Vec<Outcome>,
+    /// After how many splits on the path each share was closed.
+    closed_after: Vec<usize>,
+    /// The conditions that the path leaves open, and that may make a difference to a share.
+    pub live: Vec<bool>,
+    /// What the facts tell of each condition.
+    pub expected: Vec<Outcome>,
+    pub standings: Vec<Standing>,
+    pub votes: Vec<u64>,
+    /// How many conditions, atoms and classes of numbers were looked at.
+    pub steps: u64,
+}
+
+fn open_masks(alloc: Global, problem: &Problem<'_>) -> Result<Vec<Mask>, AllocError> {
+    let mut masks = Vec::new(alloc);
+    for plain in &problem.atoms {
+        masks.push(open(&plain.kind))?;
+    }
+    Ok(masks)
+}
+
+impl SearchState {
+    /// Nothing is known of any atom, and no facts are found yet.
+    pub fn new(alloc: Global, problem: &Problem<'_>) -> Result<SearchState, AllocError> {
+        let conditions = problem.conditions.len();
+        Ok(SearchState {
+            known: open_masks(alloc, problem)?,
+            likely: open_masks(alloc, problem)?,
+            facts: Facts::new(alloc, problem)?,
+            stale: vec![in alloc; true; problem.columns.len()]?,
+            told: vec![in alloc; Outcome::Open; conditions]?,
+            closed_after: vec![in alloc; usize::MAX; problem.shares.len()]?,
+            live: vec![in alloc; false; conditions]?,
+            expected: vec![in alloc; Outcome::Open; conditions]?,
+            standings: vec![in alloc; Standing::Undecided; problem.shares.len()]?,
+            votes: vec![in alloc; 0; problem.atoms.len()]?,
+            steps: 0,
+        })
+    }
+
+    /// Finds the facts that have to be found again.
+    pub fn refresh(&mut self, problem: &Problem<'_>) {
+        for (column, _) in problem.columns.iter().enumerate() {
+            if is_at(&self.stale, column) {
+                self.infer(problem, column);
+                put(&mut self.stale, column, false);
+            }
+        }
+    }
+
+    /// Finds the facts of a column, and what they leave to each of its atoms.
+    fn infer(&mut self, problem: &Problem<'_>, column: usize) {
+        self.add_steps(problem.breadth_of(column));
+        self.facts.find(problem, &self.known, column);
+        for atom in problem.atoms_of(column) {
+            if let Some(plain) = problem.atom(*atom) {
+                let mask = self.facts.expected(&self.known, *atom, plain);
+                put(&mut self.likely, *atom, mask);
+            }
+        }
+    }
+
+    /// Takes the atom's values to be these. The facts stay where they left it this value alone.
+    fn take(&mut self, problem: &Problem<'_>, atom: usize, mask: Mask, is_forced: bool) {
+        put(&mut self.known, atom, mask);
+        if let (false, Some(plain)) = (is_forced, problem.atom(atom)) {
+            put(&mut self.stale, plain.column, true);
+        }
+    }
+
+    /// Takes the atom's value to be this, which may be the only one that the facts leave it.
+    pub fn decide(&mut self, problem: &Problem<'_>, atom: usize, value: Tri, is_forced: bool) {
+        self.take(problem, atom, Mask::single(value), is_forced);
+    }
+
+    /// Forgets the atom's value.
+    pub fn forget(&mut self, problem: &Problem<'_>, atom: usize, is_forced: bool) {
+        if let Some(plain) = problem.atom(atom) {
+            self.take(problem, atom, open(&plain.kind), is_forced);
+        }
+    }
+
+    /// Counts so many steps more.
+    pub fn add_steps(&mut self, steps: u64) {
+        self.steps = self.steps.saturating_add(steps);
+    }
+
+    /// Whether the share was closed before the last of so many splits.
+    fn was_closed(&self, share: usize, splits: usize) -> bool {
+        match self.closed_after.get(share) {
+            None => true,
+            Some(closed) => *closed < splits,
+        }
+    }
+
+    /// Finds what the path with so many splits tells of each condition, and which ones are live.
+    pub fn follow(&mut self, problem: &Problem<'_>, splits: usize) {
+        self.live.fill(false);
+        for (number, share) in problem.shares.iter().enumerate() {
+            if !self.was_closed(number, splits) {
+                self.follow_share(problem, *share);
+                let is_closed = outcome_at(&self.told, share.root()) == Outcome::Missed;
+                let closed = if is_closed { splits } else { usize::MAX };
+                put(&mut self.closed_after, number, closed);
+            }
+        }
+    }
+
+    fn follow_share(&mut self, problem: &Problem<'_>, share: ShareFormula) {
+        self.add_steps(share.size().saturating_mul(2));
+        evaluate(&problem.conditions, share, &self.known, &mut self.told);
+        put(&mut self.live, share.root(), true);
+        mark_live(&problem.conditions, share, &self.told, &mut self.live);
+    }
+
+    /// Finds what is known of each share, by what the path was found to tell.
+    pub fn classify(&mut self, problem: &Problem<'_>) {
+        for (number, share) in problem.shares.iter().enumerate() {
+            if outcome_at(&self.told, share.root()) != Outcome::Missed {
+                self.expect(problem, *share);
+            }
+            let standing = self.standing(*share);
+            put(&mut self.standings, number, standing);
+        }
+    }
+
+    /// Finds what the facts tell of each condition of the share.
+    fn expect(&mut self, problem: &Problem<'_>, share: ShareFormula) {
+        self.add_steps(share.size());
+        for place in share.start..share.end {
+            if let Some(condition) = problem.conditions.get(place) {
+                let outcome = self.expected_at(*condition, place);
+                put(&mut self.expected, place, outcome);
+            }
+        }
+    }
+
+    fn expected_at(&self, condition: Condition, place: usize) -> Outcome {
+        if is_at(&self.live, place) {
+            outcome_of(condition, &self.likely, &self.expected)
+        } else {
+            outcome_at(&self.told, place)
+        }
+    }
+
+    fn standing(&self, share: ShareFormula) -> Standing {
+        let told = outcome_at(&self.told, share.root());
+        match (told, outcome_at(&self.expected, share.root())) {
+            (Outcome::Missed, _) => Standing::Closed,
+            (_, Outcome::Missed) => Standing::Excluded,
+            (_, Outcome::Met) => Standing::Sure,
+            (_, Outcome::Open) => Standing::Undecided,
+        }
+    }
+
+    /// What is known of the share of this number.
+    pub fn standing_of(&self, share: usize) -> Standing {
+        self.standings
+            .get(share)
+            .copied()
+            .unwrap_or(Standing::Closed)
+    }
+
+    /// Of how many shares this is known.
+    pub fn how_many(&self, standing: Standing) -> usize {
+        let mut found = 0usize;
+        for held in &self.standings {
+            if *held == standing {
+                found = found.saturating_add(1);
+            }
+        }
+        found
+    }
+
+    /// The first share of which this is known.
+    pub fn first(&self, standing: Standing) -> Option<usize> {
+        for (share, held) in self.standings.iter().enumerate() {
+            if *held == standing {
+                return Some(share);
+            }
+        }
+        None
+    }
+
+    /// Whether the atom has one value on the path.
+    pub fn is_known(&self, atom: usize) -> bool {
+        is_settled(mask_at(&self.known, atom))
+    }
+
+    /// Whether the facts leave the atom one value, which it doesn't have on the path.
+    pub fn is_forced(&self, atom: usize) -> bool {
+        !self.is_known(atom) && is_settled(mask_at(&self.likely, atom))
+    }
+}

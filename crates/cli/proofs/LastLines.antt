@@ -1,0 +1,60 @@
+-- What is told of a publisher that is closed, or can't be.
+use Rattle.std.proofs.Common.{◌≡◌, ℕ, List, [], ◌∷◌, ◌++◌, All, length, map, refl, sym, ap, subst, ◌∙◌, append-nil, arith}
+use Rattle.std.proofs.lemmas.List.{get_or-map, length-map}
+use Rattle.std.proofs.lemmas.List.Sorted.{length_permutation}
+use Rattle.shard_checker.specs.CheckedView.{CheckedOf}
+use Rattle.tables_log.specs.BookView.{book_log}
+use Rattle.tables_log.specs.declared.book.Book.{Book}
+use Rattle.publisher_desk.specs.declared.note.Note.{Note}
+use Rattle.senders.specs.CloseCauses.{RefusedClose}
+use Rattle.senders.specs.Closing.{IsClosed}
+use Rattle.senders.specs.Gathering.{all_receipts, receipts_in}
+use Rattle.senders.specs.declared.close_error.CloseError.{CloseError}
+use Rattle.senders.specs.declared.served.Served.{Served}
+use Rattle.commands.specs.declared.failure.Status.TheVariants.{Done}
+use Rattle.cli.proofs.Sessions.{receipts_are_all}
+use Rattle.cli.specs.Connections.{IsFilled, WasServed}
+use Rattle.cli.specs.Telling.{Closed, Differs, IsFor, IsLast, IsLastOf, IsOver, ServiceOf, closed_line}
+use Rattle.cli.specs.declared.connections.Place.{Place}
+use Rattle.cli.specs.declared.connections.Place.TheVariants.{Ended}
+
+-- ---- what came of the connections
+
+pub one_more : (all : List Served) (one : Served) (rest : List Place)
+    → map Ended (all ++ one ∷ []) ++ rest ≡ map Ended all ++ Ended one ∷ rest
+one_more [] one rest = refl
+one_more (first ∷ all) one rest = ap (λ (l : List Place). Ended first ∷ l) (one_more all one rest)
+
+-- places in which connections have ended have what came of them
+pub all_served : (checked : CheckedOf) (served : List Served) → All (IsFilled checked) (map Ended served)
+    → All (WasServed checked) served
+all_served checked served filled place other below =
+    subst (λ (p : Place). IsFilled checked p) (get_or-map (λ (s : Served). Ended s) served place other (Ended other) below)
+    (filled place (Ended other) (omega (arith, below, length-map served (λ (s : Served). Ended s))))
+
+-- ---- how it ended
+
+-- the log has as many commits as the session has notes
+module _ (service : ServiceOf) (notes : List Note) (served : List Served) (over : IsOver service notes served)
+    (checked : CheckedOf) (limit : ℕ) (is_for : IsFor service checked limit) where
+  commits : (book : Book) → IsClosed checked limit (notes ∷ []) served book → length (book_log book) ≡ length notes
+  commits book closed =
+      closed.counted ∙ (length_permutation (all_receipts (notes ∷ [])) closed.order closed.ordered.all
+      ∙ (ap length (append-nil (receipts_in notes))
+      ∙ receipts_are_all service.checked service.limit 1 service.lists [] notes over.committed refl))
+
+  pub closed_is_last : (book : Book) → IsClosed checked limit (notes ∷ []) served book
+      → IsLast service (closed_line (length (book_log book)) (length served)) Done
+  closed_is_last book closed =
+      subst (λ (n : ℕ). IsLast service (closed_line n (length served)) Done) (sym (commits book closed))
+      (Closed notes served book over
+      (subst (λ (c : CheckedOf). IsClosed c service.limit (notes ∷ []) served book) (sym is_for.checked_is)
+      (subst (λ (l : ℕ). IsClosed checked l (notes ∷ []) served book) (sym is_for.limit_is) closed)))
+
+  pub error_is_last : (error : CloseError) → RefusedClose checked limit 1000 999 (notes ∷ []) served error
+      → IsLastOf service error
+  error_is_last error refused name named =
+      Differs notes served error name over
+      (subst (λ (c : CheckedOf). RefusedClose c service.limit 1000 999 (notes ∷ []) served error) (sym is_for.checked_is)
+      (subst (λ (l : ℕ). RefusedClose checked l 1000 999 (notes ∷ []) served error) (sym is_for.limit_is) refused))
+      named

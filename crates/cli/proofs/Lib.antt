@@ -1,0 +1,15 @@
+pub mod Answering
+pub mod Crossing
+pub mod Exits
+pub mod Heads
+pub mod Invocations
+pub mod LastLines
+pub mod LineAnswers
+pub mod LineLemmas
+pub mod Published
+pub mod RequestLemmas
+pub mod Serving
+pub mod Sessions
+pub mod SlotLemmas
+pub mod Talking
+pub mod Telling

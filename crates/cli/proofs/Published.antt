@@ -1,0 +1,252 @@
+-- What `publish` writes, and of which input that is the answer.
+use Rattle.std.proofs.Common.{◌≡◌, ◌⊎◌, inl, inr, ℕ, List, [], ◌∷◌, ◌++◌, All, Option, Some, None, IfSome, append_assoc, append-nil, refl, sym, ap, subst, ◌∙◌}
+use Rattle.std.specs.Prelude.{IsErrAnd, IfErr, Result, Ok, Err}
+use Rattle.std.proofs.KnownBytes.{Appends-trans, Consumes-nil, Consumes-trans}
+use Rattle.std.proofs.lemmas.List.Elements.{All-nil}
+use Rattle.std.proofs.lemmas.List.Concat.{flat_map-append}
+use Rattle.std.specs.Io.KnownBytes.{Appends, Consumes, IsAtEnd}
+use Rattle.shard_checker.specs.CheckedView.{CheckedOf}
+use Rattle.publisher_desk.specs.declared.note.Note.{Note}
+use Rattle.commands.proofs.Writing.{first_after, first_nothing, first_whole, text_of-one, unwritten}
+use Rattle.commands.specs.Inputs.{IsInput}
+use Rattle.commands.specs.Output.{StopsText, Writes, WritesFirst, ended, text_of}
+use Rattle.commands.specs.declared.failure.Failure.{Failure}
+use Rattle.commands.specs.declared.failure.Failure.TheVariants as f
+use Rattle.commands.specs.declared.failure.Status.{Status}
+use Rattle.cli.specs.Published.{Closes, HasClosed, IsClosing, IsLast, HasSaid, IsPortFor, MayHaveSaid, Opens, Serves, StopsTelling}
+use Rattle.cli.specs.Talks.{Conversation, HasAnswered, IsCutOff, Nothing}
+use Rattle.cli.specs.Lines.{IsPlain}
+use Rattle.cli.specs.Telling.{IsStop, Says, listening_line}
+use Rattle.cli.specs.declared.requests.Feed.{Feed}
+
+-- ---- the last line
+
+module _ (checked : CheckedOf) (limit : ℕ) (notes : List Note) where
+  pub closes : (line : List ℕ) (status : Status) (old new : Option (List ℕ)) (result : Result Status Failure)
+      → IsLast checked limit notes line status → Says line status old new result
+      → Closes checked limit notes old new result
+  closes line status old new (Ok told) last says = record {
+    lines = says.lines;
+    whole = record {
+      line = line;
+      are = says.whole.0;
+      last = subst (λ (s : Status). IsLast checked limit notes line s) (sym says.whole.1) last;
+    };
+    appends = says.appends;
+  }
+  closes line status old new (Err f.OutOfMemory) last says =
+      record { lines = says.lines; begun = says.begun; appends = says.appends }
+  closes line status old new (Err f.Output) last says = record {
+    lines = says.lines;
+    part = elim says.part [
+      | inl b ↦ inl b
+      | inr w ↦ inr (
+        w.0,
+        record {
+          line = line;
+          are = w.1.0;
+          last = subst (λ (s : Status). IsLast checked limit notes line s) (sym w.1.1) last;
+        },
+      )
+    ];
+    first = says.first;
+  }
+  closes line status old new (Err (f.CommandLine why)) last says = absurd says
+  closes line status old new (Err (f.Input fault)) last says = absurd says
+
+module _ (feed : Feed) (checked : CheckedOf) where
+  -- ---- before the session
+
+  silence : (before : Option (List ℕ)) → Conversation checked feed.limit before before [] []
+  silence before =
+      record { lines = []; more = []; consumed = Consumes-nil before; plain = All-nil IsPlain; answered = Nothing }
+
+  alone : (before : Option (List ℕ)) (port : ℕ) → IsPortFor feed.port port
+      → HasSaid feed checked before before (listening_line port ∷ [])
+  alone before port is = record {
+    port = port;
+    answers = [];
+    notes = [];
+    port_is = is;
+    conversation = silence before;
+    are = refl;
+  }
+
+  -- it doesn't come to the first line
+  pub unopened : (before old new : Option (List ℕ)) (failure : Failure) → StopsTelling feed.port old new failure
+      → Serves feed checked before before old new (Err failure)
+  unopened before old new f.OutOfMemory stops =
+      record { lines = []; begun = inl refl; appends = unwritten old new stops.stops }
+  unopened before old new f.Output stops = record {
+    lines = listening_line stops.port ∷ [];
+    part = inl (inr (alone before stops.port stops.port_is));
+    first = subst (λ (t : List ℕ). WritesFirst t old new) (sym (text_of-one (listening_line stops.port))) stops.stops;
+  }
+  unopened before old new (f.CommandLine why) stops = absurd stops.stops
+  unopened before old new (f.Input fault) stops = absurd stops.stops
+
+  pub unopened_returned : (before old new : Option (List ℕ)) (failure : Failure) (result : Result Status Failure)
+      → StopsTelling feed.port old new failure → IsErrAnd result (λ failed. failed ≡ failure)
+      → Serves feed checked before before old new result
+  unopened_returned before old new failure (Ok told) stops is = absurd is
+  unopened_returned before old new failure (Err failed) stops is =
+      subst (λ (f : Failure). Serves feed checked before before old new (Err f)) (sym is)
+      (unopened before old new failure stops)
+
+  -- memory is refused before it listens
+  pub nothing_said : (before old : Option (List ℕ)) (result : Result Status Failure)
+      → IsErrAnd result (λ failed. failed ≡ f.OutOfMemory) → Serves feed checked before before old old result
+  nothing_said before old (Ok told) is = absurd is
+  nothing_said before old (Err failed) is =
+      subst (λ (f : Failure). Serves feed checked before before old old (Err f)) (sym is)
+      (record { lines = []; begun = inl refl; appends = unwritten old old refl })
+
+  -- ---- after it
+
+  module _ (port : ℕ) (before after old mid : Option (List ℕ)) (opens : Opens feed.port port old mid) where
+    abbrev first_line : List ℕ
+    first_line = ended (listening_line port)
+
+    abbrev said : (answers : List (List ℕ)) (notes : List Note) → Conversation checked feed.limit before after answers notes
+        → HasSaid feed checked before after (listening_line port ∷ answers)
+    said answers notes talk = record {
+      port = port;
+      answers = answers;
+      notes = notes;
+      port_is = opens.port_is;
+      conversation = talk;
+      are = refl;
+    }
+
+    -- it is cut off
+    cut_off : (new : Option (List ℕ)) (failure : Failure) → IsCutOff checked feed.limit before after mid new failure
+        → Serves feed checked before after old new (Err failure)
+    cut_off new f.OutOfMemory cut = record {
+      lines = listening_line port ∷ cut.answers;
+      begun = inr (said cut.answers cut.notes cut.conversation);
+      appends = Appends-trans old mid new first_line (text_of cut.answers) opens.told cut.written;
+    }
+    cut_off new f.Output cut = record {
+      lines = listening_line port ∷ cut.answers;
+      part = inl (inr (said cut.answers cut.notes cut.conversation));
+      first = first_after first_line (text_of cut.answers) old mid new opens.told cut.first;
+    }
+    cut_off new (f.CommandLine why) cut = absurd cut
+    cut_off new (f.Input fault) cut = absurd cut
+
+    pub cut_off_returned : (new : Option (List ℕ)) (failure : Failure) (result : Result Status Failure)
+        → IsCutOff checked feed.limit before after mid new failure → IsErrAnd result (λ failed. failed ≡ failure)
+        → Serves feed checked before after old new result
+    cut_off_returned new failure (Ok told) cut is = absurd is
+    cut_off_returned new failure (Err failed) cut is =
+        subst (λ (f : Failure). Serves feed checked before after old new (Err f)) (sym is) (cut_off new failure cut)
+
+    -- memory is refused after the session
+    pub no_memory : (new : Option (List ℕ)) (limit : ℕ) {had has : List Note} (result : Result Status Failure)
+        → feed.limit ≡ limit → HasAnswered checked limit before after mid new had has
+        → IsErrAnd result (λ failed. failed ≡ f.OutOfMemory) → Serves feed checked before after old new result
+    no_memory new limit {had} {has} result same answers is =
+        let answered = subst (λ (l : ℕ). HasAnswered checked l before after mid new had has) (sym same) answers in
+        cut_off_returned new f.OutOfMemory result
+        (record {
+          answers = answered.answers;
+          notes = answered.notes;
+          conversation = answered.conversation;
+          written = answered.written;
+        })
+        is
+
+    -- the last line comes
+    closed_lines : (answers : List (List ℕ)) (notes : List Note) (lines : List (List ℕ)) (status : Status)
+        → Conversation checked feed.limit before after answers notes → IsClosing checked feed.limit notes lines status
+        → HasClosed feed checked before after (listening_line port ∷ (answers ++ lines)) status
+    closed_lines answers notes lines status talk closing = record {
+      earlier = listening_line port ∷ answers;
+      line = closing.line;
+      said = said answers notes talk;
+      last = closing.last;
+      are = ap (λ (l : List (List ℕ)). listening_line port ∷ (answers ++ l)) closing.are;
+    }
+
+    all_text : (answers lines : List (List ℕ))
+        → text_of (listening_line port ∷ (answers ++ lines)) ≡ (first_line ++ text_of answers) ++ text_of lines
+    all_text answers lines =
+        ap (λ t. first_line ++ t) (flat_map-append ended answers lines)
+        ∙ sym (append_assoc first_line (text_of answers) (text_of lines))
+
+    closes_then : (now new : Option (List ℕ)) (had has : List Note) (result : Result Status Failure)
+        → (answered : HasAnswered checked feed.limit before after mid now had has)
+        → Closes checked feed.limit answered.notes now new result
+        → Serves feed checked before after old new result
+    closes_then now new had has (Ok status) answered closing =
+        let before_last = Appends-trans old mid now first_line (text_of answered.answers) opens.told answered.written in
+        record {
+          lines = listening_line port ∷ (answered.answers ++ closing.lines);
+          whole = closed_lines answered.answers answered.notes closing.lines status answered.conversation closing.whole;
+          appends = subst (Appends old new) (sym (all_text answered.answers closing.lines))
+              (Appends-trans old now new (first_line ++ text_of answered.answers) (text_of closing.lines) before_last
+              closing.appends);
+        }
+    closes_then now new had has (Err f.OutOfMemory) answered closing =
+        let before_last = Appends-trans old mid now first_line (text_of answered.answers) opens.told answered.written in
+        record {
+          lines = listening_line port ∷ answered.answers;
+          begun = inr (said answered.answers answered.notes answered.conversation);
+          appends = subst (Appends old new) (append-nil (first_line ++ text_of answered.answers))
+              (Appends-trans old now new (first_line ++ text_of answered.answers) [] before_last
+              (subst (λ (lines : List (List ℕ)). Appends now new (text_of lines)) closing.begun closing.appends));
+        }
+    closes_then now new had has (Err f.Output) answered closing =
+        let before_last = Appends-trans old mid now first_line (text_of answered.answers) opens.told answered.written in
+        let first = first_after (first_line ++ text_of answered.answers) (text_of closing.lines) old now new before_last
+        closing.first in
+        elim closing.part [
+          | inl none ↦ record {
+            lines = listening_line port ∷ answered.answers;
+            part = inl (inr (said answered.answers answered.notes answered.conversation));
+            first = subst (λ (t : List ℕ). WritesFirst t old new)
+                (ap (λ (lines : List (List ℕ)). (first_line ++ text_of answered.answers) ++ text_of lines) none
+                ∙ append-nil (first_line ++ text_of answered.answers)) first;
+          }
+          | inr whole ↦ record {
+            lines = listening_line port ∷ (answered.answers ++ closing.lines);
+            part = inr (
+              whole.0,
+              closed_lines answered.answers answered.notes closing.lines whole.0
+                  answered.conversation whole.1,
+            );
+            first = subst (λ (t : List ℕ). WritesFirst t old new) (sym (all_text answered.answers closing.lines)) first;
+          }
+        ]
+    closes_then now new had has (Err (f.CommandLine why)) answered closing = absurd closing
+    closes_then now new had has (Err (f.Input fault)) answered closing = absurd closing
+
+    -- where the session began without notes
+    pub closes_after : (now new : Option (List ℕ)) (limit : ℕ) {had has : List Note} (result : Result Status Failure)
+        → feed.limit ≡ limit → had ≡ [] → HasAnswered checked limit before after mid now had has
+        → Closes checked limit has now new result → Serves feed checked before after old new result
+    closes_after now new limit {had} {has} result same none answers closing =
+        let answered = subst (λ (l : ℕ). HasAnswered checked l before after mid now had has) (sym same) answers in
+        let kept : has ≡ answered.notes = answered.kept ∙ ap (λ (l : List Note). l ++ answered.notes) none in
+        closes_then now new had has result answered
+        (subst (λ (n : List Note). Closes checked feed.limit n now new result) kept
+        (subst (λ (l : ℕ). Closes checked l has now new result) (sym same) closing))
+
+-- ---- before the line
+
+stops_before : (asked : ℕ) (old : Option (List ℕ)) (failure : Failure) → IsStop failure
+    → StopsTelling asked old old failure
+stops_before asked old f.Output stop = record {
+  port = asked;
+  port_is = inr refl;
+  stops = first_nothing (ended (listening_line asked)) old old refl;
+}
+stops_before asked old f.OutOfMemory stop = record { port = asked; port_is = inr refl; stops = refl }
+stops_before asked old (f.CommandLine why) stop = absurd stop
+stops_before asked old (f.Input fault) stop = absurd stop
+
+pub stopped_before : {A : Type 0} (asked : ℕ) (old : Option (List ℕ)) (failure : Failure) (result : Result A Failure)
+    → IsStop failure → IsErrAnd result (λ failed. failed ≡ failure) → IfErr result (StopsTelling asked old old)
+stopped_before asked old failure (Ok told) stop is = tt
+stopped_before asked old failure (Err failed) stop is =
+    subst (StopsTelling asked old old) (sym is) (stops_before asked old failure stop)

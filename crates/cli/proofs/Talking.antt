@@ -1,0 +1,147 @@
+-- Lines are answered one after another, and it may stop at each.
+use Rattle.std.proofs.Common.{◌≡◌, ℕ, List, [], ◌∷◌, ◌++◌, All, Option, append_assoc, append-nil, refl, sym, ap, ap₂, subst, ◌∙◌}
+use Rattle.std.specs.Prelude.{IfErr, IsErrAnd, Result, Ok, Err}
+use Rattle.std.proofs.KnownBytes.{Appends-nil, Appends-trans, Consumes-nil, Consumes-trans}
+use Rattle.std.proofs.lemmas.List.Concat.{flat_map-append}
+use Rattle.std.proofs.lemmas.List.Elements.{All-nil, All-push}
+use Rattle.std.specs.Io.KnownBytes.{Appends, Consumes}
+use Rattle.shard_checker.specs.CheckedView.{CheckedOf}
+use Rattle.publisher_desk.specs.declared.note.Note.{Note}
+use Rattle.commands.proofs.Writing.{first_after, text_of-more}
+use Rattle.commands.specs.Output.{WritesFirst, ended, text_of}
+use Rattle.commands.specs.declared.failure.Failure.{Failure}
+use Rattle.commands.specs.declared.failure.Failure.TheVariants as f
+use Rattle.cli.specs.Lines.{IsPlain, ReadsLine}
+use Rattle.cli.specs.Talks.{Answers, AreAnswered, Conversation, FailsToTell, GoesOn, HasAnswered, HasBegun, HasPart, IsAnswer, IsCutOff, IsOver, Nothing, OneMore, StopsNext}
+
+module _ (checked : CheckedOf) (limit : ℕ) where
+  -- so far: lines were read and answered, and the answers are written
+  pub record IsSoFar (before now old written : Option (List ℕ)) (had has : List Note) : Type 0 where
+    pub lines : List (List ℕ)
+    pub answers : List (List ℕ)
+    pub notes : List Note
+    pub consumed : Consumes before now (text_of lines)
+    pub plain : All IsPlain lines
+    pub answered : AreAnswered checked limit lines answers notes
+    pub appends : Appends old written (text_of answers)
+    pub kept : has ≡ had ++ notes
+
+  pub begins : (before old : Option (List ℕ)) (had : List Note) → IsSoFar before before old old had had
+  begins before old had = record {
+    lines = [];
+    answers = [];
+    notes = [];
+    consumed = Consumes-nil before;
+    plain = All-nil IsPlain;
+    answered = Nothing;
+    appends = Appends-nil old;
+    kept = sym (append-nil had);
+  }
+
+  -- it stops before the first line
+  pub unbegun : (before old : Option (List ℕ)) → IsCutOff checked limit before before old old f.OutOfMemory
+  unbegun before old = record {
+    answers = [];
+    notes = [];
+    conversation = record {
+      lines = [];
+      more = [];
+      consumed = Consumes-nil before;
+      plain = All-nil IsPlain;
+      answered = Nothing;
+    };
+    written = Appends-nil old;
+  }
+
+  -- a line more is read and answered
+  more_lines : (lines : List (List ℕ)) (line : List ℕ) (before now after : Option (List ℕ))
+      → Consumes before now (text_of lines) → Consumes now after (line ++ 10 ∷ [])
+      → Consumes before after (text_of (lines ++ line ∷ []))
+  more_lines lines line before now after first more =
+      subst (Consumes before after) (sym (text_of-more lines line))
+      (Consumes-trans before now after (text_of lines) (ended line) first more)
+
+  more_text : (answers own : List (List ℕ)) → text_of (answers ++ own) ≡ text_of answers ++ text_of own
+  more_text answers own = flat_map-append ended answers own
+
+  pub goes_on : (before now after old written new : Option (List ℕ)) (had has next : List Note)
+      → IsSoFar before now old written had has → GoesOn checked limit now after written new has next
+      → IsSoFar before after old new had next
+  goes_on before now after old written new had has next far on =
+      let answer = on.answered in
+      record {
+        lines = far.lines ++ on.line ∷ [];
+        answers = far.answers ++ answer.lines;
+        notes = far.notes ++ answer.notes;
+        consumed = more_lines far.lines on.line before now after far.consumed on.read.consumed;
+        plain = All-push IsPlain far.lines on.line far.plain on.read.plain;
+        answered = OneMore far.lines far.answers answer.lines on.line far.notes answer.notes far.answered answer.is;
+        appends = subst (Appends old new) (sym (more_text far.answers answer.lines))
+            (Appends-trans old written new (text_of far.answers) (text_of answer.lines) far.appends
+            (subst (Appends written new) answer.text_is on.written));
+        kept = answer.kept ∙ ap (λ notes. notes ++ answer.notes) far.kept
+            ∙ append_assoc had far.notes answer.notes;
+      }
+
+  talk : (before now after old written : Option (List ℕ)) (had has : List Note)
+      → (far : IsSoFar before now old written had has) (more : List ℕ) → Consumes now after more
+      → Conversation checked limit before after far.answers far.notes
+  talk before now after old written had has far more consumed = record {
+    lines = far.lines;
+    more = more;
+    consumed = Consumes-trans before now after (text_of far.lines) more far.consumed consumed;
+    plain = far.plain;
+    answered = far.answered;
+  }
+
+  -- there is no line more
+  pub is_over : (before now after old written new : Option (List ℕ)) (had has next : List Note)
+      → IsSoFar before now old written had has → IsOver checked limit now after written new → next ≡ has
+      → HasAnswered checked limit before after old new had next
+  is_over before now after old written new had has next far over same = record {
+    answers = far.answers;
+    notes = far.notes;
+    conversation = talk before now after old written had has far over.more over.consumed;
+    written = subst (λ (n : Option (List ℕ)). Appends old n (text_of far.answers)) (sym over.unwritten) far.appends;
+    kept = same ∙ far.kept;
+  }
+
+  -- it stops
+  pub stops : (before now after old written new : Option (List ℕ)) (had has : List Note) (failure : Failure)
+      → IsSoFar before now old written had has → StopsNext checked limit now after written new has failure
+      → IsCutOff checked limit before after old new failure
+  stops before now after old written new had has f.OutOfMemory far over = record {
+    answers = far.answers;
+    notes = far.notes;
+    conversation = talk before now after old written had has far over.more over.consumed;
+    written = subst (λ (n : Option (List ℕ)). Appends old n (text_of far.answers)) (sym over.unwritten) far.appends;
+  }
+  stops before now after old written new had has f.Output far fails =
+      let answer = fails.answered in
+      record {
+        answers = far.answers ++ answer.lines;
+        notes = far.notes ++ answer.notes;
+        conversation = record {
+          lines = far.lines ++ fails.line ∷ [];
+          more = [];
+          consumed = subst (Consumes before after) (sym (append-nil (text_of (far.lines ++ fails.line ∷ []))))
+              (more_lines far.lines fails.line before now after far.consumed fails.read.consumed);
+          plain = All-push IsPlain far.lines fails.line far.plain fails.read.plain;
+          answered = OneMore far.lines far.answers answer.lines fails.line far.notes answer.notes far.answered answer.is;
+        };
+        first = subst (λ (t : List ℕ). WritesFirst t old new) (sym (more_text far.answers answer.lines))
+            (first_after (text_of far.answers) (text_of answer.lines) old written new far.appends
+            (subst (λ (t : List ℕ). WritesFirst t written new) answer.text_is fails.first));
+      }
+  stops before now after old written new had has (f.CommandLine why) far fails = absurd fails
+  stops before now after old written new had has (f.Input fault) far fails = absurd fails
+
+  -- the same of what a `?` gives
+  pub stops_returned : {A : Type 0} (before now after old written new : Option (List ℕ)) (had has : List Note)
+      (failure : Failure) (result : Result A Failure) → IsSoFar before now old written had has
+      → StopsNext checked limit now after written new has failure → IsErrAnd result (λ failed. failed ≡ failure)
+      → IfErr result (IsCutOff checked limit before after old new)
+  stops_returned before now after old written new had has failure (Ok told) far fails is = tt
+  stops_returned before now after old written new had has failure (Err failed) far fails is =
+      subst (IsCutOff checked limit before after old new) (sym is)
+      (stops before now after old written new had has failure far fails)

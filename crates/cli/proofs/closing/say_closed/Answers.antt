@@ -1,0 +1,15 @@
+use Rattle.std.proofs.Common.{rules, ◌≡◌, ℕ, List, subst}
+use Rattle.std.specs.String.{string_bytes}
+use Rattle.commands.specs.declared.failure.Status.TheVariants.{Done}
+use Rattle.cli.proofs.Telling.{closes}
+use Rattle.cli.specs.Telling.{Says, closed_line}
+use Rattle.cli.proofs.closing.say_closed.Goals as goal
+
+pub returns : goal.returns
+returns g c service last =
+    let old = g.W.Write.contents c.args.writer.now in
+    let new = g.W.Write.contents c.say.new.writer in
+    let line = closed_line c.args.commits c.args.connections in
+    let is : string_bytes c.in_ok-line.line ≡ line = search rules in
+    closes service line Done old new c.say.result last
+    (subst (λ (text : List ℕ). Says text Done old new c.say.result) is c.say.ensures)

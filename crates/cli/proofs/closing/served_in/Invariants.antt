@@ -1,0 +1,8 @@
+use Rattle.std.proofs.Common.{◌≡◌, ◌++◌, All, map}
+use Rattle.cli.specs.Connections.{HadMemory}
+use Rattle.cli.specs.declared.connections.Place.TheVariants.{Ended}
+use Rattle.cli.proofs.closing.served_in.Given as goal
+
+abbrev pub invariant-loop-place : goal.invariant-loop-place
+invariant-loop-place l =
+    (map Ended l.all.items ++ l.place-iterator.rest.items ≡ l.fn.places.items) × All HadMemory l.all.items

@@ -1,0 +1,7 @@
+use Rattle.tables_log.specs.BookView.{book_slots}
+use Rattle.tables_log.specs.Committing.{ChangesSlots}
+use Rattle.cli.proofs.publish.view.progress_in.Given as goal
+
+-- nothing of the book but its slots is changed
+abbrev pub invariant-loop-slot : goal.invariant-loop-slot
+invariant-loop-slot l = ChangesSlots l.fn.book l.book (book_slots l.book)

@@ -1,0 +1,345 @@
+-- What the words of a command line ask, as the crate `clap` reads words: the subcommand `eval`, and for it a table's
+-- name and the flag `--insert`, in any order; or `check`, and for it the flag `--show` or nothing; or `show` or `make`,
+-- and nothing for it; or `simulate`, and for it `--limit` and a number, or nothing; or `serve`, and for it `--port` and
+-- a number, and `--limit` and `--connections` with a number each, or neither of these, in any order; or `publish`,
+-- and for it `--port` and a number, and a file and numbers for its options, in any order; or the help or the version.
+use Rattle.std.specs.Prelude.{◌≡◌, ◌≢◌, ◌≤◌, ◌⊎◌, ℕ, Bool, true, false, List, [], Option, Some, None, codes}
+use Rattle.std.specs.Option.{option_map}
+use Rattle.std.specs.Str.Parse.{IsNumeral, digits_value, without_leading_plus}
+use Rattle.clap.specs.Words.{App, IsAmong, Row, Rule, Text, fault_of, first_of, new_app, new_rule, one_of, subcommand_of, with_rule, with_subcommand}
+use Rattle.clap.specs.Simple.{on_top}
+use Rattle.clap.specs.declared.builder.action.ArgAction.TheVariants.{Set, SetTrue}
+use Rattle.clap.specs.declared.error.kind.ErrorKind.{ErrorKind}
+use Rattle.clap.specs.declared.error.kind.ErrorKind.TheVariants as kind
+use Rattle.cli.specs.declared.arguments.Invocation.{Invocation}
+use Rattle.cli.specs.declared.arguments.Invocation.TheVariants.{Help, Answer}
+use Rattle.commands.specs.declared.eval.row_output.RowOutput.{RowOutput}
+use Rattle.commands.specs.declared.eval.row_output.RowOutput.TheVariants.{Answers, Insert}
+use Rattle.cli.specs.declared.requests.Request.{Request}
+use Rattle.cli.specs.declared.requests.Request.TheVariants.{Eval, Show, Check, Make, Simulate, Serve, Publish}
+use Rattle.cli.specs.declared.requests.Feed.{Feed}
+use Rattle.cli.specs.declared.requests.LogFormat.{LogFormat}
+use Rattle.cli.specs.declared.requests.LogFormat.TheVariants.{Text as TextLines, Json}
+use Rattle.cli.specs.declared.requests.Service.{Service}
+use Rattle.commands.specs.Simulate.Limits.{IsWithin}
+use Rattle.commands.specs.declared.failure.Failure.{Failure}
+use Rattle.commands.specs.declared.failure.Failure.TheVariants as f
+
+-- ---- the command line, as clap is told of it
+
+abbrev pub table_rule : Rule
+table_rule = record (new_rule (codes "TABLE")) { required = true; action = Some Set }
+
+abbrev pub insert_rule : Rule
+insert_rule = record (new_rule (codes "insert")) { long = Some (codes "insert"); action = Some SetTrue }
+
+abbrev pub eval : App
+eval = with_rule (with_rule (new_app (codes "eval")) table_rule) insert_rule
+
+abbrev pub show : App
+show = new_app (codes "show")
+
+abbrev pub show_rule : Rule
+show_rule = record (new_rule (codes "show")) { long = Some (codes "show"); action = Some SetTrue }
+
+abbrev pub check : App
+check = with_rule (new_app (codes "check")) show_rule
+
+abbrev pub make : App
+make = new_app (codes "make")
+
+abbrev pub limit_rule : Rule
+limit_rule = record (new_rule (codes "limit")) { long = Some (codes "limit"); value_names = 1; action = Some Set }
+
+abbrev pub simulate : App
+simulate = with_rule (new_app (codes "simulate")) limit_rule
+
+abbrev pub port_rule : Rule
+port_rule = record (new_rule (codes "port"))
+    { long = Some (codes "port"); value_names = 1; required = true; action = Some Set }
+
+abbrev pub connections_rule : Rule
+connections_rule = record (new_rule (codes "connections"))
+    { long = Some (codes "connections"); value_names = 1; action = Some Set }
+
+abbrev pub serve : App
+serve = with_rule (with_rule (with_rule (new_app (codes "serve")) port_rule) limit_rule) connections_rule
+
+abbrev pub port_file_rule : Rule
+port_file_rule = record (new_rule (codes "port-file"))
+    { long = Some (codes "port-file"); value_names = 1; action = Some Set }
+
+abbrev pub start_timeout_rule : Rule
+start_timeout_rule = record (new_rule (codes "start-timeout"))
+    { long = Some (codes "start-timeout"); value_names = 1; action = Some Set }
+
+abbrev pub write_timeout_rule : Rule
+write_timeout_rule = record (new_rule (codes "write-timeout"))
+    { long = Some (codes "write-timeout"); value_names = 1; action = Some Set }
+
+abbrev pub keepalive_rule : Rule
+keepalive_rule = record (new_rule (codes "keepalive"))
+    { long = Some (codes "keepalive"); value_names = 1; action = Some Set }
+
+abbrev pub timeout_rule : Rule
+timeout_rule = record (new_rule (codes "timeout")) { long = Some (codes "timeout"); value_names = 1; action = Some Set }
+
+abbrev pub log_rule : Rule
+log_rule = record (new_rule (codes "log")) { long = Some (codes "log"); value_names = 1; action = Some Set }
+
+abbrev pub publish : App
+publish = with_rule (with_rule (with_rule (with_rule (with_rule (with_rule (with_rule (with_rule
+    (new_app (codes "publish")) port_rule) port_file_rule) limit_rule) start_timeout_rule) write_timeout_rule)
+    keepalive_rule) timeout_rule) log_rule
+
+-- the program without its subcommands
+abbrev pub bare : App
+bare = on_top (λ top. record top { has_version = true; propagate_version = true; subcommand_required = true })
+    (new_app (codes "pgshard"))
+
+abbrev pub pgshard : App
+pgshard = with_subcommand (with_subcommand (with_subcommand (with_subcommand (with_subcommand (with_subcommand
+    (with_subcommand bare
+    eval.top) show.top) check.top) make.top) simulate.top) serve.top) publish.top
+
+-- ---- what is asked of the input
+
+-- the arguments of `eval` are this table's name, and `--insert` if the message is wanted
+pub record HasArguments (found : List Row) (word : Text) (wanted : RowOutput) : Type 0 where
+  pub named : first_of (codes "TABLE") found ≡ Some word
+  pub with_flag : one_of (codes "insert") found ≡ Some (codes "true") → wanted ≡ Insert
+  pub without_flag : one_of (codes "insert") found ≡ Some (codes "false") → wanted ≡ Answers
+
+abbrev pub IsEval : List Row → Request → Type 0
+IsEval found (Eval table wanted) = HasArguments found table.now wanted
+IsEval found Show = ⊥
+IsEval found (Check shows) = ⊥
+IsEval found Make = ⊥
+IsEval found (Simulate limit) = ⊥
+IsEval found (Serve service) = ⊥
+IsEval found (Publish feed) = ⊥
+
+-- the argument of `check` is `--show` if the catalog is to be shown
+pub record HasShow (found : List Row) (shows : Bool) : Type 0 where
+  pub with_flag : one_of (codes "show") found ≡ Some (codes "true") → shows ≡ true
+  pub without_flag : one_of (codes "show") found ≡ Some (codes "false") → shows ≡ false
+
+abbrev pub IsCheck : List Row → Request → Type 0
+IsCheck found (Check shows) = HasShow found shows
+IsCheck found (Eval table wanted) = ⊥
+IsCheck found Show = ⊥
+IsCheck found Make = ⊥
+IsCheck found (Simulate limit) = ⊥
+IsCheck found (Serve service) = ⊥
+IsCheck found (Publish feed) = ⊥
+
+-- the word spells this limit: decimal digits, with a plus before them or none, and nothing else
+pub record SpellsLimit (word : Text) (limit : ℕ) : Type 0 where
+  pub numeral : IsNumeral 10 (without_leading_plus word)
+  pub is : limit ≡ digits_value 10 (without_leading_plus word)
+  pub within : IsWithin limit
+
+-- where no word is given it is 1,000,000
+abbrev pub IsLimit : Option Text → ℕ → Type 0
+IsLimit None limit = limit ≡ 1000000
+IsLimit (Some word) limit = SpellsLimit word limit
+
+-- the argument of `simulate` is this limit
+abbrev pub HasLimit : List Row → ℕ → Type 0
+HasLimit found limit = IsLimit (first_of (codes "limit") found) limit
+
+abbrev pub IsSimulate : List Row → Request → Type 0
+IsSimulate found (Simulate limit) = HasLimit found limit
+IsSimulate found (Eval table wanted) = ⊥
+IsSimulate found Show = ⊥
+IsSimulate found (Check shows) = ⊥
+IsSimulate found Make = ⊥
+IsSimulate found (Serve service) = ⊥
+IsSimulate found (Publish feed) = ⊥
+
+-- the word spells this number, which is 1 at least and this one at most: decimal digits, with a plus before them or
+-- none, and nothing else
+pub record Spells (most : ℕ) (word : Text) (number : ℕ) : Type 0 where
+  pub numeral : IsNumeral 10 (without_leading_plus word)
+  pub is : number ≡ digits_value 10 (without_leading_plus word)
+  pub some : 1 ≤ number
+  pub within : number ≤ most
+
+-- a port has to be said
+abbrev pub IsPort : Option Text → ℕ → Type 0
+IsPort None port = ⊥
+IsPort (Some word) port = Spells 65535 word port
+
+-- where no word is given no number of connections is said
+abbrev pub AreConnections : Option Text → Option ℕ → Type 0
+AreConnections None None = Unit {0}
+AreConnections None (Some count) = ⊥
+AreConnections (Some word) None = ⊥
+AreConnections (Some word) (Some count) = Spells 1000 word count
+
+-- the arguments of `serve` are these
+pub record IsService (found : List Row) (service : Service) : Type 0 where
+  pub port : IsPort (first_of (codes "port") found) service.port
+  pub limit : HasLimit found service.limit
+  pub connections : AreConnections (first_of (codes "connections") found) service.connections
+
+abbrev pub IsServe : List Row → Request → Type 0
+IsServe found (Serve service) = IsService found service
+IsServe found (Eval table wanted) = ⊥
+IsServe found Show = ⊥
+IsServe found (Check shows) = ⊥
+IsServe found Make = ⊥
+IsServe found (Simulate limit) = ⊥
+IsServe found (Publish feed) = ⊥
+
+-- the word spells this number, which is this one at most: decimal digits, with a plus before them or none, and nothing
+-- else
+pub record SpellsUpTo (most : ℕ) (word : Text) (number : ℕ) : Type 0 where
+  pub numeral : IsNumeral 10 (without_leading_plus word)
+  pub is : number ≡ digits_value 10 (without_leading_plus word)
+  pub within : number ≤ most
+
+-- a port has to be said; 0 is any free one
+abbrev pub IsPortOrAny : Option Text → ℕ → Type 0
+IsPortOrAny None port = ⊥
+IsPortOrAny (Some word) port = SpellsUpTo 65535 word port
+
+-- so many seconds, or where no word is given this many
+abbrev pub AreSeconds : ℕ → Option Text → ℕ → Type 0
+AreSeconds otherwise None seconds = seconds ≡ otherwise
+AreSeconds otherwise (Some word) seconds = Spells 86400 word seconds
+
+-- the word is the name of this format; where no word is given it is text
+abbrev pub IsLogFormat : Option Text → LogFormat → Type 0
+IsLogFormat None format = format ≡ TextLines
+IsLogFormat (Some word) TextLines = word ≡ codes "text"
+IsLogFormat (Some word) Json = word ≡ codes "json"
+
+-- the arguments of `publish` are these
+pub record IsFeed (found : List Row) (feed : Feed) : Type 0 where
+  pub port : IsPortOrAny (first_of (codes "port") found) feed.port
+  pub port_file : first_of (codes "port-file") found ≡ option_map (λ file. file.now) feed.port_file
+  pub limit : HasLimit found feed.limit
+  pub start_timeout : AreSeconds 10 (first_of (codes "start-timeout") found) feed.start_timeout
+  pub write_timeout : AreSeconds 60 (first_of (codes "write-timeout") found) feed.write_timeout
+  pub keepalive : AreSeconds 10 (first_of (codes "keepalive") found) feed.keepalive
+  pub timeout : AreSeconds 60 (first_of (codes "timeout") found) feed.timeout
+  pub log : IsLogFormat (first_of (codes "log") found) feed.log
+
+abbrev pub IsPublish : List Row → Request → Type 0
+IsPublish found (Publish feed) = IsFeed found feed
+IsPublish found (Eval table wanted) = ⊥
+IsPublish found Show = ⊥
+IsPublish found (Check shows) = ⊥
+IsPublish found Make = ⊥
+IsPublish found (Simulate limit) = ⊥
+IsPublish found (Serve service) = ⊥
+
+-- what is asked can be done
+abbrev pub CanDo : Request → Type 0
+CanDo (Eval table wanted) = Unit {0}
+CanDo Show = Unit {0}
+CanDo (Check shows) = Unit {0}
+CanDo Make = Unit {0}
+CanDo (Simulate limit) = IsWithin limit
+CanDo (Serve service) = IsWithin service.limit
+CanDo (Publish feed) = IsWithin feed.limit
+
+-- what clap takes from the words is `eval` with its arguments
+pub record TakesEval (taken : Option (Text × List Row)) (word : Text) (wanted : RowOutput) : Type 0 where
+  pub found : List Row
+  pub is : taken ≡ Some (codes "eval", found)
+  pub arguments : HasArguments found word wanted
+
+-- what clap takes from the words is the subcommand of this name
+pub record Takes (taken : Option (Text × List Row)) (name : Text) : Type 0 where
+  pub found : List Row
+  pub is : taken ≡ Some (name, found)
+
+-- what clap takes from the words is `check` with its argument
+pub record TakesCheck (taken : Option (Text × List Row)) (shows : Bool) : Type 0 where
+  pub found : List Row
+  pub is : taken ≡ Some (codes "check", found)
+  pub argument : HasShow found shows
+
+-- what clap takes from the words is `simulate` with its argument
+pub record TakesSimulate (taken : Option (Text × List Row)) (limit : ℕ) : Type 0 where
+  pub found : List Row
+  pub is : taken ≡ Some (codes "simulate", found)
+  pub argument : HasLimit found limit
+
+-- what clap takes from the words is `serve` with its arguments
+pub record TakesServe (taken : Option (Text × List Row)) (service : Service) : Type 0 where
+  pub found : List Row
+  pub is : taken ≡ Some (codes "serve", found)
+  pub arguments : IsService found service
+
+-- what clap takes from the words is `publish` with its arguments
+pub record TakesPublish (taken : Option (Text × List Row)) (feed : Feed) : Type 0 where
+  pub found : List Row
+  pub is : taken ≡ Some (codes "publish", found)
+  pub arguments : IsFeed found feed
+
+abbrev pub IsTaken : Option (Text × List Row) → Request → Type 0
+IsTaken taken (Eval table wanted) = TakesEval taken table.now wanted
+IsTaken taken Show = Takes taken (codes "show")
+IsTaken taken (Check shows) = TakesCheck taken shows
+IsTaken taken Make = Takes taken (codes "make")
+IsTaken taken (Simulate limit) = TakesSimulate taken limit
+IsTaken taken (Serve service) = TakesServe taken service
+IsTaken taken (Publish feed) = TakesPublish taken feed
+
+-- clap finds no fault in the words, and what it takes is the request
+pub record IsRequest (words : List Text) (request : Request) : Type 0 where
+  pub faultless : fault_of pgshard words ≡ []
+  pub taken : IsTaken (subcommand_of pgshard words) request
+
+-- ---- what else the words may be
+
+-- The words ask for the help or the version.
+-- To the word help clap answers with the help, or that there is no such subcommand.
+abbrev pub AsksHelp : List Text → Type 0
+AsksHelp words = IsAmong kind.DisplayHelp (fault_of pgshard words) ⊎ IsAmong kind.DisplayVersion
+    (fault_of pgshard words)
+
+-- clap finds this fault in the words, which is no call for the help or the version
+pub record IsFaulty (words : List Text) : Type 0 where
+  pub found : ErrorKind
+  pub is : IsAmong found (fault_of pgshard words)
+  pub no_help : found ≢ kind.DisplayHelp
+  pub no_version : found ≢ kind.DisplayVersion
+
+-- clap finds no fault in the words, and they ask nothing that can be done
+pub record AsksNothing (words : List Text) : Type 0 where
+  pub faultless : fault_of pgshard words ≡ []
+  pub nothing : (request : Request) → IsTaken (subcommand_of pgshard words) request → ⊥
+
+abbrev pub IsMisworded : List Text → Type 0
+IsMisworded words = IsFaulty words ⊎ AsksNothing words
+
+abbrev pub IsAsking : List Text → Invocation → Type 0
+IsAsking words (Help text) = AsksHelp words
+IsAsking words (Answer request) = IsRequest words request
+
+-- reading the words stops because they ask nothing, or for want of memory
+abbrev pub IsOfWords : List Text → Failure → Type 0
+IsOfWords words (f.CommandLine text) = IsMisworded words
+IsOfWords words f.OutOfMemory = Unit {0}
+IsOfWords words _ = ⊥
+
+-- ---- an error of clap
+
+-- it is a call for the help or the version
+abbrev pub IsHelpKind : ErrorKind → Type 0
+IsHelpKind found = (found ≡ kind.DisplayHelp) ⊎ (found ≡ kind.DisplayVersion)
+
+abbrev pub IsHelp : Invocation → Type 0
+IsHelp (Help text) = Unit {0}
+IsHelp (Answer request) = ⊥
+
+-- it is a fault of the words, or want of memory
+abbrev pub IsOfError : ErrorKind → Failure → Type 0
+IsOfError found (f.CommandLine text) = (found ≢ kind.OutOfMemory) × (found ≢ kind.DisplayHelp)
+    × (found ≢ kind.DisplayVersion)
+IsOfError found f.OutOfMemory = Unit {0}
+IsOfError found _ = ⊥

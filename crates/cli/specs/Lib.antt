@@ -1,0 +1,13 @@
+pub mod CommandLine
+pub mod Connections
+pub mod Courses
+pub mod Lines
+pub mod Outcomes
+pub mod Published
+pub mod Requests
+pub mod Runs
+pub mod Scripts
+pub mod Serving
+pub mod Sessions
+pub mod Talks
+pub mod Telling

@@ -1,0 +1,126 @@
+-- What the words of a command line ask of the input, and which lines answer it.
+use Rattle.std.specs.Prelude.{◌≡◌, ℕ, ◌⊎◌, Bool, true, false, List, [], Option, IsErrAnd, Result}
+use Rattle.commands.specs.Check.Checking as checking
+use Rattle.cli.specs.CommandLine.{IsMisworded as IsMiswordedFor, IsRequest}
+use Rattle.cli.specs.Published as published
+use Rattle.cli.specs.Serving as serving
+use Rattle.cli.specs.Telling as telling
+use Rattle.commands.specs.Eval.Evaluation as evaluation
+use Rattle.commands.specs.Make.Making as making
+use Rattle.commands.specs.Inputs.{IsInput, IsOfReading}
+use Rattle.commands.specs.Output.{Ends}
+use Rattle.commands.specs.Show.Showing as showing
+use Rattle.commands.specs.Simulate.Simulation as simulation
+use Rattle.cli.specs.declared.requests.Request.{Request}
+use Rattle.cli.specs.declared.requests.Request.TheVariants.{Eval, Show, Check, Make, Simulate, Serve, Publish}
+use Rattle.commands.specs.declared.failure.Failure.{Failure}
+use Rattle.commands.specs.declared.failure.InputFault.{InputFault}
+use Rattle.commands.specs.declared.failure.Status.{Status}
+
+-- ---- of a request and its input
+
+-- the lines are the whole answer, and the status says whether it is a refusal;
+-- [] and 0 say that no row, table or step is left
+abbrev pub IsAnswer : Request → List ℕ → List (List ℕ) → Status → Type 0
+IsAnswer (Eval table wanted) input lines status = evaluation.IsEvaluation wanted input table.now [] lines status
+IsAnswer Show input lines status = showing.IsShowing input lines status
+IsAnswer (Check shows) input lines status = checking.IsCheck shows input lines status
+IsAnswer Make input lines status = making.IsMaking input 0 lines status
+IsAnswer (Simulate limit) input lines status = simulation.IsSimulation limit input [] lines status
+IsAnswer (Serve service) input lines status = serving.IsServing service input lines status
+IsAnswer (Publish feed) input lines status = published.IsPublished feed input lines status
+
+-- there is no line yet, and nothing is said of the input;
+-- or the lines are the first of an answer, and others are missing
+abbrev pub IsBegun : Request → List ℕ → List (List ℕ) → Type 0
+IsBegun (Eval table wanted) input lines = (lines ≡ []) ⊎ evaluation.IsBegunEvaluation wanted input table.now lines
+IsBegun Show input lines = lines ≡ []
+IsBegun (Check shows) input lines = lines ≡ []
+IsBegun Make input lines = (lines ≡ []) ⊎ making.IsBegunMaking input lines
+IsBegun (Simulate limit) input lines = (lines ≡ []) ⊎ simulation.IsBegunSimulation limit input lines
+IsBegun (Serve service) input lines = telling.IsBegun service.port lines
+IsBegun (Publish feed) input lines = published.IsBegun feed input lines
+
+-- the input has this fault
+abbrev pub IsFault : Request → List ℕ → InputFault → Type 0
+IsFault (Eval table wanted) input fault = evaluation.IsFault input table.now fault
+IsFault Show input fault = making.IsFault input fault
+IsFault (Check shows) input fault = checking.IsFault input fault
+IsFault Make input fault = making.IsFault input fault
+IsFault (Simulate limit) input fault = simulation.IsFault input fault
+IsFault (Serve service) input fault = serving.IsFault input fault
+IsFault (Publish feed) input fault = published.IsFault input fault
+
+-- the request is answered of this input, as far as memory and the writer go, or the input has a fault and nothing is
+-- written
+abbrev pub EndsRequest : Request → List ℕ → Option (List ℕ) → Option (List ℕ) → Result Status Failure → Type 0
+EndsRequest request input old new result =
+    Ends (IsAnswer request input) (IsBegun request input) (IsFault request input) old new result
+
+-- ---- whether it can be served
+
+-- `serve` and `publish` are answered only by what can serve
+abbrev pub CanServe : Bool → Request → Type 0
+CanServe serves (Serve service) = serves ≡ true
+CanServe serves (Publish feed) = serves ≡ true
+CanServe serves (Eval table wanted) = Unit {0}
+CanServe serves Show = Unit {0}
+CanServe serves (Check shows) = Unit {0}
+CanServe serves Make = Unit {0}
+CanServe serves (Simulate limit) = Unit {0}
+
+-- ---- of a reader
+
+-- what the reader gave is answered
+pub record AnswersInput (request : Request) (known old new : Option (List ℕ)) (result : Result Status Failure) : Type 0
+  where
+    pub input : List ℕ
+    pub given : IsInput known input
+    pub ends : EndsRequest request input old new result
+
+-- or reading it stopped, and nothing is written
+abbrev pub AnswersReader : Request → Option (List ℕ) → Option (List ℕ) → Option (List ℕ) → Result Status Failure → Type 0
+AnswersReader request known old new result =
+    AnswersInput request known old new result ⊎ (IsErrAnd result IsOfReading × (new ≡ old))
+
+-- ---- of the words and what the reader gives
+
+-- `serves` says whether what is asked may be to serve
+module _ (serves : Bool) (words : List (List ℕ)) (known : Option (List ℕ)) where
+  -- what is asked, and of which input
+  pub record IsAsked (request : Request) (input : List ℕ) : Type 0 where
+    pub asks : IsRequest words request
+    pub can : CanServe serves request
+    pub given : IsInput known input
+
+  -- the lines answer what the words ask of the input
+  pub record AnswersWords (lines : List (List ℕ)) (status : Status) : Type 0 where
+    pub request : Request
+    pub input : List ℕ
+    pub asked : IsAsked request input
+    pub answer : IsAnswer request input lines status
+
+  -- the lines begin such an answer
+  pub record BeginsWords (lines : List (List ℕ)) : Type 0 where
+    pub request : Request
+    pub input : List ℕ
+    pub asked : IsAsked request input
+    pub begun : IsBegun request input lines
+
+  -- the input of which the words ask has this fault
+  pub record HasFault (fault : InputFault) : Type 0 where
+    pub request : Request
+    pub input : List ℕ
+    pub asked : IsAsked request input
+    pub is : IsFault request input fault
+
+-- the words ask to serve, and nobody can
+pub record AsksToServe (serves : Bool) (words : List (List ℕ)) : Type 0 where
+  pub unserved : serves ≡ false
+  pub request : Request
+  pub asks : IsRequest words request
+  pub needs : CanServe false request → ⊥
+
+-- the words ask nothing, or nothing that can be done
+abbrev pub IsMisworded : Bool → List (List ℕ) → Type 0
+IsMisworded serves words = IsMiswordedFor words ⊎ AsksToServe serves words

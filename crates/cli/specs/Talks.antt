@@ -1,0 +1,194 @@
+-- What `publish` answers to each line of its input after the certificates: a line has one step, COMMIT or VIEW, or
+-- none. The format is this program's own; what a commit does is PostgreSQL 15's, 3.4. Transactions.
+use Rattle.std.specs.Prelude.{◌≡◌, ℕ, Bool, true, false, ◌&&◌, if◌then◌else◌, List, [], ◌∷◌, ◌++◌, All, IsUtf8, Option, Some, None, Ok, codes}
+use Rattle.std.specs.Io.KnownBytes.{Appends, Consumes}
+use Rattle.filter_tree.specs.declared.table.Table.{Table}
+use Rattle.table_changes.specs.Commands.{Command}
+use Rattle.pub_reader.specs.Scripts.{LineOf, script_by}
+use Rattle.pub_reader.specs.Steps.{StepOf, Commit, View}
+use Rattle.sql_reader.specs.KindNames.{kind_name}
+use Rattle.sql_reader.specs.declared.error.ReadError.{ReadError}
+use Rattle.shard_checker.specs.CheckedView.{CheckedOf, setting_in}
+use Rattle.shard_world.specs.declared.answer.Answer.{Answer}
+use Rattle.shard_world.specs.declared.answer.Answer.TheVariants as a
+use Rattle.tables_log.specs.declared.error.CommitError.{CommitError}
+use Rattle.publisher_desk.specs.Answers.{IsMade, IsRefused}
+use Rattle.publisher_desk.specs.Receipts.{receipt_of}
+use Rattle.publisher_desk.specs.Refusals.{HasFault}
+use Rattle.publisher_desk.specs.declared.note.Note.{Note}
+use Rattle.publisher_desk.specs.declared.note.Note.TheVariants as n
+use Rattle.commands.specs.Failures.{fault_line}
+use Rattle.cli.specs.Lines.{IsPlain, ReadsLine}
+use Rattle.commands.specs.Output.{WritesFirst, text_of}
+use Rattle.commands.specs.Simulate.Answers.{answer_line, position_text}
+use Rattle.commands.specs.Simulate.Simulation.{TellsScript}
+use Rattle.commands.specs.declared.failure.Failure.{Failure}
+use Rattle.commands.specs.declared.failure.Failure.TheVariants as f
+use Rattle.commands.specs.declared.failure.InputFault.TheVariants as i
+
+-- ---- which steps a line may have
+
+abbrev pub is_fit : StepOf → Bool
+is_fit (Commit commands) = true
+is_fit View = true
+is_fit _ = false
+
+-- the place of the first step that is neither COMMIT nor VIEW, or not the first of its line
+abbrev pub unfit_from : Bool → List LineOf → Option ℕ
+unfit_from is_first [] = None
+unfit_from is_first (step ∷ others) =
+    if is_first && is_fit step.step then unfit_from false others else Some step.place
+
+abbrev pub first_unfit : List LineOf → Option ℕ
+first_unfit steps = unfit_from true steps
+
+-- ---- texts
+
+-- it has whole lines
+pub record IsLines (text : List ℕ) : Type 0 where
+  pub lines : List (List ℕ)
+  pub is : text ≡ text_of lines
+
+-- ---- how far a subscriber is
+
+abbrev pub state : Bool → List ℕ
+state true = codes " connected"
+state false = codes " disconnected"
+
+-- its name, up to where it was sent and has confirmed the log, and whether it is connected
+abbrev pub progress_line : List ℕ → ℕ → ℕ → Bool → List ℕ
+progress_line name sent confirmed is_connected =
+    name ++ codes " sent " ++ position_text sent ++ codes " confirmed " ++ position_text confirmed ++ state is_connected
+
+-- ---- what is answered
+
+module _ (checked : CheckedOf) (limit : ℕ) where
+  -- Commands are answered by the number of the commit that they are, of which the session keeps a receipt; or by why
+  -- they are refused, and it keeps nothing.
+  pub data IsAnswered (commands : List Command) : Answer → List Note → Type 0 where
+    Made : (number time : ℕ) → IsMade checked limit commands time number
+        → IsAnswered commands (a.Committed number) (n.Committed (receipt_of number commands time) ∷ [])
+    Refused : (error : CommitError) → IsRefused checked limit commands error
+        → HasFault (setting_in checked) commands error → IsAnswered commands (a.Refused error) []
+
+  -- A step is answered by these lines, and the session keeps these notes. Of what VIEW shows nothing is said.
+  pub data IsTold : StepOf → List (List ℕ) → List Note → Type 0 where
+    Committing : (commands : List Command) (answer : Answer) (notes : List Note) → IsAnswered commands answer notes
+        → IsTold (Commit commands) (answer_line answer ∷ []) notes
+    Viewing : (lines : List (List ℕ)) → IsTold View lines []
+
+  -- A line is answered by these lines, and the session keeps these notes.
+  pub data IsAnswer (line : List ℕ) : List (List ℕ) → List Note → Type 0 where
+    NoText : (IsUtf8 line → ⊥) → IsAnswer line (fault_line i.Unread ∷ []) []
+    NoScript : (error : ReadError) → TellsScript (script_by checked.catalog.tables line) error
+        → IsAnswer line (fault_line (i.Script error) ∷ []) []
+    Unfit : (steps : List LineOf) (error : ReadError) → script_by checked.catalog.tables line ≡ Ok steps
+        → first_unfit steps ≡ Some error.place → kind_name error.kind ≡ codes "Expected"
+        → IsAnswer line (fault_line (i.Script error) ∷ []) []
+    Empty : script_by checked.catalog.tables line ≡ Ok [] → IsAnswer line [] []
+    OneStep : (step : LineOf) (lines : List (List ℕ)) (notes : List Note)
+        → script_by checked.catalog.tables line ≡ Ok (step ∷ []) → IsTold step.step lines notes
+        → IsAnswer line lines notes
+
+  -- Lines are answered one after another.
+  pub data AreAnswered : List (List ℕ) → List (List ℕ) → List Note → Type 0 where
+    Nothing : AreAnswered [] [] []
+    OneMore : (lines answers own : List (List ℕ)) (line : List ℕ) (notes more : List Note)
+        → AreAnswered lines answers notes → IsAnswer line own more
+        → AreAnswered (lines ++ line ∷ []) (answers ++ own) (notes ++ more)
+
+  -- ---- what the session does
+
+  -- commands are answered so
+  pub record Replies (commands : List Command) (before after : List Note) (answer : Answer) : Type 0 where
+    pub notes : List Note
+    pub is : IsAnswered commands answer notes
+    pub kept : after ≡ before ++ notes
+
+  -- a step is answered by a text
+  pub record Tells (step : StepOf) (before after : List Note) (text : List ℕ) : Type 0 where
+    pub lines : List (List ℕ)
+    pub notes : List Note
+    pub is : IsTold step lines notes
+    pub text_is : text ≡ text_of lines
+    pub kept : after ≡ before ++ notes
+
+  -- a line is answered by a text
+  pub record Answers (line : List ℕ) (before after : List Note) (text : List ℕ) : Type 0 where
+    pub lines : List (List ℕ)
+    pub notes : List Note
+    pub is : IsAnswer line lines notes
+    pub text_is : text ≡ text_of lines
+    pub kept : after ≡ before ++ notes
+
+  -- a line is read, and its answer is written
+  pub record GoesOn (before after old new : Option (List ℕ)) (had has : List Note) : Type 0 where
+    pub line : List ℕ
+    pub text : List ℕ
+    pub read : ReadsLine before after line
+    pub answered : Answers line had has text
+    pub written : Appends old new text
+
+  -- some bytes are read, and nothing is written
+  pub record IsOver (before after old new : Option (List ℕ)) : Type 0 where
+    pub more : List ℕ
+    pub consumed : Consumes before after more
+    pub unwritten : new ≡ old
+
+  abbrev pub HasGone : Option (List ℕ) → Option (List ℕ) → Option (List ℕ) → Option (List ℕ) → List Note → List Note
+      → Bool → Type 0
+  HasGone before after old new had has true = GoesOn before after old new had has
+  HasGone before after old new had has false = IsOver before after old new × (has ≡ had)
+
+  -- a line is read, and the first bytes of its answer are written
+  pub record FailsToTell (before after old new : Option (List ℕ)) (had : List Note) : Type 0 where
+    pub line : List ℕ
+    pub text : List ℕ
+    pub has : List Note
+    pub read : ReadsLine before after line
+    pub answered : Answers line had has text
+    pub first : WritesFirst text old new
+
+  abbrev pub StopsNext : Option (List ℕ) → Option (List ℕ) → Option (List ℕ) → Option (List ℕ) → List Note → Failure
+      → Type 0
+  StopsNext before after old new had f.OutOfMemory = IsOver before after old new
+  StopsNext before after old new had f.Output = FailsToTell before after old new had
+  StopsNext before after old new had (f.CommandLine why) = ⊥
+  StopsNext before after old new had (f.Input fault) = ⊥
+
+  -- lines are read, and answered by these
+  pub record Conversation (before after : Option (List ℕ)) (answers : List (List ℕ)) (notes : List Note) : Type 0 where
+    pub lines : List (List ℕ)
+    pub more : List ℕ
+    pub consumed : Consumes before after (text_of lines ++ more)
+    pub plain : All IsPlain lines
+    pub answered : AreAnswered lines answers notes
+
+  -- the answers are written, and the session has these notes more
+  pub record HasAnswered (before after old new : Option (List ℕ)) (had has : List Note) : Type 0 where
+    pub answers : List (List ℕ)
+    pub notes : List Note
+    pub conversation : Conversation before after answers notes
+    pub written : Appends old new (text_of answers)
+    pub kept : has ≡ had ++ notes
+
+  -- or the first of them
+  pub record HasBegun (before after old new : Option (List ℕ)) : Type 0 where
+    pub answers : List (List ℕ)
+    pub notes : List Note
+    pub conversation : Conversation before after answers notes
+    pub written : Appends old new (text_of answers)
+
+  -- or the first bytes of them
+  pub record HasPart (before after old new : Option (List ℕ)) : Type 0 where
+    pub answers : List (List ℕ)
+    pub notes : List Note
+    pub conversation : Conversation before after answers notes
+    pub first : WritesFirst (text_of answers) old new
+
+  -- the session stops because the writer fails, or for want of memory
+  abbrev pub IsCutOff : Option (List ℕ) → Option (List ℕ) → Option (List ℕ) → Option (List ℕ) → Failure → Type 0
+  IsCutOff before after old new f.OutOfMemory = HasBegun before after old new
+  IsCutOff before after old new f.Output = HasPart before after old new
+  IsCutOff before after old new (f.CommandLine why) = ⊥
+  IsCutOff before after old new (f.Input fault) = ⊥

@@ -1,0 +1,126 @@
+//! How serving ends.
+
+ghost use Rattle.std.specs.Prelude.{◌≡◌, All, map, IfErr, IfOk};
+ghost use Rattle.std.specs.Option.{option_map};
+ghost use Rattle.std.specs.String.{string_bytes};
+ghost use Rattle.commands.specs.declared.failure.Status.TheVariants.{Done};
+ghost use Rattle.cli.specs.Connections.{HadMemory};
+ghost use Rattle.cli.specs.Telling as spec;
+ghost use Rattle.cli.specs.Telling.{Closes, IsFor, IsLast, IsLastOf, IsOver, IsStop, Says, ServiceOf, closed_line};
+ghost use Rattle.cli.specs.declared.connections.Place.TheVariants.{Ended};
+
+use crate::connections::Place;
+use crate::unserved::tell_unserved;
+use commands::{Failure, Status, write_line};
+use copy_both::LinkFault;
+use senders::{CloseError, End, Publisher, Publishing, Seat, Seats, Served, close};
+use std::alloc::Global;
+use std::io::Write;
+use std::sync::Arc;
+
+/// What came of the connections.
+///
+/// # Errors
+///
+/// `Output` where the listening socket failed before there were all connections; `OutOfMemory`, also where memory or a
+/// thread was refused for a connection.
+pub fn served_in<'a>(alloc: Global, places: Vec<Place>) -> Result<Vec<Served>, Failure<'a>>
+    ensures all { IfOk result (λ served. map Ended served.items ≡ places.items) }
+    ensures memory { IfOk result (λ served. All HadMemory served.items) }
+    ensures stopped { IfErr result IsStop }
+{
+    let mut all = Vec::with_capacity(alloc, places.len())?;
+    for place in places {
+        let Place::Ended(served) = place else {
+            return Err(Failure::Output);
+        };
+        if served.end == End::Link(LinkFault::OutOfMemory) {
+            return Err(Failure::OutOfMemory);
+        }
+        all.push(served)?;
+    }
+    Ok(all)
+}
+
+/// The name of an error; none where it is want of memory.
+pub(crate) fn name_of(error: CloseError) -> Option<&'static str>
+    ensures { option_map (λ name. name.now) result ≡ spec.name_of error }
+{
+    match error {
+        CloseError::CountDiffers => Some("CountDiffers"),
+        CloseError::ReceiptMissing => Some("ReceiptMissing"),
+        CloseError::ReadingWrong => Some("ReadingWrong"),
+        CloseError::TakenDiffers => Some("TakenDiffers"),
+        CloseError::OutOfMemory => None,
+    }
+}
+
+/// Writes a line, and tells this status.
+pub(crate) fn say<'a, W: Write>(
+    mut line: String,
+    status: Status,
+    writer: &mut W,
+) -> Result<Status, Failure<'a>>
+    ensures { Says (string_bytes line) status (W.contents writer.old) (W.contents writer.new) result }
+{
+    match write_line(&mut line, writer) {
+        Ok(()) => Ok(status),
+        Err(failure) => Err(failure),
+    }
+}
+
+/// Says how many commits and connections there were.
+fn say_closed<'a, W: Write>(
+    alloc: Global,
+    commits: u32,
+    connections: usize,
+    writer: &mut W,
+) -> Result<Status, Failure<'a>>
+    ensures { (service : ServiceOf) → IsLast service (closed_line commits connections) Done
+        → Closes service (W.contents writer.old) (W.contents writer.new) result }
+{
+    let line = format!(in alloc; "closed {commits} {connections}")?;
+    say(line, Status::Done, writer)
+}
+
+/// Says why a publisher can't be closed.
+fn say_error<'a, W: Write>(
+    alloc: Global,
+    error: CloseError,
+    writer: &mut W,
+) -> Result<Status, Failure<'a>>
+    ensures { (service : ServiceOf) → IsLastOf service error
+        → Closes service (W.contents writer.old) (W.contents writer.new) result }
+{
+    let name = name_of(error).ok_or(Failure::OutOfMemory)?;
+    let line = format!(in alloc; "close {name}")?;
+    say(line, Status::Refused, writer)
+}
+
+/// Closes a publisher all of whose seats but this were never handed out, and says in a line how many commits and
+/// connections there were, or why it can't be closed. Before that the subscriptions that were not served to the end of the
+/// log are told on standard error.
+pub fn close_and_tell<'a, P: Publishing, W: Write, R: Eprint>(
+    rt: &R,
+    alloc: Global,
+    publisher: Publisher<P>,
+    rest: Seats<P>,
+    seat: Seat<P>,
+    served: Vec<Served>,
+    writer: &mut W,
+) -> Result<Status, Failure<'a>>
+    requires parts { P.parts ≡ 1000 }
+    requires rest { rest ≡ 999 }
+    ensures { (service : ServiceOf) → IsFor service P.checked P.limit → IsOver service seat served.items
+        → Closes service (W.contents writer.old) (W.contents writer.new) result }
+{
+    let seats = vec![in alloc; seat]?;
+    let checked = Arc::try_clone(publisher.checked())?;
+    match close(publisher, rest, seats, served) {
+        Ok(closed) => {
+            tell_unserved(rt, alloc, checked.catalog(), &closed);
+            say_closed(alloc, closed.book.log_len(), closed.served.len(), writer)
+        }
+        Err(error) => say_error(alloc, error, writer),
+    }
+}

@@ -1,0 +1,99 @@
+//! The connections that are accepted, each served from its accept on.
+
+ghost use Rattle.std.specs.Prelude.{◌≡◌, All, length, IfOk};
+ghost use Rattle.cli.specs.Connections.{IsFilled, WasServed};
+
+use senders::{FromRead, OpenGate, Publisher, Publishing, Served, ToWrite, serve};
+use std::alloc::{AllocError, Global};
+use std::io::ErrorKind;
+use std::net::{TcpListener, TcpStream};
+use std::sync::Wait;
+use std::thread;
+use std::thread::Threads;
+use std::time::Clock;
+
+/// A place for one connection.
+#[derive(Debug, Drop)]
+pub enum Place {
+    /// No connection has ended here yet.
+    Open,
+    /// What came of the connection that was served here.
+    Ended(Served),
+    /// The listening socket failed before a connection came.
+    Failed,
+}
+
+/// So many places for connections.
+pub fn open_places(alloc: Global, count: usize) -> Result<Vec<Place>, AllocError>
+    ensures { IfOk result (λ places. length places.items ≡ count) }
+{
+    let mut places = Vec::with_capacity(alloc, count)?;
+    for _ in 0..count {
+        places.push(Place::Open)?;
+    }
+    Ok(places)
+}
+
+/// The next connection that comes; none where the listening socket fails. One that its client gave up before it was
+/// accepted doesn't count.
+fn next_connection(listener: &TcpListener) -> Option<TcpStream> {
+    for _ in 0..u64::MAX {
+        match listener.accept() {
+            Ok((stream, _)) => return Some(stream),
+            Err(error) if error.kind() == ErrorKind::ConnectionAborted => {}
+            Err(_) => return None,
+        }
+    }
+    None
+}
+
+/// Serves a connection to its end. What is written goes out at once, and doesn't wait for more.
+fn serve_stream<P: Publishing + Sync, R: Threads + Wait + Clock + Sync>(
+    rt: &R,
+    publisher: &Publisher<P>,
+    stream: &TcpStream,
+) -> Served
+    ensures { WasServed P.checked result }
+{
+    let _ = stream.set_nodelay(true);
+    let mut reader = FromRead::new(stream);
+    let mut writer = ToWrite::new(stream);
+    serve(rt, publisher, &mut reader, &mut writer, &OpenGate)
+}
+
+/// Accepts a connection, serves it to its end, and keeps in its place what came of it.
+fn fill<P: Publishing + Sync, R: Threads + Wait + Clock + Sync>(
+    rt: &R,
+    publisher: &Publisher<P>,
+    listener: &TcpListener,
+    place: &mut Place,
+)
+    ensures { IsFilled P.checked place.new }
+{
+    *place = match next_connection(listener) {
+        Some(stream) => Place::Ended(serve_stream(rt, publisher, &stream)),
+        None => Place::Failed,
+    };
+}
+
+/// Accepts a connection for each place, all side by side, each served from its accept on. It returns when all have
+/// ended.
+pub fn fill_all<P: Publishing + Sync, R: Threads + Wait + Clock + Sync>(
+    rt: &R,
+    publisher: &Publisher<P>,
+    listener: &TcpListener,
+    places: &mut [Place],
+)
+    ensures { All (IsFilled P.checked) places.new }
+{
+    if places.is_empty() {
+        return;
+    }
+    let count = places.len();
+    thread::for_each_mut(
+        rt,
+        places,
+        count,
+        &|_, place| fill(rt, publisher, listener, place),
+    );
+}

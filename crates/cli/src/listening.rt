@@ -1,0 +1,51 @@
+//! The socket on which connections are waited for.
+
+ghost use Rattle.std.specs.Prelude.{IfErr, OnOk};
+ghost use Rattle.std.specs.Io.KnownBytes.{Appends};
+ghost use Rattle.commands.specs.Output.{StopsText, ended};
+ghost use Rattle.cli.specs.Telling.{listening_line};
+
+use commands::{Failure, write_line};
+use std::alloc::Global;
+use std::io::Write;
+use std::net::{Ipv4Addr, Net, TcpListener, TcpStream};
+
+/// Says in a line that a port is listened on.
+pub fn say_listening<'a, W: Write>(
+    alloc: Global,
+    port: u16,
+    writer: &mut W,
+) -> Result<(), Failure<'a>>
+    ensures told { OnOk result (Appends (W.contents writer.old) (W.contents writer.new) (ended (listening_line port))) }
+    ensures stopped { IfErr result (StopsText (ended (listening_line port)) (W.contents writer.old)
+        (W.contents writer.new)) }
+{
+    let mut line = format!(in alloc; "listening {port}")?;
+    write_line(&mut line, writer)?;
+    match writer.flush() {
+        Ok(()) => Ok(()),
+        Err(_) => Err(Failure::Output),
+    }
+}
+
+/// Listens on this port of the loopback interface, and says so in a line.
+///
+/// # Errors
+///
+/// `Output` where the port can't be had, or the line can't be written.
+pub fn listen<'a, W: Write, R: Net<Listener = TcpListener, Stream = TcpStream>>(
+    rt: &R,
+    alloc: Global,
+    port: u16,
+    writer: &mut W,
+) -> Result<TcpListener, Failure<'a>>
+    ensures told { OnOk result (Appends (W.contents writer.old) (W.contents writer.new) (ended (listening_line port))) }
+    ensures stopped { IfErr result (StopsText (ended (listening_line port)) (W.contents writer.old)
+        (W.contents writer.new)) }
+{
+    let Ok(listener) = TcpListener::bind(rt, (Ipv4Addr::LOCALHOST, port)) else {
+        return Err(Failure::Output);
+    };
+    say_listening(alloc, port, writer)?;
+    Ok(listener)
+}

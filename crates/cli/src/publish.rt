@@ -1,0 +1,236 @@
+//! `publish`: commits are read and made as they come, while the subscribers of a sharding are served over sockets.
+
+ghost use Rattle.std.specs.Prelude.{◌≡◌, IfErr, OnOk};
+ghost use Rattle.std.specs.Arc.{arc_value};
+ghost use Rattle.commands.specs.Inputs.{reader_of};
+ghost use Rattle.commands.specs.Simulate.Limits.{IsWithin};
+ghost use Rattle.shard_checker.specs.CheckedView.{checked_view};
+ghost use Rattle.cli.specs.Published.{Serves};
+ghost use Rattle.cli.specs.Requests.{AnswersReader};
+ghost use Rattle.cli.specs.Talks.{HasAnswered, IsCutOff};
+ghost use Rattle.cli.specs.declared.requests.Request.TheVariants.{Publish};
+
+mod closing;
+mod door;
+mod hall;
+mod keepalives;
+mod notices;
+mod objects;
+mod parting;
+mod parts;
+mod places;
+mod sent;
+mod session;
+mod streams;
+mod view;
+
+use crate::publish::closing::close_session;
+use crate::publish::door::open_door;
+use crate::publish::hall::Hall;
+use crate::publish::parting::see_off;
+use crate::publish::parts::read_part;
+use crate::publish::places::{Berth, attend_all, free_berths, served_at};
+use crate::publish::session::answer_lines;
+use crate::requests::Feed;
+use commands::{Failure, Input, Status, lines_of, verdict_of, write_refused};
+use pub_reader::read_catalog;
+use senders::{Publisher, Publishing, Seat};
+use shard_checker::Checked;
+use std::alloc::Global;
+use std::io::{BufRead, BufReader, Read, Write};
+use std::marker::Brand;
+use std::net::{Net, TcpListener, TcpStream};
+use std::rt::Files;
+use std::sync::ledger::Blank;
+use std::sync::{Arc, Wait};
+use std::thread::{Threads, join_mut};
+use std::time::Clock;
+
+/// Answers the lines of the session, once some place waits for clients.
+///
+/// # Errors
+///
+/// `OutOfMemory` also where none does, since no other thread can be had.
+#[tactic(auto, using(crate::proofs::Talking::unbegun))]
+fn answer_attended<'a, P: Publishing, I: BufRead, W: Write, R: Wait + Clock>(
+    rt: &R,
+    publisher: &Publisher<P>,
+    hall: &Hall,
+    seat: &mut Seat<P>,
+    reader: &mut I,
+    writer: &mut W,
+) -> Result<(), Failure<'a>>
+    ensures ok { OnOk result (HasAnswered P.checked P.limit (I.remaining reader.old) (I.remaining reader.new)
+        (W.contents writer.old) (W.contents writer.new) seat.old seat.new) }
+    ensures err { IfErr result (IsCutOff P.checked P.limit (I.remaining reader.old) (I.remaining reader.new)
+        (W.contents writer.old) (W.contents writer.new)) }
+{
+    if !hall.is_attended(rt) {
+        return Err(Failure::OutOfMemory);
+    }
+    answer_lines(rt, publisher.allocator(), publisher, seat, reader, writer)
+}
+
+/// Answers the lines of the session, and lets the clients go when there are no more.
+fn conduct<
+    'a,
+    P: Publishing,
+    I: BufRead,
+    W: Write,
+    R: Wait + Clock + Net<Listener = TcpListener, Stream = TcpStream>,
+>(
+    rt: &R,
+    publisher: &Publisher<P>,
+    hall: &Hall,
+    port: u16,
+    seat: &mut Seat<P>,
+    reader: &mut I,
+    writer: &mut W,
+) -> Result<(), Failure<'a>>
+    ensures ok { OnOk result (HasAnswered P.checked P.limit (I.remaining reader.old) (I.remaining reader.new)
+        (W.contents writer.old) (W.contents writer.new) seat.old seat.new) }
+    ensures err { IfErr result (IsCutOff P.checked P.limit (I.remaining reader.old) (I.remaining reader.new)
+        (W.contents writer.old) (W.contents writer.new)) }
+{
+    let answered = answer_attended(rt, publisher, hall, seat, reader, writer);
+    publisher.finish(rt);
+    hall.close(rt, port);
+    see_off(rt, publisher, hall);
+    answered
+}
+
+/// Answers the lines of the session in this thread, while clients are served in others.
+fn run_both<
+    'a,
+    P: Publishing + Sync,
+    I: BufRead,
+    W: Write,
+    R: Threads + Wait + Clock + Eprint + Net<Listener = TcpListener, Stream = TcpStream> + Sync,
+>(
+    rt: &R,
+    publisher: &Publisher<P>,
+    feed: Feed<'_>,
+    port: u16,
+    listener: &TcpListener,
+    berths: &mut [Berth],
+    seat: &mut Seat<P>,
+    reader: &mut I,
+    writer: &mut W,
+) -> Result<(), Failure<'a>>
+    ensures ok { OnOk result (HasAnswered P.checked P.limit (I.remaining reader.old) (I.remaining reader.new)
+        (W.contents writer.old) (W.contents writer.new) seat.old seat.new) }
+    ensures err { IfErr result (IsCutOff P.checked P.limit (I.remaining reader.old) (I.remaining reader.new)
+        (W.contents writer.old) (W.contents writer.new)) }
+{
+    let hall = Hall::new(feed);
+    let shared = &hall;
+    let ((), answered) = join_mut(
+        rt,
+        &mut || attend_all(rt, publisher, shared, listener, berths),
+        &mut || -> Result<(), Failure<'_>>
+            ensures ok { OnOk result (HasAnswered P.checked P.limit (I.remaining reader.entry.now)
+                (I.remaining reader.exit.now) (W.contents writer.entry.now) (W.contents writer.exit.now)
+                seat.entry.now seat.exit.now) }
+            ensures err { IfErr result (IsCutOff P.checked P.limit (I.remaining reader.entry.now)
+                (I.remaining reader.exit.now) (W.contents writer.entry.now) (W.contents writer.exit.now)) }
+        { conduct(rt, publisher, shared, port, seat, reader, writer) },
+    );
+    answered
+}
+
+/// Serves the clients of a publisher while a session makes commits, and closes it when all have ended.
+fn publish<
+    'a,
+    P: Publishing + Sync,
+    I: BufRead,
+    W: Write,
+    R: Threads
+        + Wait
+        + Clock
+        + Eprint
+        + Files
+        + Net<Listener = TcpListener, Stream = TcpStream>
+        + Sync,
+>(
+    rt: &R,
+    alloc: Global,
+    blank: Blank,
+    checked: Arc<Checked, Global>,
+    feed: Feed<'_>,
+    reader: &mut I,
+    writer: &mut W,
+) -> Result<Status, Failure<'a>>
+    requires name { blank.name ≡ P.name }
+    requires parts { blank.parts ≡ P.parts }
+    requires seats { blank.parts ≡ 1000 }
+    requires checked { checked_view (arc_value checked) ≡ P.checked }
+    requires limit { feed.limit ≡ P.limit }
+    requires within { IsWithin feed.limit }
+    ensures { Serves feed.entry P.checked (I.remaining reader.old) (I.remaining reader.new) (W.contents writer.old)
+        (W.contents writer.new) result }
+{
+    let mut berths = free_berths(alloc, checked.catalog().subscriptions.len())?;
+    let (publisher, mut seats) = Publisher::<P>::new(alloc, blank, checked, feed.limit)?;
+    let Some(mut seat) = seats.seat() else {
+        unreachable!()
+    };
+    let door = open_door(rt, alloc, feed, writer)?;
+    let answered = run_both(
+        rt,
+        &publisher,
+        feed,
+        door.port,
+        &door.listener,
+        berths.as_mut_slice(),
+        &mut seat,
+        reader,
+        writer,
+    );
+    answered?;
+    let served = served_at(alloc, berths)?;
+    close_session(alloc, publisher, seats, seat, served, writer)
+}
+
+/// Publishes what a reader gives: a catalog, a line `%%`, the texts of the certificates of its tables, one a line, a line
+/// `%%`, and then commands, a step a line, each of which is made and answered when it has come.
+pub(crate) fn publish_input<
+    'a,
+    I: Read + Drop,
+    W: Write,
+    R: Threads
+        + Wait
+        + Clock
+        + Eprint
+        + Files
+        + Net<Listener = TcpListener, Stream = TcpStream>
+        + Sync,
+>(
+    rt: &R,
+    alloc: Global,
+    feed: Feed<'_>,
+    input: Input<I>,
+    writer: &mut W,
+) -> Result<Status, Failure<'a>>
+    requires { IsWithin feed.limit }
+    ensures { AnswersReader (Publish feed.entry) (I.remaining (reader_of input)) (W.contents writer.old)
+        (W.contents writer.new) result }
+{
+    let Ok(mut reader) = BufReader::new(alloc, input) else {
+        return Err(Failure::OutOfMemory);
+    };
+    let text = read_part(rt, alloc, &mut reader)?;
+    let certificates = read_part(rt, alloc, &mut reader)?;
+    let catalog = read_catalog(alloc, text.as_str())?;
+    let texts = lines_of(alloc, certificates.as_str())?;
+    match verdict_of(alloc, catalog, texts.as_slice())? {
+        Ok(checked) => {
+            let shared = Arc::new(alloc, checked)?;
+            let blank = Blank::new(1_000);
+            publish::<Brand, _, _, _>(rt, alloc, blank, shared, feed, &mut reader, writer)
+        }
+        Err(refusal) => {
+            let catalog = read_catalog(alloc, text.as_str())?;
+            write_refused(alloc, &catalog, refusal, writer)
+        }
+    }
+}

@@ -1,0 +1,64 @@
+//! How publishing ends.
+
+ghost use Rattle.std.specs.Prelude.{ℕ, List, ◌≡◌};
+ghost use Rattle.commands.specs.declared.failure.Status.TheVariants.{Done};
+ghost use Rattle.publisher_desk.specs.declared.note.Note.{Note};
+ghost use Rattle.shard_checker.specs.CheckedView.{CheckedOf};
+ghost use Rattle.cli.specs.Published.{Closes, IsLast, IsLastOf};
+ghost use Rattle.cli.specs.Telling.{closed_line};
+
+use crate::closing::{name_of, say};
+use commands::{Failure, Status};
+use senders::{CloseError, Publisher, Publishing, Seat, Seats, Served, close};
+use std::alloc::Global;
+use std::io::Write;
+
+/// Says how many commits and connections there were.
+fn tell_closed<'a, W: Write>(
+    alloc: Global,
+    commits: u32,
+    connections: usize,
+    writer: &mut W,
+) -> Result<Status, Failure<'a>>
+    ensures { (checked : CheckedOf) (limit : ℕ) (notes : List Note)
+        → IsLast checked limit notes (closed_line commits connections) Done
+        → Closes checked limit notes (W.contents writer.old) (W.contents writer.new) result }
+{
+    let line = format!(in alloc; "closed {commits} {connections}")?;
+    say(line, Status::Done, writer)
+}
+
+/// Says why a publisher can't be closed.
+fn tell_error<'a, W: Write>(
+    alloc: Global,
+    error: CloseError,
+    writer: &mut W,
+) -> Result<Status, Failure<'a>>
+    ensures { (checked : CheckedOf) (limit : ℕ) (notes : List Note) → IsLastOf checked limit notes error
+        → Closes checked limit notes (W.contents writer.old) (W.contents writer.new) result }
+{
+    let name = name_of(error).ok_or(Failure::OutOfMemory)?;
+    let line = format!(in alloc; "close {name}")?;
+    say(line, Status::Refused, writer)
+}
+
+/// Closes a publisher all of whose seats but this were never handed out, and says in a line how many commits and
+/// connections there were, or why it can't be closed.
+pub(crate) fn close_session<'a, P: Publishing, W: Write>(
+    alloc: Global,
+    publisher: Publisher<P>,
+    rest: Seats<P>,
+    seat: Seat<P>,
+    served: Vec<Served>,
+    writer: &mut W,
+) -> Result<Status, Failure<'a>>
+    requires parts { P.parts ≡ 1000 }
+    requires rest { rest ≡ 999 }
+    ensures { Closes P.checked P.limit seat (W.contents writer.old) (W.contents writer.new) result }
+{
+    let seats = vec![in alloc; seat]?;
+    match close(publisher, rest, seats, served) {
+        Ok(closed) => tell_closed(alloc, closed.book.log_len(), closed.served.len(), writer),
+        Err(error) => tell_error(alloc, error, writer),
+    }
+}

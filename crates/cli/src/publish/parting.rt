@@ -1,0 +1,81 @@
+//! How the publisher ends: what is left is sent, and confirmed for a while.
+
+ghost use Rattle.std.specs.Prelude.{ℕ};
+ghost use Rattle.publisher_desk.specs.Held.{AreSentUpTo};
+
+use crate::publish::hall::Hall;
+use publisher_desk::{SlotUse, Wish};
+use senders::{Publisher, Publishing};
+use std::sync::Wait;
+use std::thread;
+use std::time::{Clock, Duration};
+use tables_log::Book;
+
+/// After how many milliseconds it is asked again whether all is confirmed.
+const LOOK: u64 = 50;
+
+/// How often it is asked at most.
+const LOOKS: u32 = 200;
+
+/// How many bytes of the log a commit has.
+const COMMIT: u64 = 64;
+
+/// Asks whether some client that is connected has not confirmed the log yet, and has each such client sent a keepalive.
+#[derive(Drop)]
+struct Asking;
+
+/// Asks whether the client of a slot is connected and has not confirmed the log up to its end, and has it sent a keepalive
+/// then.
+fn ask(wishes: &mut [Wish], slot: usize, confirmed: u64, end: u64) -> bool
+    ensures { (most : ℕ) → AreSentUpTo most wishes.old → AreSentUpTo most wishes.new }
+{
+    let Some(wish) = wishes.get(slot).copied() else {
+        return false;
+    };
+    if wish.has_ended || wish.sent == 0 || end <= confirmed {
+        return false;
+    }
+    wishes[slot] = Wish {
+        sent: wish.sent,
+        wants_reply: true,
+        has_ended: false,
+    };
+    true
+}
+
+impl SlotUse for Asking {
+    type Answer = bool;
+
+    ghost did = { λ before after old new wishes left answer. Unit {0} };
+
+    fn use_slots(&mut self, book: &mut Book, wishes: &mut [Wish]) -> bool {
+        let end = u64::from(book.log_len()) * COMMIT + COMMIT;
+        let mut is_asked = false;
+        for slot in 0..wishes.len() {
+            if ask(wishes, slot, book.confirmed(slot), end) {
+                is_asked = true;
+            }
+        }
+        is_asked
+    }
+}
+
+/// Waits until each client that is connected has confirmed the log, but no longer than ten seconds.
+fn await_confirmed<P: Publishing, R: Wait + Clock>(rt: &R, publisher: &Publisher<P>) {
+    for _ in 0..LOOKS {
+        thread::sleep(rt, Duration::from_millis(LOOK));
+        if !publisher.lend(rt, &mut Asking) {
+            return;
+        }
+    }
+}
+
+/// Lets each client that is connected confirm what it was sent, and then has all go.
+pub(crate) fn see_off<P: Publishing, R: Wait + Clock>(
+    rt: &R,
+    publisher: &Publisher<P>,
+    hall: &Hall,
+) {
+    await_confirmed(rt, publisher);
+    hall.clear();
+}

@@ -1,0 +1,157 @@
+//! Places in which clients are served, one after another.
+
+use crate::publish::hall::Hall;
+use crate::publish::keepalives::keep_alive;
+use crate::publish::notices::{tell_busy, tell_end, tell_start};
+use crate::publish::streams::{MarkingWrite, PatientRead};
+use senders::{FromRead, OpenGate, Publisher, Publishing, Served, ToWrite, serve};
+use std::alloc::{AllocError, Global};
+use std::io::ErrorKind;
+use std::net::{SocketAddr, TcpListener, TcpStream};
+use std::sync::Wait;
+use std::sync::atomic::AtomicBool;
+use std::thread;
+use std::thread::{Threads, join_mut};
+use std::time::{Clock, Duration};
+
+/// How many places there are besides one for each subscription. While they are all taken, a connection that starts no
+/// stream is ended, so that clients that ask for nothing keep nobody out.
+const SPARE: usize = 64;
+
+/// How many milliseconds a place waits where no connection can be accepted, as while all file descriptors are in use.
+const PAUSE: u64 = 100;
+
+/// A place for clients, with what came of the connections that were served there.
+#[derive(Debug, Drop)]
+pub(crate) struct Berth {
+    pub(crate) served: Vec<Served>,
+}
+
+/// The places for the clients of so many subscriptions.
+pub(crate) fn free_berths(alloc: Global, subscriptions: usize) -> Result<Vec<Berth>, AllocError> {
+    let count = subscriptions.saturating_add(SPARE);
+    let mut berths = Vec::new(alloc);
+    for _ in 0..count {
+        berths.push(Berth {
+            served: Vec::new(alloc),
+        })?;
+    }
+    Ok(berths)
+}
+
+/// The connections of all places.
+pub(crate) fn served_at(alloc: Global, berths: Vec<Berth>) -> Result<Vec<Served>, AllocError> {
+    let mut all = Vec::new(alloc);
+    for berth in berths {
+        for served in berth.served {
+            all.push(served)?;
+        }
+    }
+    Ok(all)
+}
+
+/// Serves a connection to its end.
+fn serve_stream<P: Publishing + Sync, R: Threads + Wait + Clock + Sync>(
+    rt: &R,
+    publisher: &Publisher<P>,
+    hall: &Hall,
+    stream: &TcpStream,
+) -> Served {
+    let is_started = AtomicBool::new(false);
+    let _ = stream.set_nodelay(true);
+    let mut reader = FromRead::new(PatientRead::new(hall, stream, &is_started));
+    let mut writer = ToWrite::new(MarkingWrite::new(hall, stream, &is_started));
+    serve(rt, publisher, &mut reader, &mut writer, &OpenGate)
+}
+
+/// Waits for the next connection at the door, which comes with its client's address; none where it is closed, or where no
+/// connection can be accepted now.
+fn next_stream<R: Clock + Eprint>(
+    rt: &R,
+    alloc: Global,
+    hall: &Hall,
+    listener: &TcpListener,
+) -> Option<(TcpStream, SocketAddr)> {
+    hall.enter();
+    if hall.is_closed() {
+        hall.leave();
+        return None;
+    }
+    let accepted = listener.accept();
+    hall.leave();
+    match accepted {
+        Ok(accepted) => Some(accepted),
+        Err(error) => {
+            if error.kind() != ErrorKind::ConnectionAborted {
+                tell_busy(rt, alloc, hall, &error);
+                thread::sleep(rt, Duration::from_millis(PAUSE));
+            }
+            None
+        }
+    }
+}
+
+/// Serves one client after another, until the door is closed.
+fn attend<P: Publishing + Sync, R: Threads + Wait + Clock + Eprint + Sync>(
+    rt: &R,
+    publisher: &Publisher<P>,
+    hall: &Hall,
+    listener: &TcpListener,
+    berth: &mut Berth,
+) {
+    for _ in rt.forever() {
+        if hall.is_closed() {
+            return;
+        }
+        if berth.served.reserve(1).is_err() {
+            thread::sleep(rt, Duration::from_millis(PAUSE));
+            continue;
+        }
+        let alloc = publisher.allocator();
+        let Some((stream, client)) = next_stream(rt, alloc, hall, listener) else {
+            continue;
+        };
+        if hall.is_closed() {
+            return;
+        }
+        tell_start(rt, alloc, hall, client);
+        let served = serve_stream(rt, publisher, hall, &stream);
+        tell_end(rt, publisher, hall, client, &served);
+        berth.served.push_reserved(served);
+    }
+}
+
+/// Serves clients in all places side by side, until the door is closed and all connections have ended.
+fn attend_berths<P: Publishing + Sync, R: Threads + Wait + Clock + Eprint + Sync>(
+    rt: &R,
+    publisher: &Publisher<P>,
+    hall: &Hall,
+    listener: &TcpListener,
+    berths: &mut [Berth],
+) {
+    if berths.is_empty() {
+        return;
+    }
+    let count = berths.len();
+    thread::for_each_mut(
+        rt,
+        berths,
+        count,
+        &|_, berth| attend(rt, publisher, hall, listener, berth),
+    );
+}
+
+/// Serves clients in all places, and has them sent keepalives, until the door is closed and all connections have ended.
+pub(crate) fn attend_all<P: Publishing + Sync, R: Threads + Wait + Clock + Eprint + Sync>(
+    rt: &R,
+    publisher: &Publisher<P>,
+    hall: &Hall,
+    listener: &TcpListener,
+    berths: &mut [Berth],
+) {
+    join_mut(
+        rt,
+        &mut || keep_alive(rt, publisher, hall),
+        &mut || attend_berths(rt, publisher, hall, listener, berths),
+    );
+}

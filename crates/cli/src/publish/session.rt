@@ -1,0 +1,213 @@
+//! The session that makes the commits, a line at a time.
+
+ghost use Rattle.std.specs.Prelude.{◌≡◌, [], ◌∷◌, true, codes, map, IfErr, IfOk, OnOk};
+ghost use Rattle.std.specs.Io.KnownBytes.{Appends};
+ghost use Rattle.std.specs.String.{string_bytes};
+ghost use Rattle.pub_reader.specs.ScriptView.{line_view};
+ghost use Rattle.pub_reader.specs.StepView.{step_view};
+ghost use Rattle.table_changes.specs.Commands.{command_view};
+ghost use Rattle.sql_reader.specs.KindNames.{kind_name};
+ghost use Rattle.commands.specs.Failures.{fault_line};
+ghost use Rattle.commands.specs.Output.{StopsText, text_of};
+ghost use Rattle.cli.specs.Talks as spec;
+ghost use Rattle.cli.specs.Talks.{Answers, HasAnswered, HasGone, IsCutOff, Replies, StopsNext, Tells};
+
+use crate::publish::parts::next_line;
+use crate::publish::view::view_text;
+use commands::{Failure, InputFault, answer_text, read_steps, write_text};
+use pub_catalog::Catalog;
+use pub_reader::{Command, ErrorKind, Line, ReadError, Step};
+use senders::{Publisher, Publishing, Seat};
+use shard_world::Answer;
+use std::alloc::{AllocError, Global};
+use std::io::{BufRead, Write};
+use std::str::from_utf8;
+use std::sync::Wait;
+use std::time::Clock;
+
+/// Whether the step is COMMIT or VIEW.
+fn is_fit(step: &Step) -> bool
+    ensures { result ≡ spec.is_fit (step_view step.now) }
+{
+    matches!(step, Step::Commit(_) | Step::View)
+}
+
+/// The place of the first step that is neither COMMIT nor VIEW, or that is not alone on its line.
+fn first_unfit(steps: &[Line]) -> Option<usize>
+    ensures { result ≡ spec.first_unfit (map line_view steps.now) }
+{
+    let mut is_first = true;
+    for step in steps {
+        if !is_first || !is_fit(&step.step) {
+            return Some(step.place);
+        }
+        is_first = false;
+    }
+    None
+}
+
+/// How many seconds after 1970-01-01 2000-01-01 is.
+const SECONDS_TO_2000: u64 = 946_684_800;
+
+/// The time in microseconds since 2000-01-01, as that of a commit; 0 where the clock can't be read.
+fn commit_time<R: Clock>(rt: &R) -> u64 {
+    let Ok(time) = rt.since_1970() else {
+        return 0;
+    };
+    let seconds = time.as_secs().saturating_sub(SECONDS_TO_2000);
+    seconds
+        .saturating_mul(1_000_000)
+        .saturating_add(u64::from(time.subsec_micros()))
+}
+
+/// Makes the commands one commit at this time, and says what is answered.
+fn commit<P: Publishing, R: Wait + Clock>(
+    rt: &R,
+    publisher: &Publisher<P>,
+    seat: &mut Seat<P>,
+    commands: Vec<Command>,
+) -> Answer
+    ensures { Replies P.checked P.limit (map command_view commands.items) seat.old seat.new result }
+{
+    match publisher.commit(rt, seat, commands, commit_time(rt)) {
+        Ok(number) => Answer::Committed(number),
+        Err(error) => Answer::Refused(error),
+    }
+}
+
+/// Makes a step, and gives the lines of what is answered or shown.
+fn step_text<P: Publishing, R: Wait + Clock>(
+    rt: &R,
+    alloc: Global,
+    publisher: &Publisher<P>,
+    seat: &mut Seat<P>,
+    step: Step,
+) -> Result<String, AllocError>
+    requires { spec.is_fit (step_view step) ≡ true }
+    ensures { IfOk result (λ text. Tells P.checked P.limit (step_view step) seat.old seat.new (string_bytes text)) }
+{
+    match step {
+        Step::Commit(commands) => answer_text(alloc, commit(rt, publisher, seat, commands)),
+        _ => view_text(rt, alloc, publisher),
+    }
+}
+
+/// The line of a fault.
+fn fault_text(alloc: Global, fault: InputFault<'_>) -> Result<String, AllocError>
+    ensures { IfOk result (λ text. string_bytes text ≡ text_of (fault_line fault.entry ∷ [])) }
+{
+    format!(in alloc; "{fault}\n")
+}
+
+/// The fault of a line that has an unfit step at this place.
+fn unfit_at(place: usize) -> ReadError
+    ensures place { result.place ≡ place }
+    ensures kind { kind_name result.kind ≡ codes "Expected" }
+{
+    let kind = ErrorKind::Expected("COMMIT");
+    ReadError { place, kind }
+}
+
+/// Makes the step that a line has, if it has one, and gives the lines of what is answered.
+fn line_text<P: Publishing, R: Wait + Clock>(
+    rt: &R,
+    alloc: Global,
+    publisher: &Publisher<P>,
+    seat: &mut Seat<P>,
+    line: &str,
+) -> Result<String, AllocError>
+    ensures { IfOk result (λ text. Answers P.checked P.limit line.now seat.old seat.new (string_bytes text)) }
+{
+    let catalog = publisher.checked().catalog();
+    let mut steps = match read_steps(alloc, catalog, line) {
+        Ok(steps) => steps,
+        Err(Failure::Input(fault)) => return fault_text(alloc, fault),
+        Err(_) => return Err(AllocError),
+    };
+    if let Some(place) = first_unfit(steps.as_slice()) {
+        return fault_text(alloc, InputFault::Script(unfit_at(place)));
+    }
+    match steps.pop() {
+        None => Ok(String::new(alloc)),
+        Some(line) => step_text(rt, alloc, publisher, seat, line.step),
+    }
+}
+
+/// Answers a line.
+fn answer<P: Publishing, R: Wait + Clock>(
+    rt: &R,
+    alloc: Global,
+    publisher: &Publisher<P>,
+    seat: &mut Seat<P>,
+    line: &[u8],
+) -> Result<String, AllocError>
+    ensures { IfOk result (λ text. Answers P.checked P.limit line.now seat.old seat.new (string_bytes text)) }
+{
+    match from_utf8(line) {
+        Ok(text) => line_text(rt, alloc, publisher, seat, text),
+        Err(_) => fault_text(alloc, InputFault::Unread),
+    }
+}
+
+/// Writes a text at once.
+fn tell<'a, W: Write>(text: &str, writer: &mut W) -> Result<(), Failure<'a>>
+    ensures written { OnOk result (Appends (W.contents writer.old) (W.contents writer.new) text.now) }
+    ensures stopped { IfErr result (StopsText text.now (W.contents writer.old) (W.contents writer.new)) }
+{
+    write_text(text, writer)?;
+    match writer.flush() {
+        Ok(()) => Ok(()),
+        Err(_) => Err(Failure::Output),
+    }
+}
+
+/// Reads the next line, answers it, and says whether there was one that is not `QUIT;`. A reader that fails has no more.
+fn answer_next<'a, P: Publishing, I: BufRead, W: Write, R: Wait + Clock>(
+    rt: &R,
+    alloc: Global,
+    publisher: &Publisher<P>,
+    seat: &mut Seat<P>,
+    line: &mut Vec<u8>,
+    reader: &mut I,
+    writer: &mut W,
+) -> Result<bool, Failure<'a>>
+    ensures ok { IfOk result (HasGone P.checked P.limit (I.remaining reader.old) (I.remaining reader.new)
+        (W.contents writer.old) (W.contents writer.new) seat.old seat.new) }
+    ensures err { IfErr result (StopsNext P.checked P.limit (I.remaining reader.old) (I.remaining reader.new)
+        (W.contents writer.old) (W.contents writer.new) seat.old) }
+{
+    match next_line(reader, line) {
+        Ok(true) => {}
+        Ok(false) | Err(Failure::Input(_)) => return Ok(false),
+        Err(_) => return Err(Failure::OutOfMemory),
+    }
+    if line.as_slice() == "QUIT;".as_bytes() {
+        return Ok(false);
+    }
+    let text = answer(rt, alloc, publisher, seat, line.as_slice())?;
+    tell(text.as_str(), writer)?;
+    Ok(true)
+}
+
+/// Answers each line as it comes, until there is no more or one is `QUIT;`.
+pub(crate) fn answer_lines<'a, P: Publishing, I: BufRead, W: Write, R: Wait + Clock>(
+    rt: &R,
+    alloc: Global,
+    publisher: &Publisher<P>,
+    seat: &mut Seat<P>,
+    reader: &mut I,
+    writer: &mut W,
+) -> Result<(), Failure<'a>>
+    ensures ok { OnOk result (HasAnswered P.checked P.limit (I.remaining reader.old) (I.remaining reader.new)
+        (W.contents writer.old) (W.contents writer.new) seat.old seat.new) }
+    ensures err { IfErr result (IsCutOff P.checked P.limit (I.remaining reader.old) (I.remaining reader.new)
+        (W.contents writer.old) (W.contents writer.new)) }
+{
+    let mut line = Vec::new(alloc);
+    for _ in rt.forever() {
+        if !answer_next(rt, alloc, publisher, seat, &mut line, reader, writer)? {
+            return Ok(());
+        }
+    }
+    unreachable!()
+}

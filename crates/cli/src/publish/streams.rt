@@ -1,0 +1,123 @@
+//! Sockets whose clients are waited for only so long.
+
+use crate::publish::hall::Hall;
+use std::io;
+use std::io::{ErrorKind, Read, Write};
+use std::net::TcpStream;
+use std::sync::atomic::{AtomicBool, Ordering};
+use std::time::Duration;
+
+/// After how many milliseconds without a byte it is asked whether a client is still to be waited for.
+const TICK: u64 = 200;
+
+/// How many ticks a second has.
+const TICKS: u64 = 1_000 / TICK;
+
+/// What is read of a client. It fails where the client starts no stream in time, or in no time while no place is free,
+/// where it is silent for too long after that, and once all clients have to go.
+#[derive(Debug, Drop)]
+pub(crate) struct PatientRead<'a> {
+    hall: &'a Hall,
+    stream: &'a TcpStream,
+    is_started: &'a AtomicBool,
+    /// How many ticks are left in which the client may start its stream.
+    left: u64,
+    /// For how many ticks the client has been silent.
+    silent: u64,
+}
+
+impl<'a> PatientRead<'a> {
+    /// A reader of the socket, whose client has as long as is said to start its stream.
+    pub(crate) fn new(
+        hall: &'a Hall,
+        stream: &'a TcpStream,
+        is_started: &'a AtomicBool,
+    ) -> PatientRead<'a> {
+        let _ = stream.set_read_timeout(Some(Duration::from_millis(TICK)));
+        PatientRead {
+            hall,
+            stream,
+            is_started,
+            left: u64::from(hall.start_timeout()).saturating_mul(TICKS),
+            silent: 0,
+        }
+    }
+
+    /// Counts a tick in which the client was silent, or was not.
+    fn count(&mut self, is_silent: bool) {
+        self.silent = if is_silent {
+            self.silent.saturating_add(1)
+        } else {
+            0
+        };
+    }
+
+    /// Whether the client has to go. It is asked after each read and each tick. A client that is silent has to go where
+    /// another waits for its place.
+    fn is_over(&mut self, is_silent: bool) -> bool {
+        self.count(is_silent);
+        if self.hall.is_cleared() {
+            return true;
+        }
+        if self.is_started.load(Ordering::SeqCst) {
+            return u64::from(self.hall.timeout()).saturating_mul(TICKS) <= self.silent;
+        }
+        self.left = self.left.saturating_sub(1);
+        self.left == 0 || (is_silent && (self.hall.is_full() || self.hall.is_closed()))
+    }
+}
+
+impl Read for PatientRead<'_> {
+    fn read(&mut self, buffer: &mut [u8]) -> io::Result<usize> {
+        for _ in 0..u64::MAX {
+            let mut stream = self.stream;
+            match stream.read(buffer) {
+                Err(error) if error.kind() == ErrorKind::WouldBlock => {
+                    if self.is_over(true) {
+                        return Err(io::Error::from(ErrorKind::TimedOut));
+                    }
+                }
+                Err(error) => return Err(error),
+                Ok(count) => {
+                    if 0 < count && self.is_over(false) {
+                        return Err(io::Error::from(ErrorKind::TimedOut));
+                    }
+                    return Ok(count);
+                }
+            }
+        }
+        Err(io::Error::from(ErrorKind::TimedOut))
+    }
+}
+
+/// What is written to a client. A write fails where the client takes no byte for so long.
+#[derive(Debug, Drop)]
+pub(crate) struct MarkingWrite<'a> {
+    stream: &'a TcpStream,
+    is_started: &'a AtomicBool,
+}
+
+impl<'a> MarkingWrite<'a> {
+    /// A writer to the socket, which notes that the client is answered.
+    pub(crate) fn new(
+        hall: &Hall,
+        stream: &'a TcpStream,
+        is_started: &'a AtomicBool,
+    ) -> MarkingWrite<'a> {
+        let patience = Duration::from_secs(u64::from(hall.write_timeout()));
+        let _ = stream.set_write_timeout(Some(patience));
+        MarkingWrite { stream, is_started }
+    }
+}
+
+impl Write for MarkingWrite<'_> {
+    fn write(&mut self, bytes: &[u8]) -> io::Result<usize> {
+        self.is_started.store(true, Ordering::SeqCst);
+        let mut stream = self.stream;
+        stream.write(bytes)
+    }
+
+    fn flush(&mut self) -> io::Result<()> {
+        Ok(())
+    }
+}

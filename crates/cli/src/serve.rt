@@ -1,0 +1,102 @@
+//! `serve`: the subscribers of a sharding are served over sockets.
+
+ghost use Rattle.std.specs.Prelude.{◌≡◌, ◌≤◌, length, map};
+ghost use Rattle.std.specs.Arc.{arc_value};
+ghost use Rattle.shard_checker.specs.CheckedView.{checked_view};
+ghost use Rattle.commands.specs.Simulate.Limits.{IsWithin};
+ghost use Rattle.cli.specs.Scripts.{list_view};
+ghost use Rattle.cli.specs.Serving.{EndsService};
+ghost use Rattle.cli.specs.Telling.{Tells, service_of};
+
+use crate::closing::{close_and_tell, served_in};
+use crate::connections::open_places;
+use crate::listening::listen;
+use crate::requests::Service;
+use crate::running::run_both;
+use crate::script::read_lists;
+use commands::{Failure, InputFault, Status, lines_of, three_parts, verdict_of, write_refused};
+use pub_reader::read_catalog;
+use senders::{Publisher, Publishing};
+use shard_checker::Checked;
+use std::alloc::Global;
+use std::io::Write;
+use std::marker::Brand;
+use std::net::{Net, TcpListener, TcpStream};
+use std::sync::ledger::Blank;
+use std::sync::{Arc, Wait};
+use std::thread::Threads;
+use std::time::Clock;
+use table_changes::Command;
+
+/// Serves connections of a publisher while a session commits the lists, and closes it when all have ended.
+fn publish<
+    'a,
+    P: Publishing + Sync,
+    W: Write,
+    R: Threads + Wait + Clock + Eprint + Net<Listener = TcpListener, Stream = TcpStream> + Sync,
+>(
+    rt: &R,
+    alloc: Global,
+    blank: Blank,
+    checked: Arc<Checked, Global>,
+    service: Service,
+    lists: Vec<Vec<Command>>,
+    writer: &mut W,
+) -> Result<Status, Failure<'a>>
+    requires name { blank.name ≡ P.name }
+    requires parts { blank.parts ≡ P.parts }
+    requires seats { blank.parts ≡ 1000 }
+    requires checked { checked_view (arc_value checked) ≡ P.checked }
+    requires limit { service.limit ≡ P.limit }
+    requires within { IsWithin service.limit }
+    requires few { length lists.items ≤ 100000 }
+    ensures { Tells (service_of service P.checked (map list_view lists.items)) (W.contents writer.old)
+        (W.contents writer.new) result }
+{
+    let subscriptions = checked.catalog().subscriptions.len();
+    let mut places = open_places(alloc, service.connections.unwrap_or(subscriptions))?;
+    let (publisher, mut seats) = Publisher::<P>::new(alloc, blank, checked, service.limit)?;
+    let Some(mut seat) = seats.seat() else {
+        unreachable!()
+    };
+    let listener = listen(rt, alloc, service.port, writer)?;
+    let committed = run_both(rt, &publisher, &mut seat, lists, &listener, &mut places);
+    let served = served_in(alloc, places)?;
+    committed?;
+    close_and_tell(rt, alloc, publisher, seats, seat, served, writer)
+}
+
+/// Serves an input: a catalog, the texts of the certificates of its tables, one a line, and a script, with lines `%%`
+/// between them. Faults of the input are those of `simulate`, in its order. That a step isn't COMMIT is a fault of the
+/// script.
+pub fn serve_input<
+    'a,
+    W: Write,
+    R: Threads + Wait + Clock + Eprint + Net<Listener = TcpListener, Stream = TcpStream> + Sync,
+>(
+    rt: &R,
+    alloc: Global,
+    service: Service,
+    input: &str,
+    writer: &mut W,
+) -> Result<Status, Failure<'a>>
+    requires { IsWithin service.limit }
+    ensures { EndsService service input.now (W.contents writer.old) (W.contents writer.new) result }
+{
+    let (text, certificates, script) = three_parts(input).ok_or(InputFault::Parts)?;
+    let catalog = read_catalog(alloc, text)?;
+    let lists = read_lists(alloc, &catalog, script);
+    let texts = lines_of(alloc, certificates)?;
+    let verdict = verdict_of(alloc, catalog, texts.as_slice())?;
+    let lists = lists?;
+    match verdict {
+        Ok(checked) => {
+            let shared = Arc::new(alloc, checked)?;
+            publish::<Brand, _, _>(rt, alloc, Blank::new(1_000), shared, service, lists, writer)
+        }
+        Err(refusal) => {
+            let catalog = read_catalog(alloc, text)?;
+            write_refused(alloc, &catalog, refusal, writer)
+        }
+    }
+}

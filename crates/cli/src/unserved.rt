@@ -1,0 +1,86 @@
+//! Which subscriptions of a catalog were not served to the end of the log.
+
+use commands::{push_position, subscriber_name};
+use pub_catalog::Catalog;
+use senders::{Closed, End, Publishing, Served};
+use std::alloc::{AllocError, Global};
+
+/// How many bytes of the log a commit has.
+const COMMIT: u64 = 64;
+
+/// How many commits of the log end at a position or before it.
+fn commits_to(position: u64) -> u64 {
+    position.saturating_sub(1) / COMMIT
+}
+
+/// The position after so many commits.
+fn end_of(commits: u64) -> u64 {
+    commits.saturating_mul(COMMIT).saturating_add(COMMIT)
+}
+
+/// How many commits a client of the slot has or was sent: those before its start, and those that followed, unless a
+/// write failed, since then it is not known how many of them were written. None where the connection was not the slot's.
+fn commits_sent(served: &Served, slot: usize) -> Option<u64> {
+    let start = served.start?;
+    if served.slot != Some(slot) {
+        return None;
+    }
+    let taken = match served.end {
+        End::WriteFault => 0,
+        _ => served.taken.len() as u64,
+    };
+    Some(commits_to(start).saturating_add(taken))
+}
+
+/// How many commits the clients of the slot were sent at most; none where no stream of the slot was started.
+fn most_sent(served: &[Served], slot: usize) -> Option<u64> {
+    let mut most = None;
+    for one in served {
+        if let Some(sent) = commits_sent(one, slot) {
+            most = Some(sent.max(most.unwrap_or(0)));
+        }
+    }
+    most
+}
+
+/// The line of a subscription that was sent so many commits of so many.
+fn unserved_line(
+    alloc: Global,
+    name: &str,
+    sent: Option<u64>,
+    commits: u64,
+) -> Result<String, AllocError> {
+    let mut line = String::from_str(alloc, name)?;
+    let Some(sent) = sent else {
+        line.push_str(": no client started its stream\n")?;
+        return Ok(line);
+    };
+    line.push_str(": sent to ")?;
+    push_position(&mut line, end_of(sent))?;
+    line.push_str(", and the log ends at ")?;
+    push_position(&mut line, end_of(commits))?;
+    line.push('\n')?;
+    Ok(line)
+}
+
+/// Tells on standard error, in a line for each, which subscriptions no client started or none was sent to the end of the
+/// log. Where memory or the standard error fails, nothing is told.
+pub(crate) fn tell_unserved<P: Publishing, R: Eprint>(
+    rt: &R,
+    alloc: Global,
+    catalog: &Catalog,
+    closed: &Closed<P>,
+) {
+    let commits = u64::from(closed.book.log_len());
+    for slot in 0..catalog.subscriptions.len() {
+        let confirmed = commits_to(closed.book.confirmed(slot));
+        let sent = most_sent(closed.served.as_slice(), slot).map(|sent| sent.max(confirmed));
+        if sent == Some(commits) {
+            continue;
+        }
+        let name = subscriber_name(catalog.subscriptions.as_slice(), slot);
+        if let Ok(line) = unserved_line(alloc, name, sent, commits) {
+            let _ = rt.eprint(line.as_str());
+        }
+    }
+}

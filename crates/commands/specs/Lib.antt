@@ -1,0 +1,15 @@
+pub mod BadCatalogs
+pub mod Certificates
+pub mod Check
+pub mod Eval
+pub mod Failures
+pub mod Inputs
+pub mod Make
+pub mod Names
+pub mod Output
+pub mod Parts
+pub mod Refusals
+pub mod Reporting
+pub mod Show
+pub mod Simulate
+pub mod Verdicts

@@ -1,0 +1,153 @@
+-- What `make` answers: its input is a catalog, and for each of its tables, in their order, a line is written: a
+-- certificate of the table, or a row that shows that it is not sharded well, or that neither was found.
+use Rattle.std.specs.Prelude.{◌≡◌, ◌≢◌, ◌⊎◌, ℕ, ◌+◌, Bool, true, false, ◌&&◌, if◌then◌else◌, List, [], ◌∷◌, ◌++◌, length, Option, None, is_none, Result, Ok, codes}
+use Rattle.std.specs.Io.KnownBytes.{Appends}
+use Rattle.std.specs.List.{join_by}
+use Rattle.cert_maker.specs.Answers.{IsAccepted, IsCounter}
+use Rattle.filter_tree.specs.Datum.{Datum}
+use Rattle.filter_tree.specs.Expr.{Expr}
+use Rattle.pub_catalog.specs.Catalogs.{CatalogOf}
+use Rattle.pub_reader.specs.Statements.{catalog_by}
+use Rattle.pub_catalog.specs.declared.catalog.Subscription.{Subscription}
+use Rattle.replica_identity.specs.Plans.{plan_of}
+use Rattle.split_cert.specs.Text.{spelling_of}
+use Rattle.split_cert.specs.Tree.{Tree}
+use Rattle.sql_reader.specs.Reading.{Tells, told}
+use Rattle.sql_reader.specs.Written.{as_filter}
+use Rattle.sql_reader.specs.WrittenRows.{row_text}
+use Rattle.commands.specs.Parts.{cut_of}
+use Rattle.commands.specs.Names.{spaced, subscriber_name, table_name}
+use Rattle.commands.specs.Output.{Ends, StopsText, Writes, ended}
+use Rattle.commands.specs.declared.failure.Failure.{Failure}
+use Rattle.commands.specs.declared.failure.InputFault.{InputFault}
+use Rattle.commands.specs.declared.failure.InputFault.TheVariants as i
+use Rattle.commands.specs.declared.failure.Status.{Status}
+use Rattle.commands.specs.declared.failure.Status.TheVariants.{Done, Refused}
+use Rattle.cert_maker.specs.declared.made.Made.{Made}
+use Rattle.cert_maker.specs.declared.made.Made.TheVariants as m
+use Rattle.split_cert.specs.Where.{tree_view}
+
+-- ---- what is found of a table
+
+-- a certificate; a row and the subscribers that get it; neither; or no certificate within the limits, and no row
+pub data Finding : Type 0 where
+  Cert : Tree → Finding
+  Counter : List Datum → List ℕ → Finding
+  Unknown : Finding
+  TooLarge : Finding
+
+-- what the maker's answer says of a table; where memory ran out it says nothing
+abbrev pub finding_view : Made → Finding
+finding_view (m.Cert cert) = Cert (tree_view cert)
+finding_view (m.Counter row owners) = Counter row owners.items
+finding_view m.Unknown = Unknown
+finding_view m.TooLarge = TooLarge
+finding_view m.OutOfMemory = Unknown
+
+-- The check accepts the certificate with the catalog's own plan; the row fits the table and passes to exactly these
+-- subscribers, which are none or several. The others say nothing of the table.
+abbrev pub IsTrueOf : CatalogOf Expr → ℕ → Finding → Type 0
+IsTrueOf catalog number (Cert tree) = IsAccepted catalog (plan_of catalog) number tree
+IsTrueOf catalog number (Counter row owners) = IsCounter catalog (plan_of catalog) number row owners
+IsTrueOf catalog number Unknown = Unit {0}
+IsTrueOf catalog number TooLarge = Unit {0}
+
+abbrev pub is_certificate : Finding → Bool
+is_certificate (Cert tree) = true
+is_certificate _ = false
+
+-- ---- its line
+
+-- the names of subscribers with commas between, or `none`
+abbrev pub owners_text : List Subscription → List ℕ → List ℕ
+owners_text subscriptions [] = codes "none"
+owners_text subscriptions (owner ∷ owners) = join_by (subscriber_name subscriptions) (codes ",") (owner ∷ owners)
+
+abbrev pub counter_words : CatalogOf Expr → ℕ → List Datum → List ℕ → List (List ℕ)
+counter_words catalog number row owners =
+    table_name catalog.tables number ∷ row_text row ∷ codes "owners" ∷ owners_text catalog.subscriptions owners ∷ []
+
+abbrev pub line_for : CatalogOf Expr → ℕ → Finding → List ℕ
+line_for catalog number (Cert tree) = spelling_of tree
+line_for catalog number (Counter row owners) = codes "counter" ++ spaced (counter_words catalog number row owners)
+line_for catalog number Unknown = codes "unknown" ++ spaced (table_name catalog.tables number ∷ [])
+line_for catalog number TooLarge = codes "too large" ++ spaced (table_name catalog.tables number ∷ [])
+
+-- ---- what is answered
+
+module _ (catalog : CatalogOf Expr) where
+  -- a line for each of the first tables, so many, and whether each of the lines is a certificate
+  pub data AreLines : ℕ → Bool → List (List ℕ) → Type 0 where
+    NoTable : AreLines 0 true []
+    OneMore : (number : ℕ) (all : Bool) (lines : List (List ℕ)) (finding : Finding) → AreLines number all lines
+        → IsTrueOf catalog number finding
+        → AreLines (number + 1) (all && is_certificate finding) (lines ++ line_for catalog number finding ∷ [])
+
+abbrev pub status_for : Bool → Status
+status_for all = if all then Done else Refused
+
+-- the lines are those of the first tables of the catalog, by which the status goes, and so many tables are left
+pub record AreFirstLines (catalog : CatalogOf Expr) (left : ℕ) (lines : List (List ℕ)) (status : Status) : Type 0 where
+  pub number : ℕ
+  pub all : Bool
+  pub split : length catalog.tables ≡ number + left
+  pub are : AreLines catalog number all lines
+  pub goes_by : status ≡ status_for all
+
+-- some table is left
+pub record AreSomeLines (catalog : CatalogOf Expr) (lines : List (List ℕ)) : Type 0 where
+  pub later : ℕ
+  pub status : Status
+  pub first : AreFirstLines catalog (later + 1) lines status
+
+-- the whole input is a catalog, and the lines are those of its first tables
+pub record IsMaking (input : List ℕ) (left : ℕ) (lines : List (List ℕ)) (status : Status) : Type 0 where
+  pub catalog : CatalogOf Expr
+  pub whole : cut_of input ≡ None
+  pub reads : catalog_by as_filter input ≡ Ok catalog
+  pub tables : AreFirstLines catalog left lines status
+
+-- some table is left
+pub record IsBegunMaking (input : List ℕ) (lines : List (List ℕ)) : Type 0 where
+  pub later : ℕ
+  pub status : Status
+  pub first : IsMaking input (later + 1) lines status
+
+-- ---- why there is no answer
+
+abbrev pub IsFault : List ℕ → InputFault → Type 0
+IsFault input i.Unread = ⊥
+IsFault input i.Parts = cut_of input ≢ None
+IsFault input (i.Catalog error) = (cut_of input ≡ None) × Tells error (catalog_by as_filter input)
+    × (is_none (told error) ≡ false)
+IsFault input (i.Table name) = ⊥
+IsFault input (i.Certificate number error) = ⊥
+IsFault input (i.Script error) = ⊥
+
+-- ---- what is written
+
+-- the tables are answered, as far as memory and the writer go, or the input has a fault and nothing is written
+abbrev pub EndsMaking : List ℕ → Option (List ℕ) → Option (List ℕ) → Result Status Failure → Type 0
+EndsMaking input old new result =
+    Ends (IsMaking input 0) (λ lines. (lines ≡ []) ⊎ IsBegunMaking input lines) (IsFault input) old new result
+
+-- ---- the line of a table
+
+-- what is found of the table is so, and the writer's bytes grow by its line
+pub record WritesTable (catalog : CatalogOf Expr) (number : ℕ) (old new : Option (List ℕ)) (certified : Bool) : Type 0
+  where
+    pub finding : Finding
+    pub true_of : IsTrueOf catalog number finding
+    pub is : certified ≡ is_certificate finding
+    pub appends : Appends old new (ended (line_for catalog number finding))
+
+-- or by the line's first bytes, where writing it stops
+pub record StopsTable (catalog : CatalogOf Expr) (number : ℕ) (old new : Option (List ℕ)) (failure : Failure) : Type 0
+  where
+    pub finding : Finding
+    pub true_of : IsTrueOf catalog number finding
+    pub stops : StopsText (ended (line_for catalog number finding)) old new failure
+
+-- a line for each table is written, as far as memory and the writer go
+abbrev pub WritesTables : CatalogOf Expr → Option (List ℕ) → Option (List ℕ) → Result Status Failure → Type 0
+WritesTables catalog old new result = Writes (AreFirstLines catalog 0) (AreSomeLines catalog) old new result

@@ -1,0 +1,91 @@
+//! The line of a table, once a certificate was looked for.
+
+ghost use Rattle.std.specs.Prelude.{◌≡◌, ◌++◌, ◌∷◌, [], IfOk, OnOk, codes};
+ghost use Rattle.std.specs.String.{string_bytes};
+ghost use Rattle.pub_catalog.specs.CatalogView.{catalog_view};
+ghost use Rattle.commands.specs.Make.Making.{finding_view};
+ghost use Rattle.commands.specs.Make.Making as spec;
+ghost use Rattle.commands.specs.Names.{spaced, table_name};
+
+use crate::names::{push_table, push_word, subscriber_name};
+use cert_maker::Made;
+use filter_tree::Row;
+use pub_catalog::{Catalog, Subscription};
+use split_cert::write;
+use sql_reader::write_row;
+use std::alloc::{AllocError, Global};
+
+/// Writes a space and the names of subscribers, with commas between, or `none`.
+fn push_owners(
+    line: &mut String,
+    subscriptions: &[Subscription],
+    owners: &[usize],
+) -> Result<(), AllocError>
+    ensures { OnOk result (string_bytes line.new ≡ string_bytes line.old ++ spaced
+        (spec.owners_text subscriptions.now owners.now ∷ [])) }
+{
+    match owners {
+        [] => push_word(line, "none"),
+        [first, others @ ..] => {
+            push_word(line, subscriber_name(subscriptions, *first))?;
+            for owner in others {
+                line.push(',')?;
+                line.push_str(subscriber_name(subscriptions, *owner))?;
+            }
+            Ok(())
+        }
+    }
+}
+
+/// The line of a row that shows that the table of this number is not sharded well.
+fn counter_line(
+    alloc: Global,
+    catalog: &Catalog,
+    number: usize,
+    row: &Row,
+    owners: &[usize],
+) -> Result<String, AllocError>
+    ensures { IfOk result (λ line. string_bytes line ≡ codes "counter" ++ spaced
+        (spec.counter_words (catalog_view catalog.now) number row.now owners.now)) }
+{
+    let mut line = String::from_str(alloc, "counter")?;
+    push_table(&mut line, catalog.tables.as_slice(), number)?;
+    push_word(&mut line, write_row(alloc, row)?.as_str())?;
+    push_word(&mut line, "owners")?;
+    push_owners(&mut line, catalog.subscriptions.as_slice(), owners)?;
+    Ok(line)
+}
+
+/// The line that says these words of the table of this number.
+fn undecided_line(
+    alloc: Global,
+    catalog: &Catalog,
+    number: usize,
+    words: &str,
+) -> Result<String, AllocError>
+    ensures { IfOk result (λ line. string_bytes line ≡ words.now ++ spaced
+        (table_name (catalog_view catalog.now).tables number ∷ [])) }
+{
+    let mut line = String::from_str(alloc, words)?;
+    push_table(&mut line, catalog.tables.as_slice(), number)?;
+    Ok(line)
+}
+
+/// The line that says what was found of the table of this number.
+pub fn finding_line(
+    alloc: Global,
+    catalog: &Catalog,
+    number: usize,
+    made: &Made<'_>,
+) -> Result<String, AllocError>
+    ensures { IfOk result (λ line. string_bytes line ≡ spec.line_for (catalog_view catalog.now) number
+        (finding_view made.now)) }
+{
+    match made {
+        Made::Cert(cert) => write(alloc, cert),
+        Made::Counter(row, owners) => counter_line(alloc, catalog, number, row, owners.as_slice()),
+        Made::Unknown => undecided_line(alloc, catalog, number, "unknown"),
+        Made::TooLarge => undecided_line(alloc, catalog, number, "too large"),
+        Made::OutOfMemory => Err(AllocError),
+    }
+}

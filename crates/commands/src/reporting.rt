@@ -1,0 +1,50 @@
+//! How the program reports why it ends without an answer.
+
+ghost use Rattle.std.specs.Prelude.{◌≡◌, IfOk};
+ghost use Rattle.std.specs.String.{string_bytes};
+ghost use Rattle.commands.specs.Failures.{failure_lines};
+ghost use Rattle.commands.specs.Output.{text_of};
+ghost use Rattle.commands.specs.Reporting.{IsReport, IsWritten};
+
+use crate::failure::{Failure, Status};
+use crate::output::write_text;
+use std::alloc::{AllocError, Global};
+use std::io::Write;
+
+/// The lines of a failure; none where the writer failed.
+fn failure_text(alloc: Global, failure: &Failure<'_>) -> Result<String, AllocError>
+    ensures { IfOk result (λ text. string_bytes text ≡ text_of (failure_lines failure.now)) }
+{
+    let mut text = String::new(alloc);
+    match failure {
+        Failure::CommandLine(why) => write!(text, "command line\n{why}\n")?,
+        Failure::Input(fault) => write!(text, "{fault}\n")?,
+        Failure::Output => {}
+        Failure::OutOfMemory => text.push_str("out of memory\n")?,
+    }
+    Ok(text)
+}
+
+/// Writes a text, and tells this status, or that the writer failed.
+fn write_report<W: Write>(text: &str, status: Status, writer: &mut W) -> Status
+    ensures { IsWritten text.now status (W.contents writer.old) (W.contents writer.new) result }
+{
+    match write_text(text, writer) {
+        Ok(()) => status,
+        Err(_) => Status::Output,
+    }
+}
+
+/// Writes the lines of a failure, and tells the status of the program. Where the writer failed, nothing more is
+/// written. Where memory runs out for the lines, that is reported.
+pub fn report<W: Write>(alloc: Global, failure: Failure<'_>, writer: &mut W) -> Status
+    ensures { IsReport failure.entry (W.contents writer.old) (W.contents writer.new) result }
+{
+    if let Failure::Output = failure {
+        return Status::Output;
+    }
+    match failure_text(alloc, &failure) {
+        Ok(text) => write_report(text.as_str(), failure.status(), writer),
+        Err(_) => write_report("out of memory\n", Status::OutOfMemory, writer),
+    }
+}

@@ -1,0 +1,56 @@
+-- Nothing is said of a commit of which the subscriber gets nothing.
+use Rattle.std.proofs.Common.{◌≡◌, ℕ, Bool, true, false, ◌||◌, Option, Some, None, List, [], ◌∷◌, refl, sym, ap, ◌∙◌}
+use Rattle.std.specs.Prelude.{is_some}
+use Rattle.replica_identity.specs.Transforms.{out_for}
+use Rattle.row_owners.specs.Owners.{concerns, is_for}
+use Rattle.shard_checker.specs.CheckedView.{CheckedOf, setting_in}
+use Rattle.table_changes.specs.Outs.{OutOf, got}
+use Rattle.table_changes.specs.Records.{ChangeOf}
+use Rattle.tables_log.specs.Commits.{CommitOf}
+use Rattle.pgoutput_msgs.specs.Silent.{IsSilent, QuietAreSilent}
+use Rattle.pgoutput_msgs.specs.Telling.{said, told_by, said_each, told_each, enclosed}
+use Rattle.pgoutput_msgs.proofs.TellingLemmas.{got_none}
+
+first_false : (a b : Bool) → (a || b) ≡ false → a ≡ false
+first_false false b none = refl
+first_false true b none = absurd cc
+
+other_false : (a b : Bool) → (a || b) ≡ false → b ≡ false
+other_false false b none = none
+other_false true b none = absurd cc
+
+is_none : (out : Option OutOf) → is_some out ≡ false → None ≡ out
+is_none None none = refl
+is_none (Some out) none = absurd cc
+
+gets_none : (checked : CheckedOf) (subscriber : ℕ) (change : ChangeOf)
+    → is_for checked.plan subscriber change ≡ false → got (setting_in checked) subscriber change ≡ None
+gets_none checked subscriber change none =
+    got_none checked subscriber change checked.plan refl
+    (is_none (out_for checked.plan subscriber change) none)
+
+none_said : (checked : CheckedOf) (subscriber : ℕ) (told : List Bool) (changes : List ChangeOf)
+    → concerns checked.plan changes subscriber ≡ false → said_each checked subscriber told changes ≡ []
+unfolding said_each said told_by
+none_said checked subscriber told [] none = refl
+none_said checked subscriber told (change ∷ changes) none =
+    rw (gets_none checked subscriber change (first_false (is_for checked.plan subscriber change)
+    (concerns checked.plan changes subscriber) none))
+    (none_said checked subscriber told changes (other_false (is_for checked.plan subscriber change)
+    (concerns checked.plan changes subscriber) none))
+
+none_told : (checked : CheckedOf) (subscriber : ℕ) (told : List Bool) (changes : List ChangeOf)
+    → concerns checked.plan changes subscriber ≡ false → told_each checked subscriber told changes ≡ told
+unfolding told_each told_by
+none_told checked subscriber told [] none = refl
+none_told checked subscriber told (change ∷ changes) none =
+    rw (gets_none checked subscriber change (first_false (is_for checked.plan subscriber change)
+    (concerns checked.plan changes subscriber) none))
+    (none_told checked subscriber told changes (other_false (is_for checked.plan subscriber change)
+    (concerns checked.plan changes subscriber) none))
+
+pub quiet_are_silent : QuietAreSilent
+quiet_are_silent checked subscriber told commit none = record {
+  messages = ap (enclosed commit) (none_said checked subscriber told commit.changes none);
+  after = none_told checked subscriber told commit.changes none;
+}

@@ -1,5 +1,0 @@
-use Rattle.program_parts.proofs.Writing.{IsToGo}
-use Rattle.program_parts.proofs.output.write_text.Given as goal
-
-abbrev pub invariant-loop : goal.invariant-loop
-invariant-loop g l = IsToGo l.text l.rest (g.W.Write.contents l.initial.writer) (g.W.Write.contents l.writer)

@@ -1,0 +1,199 @@
+//! The steps of a script.
+
+ghost use Rattle.sql_reader.specs.ParsingContracts.{Takes, TakesSome};
+ghost use Rattle.pub_reader.specs.StepView.{step_view};
+ghost use Rattle.pub_reader.specs.Steps as spec;
+
+use crate::script_command::commands_or_none;
+use crate::step_word::StepWord;
+use filter_tree::Table;
+use sql_reader::{Item, Keyword, ReadError, Reader};
+use std::alloc::Global;
+use table_changes::Command;
+
+/// A step of a script: what is committed, or what happens on the connection of a subscriber, which is told by its
+/// number from 0 and need not be there.
+#[derive(Drop)]
+pub enum Step {
+    /// A transaction of these commands is committed.
+    Commit(Vec<Command>),
+    /// The subscriber connects, and asks for the stream from its position on.
+    Open { subscriber: usize },
+    /// The publisher hears the next bytes of the subscriber, at most so many.
+    Hear { subscriber: usize, bytes: usize },
+    /// The publisher takes the next commit and sends what the subscriber gets of it.
+    Take { subscriber: usize },
+    /// The publisher sends a keepalive, which may want an answer.
+    Keep { subscriber: usize, want: bool },
+    /// The next bytes of the publisher, at most so many, come to the subscriber.
+    Deliver { subscriber: usize, bytes: usize },
+    /// The subscriber sends its position, and may want an answer.
+    Report { subscriber: usize, want: bool },
+    /// The connection is lost.
+    Lose { subscriber: usize },
+    /// The subscriber gets all that was committed, and says so.
+    Pump { subscriber: usize },
+    /// What is in the publisher and in each subscriber is shown.
+    View,
+}
+
+/// Takes a number without a sign.
+#[tactic(auto, using(sql_reader::proofs::Ahead::rest_of_some_is_fewer), unfolding(crate::specs::Steps::natural))]
+fn natural(r: &mut Reader<'_>, what: &'static str) -> Result<usize, ReadError>
+    ensures { TakesSome (λ number. number) spec.natural r.old result r.new }
+{
+    match r.item() {
+        Some(Item::Number(number)) => {
+            r.advance();
+            Ok(number as usize)
+        }
+        _ => Err(r.refusal(what)),
+    }
+}
+
+fn subscriber(r: &mut Reader<'_>) -> Result<usize, ReadError>
+    ensures { TakesSome (λ number. number) spec.natural r.old result r.new }
+{
+    Ok(natural(r, "the number of a subscriber")?)
+}
+
+fn byte_count(r: &mut Reader<'_>) -> Result<usize, ReadError>
+    ensures { TakesSome (λ number. number) spec.natural r.old result r.new }
+{
+    Ok(natural(r, "a number of bytes")?)
+}
+
+/// Takes TRUE or FALSE.
+#[tactic(auto, using(sql_reader::proofs::Ahead::rest_of_some_is_fewer), unfolding(crate::specs::Steps::truth))]
+fn truth(r: &mut Reader<'_>) -> Result<bool, ReadError>
+    ensures { TakesSome (λ b. b) spec.truth r.old result r.new }
+{
+    match r.item() {
+        Some(Item::Keyword(Keyword::True)) => {
+            r.advance();
+            Ok(true)
+        }
+        Some(Item::Keyword(Keyword::False)) => {
+            r.advance();
+            Ok(false)
+        }
+        _ => Err(r.refusal("TRUE or FALSE")),
+    }
+}
+
+/// Takes TRUE or FALSE, or nothing, which is FALSE.
+#[tactic(auto, using(sql_reader::proofs::Ahead::rest_is_no_more), unfolding(crate::specs::Steps::truth_or_false))]
+fn truth_or_false(r: &mut Reader<'_>) -> Result<bool, ReadError>
+    ensures { Takes (λ b. b) spec.truth_or_false r.old result r.new }
+{
+    match r.item() {
+        Some(Item::Keyword(Keyword::True)) => {
+            r.advance();
+            Ok(true)
+        }
+        Some(Item::Keyword(Keyword::False)) => {
+            r.advance();
+            Ok(false)
+        }
+        _ => Ok(false),
+    }
+}
+
+#[tactic(auto, unfolding(crate::specs::Steps::commit_body))]
+fn commit_body(r: &mut Reader<'_>, alloc: Global, tables: &[Table]) -> Result<Step, ReadError>
+    ensures { Takes step_view (spec.commit_body tables.now) r.old result r.new }
+{
+    Ok(Step::Commit(commands_or_none(r, alloc, tables)?))
+}
+
+#[tactic(auto, unfolding(crate::specs::Steps::on_subscriber))]
+fn open_body(r: &mut Reader<'_>) -> Result<Step, ReadError>
+    ensures { Takes step_view (spec.on_subscriber spec.Open) r.old result r.new }
+{
+    let subscriber = subscriber(r)?;
+    Ok(Step::Open { subscriber })
+}
+
+#[tactic(auto, unfolding(crate::specs::Steps::hear_body))]
+fn hear_body(r: &mut Reader<'_>) -> Result<Step, ReadError>
+    ensures { Takes step_view spec.hear_body r.old result r.new }
+{
+    let subscriber = subscriber(r)?;
+    let bytes = byte_count(r)?;
+    Ok(Step::Hear { subscriber, bytes })
+}
+
+#[tactic(auto, unfolding(crate::specs::Steps::on_subscriber))]
+fn take_body(r: &mut Reader<'_>) -> Result<Step, ReadError>
+    ensures { Takes step_view (spec.on_subscriber spec.Take) r.old result r.new }
+{
+    let subscriber = subscriber(r)?;
+    Ok(Step::Take { subscriber })
+}
+
+#[tactic(auto, unfolding(crate::specs::Steps::keep_body))]
+fn keep_body(r: &mut Reader<'_>) -> Result<Step, ReadError>
+    ensures { Takes step_view spec.keep_body r.old result r.new }
+{
+    let subscriber = subscriber(r)?;
+    let want = truth(r)?;
+    Ok(Step::Keep { subscriber, want })
+}
+
+#[tactic(auto, unfolding(crate::specs::Steps::deliver_body))]
+fn deliver_body(r: &mut Reader<'_>) -> Result<Step, ReadError>
+    ensures { Takes step_view spec.deliver_body r.old result r.new }
+{
+    let subscriber = subscriber(r)?;
+    let bytes = byte_count(r)?;
+    Ok(Step::Deliver { subscriber, bytes })
+}
+
+#[tactic(auto, unfolding(crate::specs::Steps::report_body))]
+fn report_body(r: &mut Reader<'_>) -> Result<Step, ReadError>
+    ensures { Takes step_view spec.report_body r.old result r.new }
+{
+    let subscriber = subscriber(r)?;
+    let want = truth_or_false(r)?;
+    Ok(Step::Report { subscriber, want })
+}
+
+#[tactic(auto, unfolding(crate::specs::Steps::on_subscriber))]
+fn lose_body(r: &mut Reader<'_>) -> Result<Step, ReadError>
+    ensures { Takes step_view (spec.on_subscriber spec.Lose) r.old result r.new }
+{
+    let subscriber = subscriber(r)?;
+    Ok(Step::Lose { subscriber })
+}
+
+#[tactic(auto, unfolding(crate::specs::Steps::on_subscriber))]
+fn pump_body(r: &mut Reader<'_>) -> Result<Step, ReadError>
+    ensures { Takes step_view (spec.on_subscriber spec.Pump) r.old result r.new }
+{
+    let subscriber = subscriber(r)?;
+    Ok(Step::Pump { subscriber })
+}
+
+/// Takes what follows the word of a step.
+#[tactic(auto, unfolding(crate::specs::Steps::step_body))]
+pub fn step_body(
+    r: &mut Reader<'_>,
+    alloc: Global,
+    word: StepWord,
+    tables: &[Table],
+) -> Result<Step, ReadError>
+    ensures { Takes step_view (spec.step_body word tables.now) r.old result r.new }
+{
+    match word {
+        StepWord::Commit => commit_body(r, alloc, tables),
+        StepWord::Open => open_body(r),
+        StepWord::Hear => hear_body(r),
+        StepWord::Take => take_body(r),
+        StepWord::Keep => keep_body(r),
+        StepWord::Deliver => deliver_body(r),
+        StepWord::Report => report_body(r),
+        StepWord::Lose => lose_body(r),
+        StepWord::Pump => pump_body(r),
+        StepWord::View => Ok(Step::View),
+    }
+}

@@ -1,9 +1,0 @@
-pub mod CarryingDrafts
-pub mod CarryingObjects
-pub mod FoundIndexes
-pub mod KeptIndexes
-pub mod Listing
-pub mod OwnNames
-pub mod Positions
-pub mod StepWords
-pub mod TableLemmas

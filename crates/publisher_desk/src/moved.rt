@@ -1,0 +1,56 @@
+//! What senders wait for.
+
+use row_owners::OwnerSet;
+use std::alloc::{AllocError, Global};
+use std::sync::Condvar;
+
+/// Every so many commits all senders are woken, so that none is further behind than that.
+const TOGETHER: u32 = 64;
+
+/// What the sender of each slot waits for, by the number of the slot: that it has something to do.
+#[derive(Drop)]
+pub(crate) struct Moved {
+    slots: Vec<Condvar>,
+}
+
+impl Moved {
+    /// For so many senders. The only error is want of memory.
+    pub(crate) fn new(alloc: Global, senders: usize) -> Result<Moved, AllocError> {
+        let mut slots = Vec::with_capacity(alloc, senders)?;
+        for _ in 0..senders {
+            slots.push(Condvar::new())?;
+        }
+        Ok(Moved { slots })
+    }
+
+    /// What the sender of this slot waits for; none of a slot that isn't there.
+    pub(crate) fn of(&self, slot: usize) -> Option<&Condvar> {
+        self.slots.get(slot)
+    }
+
+    /// Wakes the senders of these slots, where they wait.
+    pub(crate) fn wake(&self, set: OwnerSet) {
+        for (slot, moved) in self.slots.iter().enumerate() {
+            if slot < 32 && set.has(slot) {
+                moved.notify_all();
+            }
+        }
+    }
+
+    /// Wakes all senders that wait.
+    pub(crate) fn wake_all(&self) {
+        for moved in self.slots.as_slice() {
+            moved.notify_all();
+        }
+    }
+
+    /// Wakes the senders of these slots, whose subscribers get something of the commit of this number; all where it is
+    /// a multiple of `TOGETHER`.
+    pub(crate) fn wake_for(&self, number: u32, concerned: OwnerSet) {
+        if number % TOGETHER == 0 {
+            self.wake_all();
+        } else {
+            self.wake(concerned);
+        }
+    }
+}

@@ -1,0 +1,40 @@
+//! Sets of subscribers.
+
+/// A set of subscribers, by their numbers from 0 to 31.
+#[derive(Clone, Copy, Debug)]
+pub struct OwnerSet {
+    bits: u32,
+}
+
+impl OwnerSet {
+    ghost use Rattle.std.specs.Prelude.{◌≡◌, ◌<◌, ◌==◌, ◌&&◌, ◌||◌, ℕ, false};
+    ghost use Rattle.row_owners.specs.Owners.{OwnedWhere, owned};
+
+    /// No subscriber.
+    #[tactic(auto, using(crate::proofs::BitLemmas::none_owned))]
+    pub fn none() -> OwnerSet
+        ensures { OwnedWhere result (λ subscriber. false) }
+    {
+        OwnerSet { bits: 0 }
+    }
+
+    /// Puts the subscriber into the set if it is to be there.
+    #[tactic(auto, using(crate::proofs::BitLemmas::put_owned, crate::proofs::BitLemmas::kept_owned))]
+    pub fn put(&mut self, subscriber: usize, is_there: bool)
+        requires { subscriber < 32 }
+        ensures { OwnedWhere self.new (λ other. owned self.old other || ((other == subscriber) && is_there)) }
+    {
+        if is_there {
+            self.bits |= 1u32 << subscriber;
+        }
+    }
+
+    /// Whether the set has the subscriber.
+    #[tactic(auto, using(crate::proofs::BitLemmas::bit_tested))]
+    pub fn has(self, subscriber: usize) -> bool
+        requires { subscriber < 32 }
+        ensures { result ≡ owned self subscriber }
+    {
+        (self.bits >> subscriber) & 1 == 1
+    }
+}

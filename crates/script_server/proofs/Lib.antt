@@ -1,4 +1,0 @@
-pub mod Crossing
-pub mod Invocations
-pub mod Serving
-pub mod Telling

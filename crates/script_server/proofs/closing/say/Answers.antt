@@ -1,8 +1,0 @@
-use Rattle.std.specs.String.{string_bytes}
-use Rattle.script_server.proofs.Telling.{unsaid}
-use Rattle.script_server.proofs.closing.say.Goals as goal
-
-pub returns : goal.returns
-returns g c =
-    unsaid (string_bytes c.args.line) c.args.status (g.W.Write.contents c.args.writer.now)
-    (g.W.Write.contents c.write_line.new.writer) c.in-Err.failure c.in-Err.ensures.stopped

@@ -1,9 +1,0 @@
-use Rattle.std.proofs.Common.{◌≡◌, drop, map}
-use Rattle.pub_reader.specs.ScriptView.{line_view}
-use Rattle.script_server.specs.Scripts as spec
-use Rattle.script_server.proofs.script.first_other.Given as goal
-
--- the first of those that are left is the first of all
-abbrev pub invariant-loop-line : goal.invariant-loop-line
-invariant-loop-line l =
-    spec.first_other (map line_view (drop l.line-index l.lines)) ≡ spec.first_other (map line_view l.lines)

@@ -1,4 +1,0 @@
-pub mod CommandLine
-pub mod Scripts
-pub mod Serving
-pub mod Telling

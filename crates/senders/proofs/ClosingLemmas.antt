@@ -1,0 +1,321 @@
+-- What is compared, put together.
+use Rattle.std.proofs.Common.{◌≡◌, ◌≢◌, Bor, ℕ, ◌+◌, List, [], ◌∷◌, length, map, refl, sym, ◌∙◌, ap, subst, arith, ltb, length-append}
+use Rattle.std.proofs.lemmas.Bool.{ltb-true, ltb-false}
+use Rattle.std.proofs.lemmas.List.{length-map}
+use Rattle.filter_tree.proofs.Tests.{by_test}
+use Rattle.std.specs.Prelude.{All, Result, Ok, Err, IfErr, IsErrAnd, OnOk, OnErr}
+use Rattle.std.specs.List.{range_with_len}
+use Rattle.std.specs.List.Sorted.{IsPermutation, IsNonDecreasingBy}
+use Rattle.std.proofs.lemmas.List.Sorted.{length_permutation, All-permutation, IsPermutation-sym}
+use Rattle.senders.specs.declared.served.Served.{Served}
+use Rattle.shard_checker.specs.CheckedView.{CheckedOf, setting_in}
+use Rattle.table_changes.specs.Setting.{Setting}
+use Rattle.table_changes.specs.Tables.{no_rows}
+use Rattle.tables_log.specs.BookView.{book_checked, book_limit, book_log, book_setting, book_slots}
+use Rattle.tables_log.specs.Commits.{CommitOf}
+use Rattle.tables_log.specs.Committing.{ChangesSlots, IsKept}
+use Rattle.tables_log.specs.StandsFor.{StandsFor, AreAccepted, entries_from}
+use Rattle.tables_log.specs.declared.book.Book.{Book}
+use Rattle.tables_log.specs.declared.slots.Slot.{Slot}
+use Rattle.tables_log.proofs.StandLemmas.{slots_keep_it}
+use Rattle.publisher_desk.specs.Counting.{total_receipts, IsCounted}
+use Rattle.publisher_desk.specs.Held.{IsBookOf}
+use Rattle.publisher_desk.specs.Receipts.{ReceiptOf}
+use Rattle.publisher_desk.specs.Seats.{receipts, AreTimed, IsForward}
+use Rattle.publisher_desk.specs.declared.note.Note.{Note}
+use Rattle.publisher_desk.specs.declared.note.Note.TheVariants.{Committed, Looked}
+use Rattle.publisher_desk.specs.declared.note.Reading.{Reading}
+use Rattle.senders.specs.CloseCauses.{IsMissing, IsRepeated, IsNotLogged, IsToldBy, HasWrongReading, HasOtherTaken, IsCause, IsHeldBack, RefusedClose}
+use Rattle.senders.specs.Closing.{IsClosed}
+use Rattle.senders.specs.Gathering.{receipts_in, all_receipts, all_readings, numbers_of, RiseTo, IsRising}
+use Rattle.senders.specs.Histories.{transactions_of, AreInOrder, IsRight}
+use Rattle.senders.specs.Replays.{Replays, IsAsLong, IsUnlikeIn}
+use Rattle.senders.specs.TakenCommits.{IsTaken}
+use Rattle.senders.specs.declared.close_error.CloseError.{CloseError}
+use Rattle.senders.specs.declared.close_error.CloseError.TheVariants as f
+use Rattle.senders.proofs.NumberLemmas.{rise_is_range}
+use Rattle.senders.proofs.ReplayLemmas.{replays_all}
+
+-- ---- slots
+
+pub slots_then : (first old new : Book) (slots : List Slot) → ChangesSlots first old (book_slots old)
+    → ChangesSlots old new slots → ChangesSlots first new (book_slots new)
+slots_then first old new slots before after = record {
+  checked = after.checked ∙ before.checked;
+  limit = after.limit ∙ before.limit;
+  rows = λ table number value. after.rows table number value ∙ before.rows table number value;
+  log = after.log ∙ before.log;
+  slots_are = refl;
+}
+
+pub slots_after : {E : Type 0} (first old new : Book) (slots : List Slot) (result : Result (Unit {0}) E)
+    → ChangesSlots first old (book_slots old)
+    → OnOk result (ChangesSlots old new slots) → OnErr result (IsKept old new) → ChangesSlots first new (book_slots new)
+slots_after first old new slots (Ok done) before ok err = slots_then first old new slots before ok
+slots_after first old new slots (Err error) before ok err = slots_then first old new (book_slots old) before err
+
+-- ---- order
+
+pub in_order : (seats : List (List Note)) (gathered sorted : List ReceiptOf) (high : ℕ)
+    → gathered ≡ all_receipts seats → length gathered ≡ high → IsPermutation gathered sorted
+    → All (IsRising high) seats → RiseTo high 0 (numbers_of sorted) → AreInOrder seats sorted × (length sorted ≡ high)
+in_order seats gathered sorted high all count moved rising rise =
+    let long : length sorted ≡ high = length_permutation gathered sorted moved ∙ count in
+    let numbers : length (numbers_of sorted) ≡ length sorted =
+    length-map sorted (λ (receipt : ReceiptOf). receipt.number) in (
+      record {
+        all = subst (λ (list : List ReceiptOf). IsPermutation list sorted) all moved;
+        numbered = rise_is_range high 0 (numbers_of sorted) (omega (arith, long, numbers)) rise
+            ∙ ap (λ n. range_with_len 1 n) numbers;
+        rising = subst (λ (n : ℕ). All (IsRising n) seats) (sym long) rising;
+      },
+      long,
+    )
+
+pub count_cause : (book : Book) (seats : List (List Note)) (gathered : List ReceiptOf) (high : ℕ)
+    → gathered ≡ all_receipts seats → high ≡ length (book_log book) → length gathered ≢ high
+    → length (book_log book) ≢ length (all_receipts seats)
+count_cause book seats gathered high all log apart same = apart (ap length all ∙ sym same ∙ sym log)
+
+pub repeated_cause : (book : Book) (seats : List (List Note)) (gathered sorted : List ReceiptOf) (high : ℕ)
+    → gathered ≡ all_receipts seats → high ≡ length (book_log book) → length gathered ≡ high
+    → IsPermutation gathered sorted → IsNonDecreasingBy (λ (receipt : ReceiptOf). receipt.number) sorted
+    → ¬ RiseTo high 0 (numbers_of sorted)
+    → (length (book_log book) ≡ length (all_receipts seats)) × IsMissing (book_setting book) (book_log book) seats
+repeated_cause book seats gathered sorted high all log count moved order falls = (
+  sym log ∙ sym count ∙ ap length all,
+  IsRepeated sorted (subst (λ (list : List ReceiptOf). IsPermutation list sorted) all moved) order
+      (λ rise. falls (subst (λ (n : ℕ). RiseTo n 0 (numbers_of sorted)) (sym log) rise)),
+)
+
+-- ---- readings are the same in another order
+
+right_in_order : (P : Reading → Type 0) (seats : List (List Note)) (gathered sorted : List Reading)
+    → gathered ≡ all_readings seats → IsPermutation gathered sorted → All P sorted → All P (all_readings seats)
+right_in_order P seats gathered sorted all moved right =
+    subst (λ (list : List Reading). All P list) all
+    (All-permutation P sorted gathered (IsPermutation-sym gathered sorted moved) right)
+
+wrong_in_order : (P : Reading → Type 0) (seats : List (List Note)) (gathered sorted : List Reading)
+    → gathered ≡ all_readings seats → IsPermutation gathered sorted → ¬ All P sorted → ¬ All P (all_readings seats)
+wrong_in_order P seats gathered sorted all moved wrong right =
+    wrong (All-permutation P gathered sorted moved (subst (λ (list : List Reading). All P list) (sym all) right))
+
+-- ---- causes
+
+long_count : (book : Book) (seats : List (List Note)) (order : List ReceiptOf) → AreInOrder seats order
+    → IsAsLong book order → length (book_log book) ≡ length (all_receipts seats)
+long_count book seats order ordered long = sym long.count ∙ length_permutation (all_receipts seats) order ordered.all
+
+unlike_cause : (book : Book) (seats : List (List Note)) (served : List Served) (order : List ReceiptOf)
+    (error : CloseError) → AreInOrder seats order → IsAsLong book order → IsUnlikeIn book order error
+    → IsCause book seats served error
+unfolding long_count
+unlike_cause book seats served order f.CountDiffers ordered long unlike = absurd unlike
+unlike_cause book seats served order f.ReceiptMissing ordered long unlike =
+    (long_count book seats order ordered long, IsNotLogged order ordered unlike)
+unlike_cause book seats served order f.ReadingWrong ordered long unlike = absurd unlike
+unlike_cause book seats served order f.TakenDiffers ordered long unlike = absurd unlike
+unlike_cause book seats served order f.OutOfMemory ordered long unlike = tt
+
+module _ (book fresh : Book) (seats : List (List Note)) (order : List ReceiptOf) (ordered : AreInOrder seats order)
+    (long : IsAsLong book order) (replayed : Replays book fresh order)
+    (count : length (book_log fresh) ≡ length order) where
+  -- in the setting of the fresh book
+  record Told (setting : Setting) : Type 0 where
+    accepted : AreAccepted setting no_rows (transactions_of order)
+    logged : book_log book ≡ entries_from setting no_rows 1 (transactions_of order)
+
+  told_by : IsToldBy book seats order
+  told_by =
+      let all : StandsFor fresh (transactions_of order) × (book_log fresh ≡ book_log book) =
+      replays_all book fresh order replayed long count in
+      let there : Told (book_setting book) =
+      subst Told (ap setting_in replayed.named)
+      (record { accepted = all.0.accepted; logged = sym all.1 ∙ all.0.log }) in
+      record { ordered = ordered; accepted = there.accepted; logged = there.logged }
+
+  wrong_cause : ¬ All (IsRight (book_setting book) (transactions_of order)) (all_readings seats)
+      → HasWrongReading book seats
+  unfolding told_by
+  wrong_cause wrong = record { order = order; told = told_by; wrong = wrong }
+
+  taken_cause : (served : List Served)
+      → All (IsRight (book_setting book) (transactions_of order)) (all_readings seats)
+      → ¬ All (IsTaken (book_log fresh)) served → HasOtherTaken book seats served
+  unfolding told_by
+  taken_cause served right other = record {
+    order = order;
+    told = told_by;
+    right = right;
+    other = let all = replays_all book fresh order replayed long count in
+        subst (λ (log : List CommitOf). ¬ All (IsTaken log) served) all.1 other;
+  }
+
+  is_closed : (served : List Served) → All (IsRight (book_setting book) (transactions_of order)) (all_readings seats)
+      → All (IsTaken (book_log fresh)) served
+      → All IsForward seats → All AreTimed seats → IsClosed (book_checked book) (book_limit book) seats served fresh
+  is_closed served right taken forward timed = record {
+    timed = timed;
+    named = replayed.named;
+    limited = replayed.limited;
+    order = order;
+    ordered = ordered;
+    transactions = transactions_of order;
+    told = refl;
+    stands = (replays_all book fresh order replayed long count).0;
+    counted = count;
+    right = right;
+    forward = forward;
+    taken = taken;
+  }
+
+-- ---- what is compared, where lists are seen as slices
+
+module _ (book fresh : Book) (seats : List (List Note)) (receipts seen : List (Bor ReceiptOf))
+    (seen_is : seen ≡ receipts)
+    (ordered : AreInOrder seats (map (λ (one : Bor ReceiptOf). one.now) receipts))
+    (long : IsAsLong book (map (λ (one : Bor ReceiptOf). one.now) receipts)) where
+  seen_ordered : AreInOrder seats (map (λ (one : Bor ReceiptOf). one.now) seen)
+  seen_ordered = subst (λ (list : List (Bor ReceiptOf)). AreInOrder seats
+      (map (λ (one : Bor ReceiptOf). one.now) list)) (sym seen_is) ordered
+
+  seen_long : IsAsLong book (map (λ (one : Bor ReceiptOf). one.now) seen)
+  seen_long = subst (λ (list : List (Bor ReceiptOf)). IsAsLong book (map (λ (one : Bor ReceiptOf). one.now) list))
+      (sym seen_is) long
+
+  pub unlike_compared : (served : List Served) (error : CloseError)
+      → IsUnlikeIn book (map (λ (one : Bor ReceiptOf). one.now) seen) error → IsCause book seats served error
+  unfolding seen_ordered seen_long
+  unlike_compared served error unlike =
+      unlike_cause book seats served (map (λ (one : Bor ReceiptOf). one.now) seen) error seen_ordered seen_long unlike
+
+  module _ (gathered sorted looked : List (Bor Reading))
+      (all : map (λ (one : Bor Reading). one.now) gathered ≡ all_readings seats)
+      (moved : IsPermutation (map (λ (one : Bor Reading). one.now) gathered)
+      (map (λ (one : Bor Reading). one.now) sorted)) (looked_is : looked ≡ sorted)
+      (replayed : Replays book fresh (map (λ (one : Bor ReceiptOf). one.now) seen))
+      (count : length (book_log fresh) ≡ length seen) where
+    seen_moved : IsPermutation (map (λ (one : Bor Reading). one.now) gathered)
+        (map (λ (one : Bor Reading). one.now) looked)
+    seen_moved = subst (λ (list : List (Bor Reading)). IsPermutation (map (λ (one : Bor Reading). one.now) gathered)
+        (map (λ (one : Bor Reading). one.now) list)) (sym looked_is) moved
+
+    seen_count : length (book_log fresh) ≡ length (map (λ (one : Bor ReceiptOf). one.now) seen)
+    seen_count = count ∙ sym (length-map seen (λ (one : Bor ReceiptOf). one.now))
+
+    pub wrong_compared : ¬ All
+        (IsRight (book_setting book) (transactions_of (map (λ (one : Bor ReceiptOf). one.now) seen)))
+        (map (λ (one : Bor Reading). one.now) looked) → HasWrongReading book seats
+    unfolding seen_moved seen_count seen_ordered seen_long
+    wrong_compared wrong =
+        wrong_cause book fresh seats (map (λ (one : Bor ReceiptOf). one.now) seen) seen_ordered seen_long replayed
+        seen_count
+        (wrong_in_order (IsRight (book_setting book) (transactions_of (map (λ (one : Bor ReceiptOf). one.now) seen)))
+        seats (map (λ (one : Bor Reading). one.now) gathered)
+        (map (λ (one : Bor Reading). one.now) looked) all seen_moved wrong)
+
+    module _ (right : All
+        (IsRight (book_setting book) (transactions_of (map (λ (one : Bor ReceiptOf). one.now) seen)))
+        (map (λ (one : Bor Reading). one.now) looked)) (served : List Served) where
+      seen_right : All (IsRight (book_setting book) (transactions_of (map (λ (one : Bor ReceiptOf). one.now) seen)))
+          (all_readings seats)
+      unfolding seen_moved
+      seen_right = right_in_order
+          (IsRight (book_setting book) (transactions_of (map (λ (one : Bor ReceiptOf). one.now) seen))) seats
+          (map (λ (one : Bor Reading). one.now) gathered)
+          (map (λ (one : Bor Reading). one.now) looked) all seen_moved right
+
+      pub taken_compared : ¬ All (IsTaken (book_log fresh)) served → HasOtherTaken book seats served
+      unfolding seen_count seen_ordered seen_long seen_right
+      taken_compared other =
+          taken_cause book fresh seats (map (λ (one : Bor ReceiptOf). one.now) seen) seen_ordered seen_long replayed
+          seen_count served seen_right other
+
+      pub closed_compared : All (IsTaken (book_log fresh)) served → All IsForward seats → All AreTimed seats
+          → IsClosed (book_checked book) (book_limit book) seats served fresh
+      unfolding seen_count seen_ordered seen_long seen_right
+      closed_compared taken forward timed =
+          is_closed book fresh seats (map (λ (one : Bor ReceiptOf). one.now) seen) seen_ordered seen_long replayed
+          seen_count served seen_right taken forward timed
+
+-- ---- the closed book
+
+pub still_closed : (checked : CheckedOf) (limit : ℕ) (seats : List (List Note)) (served : List Served)
+    (old new : Book) → ChangesSlots old new (book_slots new) → IsClosed checked limit seats served old
+    → IsClosed checked limit seats served new
+still_closed checked limit seats served old new changes closed = record {
+  named = changes.checked ∙ closed.named;
+  limited = changes.limit ∙ closed.limited;
+  order = closed.order;
+  ordered = closed.ordered;
+  transactions = closed.transactions;
+  told = closed.told;
+  stands = slots_keep_it old new (book_slots new) changes closed.transactions closed.stands;
+  counted = ap length changes.log ∙ closed.counted;
+  right = closed.right;
+  forward = closed.forward;
+  timed = closed.timed;
+  taken = subst (λ (log : List CommitOf). All (IsTaken log) served) (sym changes.log) closed.taken;
+}
+
+pub closed_as_named : (checked : CheckedOf) (limit : ℕ) (book fresh new : Book) (seats seen : List (List Note))
+    (served told : List Served) → IsBookOf checked limit book → seen ≡ seats → told ≡ served
+    → IsClosed (book_checked book) (book_limit book) seen told fresh → ChangesSlots fresh new (book_slots new)
+    → IsClosed checked limit seats served new
+closed_as_named checked limit book fresh new seats seen served told is same alike closed changes =
+    still_closed checked limit seats served fresh new changes
+    (subst (λ (list : List (List Note)). IsClosed checked limit list served fresh) same
+    (subst (λ (list : List Served). IsClosed checked limit seen list fresh) alike
+    (subst (λ (n : ℕ). IsClosed checked n seen told fresh) is.limited
+    (subst (λ (one : CheckedOf). IsClosed one (book_limit book) seen told fresh) is.named closed))))
+
+-- ---- refusals
+
+-- as many receipts as the seats of a ledger count
+receipts_counted : (notes : List Note) → length (receipts_in notes) ≡ receipts notes
+receipts_counted [] = refl
+receipts_counted (Committed receipt ∷ notes) = let rest = receipts_counted notes in omega (arith, rest)
+receipts_counted (Looked reading ∷ notes) = receipts_counted notes
+
+all_counted : (seats : List (List Note)) → length (all_receipts seats) ≡ total_receipts seats
+all_counted [] = refl
+all_counted (seat ∷ seats) =
+    let rest = all_counted seats in let one = receipts_counted seat in
+    let both = length-append (receipts_in seat) (all_receipts seats) in omega (arith, rest, one, both)
+
+held_back : (book : Book) (all left : ℕ) (seats : List (List Note)) (served : List Served) (error : CloseError)
+    → IsCounted all left seats (length (book_log book)) → IsCause book seats served error
+    → IsHeldBack all left seats error
+held_back book all left seats served f.CountDiffers counted cause = by_test (ltb (left + length seats) all)
+    (λ less. ltb-true (left + length seats) all less)
+    (λ full. let least = ltb-false (left + length seats) all full in let few = counted.few in
+    absurd (cause (sym (counted.whole (omega (arith, least, few))) ∙ sym (all_counted seats))))
+held_back book all left seats served f.ReceiptMissing counted cause = tt
+held_back book all left seats served f.ReadingWrong counted cause = tt
+held_back book all left seats served f.TakenDiffers counted cause = tt
+held_back book all left seats served f.OutOfMemory counted cause = tt
+
+module _ (checked : CheckedOf) (limit all left : ℕ) (book : Book) (seats : List (List Note)) (served : List Served)
+    (is : IsBookOf checked limit book) (counted : IsCounted all left seats (length (book_log book))) where
+  pub refused_as_named : (seen : List (List Note)) (told : List Served) (error : CloseError) → seen ≡ seats
+      → told ≡ served → IsCause book seen told error → RefusedClose checked limit all left seats served error
+  refused_as_named seen told error same alike cause =
+      let why : IsCause book seats served error =
+      subst (λ (list : List (List Note)). IsCause book list served error) same
+      (subst (λ (list : List Served). IsCause book seen list error) alike cause) in
+      record {
+        book = book;
+        is = is;
+        counted = counted;
+        cause = why;
+        held_back = held_back book all left seats served error counted why;
+      }
+
+  pub memory_refused : {A : Type 0} (result : Result A CloseError)
+      → IsErrAnd result (λ error. error ≡ f.OutOfMemory)
+      → IfErr result (RefusedClose checked limit all left seats served)
+  memory_refused (Ok done) memory = tt
+  memory_refused (Err error) memory =
+      subst (λ (other : CloseError). RefusedClose checked limit all left seats served other) (sym memory)
+      (record { book = book; is = is; counted = counted; cause = tt; held_back = tt })

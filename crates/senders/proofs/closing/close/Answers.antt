@@ -1,0 +1,36 @@
+use Rattle.std.proofs.Common.{◌∙◌, rules}
+use Rattle.senders.specs.CloseCauses.{RefusedClose}
+use Rattle.senders.proofs.ReplayLemmas.{passes_on}
+use Rattle.senders.proofs.ClosingLemmas.{memory_refused, refused_as_named, closed_as_named}
+use Rattle.senders.proofs.closing.close.Goals as goal
+
+pub returns-in_err-checked-clause-refused : goal.returns-in_err-checked-clause-refused
+returns-in_err-checked-clause-refused g c =
+    memory_refused g.P.Publishing.checked g.P.Publishing.limit g.P.Ledger.parts c.args.rest c.counted_book-book.result
+    c.args.seats.items c.args.served.items c.counted_book-book.ensures.is c.counted_book-book.ensures.counted
+    c.from_residual.result c.from_residual.ensures.1
+
+pub returns-in_err-fresh-clause-refused : goal.returns-in_err-fresh-clause-refused
+returns-in_err-fresh-clause-refused g c =
+    memory_refused g.P.Publishing.checked g.P.Publishing.limit g.P.Ledger.parts c.args.rest c.counted_book-book.result
+    c.args.seats.items c.args.served.items c.counted_book-book.ensures.is c.counted_book-book.ensures.counted
+    c.from_residual-in_err-fresh.result c.from_residual-in_err-fresh.ensures.1
+
+pub returns-in_err-compare-clause-refused : goal.returns-in_err-compare-clause-refused
+returns-in_err-compare-clause-refused g c =
+    passes_on (RefusedClose g.P.Publishing.checked g.P.Publishing.limit g.P.Ledger.parts c.args.rest
+    c.args.seats.items c.args.served.items)
+    c.from_residual-in_err-compare.result c.in_err-compare.field-0.0 (search rules)
+    (refused_as_named g.P.Publishing.checked g.P.Publishing.limit g.P.Ledger.parts c.args.rest
+    c.counted_book-book.result c.args.seats.items c.args.served.items c.counted_book-book.ensures.is
+    c.counted_book-book.ensures.counted c.as_slice.result.now c.as_slice-2.result.now c.in_err-compare.field-0.0
+    (c.as_slice.ensures.value ∙ c.counted_book-book.ensures.same) c.as_slice-2.ensures.value
+    c.in_err-compare.ensures.err)
+
+pub returns-clause-ok : goal.returns-clause-ok
+returns-clause-ok g c =
+    closed_as_named g.P.Publishing.checked g.P.Publishing.limit c.counted_book-book.result c.compare.new.fresh
+    c.keep_confirmed.new.fresh c.args.seats.items c.as_slice.result.now c.args.served.items
+    c.as_slice-2.result.now
+    c.counted_book-book.ensures.is (c.as_slice.ensures.value ∙ c.counted_book-book.ensures.same)
+    c.as_slice-2.ensures.value c.in_ok-compare.ensures.ok c.keep_confirmed.ensures

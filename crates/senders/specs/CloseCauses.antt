@@ -1,0 +1,108 @@
+-- Why a publisher can't be closed: PostgreSQL 15, 3.4. Transactions, and 55.4. Streaming Replication Protocol.
+use Rattle.std.specs.Prelude.{◌≡◌, ◌≢◌, ℕ, ◌+◌, ◌<◌, List, All, length, slice_get, take, Some}
+use Rattle.std.specs.List.Sorted.{IsPermutation, IsNonDecreasingBy}
+use Rattle.senders.specs.declared.served.Served.{Served}
+use Rattle.shard_checker.specs.CheckedView.{CheckedOf}
+use Rattle.table_changes.specs.Records.{record_of}
+use Rattle.table_changes.specs.Setting.{Setting}
+use Rattle.table_changes.specs.Tables.{no_rows}
+use Rattle.tables_log.specs.BookView.{book_setting, book_log}
+use Rattle.tables_log.specs.Commits.{CommitOf, commit_of}
+use Rattle.tables_log.specs.StandsFor.{IsAccepted, AreAccepted, entries_from, after}
+use Rattle.tables_log.specs.declared.book.Book.{Book}
+use Rattle.publisher_desk.specs.Counting.{IsCounted}
+use Rattle.publisher_desk.specs.Held.{IsBookOf}
+use Rattle.publisher_desk.specs.Receipts.{ReceiptOf}
+use Rattle.publisher_desk.specs.declared.note.Note.{Note}
+use Rattle.senders.specs.Gathering.{all_receipts, all_readings, numbers_of, RiseTo, IsRising}
+use Rattle.senders.specs.Histories.{transaction_of, transactions_of, AreInOrder, IsRight}
+use Rattle.senders.specs.TakenCommits.{IsTaken}
+use Rattle.senders.specs.declared.close_error.CloseError.{CloseError}
+use Rattle.senders.specs.declared.close_error.CloseError.TheVariants.{CountDiffers, ReceiptMissing, ReadingWrong, TakenDiffers, OutOfMemory}
+
+-- ---- a receipt that the log doesn't have
+
+-- the commands of the receipts before this place are accepted one after another, and those of the receipt there are
+-- not accepted after them
+pub record HasRefused (setting : Setting) (order : List ReceiptOf) : Type 0 where
+  pub place : ℕ
+  pub receipt : ReceiptOf
+  pub at : slice_get order place ≡ Some receipt
+  pub accepted : AreAccepted setting no_rows (transactions_of (take place order))
+  pub refused : ¬ IsAccepted setting (after setting (transactions_of (take place order))) (transaction_of receipt)
+
+-- they are, and what is recorded of them there, with the receipt's time, is not the log's entry
+pub record HasOther (setting : Setting) (log : List CommitOf) (order : List ReceiptOf) : Type 0 where
+  pub place : ℕ
+  pub receipt : ReceiptOf
+  pub at : slice_get order place ≡ Some receipt
+  pub accepted : AreAccepted setting no_rows (transactions_of (take place order))
+  pub taken : IsAccepted setting (after setting (transactions_of (take place order))) (transaction_of receipt)
+  pub other : slice_get log place ≢ Some
+      (commit_of (place + 1) receipt.time
+      (record_of setting (after setting (transactions_of (take place order))) receipt.commands))
+
+-- one of these is so
+pub data IsUnlike (setting : Setting) (log : List CommitOf) (order : List ReceiptOf) : Type 0 where
+  IsRefusedThere : HasRefused setting order → IsUnlike setting log order
+  IsOtherThere : HasOther setting log order → IsUnlike setting log order
+
+pub data IsMissing (setting : Setting) (log : List CommitOf) (seats : List (List Note)) : Type 0 where
+  -- the numbers of a seat's receipts don't rise in its order, from 1 at least to the log's length at most
+  IsFalling : ¬ All (IsRising (length log)) seats → IsMissing setting log seats
+  -- of the receipts of all seats, sorted by their numbers, one has the number 0, that of the one before it, or one
+  -- above the log's length
+  IsRepeated : (sorted : List ReceiptOf) → IsPermutation (all_receipts seats) sorted
+      → IsNonDecreasingBy (λ (receipt : ReceiptOf). receipt.number) sorted
+      → ¬ RiseTo (length log) 0 (numbers_of sorted) → IsMissing setting log seats
+  -- one is refused, or isn't what the log has
+  IsNotLogged : (order : List ReceiptOf) → AreInOrder seats order → IsUnlike setting log order
+      → IsMissing setting log seats
+
+-- ---- what holds where the receipts are those of the log
+
+-- The log of the book is that of the receipts.
+pub record IsToldBy (book : Book) (seats : List (List Note)) (order : List ReceiptOf) : Type 0 where
+  pub ordered : AreInOrder seats order
+  pub accepted : AreAccepted (book_setting book) no_rows (transactions_of order)
+  pub logged : book_log book ≡ entries_from (book_setting book) no_rows 1 (transactions_of order)
+
+pub record HasWrongReading (book : Book) (seats : List (List Note)) : Type 0 where
+  pub order : List ReceiptOf
+  pub told : IsToldBy book seats order
+  pub wrong : ¬ All (IsRight (book_setting book) (transactions_of order)) (all_readings seats)
+
+pub record HasOtherTaken (book : Book) (seats : List (List Note)) (served : List Served) : Type 0 where
+  pub order : List ReceiptOf
+  pub told : IsToldBy book seats order
+  pub right : All (IsRight (book_setting book) (transactions_of order)) (all_readings seats)
+  pub other : ¬ All (IsTaken (book_log book)) served
+
+-- ---- refusals, each of which passes what comes before it
+
+abbrev pub IsCause : Book → List (List Note) → List Served → CloseError → Type 0
+IsCause book seats served CountDiffers = length (book_log book) ≢ length (all_receipts seats)
+IsCause book seats served ReceiptMissing = (length (book_log book) ≡ length (all_receipts seats))
+    × IsMissing (book_setting book) (book_log book) seats
+IsCause book seats served ReadingWrong = HasWrongReading book seats
+IsCause book seats served TakenDiffers = HasOtherTaken book seats served
+IsCause book seats served OutOfMemory = Unit {0}
+
+-- Of so many seats in all, `left` were never handed out. Receipts are too few only if not all others are handed in.
+abbrev pub IsHeldBack : ℕ → ℕ → List (List Note) → CloseError → Type 0
+IsHeldBack all left seats CountDiffers = left + length seats < all
+IsHeldBack all left seats ReceiptMissing = Unit {0}
+IsHeldBack all left seats ReadingWrong = Unit {0}
+IsHeldBack all left seats TakenDiffers = Unit {0}
+IsHeldBack all left seats OutOfMemory = Unit {0}
+
+-- The publisher's book is of the checked catalog, takes so many commits and is of some list of transactions. It has no
+-- fewer commits than the seats have receipts, and exactly as many if no seat is held back. It is the cause of the
+-- refusal.
+pub record RefusedClose (checked : CheckedOf) (limit all left : ℕ) (seats : List (List Note)) (served : List Served)
+    (error : CloseError) : Type 0 where
+  pub book : Book
+  pub is : IsBookOf checked limit book
+  pub counted : IsCounted all left seats (length (book_log book))
+  pub cause : IsCause book seats served error
+  pub held_back : IsHeldBack all left seats error

@@ -1,0 +1,33 @@
+-- What a closed publisher is: one list of transactions explains all receipts, all readings and all connections:
+-- PostgreSQL 15, 3.4. Transactions, and 55.4. Streaming Replication Protocol.
+use Rattle.std.specs.Prelude.{◌≡◌, ℕ, List, All, length}
+use Rattle.senders.specs.declared.served.Served.{Served}
+use Rattle.shard_checker.specs.CheckedView.{CheckedOf, setting_in}
+use Rattle.tables_log.specs.BookView.{book_checked, book_limit, book_log}
+use Rattle.tables_log.specs.StandsFor.{Transaction, StandsFor}
+use Rattle.tables_log.specs.declared.book.Book.{Book}
+use Rattle.publisher_desk.specs.Receipts.{ReceiptOf}
+use Rattle.publisher_desk.specs.Seats.{AreTimed, IsForward}
+use Rattle.publisher_desk.specs.declared.note.Note.{Note}
+use Rattle.senders.specs.Gathering.{all_readings}
+use Rattle.senders.specs.Histories.{transactions_of, AreInOrder, IsRight}
+use Rattle.senders.specs.TakenCommits.{IsTaken}
+
+-- The book is of the checked catalog, takes so many commits, and stands for the transactions of the receipts in the
+-- order of their numbers, of which its log has an entry each. Each reading is right by these transactions, and is of
+-- no fewer commits than an earlier note of its seat knows of. Times have 64 bits. Each connection took the commits of
+-- the book's log.
+pub record IsClosed (checked : CheckedOf) (limit : ℕ) (seats : List (List Note)) (served : List Served) (book : Book)
+    : Type 0 where
+  pub named : book_checked book ≡ checked
+  pub limited : book_limit book ≡ limit
+  pub order : List ReceiptOf
+  pub ordered : AreInOrder seats order
+  pub transactions : List Transaction
+  pub told : transactions ≡ transactions_of order
+  pub stands : StandsFor book transactions
+  pub counted : length (book_log book) ≡ length order
+  pub right : All (IsRight (setting_in checked) transactions) (all_readings seats)
+  pub forward : All IsForward seats
+  pub timed : All AreTimed seats
+  pub taken : All (IsTaken (book_log book)) served

@@ -1,0 +1,150 @@
+//! The closing comparison.
+
+ghost use Rattle.std.specs.Prelude.{◌≡◌, List, All, map, length, IfOk, IfErr, OnOk};
+ghost use Rattle.tables_log.specs.BookView.{book_log, book_slots, book_checked, book_limit};
+ghost use Rattle.tables_log.specs.Committing.{ChangesSlots, IsNew};
+ghost use Rattle.senders.specs.declared.served.Served.{Served};
+ghost use Rattle.publisher_desk.specs.Counting.{IsCounted};
+ghost use Rattle.publisher_desk.specs.Held.{IsBookOf};
+ghost use Rattle.publisher_desk.specs.Seats.{AreTimed, IsForward};
+ghost use Rattle.senders.specs.CloseCauses.{IsCause, RefusedClose};
+ghost use Rattle.senders.specs.Closing.{IsClosed};
+ghost use Rattle.senders.specs.Histories.{AreInOrder};
+ghost use Rattle.senders.specs.Replays.{IsAsLong};
+
+use crate::close_error::CloseError;
+use crate::closed::Closed;
+use crate::gathering::{readings_of, receipts_of, sort_readings, sort_receipts};
+use crate::numbering::{are_rising, rise};
+use crate::replaying::replay;
+use crate::served::Served;
+use crate::taken::are_taken;
+use publisher_desk::{Publisher, Publishing, Receipt, Seat, Seats};
+use std::alloc::Global;
+use std::sync::Arc;
+use tables_log::Book;
+
+/// The receipts of all seats in the order of their numbers, which are 1 to that of the log's last commit. Errors are
+/// `CountDiffers`, `ReceiptMissing` and want of memory.
+fn order_receipts<'a, P: Publishing>(
+    alloc: Global,
+    book: &Book,
+    seats: &'a [Seat<P>],
+) -> Result<Vec<&'a Receipt>, CloseError>
+    ensures ok { IfOk result (λ receipts. AreInOrder seats.now (map (λ receipt. receipt.now) receipts.items)) }
+    ensures long { IfOk result (λ receipts. IsAsLong book.now (map (λ receipt. receipt.now) receipts.items)) }
+    ensures forward { OnOk result (All IsForward seats.now) }
+    ensures timed { OnOk result (All AreTimed seats.now) }
+    ensures err { IfErr result (λ error. (served : List Served) → IsCause book.now seats.now served error) }
+{
+    let mut receipts = receipts_of(alloc, seats)?;
+    let count = book.log_len();
+    if receipts.len() != count as usize {
+        return Err(CloseError::CountDiffers);
+    }
+    if !are_rising(seats, count) {
+        return Err(CloseError::ReceiptMissing);
+    }
+    sort_receipts(&mut receipts);
+    if !rise(receipts.as_slice(), count) {
+        return Err(CloseError::ReceiptMissing);
+    }
+    Ok(receipts)
+}
+
+/// Confirms each slot of the fresh book as far as it is in the first one.
+fn keep_confirmed(fresh: &mut Book, book: &Book, slots: usize)
+    requires { length (book_log book.now) ≡ length (book_log fresh.old) }
+    ensures { ChangesSlots fresh.old fresh.new (book_slots fresh.new) }
+{
+    for slot in 0..slots {
+        let position = book.confirmed(slot);
+        let _ = fresh.confirm(slot, position, position);
+    }
+}
+
+/// Makes the receipts again on the fresh book, which has no commits, and compares readings and connections with it.
+fn compare<P: Publishing>(
+    alloc: Global,
+    fresh: &mut Book,
+    book: &Book,
+    seats: &[Seat<P>],
+    served: &[Served],
+) -> Result<(), CloseError>
+    requires { IsNew fresh.old (book_checked book.now) (book_limit book.now) }
+    ensures ok { OnOk result (IsClosed (book_checked book.now) (book_limit book.now) seats.now served.now fresh.new) }
+    ensures log { OnOk result (length (book_log book.now) ≡ length (book_log fresh.new)) }
+    ensures err { IfErr result (IsCause book.now seats.now served.now) }
+{
+    let receipts = order_receipts(alloc, book, seats)?;
+    let mut readings = readings_of(alloc, seats)?;
+    sort_readings(&mut readings);
+    if !replay(fresh, book, receipts.as_slice(), readings.as_slice())? {
+        return Err(CloseError::ReadingWrong);
+    }
+    if !are_taken(fresh, served) {
+        return Err(CloseError::TakenDiffers);
+    }
+    Ok(())
+}
+
+/// The publisher's book, whose commits the ledger compares with the receipts of the seats.
+fn counted_book<P: Publishing>(
+    publisher: Publisher<P>,
+    rest: Seats<P>,
+    seats: &mut Vec<Seat<P>>,
+) -> Book
+    ensures is { IsBookOf P.checked P.limit result }
+    ensures counted { IsCounted P.parts rest seats.old.items (length (book_log result)) }
+    ensures same { seats.new.items ≡ seats.old.items }
+{
+    publisher.into_counted(rest, seats.as_mut_slice())
+}
+
+/// Closes a publisher whose sessions and connections are over. `rest` are the seats that were never handed out, `seats`
+/// those of the sessions, and `served` the results of the connections. The receipts of all seats are made again on a book without commits, in the order of their numbers: their commands have to be
+/// accepted, and each entry has to be that of the publisher's log. Each reading has to be the row of its key after as
+/// many commits as it tells, and the commits that each connection took those of the log from its start on, up to the
+/// log's end where it was finished. The book that is handed back is the one on which the receipts were made again. Its
+/// slots are free, and confirmed as far as the publisher's.
+///
+/// It takes time for the commands, as `Book::commit` does, for the receipts and the readings, each times the logarithm
+/// of their number, for a look at the row of each reading, and for the commits that were taken.
+///
+/// # Errors
+///
+/// The first of `CountDiffers`, `ReceiptMissing`, `ReadingWrong` and `TakenDiffers`, or `OutOfMemory` in place of any
+/// of them where an allocation was refused. `CountDiffers` comes only if a seat is held back. With an error all that was handed in is dropped.
+///
+/// PostgreSQL 15, 3.4. Transactions, and 55.4. Streaming Replication Protocol.
+pub fn close<P: Publishing>(
+    publisher: Publisher<P>,
+    rest: Seats<P>,
+    mut seats: Vec<Seat<P>>,
+    served: Vec<Served>,
+) -> Result<Closed<P>, CloseError>
+    ensures ok { IfOk result (λ closed. IsClosed P.checked P.limit seats.items served.items closed.book) }
+    ensures seats { IfOk result (λ closed. closed.seats.items ≡ seats.items) }
+    ensures served { IfOk result (λ closed. closed.served.items ≡ served.items) }
+    ensures refused { IfErr result (RefusedClose P.checked P.limit P.parts rest seats.items served.items) }
+{
+    let alloc = publisher.allocator();
+    let shared = Arc::try_clone(publisher.checked());
+    let book = counted_book(publisher, rest, &mut seats);
+    let checked = shared?;
+    let slots = checked.catalog().subscriptions.len();
+    let mut fresh = Book::new(alloc, checked, book.limit())?;
+    compare(
+        alloc,
+        &mut fresh,
+        &book,
+        seats.as_slice(),
+        served.as_slice(),
+    )?;
+    keep_confirmed(&mut fresh, &book, slots);
+    Ok(Closed {
+        book: fresh,
+        seats,
+        served,
+    })
+}

@@ -1,0 +1,54 @@
+//! Whether the numbers of receipts rise.
+
+ghost use Rattle.std.specs.Prelude.{◌≡◌, All, IsTrue, MatchBool, map};
+ghost use Rattle.publisher_desk.specs.Seats.{AreTimed, IsForward};
+ghost use Rattle.senders.specs.Gathering.{numbers_of, RiseTo, IsRising};
+
+use publisher_desk::{Note, Publishing, Receipt, Seat};
+
+/// Whether the numbers rise, from 1 at least to `high` at most.
+pub(crate) fn rise(receipts: &[&Receipt], high: u32) -> bool
+    ensures { MatchBool result (RiseTo high 0 (numbers_of (map (λ receipt. receipt.now) receipts.now)))
+        (¬ RiseTo high 0 (numbers_of (map (λ receipt. receipt.now) receipts.now))) }
+{
+    let mut last = 0;
+    for receipt in receipts {
+        let number = receipt.number();
+        if number <= last || number > high {
+            return false;
+        }
+        last = number;
+    }
+    true
+}
+
+/// Whether the numbers of the receipts among the notes do so.
+fn is_rising(notes: &[Note], high: u32) -> bool
+    ensures { MatchBool result (IsRising high notes.now) (¬ IsRising high notes.now) }
+{
+    let mut last = 0;
+    for note in notes {
+        if let Note::Committed(receipt) = note {
+            let number = receipt.number();
+            if number <= last || number > high {
+                return false;
+            }
+            last = number;
+        }
+    }
+    true
+}
+
+/// Whether they do in each seat's order. In each seat, rows were read of no fewer commits than earlier notes know of.
+pub(crate) fn are_rising<P: Publishing>(seats: &[Seat<P>], high: u32) -> bool
+    ensures rising { MatchBool result (All (IsRising high) seats.now) (¬ All (IsRising high) seats.now) }
+    ensures forward { IsTrue result → All IsForward seats.now }
+    ensures timed { IsTrue result → All AreTimed seats.now }
+{
+    for seat in seats {
+        if !is_rising(seat.notes(), high) {
+            return false;
+        }
+    }
+    true
+}

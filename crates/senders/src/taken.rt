@@ -1,0 +1,79 @@
+//! Whether connections took the commits of the log.
+
+ghost use Rattle.std.specs.Prelude.{◌≡◌, ◌≢◌, ◌≤◌, ◌^◌, All, MatchBool, map, slice_get};
+ghost use Rattle.std.specs.Arc.{arc_value};
+ghost use Rattle.copy_both.specs.VoiceLaws.{AreAt};
+ghost use Rattle.tables_log.specs.BookView.{book_log};
+ghost use Rattle.senders.specs.TakenCommits.{first_of, taken_of, IsTaken};
+
+use crate::end::End;
+use crate::served::Served;
+use std::alloc::Global;
+use std::sync::Arc;
+use tables_log::{Book, Commit};
+
+/// How many commits of the log begin before the connection's start.
+fn commits_before(served: &Served) -> u64
+    ensures is { result ≡ first_of served.now }
+    ensures within { result ≤ 2 ^ 58 }
+{
+    match served.start {
+        None => 0,
+        Some(start) => start.saturating_sub(1) / 64,
+    }
+}
+
+/// Whether this is the log's commit after so many.
+fn is_next(book: &Book, count: u64, commit: &Commit) -> bool
+    ensures { MatchBool result (slice_get (book_log book.now) count ≡ Some commit.now)
+        (slice_get (book_log book.now) count ≢ Some commit.now) }
+{
+    if count >= u64::from(book.log_len()) {
+        return false;
+    }
+    match book.entry(count as u32 + 1) {
+        None => false,
+        Some(entry) => entry.same(commit),
+    }
+}
+
+/// Whether the log has these commits after so many.
+fn are_next(book: &Book, count: u64, commits: &[Arc<Commit, Global>]) -> bool
+    requires { count ≤ 2 ^ 58 }
+    ensures { MatchBool result (AreAt (book_log book.now) count (map (λ commit. arc_value commit) commits.now))
+        (¬ AreAt (book_log book.now) count (map (λ commit. arc_value commit) commits.now)) }
+{
+    for (place, commit) in commits.iter().enumerate() {
+        if !is_next(book, count + place as u64, commit) {
+            return false;
+        }
+    }
+    true
+}
+
+/// Whether the connection took the log's commits from its start on, up to the log's end where it was finished.
+fn is_taken(book: &Book, served: &Served) -> bool
+    ensures { MatchBool result (IsTaken (book_log book.now) served.now) (¬ IsTaken (book_log book.now) served.now) }
+{
+    let count = commits_before(served);
+    if !are_next(book, count, served.taken.as_slice()) {
+        return false;
+    }
+    if served.end != End::Finished {
+        return true;
+    }
+    count + served.taken.len() as u64 == u64::from(book.log_len())
+}
+
+/// Whether each connection did.
+pub(crate) fn are_taken(book: &Book, served: &[Served]) -> bool
+    ensures { MatchBool result (All (IsTaken (book_log book.now)) served.now)
+        (¬ All (IsTaken (book_log book.now)) served.now) }
+{
+    for one in served {
+        if !is_taken(book, one) {
+            return false;
+        }
+    }
+    true
+}

@@ -1,6 +1,0 @@
-use Rattle.tables_log.specs.BookView.{book_slots}
-use Rattle.tables_log.specs.Committing.{ChangesSlots}
-use Rattle.senders_close.proofs.closing.keep_confirmed.Given as goal
-
-abbrev pub invariant-loop-slot : goal.invariant-loop-slot
-invariant-loop-slot l = ChangesSlots l.fn.fresh l.fresh (book_slots l.fresh)

@@ -1,0 +1,9 @@
+use Rattle.std.specs.Arc.{arc_value}
+use Rattle.shard_checker.specs.CheckedView.{checked_view}
+use Rattle.session_tests.proofs.steps.a_sender_is_told_what_to_do.Given as goal
+
+abbrev pub ghosts-steps-P-Ledger : goal.ghosts-steps-P-Ledger
+ghosts-steps-P-Ledger g a = record { name = a.blank.name; parts = a.blank.parts }
+
+abbrev pub ghosts-steps-P-Publishing : goal.ghosts-steps-P-Publishing
+ghosts-steps-P-Publishing g a = record { checked = checked_view (arc_value a.checked); limit = 2 }

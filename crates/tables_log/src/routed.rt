@@ -1,0 +1,52 @@
+//! Entries of the log, with the subscribers that get something of each.
+
+ghost use Rattle.std.specs.Prelude.{◌≡◌, ◌<◌, drop, map, take, IfOk};
+ghost use Rattle.std.specs.Arc.{arc_value};
+ghost use Rattle.std.specs.List.{take_while};
+ghost use Rattle.tables_log.specs.Routes.{commit_in, lacks};
+
+use crate::commit::Commit;
+use row_owners::OwnerSet;
+use std::alloc::{AllocError, Global};
+use std::sync::Arc;
+
+/// How many entries are passed over at once.
+const MOST: usize = 64;
+
+/// An entry of the log: a commit, and the subscribers that get something of it.
+#[derive(Drop)]
+pub(crate) struct Routed {
+    pub(crate) commit: Arc<Commit, Global>,
+    pub(crate) concerned: OwnerSet,
+}
+
+/// The entries after so many others, and at most `MOST` of them.
+#[tactic(auto, using(crate::proofs::RouteLemmas::some_after))]
+pub(crate) fn entries_after(log: &[Routed], done: usize) -> &[Routed]
+    ensures { result.now ≡ take 64 (drop done log.now) }
+{
+    let (_, rest) = log.split_at(done.min(log.len()));
+    let (next, _) = rest.split_at(MOST.min(rest.len()));
+    next
+}
+
+/// The commits of the first of these entries, up to one of which the subscriber gets something. The only error is want
+/// of memory, or that a commit is shared too often.
+pub(crate) fn passed_over(
+    alloc: Global,
+    entries: &[Routed],
+    subscriber: usize,
+) -> Result<Vec<Arc<Commit, Global>>, AllocError>
+    requires { subscriber < 32 }
+    ensures { IfOk result (λ commits. map (λ commit. arc_value commit) commits.items
+        ≡ map commit_in (take_while (lacks subscriber) entries.now)) }
+{
+    let mut commits = Vec::new(alloc);
+    for entry in entries {
+        if entry.concerned.has(subscriber) {
+            return Ok(commits);
+        }
+        commits.push(Arc::try_clone(&entry.commit)?)?;
+    }
+    Ok(commits)
+}
