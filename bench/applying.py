@@ -14,12 +14,12 @@ HEADS = [
     "Change",
     "Identity",
     "Bytes of a text",
-    "Rows a commit",
+    "Rows per commit",
     "Rows before",
-    "instructions a row",
+    "instructions per row",
     "plain Rust",
-    "backlog, µs a row",
-    "at once, µs a row",
+    "backlog, µs per row",
+    "at once, µs per row",
     "apply worker, backlog",
     "apply worker, at once",
 ]
@@ -47,7 +47,7 @@ def counted(setup, load):
 
 
 def timed(setup, load):
-    """µs a row: where all bytes wait, and where those of a commit come as soon as it is taken."""
+    """µs per row: where all bytes wait, and where those of a commit come as soon as it is taken."""
     backlog, idle = simulating.times(setup, load, "delivered"), simulating.times(setup, load, "refused")
     at_once = simulating.time_at_once(setup, load, True) - simulating.time_at_once(setup, load, False)
     return (backlog["delivers"] - idle["delivers"]) / load.rows, at_once / load.rows

@@ -15,7 +15,9 @@ from workloads import Load
 
 COUNTED = 10_000
 ROWS_HELD = 20_000
-HEADS = ["Change", "Identity", "Rows a commit", "Rows before", "Tables", "instructions a row", "plain Rust", "µs a row", "SQL, µs a row"]
+HEADS = [
+    "Change", "Identity", "Rows per commit", "Rows before", "Tables",
+    "instructions per row", "plain Rust", "µs per row", "SQL, µs per row"]
 DEEDS = ("insert", "update", "delete")
 
 
@@ -86,7 +88,7 @@ def measure_with(setup, folder, connection):
     print_table(HEADS, (row(setup, connection, load) for load in loads()))
     if connection:
         (copied,) = streaming.least(setup, streaming.copied, connection, Load(rows=100_000), folder / "copied")
-        print(f"COPY: {shown(copied)} µs a row\n")
+        print(f"COPY: {shown(copied)} µs per row\n")
     heads = ["Rows inserted", "bytes a row, table and log", "plain Rust", "table of PostgreSQL", "its WAL"]
     print_table(heads, bytes_row(setup, connection))
 

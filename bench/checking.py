@@ -17,7 +17,7 @@ SIZES = (1_000, 30_001, 1_000_000)
 # Instructions are counted of certificates with fewer nodes.
 MOST_COUNTED = 100_000
 SUBSCRIBERS = 32
-HEADS = ["Filters", "Leaves", "Nodes", "Splits on a path", "check, ms", "instructions a node", "Answer"]
+HEADS = ["Filters", "Leaves", "Nodes", "Splits on a path", "check, ms", "instructions per node", "Answer"]
 
 
 def lower(at):

@@ -11,7 +11,8 @@ import postgres
 import rows
 from measuring import print_table, shown
 
-COUNTS = (2, 8)
+# Families, and how many publications they have.
+KINDS = [(name, count) for name in ("ranges", "remainders", "regions") for count in (2, 8)] + [("columns", 64)]
 COUNTED = 20_000
 HEADS = [
     "Filters",
@@ -22,8 +23,8 @@ HEADS = [
     "eval by COPY in and out",
     "count alone, ms",
     "counts",
-    "eval, instructions a row",
-    "eval --insert, instructions a row",
+    "eval, instructions per row",
+    "eval --insert, instructions per row",
     "plain Rust",
 ]
 
@@ -64,7 +65,7 @@ def database_times(connection, setup, given, path):
 
 
 def counted(given, path, words):
-    """The instructions a row of a program, or of none."""
+    """The instructions per row of a program, or of none."""
     if words is None:
         return None
     given.write_program_input(path, 0)
@@ -97,7 +98,7 @@ def row(setup, folder, connection, name, count):
 
 
 def table(setup, folder, connection):
-    print_table(HEADS, (row(setup, folder, connection, name, count) for name in rows.FAMILIES for count in COUNTS))
+    print_table(HEADS, (row(setup, folder, connection, name, count) for name, count in KINDS))
 
 
 def measure(setup, folder):

@@ -206,8 +206,8 @@ def two_remainders(_):
 # Each with the sizes that are measured.
 HARD = {
     some_flag: (8, 12, 16, 18, 19),
-    first_flag: (8, 12, 16, 17),
-    pair_of_flags: (4, 6, 8, 9),
+    first_flag: (8, 12, 16, 17, 19),
+    pair_of_flags: (4, 6, 8, 9, 10),
     sign_and_remainder: (3,),
     two_remainders: (2,),
 }

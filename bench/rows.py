@@ -16,21 +16,23 @@ class Input:
     columns: str
     filters: list
     cells: object
+    rows: int = ROWS
 
     def catalog(self):
         lines = [f"CREATE TABLE {TABLE} ({self.columns});", f"ALTER TABLE {TABLE} REPLICA IDENTITY FULL;"]
         lines += [f"CREATE PUBLICATION p{at} FOR TABLE {TABLE} WHERE ({it});" for at, it in enumerate(self.filters)]
         return "\n".join(lines) + "\n"
 
-    def write_program_input(self, path, rows=ROWS):
+    def write_program_input(self, path, rows=None):
+        rows = self.rows if rows is None else rows
         with open(path, "w") as file:
             file.write(self.catalog() + "%%\n")
             file.writelines(f"({', '.join(literal(it) for it in self.cells(at))})\n" for at in range(rows))
 
-    def write_copy_input(self, path, rows=ROWS):
+    def write_copy_input(self, path):
         """The rows as COPY reads them."""
         with open(path, "w") as file:
-            file.writelines("\t".join(r"\N" if it is None else str(it) for it in self.cells(at)) + "\n" for at in range(rows))
+            file.writelines("\t".join(r"\N" if it is None else str(it) for it in self.cells(at)) + "\n" for at in range(self.rows))
 
     def counting(self):
         """The query for how many rows each publication carries."""
@@ -73,4 +75,18 @@ def regions(count):
     return Input("id integer PRIMARY KEY, region text", filters, lambda at: (scattered(at), names[scattered(at) % len(names)]))
 
 
-FAMILIES = {it.__name__: it for it in (ranges, remainders, regions)}
+def numbers(at):
+    """Eight numbers below 1,000."""
+    return tuple(scattered(at * (2 * place + 1) % ROWS) % 1000 for place in range(8))
+
+
+def columns(count):
+    """Least numbers of eight columns, two for each publication. Nearly no two rows pass the same of them."""
+    names = "abcdefgh"
+    atoms = [f"{name} >= {125 * at}" for name in names for at in range(8)]
+    filters = [f"{atoms[at * 13 % 64]} AND {atoms[(at * 29 + 7) % 64]}" for at in range(count)]
+    declared = ", ".join(f"{name} integer{' PRIMARY KEY' if name == 'a' else ''}" for name in names)
+    return Input(declared, filters, numbers, 300_000)
+
+
+FAMILIES = {it.__name__: it for it in (ranges, remainders, regions, columns)}

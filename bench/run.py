@@ -3,8 +3,8 @@
 
     bench/run.py [--program FILE] [--core N] [--first] [--runs N] [PART ..]
 
-The parts are start, large, eval, check, make, book, send, apply, messages and serve; without one, all are run.
-The program has to be built, which the script `pgshard` does.
+The parts are start, large, eval, check, make, book, send, apply, messages, serve and publish; without one, all are
+run. The program has to be built, which the script `pgshard` does.
 PostgreSQL 15, z3, valgrind and rustc are left out where they are not installed.
 """
 
@@ -19,6 +19,7 @@ import book
 import checking
 import evaluation
 import messages
+import publishing
 import sending
 import serving
 import sharding
@@ -36,6 +37,7 @@ PARTS = {
     "apply": ("The subscriber", applying.measure),
     "messages": ("Messages", messages.measure),
     "serve": ("serve", serving.measure),
+    "publish": ("publish", publishing.measure),
 }
 
 

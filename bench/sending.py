@@ -16,12 +16,12 @@ HEADS = [
     "Change",
     "Identity",
     "Bytes of a text",
-    "Rows a commit",
+    "Rows per commit",
     "Slots",
-    "instructions a row and slot",
+    "instructions per row and slot",
     "plain Rust",
-    "backlog, µs a row and slot",
-    "at once, µs a row and slot",
+    "backlog, µs per row and slot",
+    "at once, µs per row and slot",
     "walsender, backlog",
     "walsender, at once",
 ]
@@ -70,7 +70,7 @@ def counted(setup, load):
 
 
 def timed(setup, load):
-    """µs a row and slot: where the commits wait, and where each is taken as soon as it is made."""
+    """µs per row and slot: where the commits wait, and where each is taken as soon as it is made."""
     backlog, idle = simulating.times(setup, load, "delivered"), simulating.times(setup, load, "refused")
     at_once = simulating.time_at_once(setup, load, False) - backlog["changes"]
     return [(it - idle["takes"]) / load.rows / load.slots for it in (backlog["takes"], at_once)]

@@ -20,13 +20,13 @@ ROWS = {1_000: 400_000, 1: 90_000}
 # What the last row that each subscriber is told of has, and no row before it.
 LAST = b"the last one"
 HEADS = [
-    "Rows a commit",
+    "Rows per commit",
     "Connections",
-    "serve, µs a row",
-    "serve, µs a row and slot",
+    "serve, µs per row",
+    "serve, µs per row and slot",
     "serve, thousand rows/s",
-    "walsenders, µs a row",
-    "walsenders, µs a row and slot",
+    "walsenders, µs per row",
+    "walsenders, µs per row and slot",
     "walsenders, thousand rows/s",
 ]
 

@@ -11,7 +11,7 @@ ENTRIES = (3, 10, 100)
 MOST = 32
 # Runs that take longer, in ms, are not made again to count their instructions.
 LONG = 300
-HEADS = ["Answer", "make, ms", "check, ms", "z3, ms", "z3 says", "make, instructions a node"]
+HEADS = ["Answer", "make, ms", "check, ms", "z3, ms", "z3 says", "make, instructions per node"]
 
 
 def nodes(certificate):

@@ -66,7 +66,7 @@ def clear(connection, load):
 
 
 def changed_by_sql(connection, load):
-    """µs a row of a backend that changes rows by statements that are each prepared once, in a table without WAL."""
+    """µs per row of a backend that changes rows by statements that are each prepared once, in a table without WAL."""
     connection.ask("CREATE UNLOGGED TABLE t (id integer PRIMARY KEY, region text);")
     prefix(connection, load)
     backend = connection.backend()
@@ -78,7 +78,7 @@ def changed_by_sql(connection, load):
 
 
 def copied(connection, load, path):
-    """µs a row of a backend that reads the rows by COPY into a table without WAL."""
+    """µs per row of a backend that reads the rows by COPY into a table without WAL."""
     path.write_text("".join(f"{load.key(at)}\t{'i' * load.text}\n" for at in range(load.rows)))
     path.chmod(0o644)
     connection.ask("CREATE UNLOGGED TABLE t (id integer PRIMARY KEY, region text);")
@@ -138,7 +138,7 @@ def gone(connection):
 
 
 def walsenders(folder, connection, load):
-    """µs a row and slot of the walsenders: where changes wait for them, and where they are sent as they come."""
+    """µs per row and slot of the walsenders: where changes wait for them, and where they are sent as they come."""
     half = load.rows // 2
     prepare(connection, load)
     prefix(connection, load)
@@ -223,7 +223,7 @@ def restarted(connection, other):
 
 
 def apply_worker(folder, connection, load):
-    """µs a row of the worker: where changes wait for it, and where it applies them as they come."""
+    """µs per row of the worker: where changes wait for it, and where it applies them as they come."""
     half = load.rows // 2
     prepare(connection, load)
     with subscription(folder, connection, load) as other:

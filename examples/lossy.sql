@@ -1,4 +1,4 @@
--- Orders go to one of two subscribers by their region. Those that have no region go to neither.
+-- Orders go to one of two subscribers by region. Orders without a region go to neither: this sharding is not sound.
 CREATE TABLE orders (id bigint PRIMARY KEY, region integer, cents bigint NOT NULL);
 ALTER TABLE orders REPLICA IDENTITY FULL;
 

@@ -1,5 +1,5 @@
--- Tables and publications for a PostgreSQL 15 server, as `createdb shop; psql -d shop -f examples/server.sql` makes them.
--- Orders are split at a day, and customers by their numbers.
+-- Tables and publications for a PostgreSQL 15 server: createdb shop; psql -d shop -f examples/server.sql
+-- Orders are split by date, which leaves one day to nobody, and customers by number.
 CREATE TABLE orders (id uuid PRIMARY KEY, region text, placed date NOT NULL);
 ALTER TABLE orders REPLICA IDENTITY FULL;
 CREATE TABLE customers (id bigint PRIMARY KEY CHECK (id > 0), name text);

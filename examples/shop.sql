@@ -1,5 +1,5 @@
--- Orders go to one of two subscribers by their region; those that have no region go to the second. The rates all go to
--- the second, too.
+-- Orders go to one of two subscribers by region; orders without a region go to the second. All rates go to the second
+-- subscriber too.
 CREATE TABLE orders (id bigint PRIMARY KEY, region integer, cents bigint NOT NULL);
 ALTER TABLE orders REPLICA IDENTITY FULL;
 CREATE TABLE rates (currency text PRIMARY KEY, millionths bigint NOT NULL);

@@ -1,7 +1,8 @@
 //! What pgshard's `eval` does with rows, as one would write it in Rust by the standard library and without a proof: rows
 //! as SQL are read from standard input, after the line `%%`, and what each publication says of each is written.
 //!
-//! The words are a family of bench/rows.py, `ranges`, `remainders` or `regions`, and how many publications there are.
+//! The words are a family of bench/rows.py, `ranges`, `remainders`, `regions` or `columns`, and how many publications
+//! there are.
 
 use std::borrow::Cow;
 use std::io::{Read, Write};
@@ -96,6 +97,11 @@ fn regions(count: i64) -> Vec<Filter> {
     filters
 }
 
+fn columns(count: i64) -> Vec<Filter> {
+    let atom = |at: i64| Filter::AtLeast((at / 8) as usize, at % 8 * 125);
+    (0..count).map(|at| Filter::And(vec![atom(at * 13 % 64), atom((at * 29 + 7) % 64)])).collect()
+}
+
 // ---- rows
 
 fn spaces(text: &str) -> &str {
@@ -158,6 +164,7 @@ fn main() {
     let filters = match words[0].as_str() {
         "ranges" => ranges(count),
         "remainders" => remainders(count),
+        "columns" => columns(count),
         _ => regions(count),
     };
     let filters: Vec<_> = filters.into_iter().enumerate().map(|(at, it)| (format!("p{at}="), it)).collect();

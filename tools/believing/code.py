@@ -1,7 +1,7 @@
 """Files of code (.rt): types, what they are seen as, and contracts of functions."""
 
 import re
-from dataclasses import dataclass
+from dataclasses import dataclass, field
 from functools import cache
 from pathlib import Path
 
@@ -15,16 +15,26 @@ GHOST_USE = re.compile(r"^ *(ghost use [^;]*;)", re.M)
 VARIANT = re.compile(r"^    [A-Z]\w*", re.M)
 PRIVATE = re.compile(r"^ +(?!pub )\w+: .*", re.M)
 USE = re.compile(r"^(?:pub )?use ([\w:]+?)(?:::(\w+|\{[^}]*\}))?;", re.M)
+PARAMETER = re.compile(r"[(,]\s*(?:mut )?([a-z_]\w*):")
 CLAUSE = re.compile(r"^ *(ensures|requires)(?: (\w+))? \{", re.M)
+GHOST = re.compile(r"^ *ghost (?!use )(\w+)\b(?: =|:) \{", re.M)
+SEEN_AS = {"Value", "view", "invariant"}
+GENERIC = re.compile(r"(\w+): ((?:[\w:]+(?:<[^<>]*>)?(?: \+ )?)+)")
+FIELD = re.compile(r"^ +(?:pub(?:\(crate\))? )?(?:ghost )?([a-z_]\w*):", re.M)
+COMMENTED = re.compile(r"^ *(?://|#\[).*$", re.M)
 
 
 @dataclass
 class Item:
-    """A type, a trait or a contract: its lines, and the words that may be names of types and of definitions."""
+    """A type, a trait or a contract: its lines, the words that may be names of types and of definitions, its parameters
+    of types with the traits that bound each, and its premises: what a contract requires, or what holds of each value of
+    a type by its ghost fields and by the invariant of what it is seen as."""
 
     lines: list[str]
     types: list[str]
     names: list[str]
+    generics: dict[str, list[str]] = field(default_factory=dict)
+    premises: list[str] = field(default_factory=list)
 
 
 @dataclass
@@ -83,14 +93,50 @@ def item(path: Path, name: str) -> Item | None:
         own = [it for it in code.lines[number:end_of(code.lines, number)] if not it.strip().startswith("ghost use ")]
         if match[1] == "trait":
             return trait(code, own, number)
-        own = [it for it in own if not it.strip().startswith("ghost ")]
         lines = [it for it in code.lines[documented(code.lines, number):number] if "#[" not in it] + own
-        seen = model(code, name)
-        text = "\n".join(it for it in own if not it.strip().startswith("//"))
-        text = VARIANT.sub("", text) if match[1] == "enum" else PRIVATE.sub("", text)
-        names = names_in("\n".join(seen), bound_in("\n".join(seen)))
-        return Item([*lines, *seen], re.findall(r"\b[A-Z]\w*", text), names)
+        return typed(code, name, match[1], lines, COMMENTED.sub("", "\n".join(own)))
     return None
+
+
+def typed(code: Code, name: str, kind: str, lines: list[str], text: str) -> Item:
+    """A type with this text: the types of what it shows, and the names of its ghost fields, which hold of each of its
+    values, of what its values are seen as, and of the invariant of that."""
+    seen, kept = model(code, name), ghosts(text)
+    shown = text
+    for its in kept:
+        shown = shown.replace(its, "")
+    shown = VARIANT.sub("", shown) if kind == "enum" else PRIVATE.sub("", shown)
+    facts = "\n".join([fact.split("{", 1)[1] for fact in kept] + seen)
+    bound = bound_in(facts) | (set(FIELD.findall(text)) if kept else set())
+    parameters = generics(text.split("{")[0])
+    types = [it for it in re.findall(r"\b[A-Z]\w*", shown) if it not in parameters]
+    invariant = [it for it in ghosts("\n".join(seen)) if it.split()[1] == "invariant"]
+    premises = [premise(it) for it in kept + invariant]
+    return Item([*lines, *seen], types, names_in(facts, bound | parameters.keys()), parameters, premises)
+
+
+def ghosts(text: str) -> list[str]:
+    """The ghost fields of a type, or the ghost members of an impl: each from its first word to its end."""
+    found = []
+    for begin in GHOST.finditer(text):
+        depth, end = 0, begin.end() - 1
+        while depth > 0 or end == begin.end() - 1 or text[end - 1] != "}":
+            depth += {"{": 1, "}": -1}.get(text[end], 0)
+            end += 1
+        found.append(text[begin.start():end])
+    return found
+
+
+def generics(head: str) -> dict[str, list[str]]:
+    """The parameters of types of an item, each with the traits that bound it."""
+    head = head.replace("pub(crate)", "pub")
+    opened = head.find("<")
+    if opened < 0 or "(" in head[:opened]:
+        return {}
+    listed = head[opened + 1:]
+    found = {name: re.findall(r"\w+", re.sub(r"<[^<>]*>", "", bounds)) for name, bounds in GENERIC.findall(listed)}
+    plain = re.findall(r"(?:^|[<,]) *([A-Z]\w*)(?=[,>])", head[opened:].split(">")[0] + ">")
+    return {**{name: [] for name in plain}, **found}
 
 
 def trait(code: Code, own: list[str], number: int) -> Item:
@@ -100,7 +146,8 @@ def trait(code: Code, own: list[str], number: int) -> Item:
     members = set(re.findall(r"(?m)^ *ghost (\w+):", text))
     clauses = [clauses_of(text, begin.start())[0][2] for begin in CLAUSE.finditer(text)]
     facts = "\n".join(clause.split("{", 1)[1] for clause in clauses)
-    return Item([*head, *own], [], names_in(facts, bound_in(facts) | members | {"result", "self"}))
+    bound = bound_in(facts) | members | set(PARAMETER.findall(text)) | {"result", "self"}
+    return Item([*head, *own], [], names_in(facts, bound))
 
 
 def model(code: Code, name: str) -> list[str]:
@@ -108,14 +155,15 @@ def model(code: Code, name: str) -> list[str]:
     for number, line in enumerate(code.lines):
         match = MODEL.match(line)
         if match is not None and match[1] == name:
-            inside = code.lines[number:end_of(code.lines, number)]
-            return [it for it in inside if it.strip().startswith(("ghost Value", "ghost view"))]
+            inside = "\n".join(code.lines[number:end_of(code.lines, number)])
+            said = [it for it in ghosts(inside) if it.split()[1] in SEEN_AS]
+            return [line for it in said for line in f"{it};".splitlines()]
     return []
 
 
 def contract(path: Path, name: str, clauses: tuple[str, ...]) -> Item | None:
-    """The function of this name: its comment, its first lines, what it asks, and these clauses of what it ensures, or
-    all where none is named."""
+    """The function of this name: its comment, its first lines with the types of its parameters, all that it requires,
+    and these clauses of what it ensures, or all where none is named."""
     code = read(path)
     for number, line in enumerate(code.lines):
         match = CALL.match(line)
@@ -125,15 +173,31 @@ def contract(path: Path, name: str, clauses: tuple[str, ...]) -> Item | None:
         lines = [it for it in head if "#[" not in it]
         text = "\n".join(code.lines[number:])
         first = CLAUSE.search(text)
-        lines.extend(text[:first.start()].splitlines())
-        said = []
-        for kind, label, clause in clauses_of(text, first.start()):
-            if kind == "ensures" and (not clauses or label in clauses):
-                said.append(clause)
+        head_text = text[:first.start()]
+        lines.extend(head_text.splitlines())
+        said = [
+            clause for kind, label, clause in clauses_of(text, first.start())
+            if kind == "requires" or not clauses or label in clauses]
         lines.extend(it for clause in said for it in clause.splitlines())
         facts = "\n".join(clause.split("{", 1)[1] for clause in said)
-        return Item(lines, [], names_in(facts, bound_in(facts) | {"result", "self"}))
+        parameters = {**generics(impl_head(code, number)), **generics(head_text)}
+        bound = bound_in(facts) | set(PARAMETER.findall(head_text)) | {"result", "self"}
+        given = head_text.split("->")[0]
+        types = [it for it in re.findall(r"\b[A-Z]\w*", given[given.find("("):]) if it not in parameters]
+        asked = [premise(clause) for clause in said if clause.lstrip().startswith("requires")]
+        return Item(lines, types, names_in(facts, bound), parameters, asked)
     return None
+
+
+def impl_head(code: Code, number: int) -> str:
+    """The first line of the impl that a function is in; nothing where it is in none."""
+    heads = [line for line in code.lines[:number] if line.startswith(("impl", "}"))]
+    return heads[-1] if heads and heads[-1].startswith("impl") else ""
+
+
+def premise(text: str) -> str:
+    """What a clause or a ghost member says, on one line."""
+    return re.sub(r"\s+", " ", text.split("{", 1)[1].rsplit("}", 1)[0]).strip()
 
 
 def clauses_of(text: str, at: int) -> list[tuple[str, str | None, str]]:

@@ -6,13 +6,13 @@ from functools import cache
 from itertools import takewhile
 from pathlib import Path
 
-from believing.words import bound_in, names_in, names_of_clause, without_comments
+from believing.words import bound_in, names_in, names_of_clause, patterns_of, without_comments
 
 HEAD = re.compile(r"( *)(?:(?:abbrev|unfoldable)(?: pub)? (\S+) :|pub (?:record|data) (\S+))")
 MODULE = re.compile(r"module _ (.*) where$")
-USE = re.compile(r"(pub )?use Rattle\.([\w.]+?)(?:\.\{(.*)\})?(?: as (\w+))?$")
+USE = re.compile(r"(pub )?use (?:Rattle\.)?([\w.]+?)(?:\.\{(.*)\})?(?: as (\w+))?$")
 CONSTRUCTOR = re.compile(r" +([A-Z]\w*) :")
-FIELD = re.compile(r"^ +(?:pub )?([a-z_]\w*) :", re.M)
+FIELD = re.compile(r"^ +(?:pub )?([A-Za-z_]\w*) :", re.M)
 
 
 @dataclass
@@ -33,6 +33,10 @@ class Definition:
     lines: list[str]
     names: list[str] = field(default_factory=list)
     constructors: list[str] = field(default_factory=list)
+    # Words in capitals to the left of `=`, each a constructor if one has its name, and else a variable.
+    patterns: set[str] = field(default_factory=set)
+    # The parameters of the module that it is in.
+    parameters: set[str] = field(default_factory=set)
 
 
 @dataclass
@@ -86,7 +90,7 @@ def read(path: Path) -> File:
         if module is not None:
             parameters = bound_in(module[1])
         if head is not None:
-            current = Definition(head[2] or head[3], [*comment, line])
+            current = Definition(head[2] or head[3], [*comment, line], parameters=parameters if head[1] else set())
             definitions[current.name] = current
         elif not line.strip() or import_of(line) is not None or module is not None:
             current = None
@@ -97,7 +101,7 @@ def read(path: Path) -> File:
         is_comment = line.lstrip().startswith("--") and not line.lstrip().startswith("-- ----") and current is None
         comment = [*comment, line] if is_comment else []
     for definition in definitions.values():
-        find_names(definition, parameters)
+        find_names(definition)
     return File(beginning(lines), imports, definitions)
 
 
@@ -106,9 +110,9 @@ def beginning(lines: list[str]) -> str:
     return " ".join(line.removeprefix("-- ") for line in takewhile(lambda line: line.startswith("-- "), lines))
 
 
-def find_names(definition: Definition, parameters: set[str]) -> None:
+def find_names(definition: Definition) -> None:
     """Finds the names of a definition, part by part."""
-    text = without_comments(definition.lines)
+    text, parameters = without_comments(definition.lines), definition.parameters
     begin = next(line for line in text.split("\n") if HEAD.match(line))
     match = HEAD.match(begin)
     if match[3] is not None:
@@ -118,9 +122,10 @@ def find_names(definition: Definition, parameters: set[str]) -> None:
     else:
         found = []
         for part in parts_of(text, len(match[1])):
-            found.extend(names_of_clause(part))
-    own = {definition.name, "abbrev", "unfoldable", "pub", "data", "where", *parameters}
-    definition.names = [word for word in dict.fromkeys(found) if word not in own]
+            found.extend(names_of_clause(part, "◌" in definition.name))
+            definition.patterns |= patterns_of(part)
+    own = {definition.name, "abbrev", "unfoldable", "pub", "data", "where"}
+    definition.names = [word for word in dict.fromkeys(found) if word not in own and word.split(".")[0] not in parameters]
 
 
 def parts_of(text: str, depth: int) -> list[str]:

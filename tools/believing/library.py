@@ -10,6 +10,11 @@ from believing.definitions import Import
 ROOT = Path(__file__).resolve().parent.parent.parent
 CRATES = ROOT / "crates"
 
+# What a file of code names without an import.
+BUILT_IN = {
+    "Option", "Some", "None", "Result", "Ok", "Err", "Vec", "Box", "String", "Self", "Drop", "Clone", "Copy", "Fn", "FnMut",
+    "FnOnce", "Sync", "Send", "Sized", "AsRef", "Iterator"}
+
 
 @dataclass(frozen=True)
 class Place:
@@ -40,7 +45,7 @@ def type_file(crate: str, name: str) -> Path | None:
 
 
 def declared(crate: str, rest: list[str]) -> Place | None:
-    """The type whose data `declared` has."""
+    """The type whose data `declared` has, or whose laws `contracts`."""
     parts = [part for part in rest if part != "TheVariants"]
     path = type_file(crate, parts[-1])
     return None if path is None else Place(path, parts[-1])
@@ -51,7 +56,7 @@ def in_path(path: str, name: str) -> Place | None:
     crate, specs, *rest = path.split(".")
     if crate == "std" or specs != "specs" or not (CRATES / crate).is_dir():
         return None
-    if rest[:1] == ["declared"]:
+    if rest[:1] in (["declared"], ["contracts"]):
         return declared(crate, rest[1:])
     file = spec_file(crate, rest)
     return in_file(file, name) if file.exists() else None
@@ -110,26 +115,71 @@ def found_at(place: Place) -> code.Item | definitions.Definition:
 
 
 def used_by(place: Place) -> list[Place]:
-    """What a place uses, each once, in the order of its words."""
+    """What a place uses, each once, in the order of its words. A word that is not found is an error."""
     found = found_at(place)
-    if place.path.suffix == ".antt":
-        read = definitions.read(place.path)
-        places = [
-            Place(place.path, own.name) if (own := read.defined(word.split(".")[0])) is not None
-            else imported(read.imports, word) for word in found.names]
+    if isinstance(found, definitions.Definition):
+        places = [used_in_definition(place, word) for word in found.names]
     else:
-        read = code.read(place.path)
-        crate = place.file.split("/")[0]
-        places = [named_type(crate, read, name) for name in found.types]
-        places += [imported(read.imports, word) for word in found.names]
+        places = used_in_code(place, found)
     return list(dict.fromkeys(it for it in places if it is not None and it != place))
 
 
-def named_type(crate: str, read: code.Code, name: str) -> Place | None:
-    """The type that a word of the code means."""
+def used_in_definition(place: Place, word: str) -> Place | None:
+    """What a word of a definition means; none where it is the standard library's."""
+    read = definitions.read(place.path)
+    first = word.split(".")[0]
+    own = read.defined(first)
+    if own is not None:
+        return Place(place.path, own.name)
+    is_variable = first in read.definitions[place.name].patterns and not is_imported(read.imports, first)
+    return None if is_variable else meant(place, read.imports, word)
+
+
+def used_in_code(place: Place, found: code.Item) -> list[Place | None]:
+    """What the types and the words of a type or a contract mean. A parameter's member is that of a trait."""
+    read, crate = code.read(place.path), place.file.split("/")[0]
+    traits = dict.fromkeys(bound for word in found.names for bound in found.generics.get(word.split(".")[0], []))
+    places = [named_type(place, crate, read, name) for name in [*found.types, *traits]]
+    for word in found.names:
+        first = word.split(".")[0]
+        if first in found.generics:
+            continue
+        is_type = first[:1].isupper() and not is_imported(read.imports, first)
+        places.append(named_type(place, crate, read, first) if is_type else meant(place, read.imports, word))
+    return places
+
+
+def meant(place: Place, imports: list[Import], word: str) -> Place | None:
+    """What a word means by the imports of its file; none where it is the standard library's or the kit's."""
+    found = imported(imports, word)
+    if found is None and not is_of_kit(imports, word):
+        raise LookupError(f"{place.file}: {place.name}: the word {word} is not found")
+    return found
+
+
+def is_imported(imports: list[Import], first: str) -> bool:
+    """Whether an import has this name."""
+    return any(it.alias == first or first in it.names for it in imports)
+
+
+def is_of_kit(imports: list[Import], word: str) -> bool:
+    """Whether a word is imported from what is no crate of this repository."""
+    first = word.split(".")[0]
+    named = [
+        it.path for it in imports
+        if it.alias == first or any(here == first or definitions.is_operator(here, first) for here in it.names)]
+    return any(not (CRATES / path.split(".")[0]).is_dir() for path in named)
+
+
+def named_type(place: Place, crate: str, read: code.Code, name: str) -> Place | None:
+    """The type or the trait that a word of the code means, which another crate may hand on; none where it is the kit's."""
     first = read.uses.get(name, "crate")
     owner = crate if first in ("crate", "super", "self") else first
-    if not (CRATES / owner).is_dir():
+    if name in BUILT_IN or not (CRATES / owner).is_dir():
         return None
     path = type_file(owner, name)
-    return None if path is None else Place(path, name)
+    if path is None and owner != crate:
+        return named_type(place, owner, code.read(CRATES / owner / "src" / "lib.rt"), name)
+    if path is None:
+        raise LookupError(f"{place.file}: {place.name}: the type {name} is not found")
+    return Place(path, name)

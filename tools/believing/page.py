@@ -4,9 +4,10 @@ import re
 from pathlib import Path
 
 from believing import definitions
-from believing.library import ROOT, Place, lines_of
+from believing.code import Item
+from believing.library import ROOT, Place, found_at, lines_of
 from believing.theorems import THEOREMS, Theorem
-from believing.walking import by_files, places
+from believing.walking import by_files, count, places
 
 PAGE = ROOT / "docs" / "READING.md"
 PART = re.compile(r"<!-- computed: (\w+) -->\n(.*?)<!-- end -->\n", re.S)
@@ -34,12 +35,18 @@ def part(theorem: Theorem, found: list[Place], before: set[Place], sentences: di
     """Where a theorem is said, what is read for it, and which names are not."""
     lines = ["Said by:", ""]
     lines.extend(f"- {said_in(place)}" for place in theorem.said)
+    bounded = f", at most {theorem.most:,}" if theorem.most else ""
+    lines.extend(["", f"{count(found)[0]:,} lines are read for it, without comments{bounded}."])
     known = by_files([place for place in found if place in before])
     if known:
         lines.extend(["", f"Read above, whole or in part: {', '.join(f'`{file}`' for file in known)}."])
     lines.extend(["", "| File | Definitions | What it says |", "|---|---|---|"])
     for file, its in by_files([it for it in found if it not in before and it.clauses is None]).items():
         lines.append(f"| `{file}` | {names(its)} | {sentences.get(file) or sentence(its)} |")
+    kept = [(it, its) for it in found if it not in before and it.clauses is None for its in premises(it)]
+    if kept:
+        lines.extend(["", "Premises that hold of each value of a type:", ""])
+        lines.extend(f"- `{place.name}`: `{its}`" for place, its in kept)
     if theorem.tokens:
         lines.extend(["", "Not read, since their meaning does not matter here:", ""])
         lines.extend(f"- {', '.join(f'`{name}`' for name in its)}: {why}." for why, its in reasons(theorem).items())
@@ -50,7 +57,14 @@ def said_in(place: Place) -> str:
     """A contract's clauses and its file."""
     labels = ", ".join(f"`{label}`" for label in place.clauses or ())
     which = f" ({labels})" if labels else ""
-    return f"`{place.name}`{which} in `{place.file}`"
+    asked = " and ".join(f"`{its}`" for its in premises(place))
+    return f"`{place.name}`{which} in `{place.file}`{f', which requires {asked}' if asked else ''}"
+
+
+def premises(place: Place) -> list[str]:
+    """What a contract requires, or what holds of each value of a type."""
+    found = found_at(place)
+    return found.premises if isinstance(found, Item) else []
 
 
 def names(its: list[Place]) -> str:

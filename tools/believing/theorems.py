@@ -1,4 +1,4 @@
-"""The five main theorems: which clauses of which contracts say each, and which names in them are not read."""
+"""The main theorems: which clauses of which contracts say each, and which names in them are not read."""
 
 from dataclasses import dataclass, field
 
@@ -8,7 +8,8 @@ from believing.library import CRATES, Place
 @dataclass
 class Theorem:
     """A theorem: its mark on the page, where it is said, at most how many lines it may need where that is bounded,
-    the names that are not read, each with the reason, and the traits whose members its clauses name."""
+    the names that are not read, each with the reason, and the traits whose members its clauses name, with the type
+    that is behind a lock."""
 
     key: str
     said: list[Place]
@@ -23,24 +24,29 @@ def clauses(crate: str, file: str, name: str, *labels: str) -> Place:
 
 
 def trait(crate: str, file: str, name: str) -> Place:
-    """A trait."""
+    """A trait, or a type."""
     return Place(CRATES / crate / "src" / file, name)
 
 
 HANDED = {
-    "Opens": "what `Subscriber::open` ensures, and the law asks",
-    "Feeds": "what `Subscriber::feed` ensures, and the law asks",
-    "sub_machine": "what a `Subscriber` keeps, of which `rows` and `position` show the rows and the position",
+    "Opens": "what `Subscriber::open` ensures and the law requires",
+    "Feeds": "what `Subscriber::feed` ensures and the law requires",
+    "sub_machine": "what a `Subscriber` keeps; `rows` and `position` show its rows and its position",
 }
 
-SOUNDNESS = Theorem("soundness", [clauses("shard_checker", "sharding.rt", "check", "sound")], most=400)
+SOUNDNESS = Theorem("soundness", [clauses("shard_checker", "sharding.rt", "check", "sound")], most=650)
+
+SHOWN = Theorem("shown", [
+    clauses("commands", "verdicts.rt", "verdict_of", "sound"),
+    clauses("catalog_text", "catalog.rt", "write_catalog"),
+], most=650)
 
 CODEC = Theorem("codec", [
     clauses("pgoutput_msgs", "encoding.rt", "encode"),
     clauses("pgoutput_msgs", "decoding.rt", "decode"),
     clauses("pgoutput_msgs", "laws.rt", "spellings_are_decoded"),
     clauses("pgoutput_msgs", "laws.rt", "no_spelling_begins_another"),
-])
+], most=400)
 
 CONNECTION = Theorem("connection", [
     clauses("copy_both", "laws.rt", "links_say_streams", "hears", "takes", "keeps", "passes"),
@@ -48,18 +54,18 @@ CONNECTION = Theorem("connection", [
     clauses("test_subscriber", "subscriber.rt", "rows", "found"),
     clauses("test_subscriber", "subscriber.rt", "position"),
     clauses("copy_both", "link.rt", "output"),
-], tokens={
+], most=1400, tokens={
     **HANDED,
-    "FeedStops": "what `Subscriber::feed` ensures where it is refused memory, and the law asks",
+    "FeedStops": "what `Subscriber::feed` ensures if it is refused memory, and the law requires",
     "sub_listed": "what `Subscriber::rows` lists",
-    "HearSays": "what `Link::hear` ensures, and the law asks",
-    "HearingOf": "what `Link::hear` heard of a piece: where the stream starts, and how many replies are wanted",
-    "LinkSays": "what `Link::take` and `Link::keepalive` ensure, and the law asks",
-    "next_bytes": "said by `Link::take` and asked by the law, word for word",
-    "next_stage": "said by `Link::take` and asked by the law, word for word",
-    "kept_bytes": "said by `Link::keepalive` and asked by the law, word for word",
-    "LinkPasses": "what `Link::passed` ensures, and the law asks",
-    "link_stage": "how far a link is, which calls hand to one another",
+    "HearSays": "what `Link::hear` ensures and the law requires",
+    "HearingOf": "what `Link::hear` heard in a piece: where the stream starts, and how many replies are requested",
+    "LinkSays": "what `Link::take` and `Link::keepalive` ensure and the law requires",
+    "next_bytes": "ensured by `Link::take` and required by the law, word for word",
+    "next_stage": "ensured by `Link::take` and required by the law, word for word",
+    "kept_bytes": "ensured by `Link::keepalive` and required by the law, word for word",
+    "LinkPasses": "what `Link::passed` ensures and the law requires",
+    "link_stage": "the state of a link, which calls pass to one another",
     "link_checked": "the catalog of a link, which is the one that `Link::new` was given",
     "link_output": "what waits to be sent, which `Link::output` shows",
 })
@@ -71,31 +77,53 @@ HEADLINE = Theorem("headline", [
     clauses("shard_world", "world.rt", "pump"),
     clauses("shard_world", "world.rt", "view"),
 ], most=1800, tokens={
-    "IsWorld": "which world of the definition a `World` matches: `new` says it of the first one, each call that is "
-               "given it hands it on, and `view` asks it",
+    "IsWorld": "which world of the definition a `World` matches: `new` ensures it for the first one, each call "
+               "preserves it, and `view` requires it",
     "world_checked": "the catalog of a `World`, which is the one that `new` was given",
-    "machine_now": "how the definition keeps a subscriber's rows; what is shown is said without it",
-    "Machine": "how the definition keeps a subscriber's rows; what is shown is said without it",
-    "first_machine": "how the definition keeps a subscriber's rows; what is shown is said without it",
-    "lost": "how the definition keeps a subscriber's rows; what is shown is said without it",
+    "machine_now": "how the definition keeps a subscriber's rows; what is shown is defined without it",
+    "Machine": "how the definition keeps a subscriber's rows; what is shown is defined without it",
+    "first_machine": "how the definition keeps a subscriber's rows; what is shown is defined without it",
+    "lost": "how the definition keeps a subscriber's rows; what is shown is defined without it",
 })
 
 THREADS = Theorem("threads", [
     clauses("senders", "serving.rt", "serve"),
     clauses("senders", "connection.rt", "run_all"),
-    clauses("senders_close", "closing.rt", "close", "ok"),
+    clauses("publisher_desk", "publisher.rt", "new"),
+    clauses("publisher_desk", "publisher.rt", "commit"),
+    clauses("publisher_desk", "publisher.rt", "read"),
+    clauses("publisher_desk", "publisher.rt", "next_step"),
+    clauses("publisher_desk", "publisher.rt", "lend"),
+    clauses("senders", "closing.rt", "close"),
     clauses("senders", "laws.rt", "closed_publishers_were_followed"),
-], tokens={
+], most=2550, tokens={
     **HANDED,
+    "command_of": "the grammar of START_REPLICATION, of 55.4 of the documentation, and of the options of pgoutput, in "
+                  "`copy_both/specs/CommandText`",
+    "HasMaps": "how a `Book` keeps its rows, which `row` shows",
+    "IsSettled": "how a `Book` keeps its rows, which `row` shows",
     "book_log": "the log of a `Book`, which `entry` shows",
     "book_rows": "the tables of a `Book`, which `row` shows",
     "book_checked": "the catalog of a `Book`, which is the one that `new` was given",
     "book_limit": "the limit of a `Book`, which `limit` shows",
-    "book_setting": "what the catalog of a `Book` says of changes, as `setting_of` has it",
+    "book_setting": "what the catalog of a `Book` says about changes, as in `setting_of`",
 }, traits=[
-    trait("connection_io", "source.rt", "Source"),
-    trait("connection_io", "sink.rt", "Sink"),
+    trait("senders", "source.rt", "Source"),
+    trait("senders", "sink.rt", "Sink"),
     trait("publisher_desk", "naming.rt", "Publishing"),
+    trait("publisher_desk", "slot_use.rt", "SlotUse"),
+    trait("publisher_desk", "desk.rt", "Desk"),
 ])
 
-THEOREMS = [SOUNDNESS, CODEC, CONNECTION, HEADLINE, THREADS]
+PROGRAM = Theorem("program", [
+    clauses("cli", "program.rt", "run"),
+    clauses("cli", "program.rt", "run_serving"),
+], most=6750, tokens={
+    "IsClosed": "what `close` of `senders` ensures, which is read in part 5",
+    "RefusedClose": "what `close` of `senders` ensures, which is read in part 5",
+    "WasServed": "what `serve` of `senders` ensures, which is read in part 5",
+    "IsMade": "what `commit` of `publisher_desk` ensures, which is read in part 5",
+    "IsPassedOver": "what `commit` of `publisher_desk` ensures, which is read in part 5",
+})
+
+THEOREMS = [SOUNDNESS, SHOWN, CODEC, CONNECTION, HEADLINE, THREADS, PROGRAM]

@@ -3,16 +3,18 @@
 import re
 
 # A name, with the names after its points; or an operator.
-WORD = re.compile(r"«?[A-Za-z_][\w']*»?(?:\.[\w']+)*|[^\s\w(){}\[\],;.«»]+")
-LAMBDA = re.compile(r"λ ([^.]*)\.(?= )")
-BOUND = re.compile(r"[({]([a-z_][\w' ]*?) :")
+WORD = re.compile(r"«?[A-Za-z_][\w']*»?(?:\.[\w']+)*|[^\s\w(){}\[\],;.«»]+ℤ?")
+LAMBDA = re.compile(r"λ ([^.]*)\.(?=\s)")
+BOUND = re.compile(r"[({]([A-Za-z_][\w' ]*?) :")
 STRING = re.compile(r'"[^"\n]*"')
 EQUALS = re.compile(r"\s=\s")
+STEP = re.compile(r"^ +([a-z_][\w']*) ←", re.M)
 LET = re.compile(r"\blet ([a-z_][\w']*) =")
 TYPED = re.compile(r"\(([\w' ]+) : [^)]*\)")
 
 # What is no name of a definition.
-LANGUAGE = {":", "=", "→", "×", "⊥", '""', "Type", "Unit", "record", "let", "in", "ghost"}
+LANGUAGE = {
+    ":", "=", "→", "←", "×", "⊥", "¬", "∥", "∥₁", "_", '""', "Type", "Unit", "tt", "record", "let", "in", "ghost", "if", "then", "else"}
 
 # The names that begin a clause and are no variables, though they are in small letters.
 CONSTRUCTORS = {"true", "false", "zero", "suc", "record"}
@@ -24,8 +26,8 @@ def without_comments(lines: list[str]) -> str:
 
 
 def bound_in(text: str) -> set[str]:
-    """The variables that a lambda, a let or a type binds."""
-    found = set(LET.findall(text))
+    """The variables that a lambda, a let, a step of `do` or a type binds."""
+    found = set(LET.findall(text)) | set(STEP.findall(text))
     for binders in LAMBDA.findall(text):
         names = TYPED.sub(r"\1", binders)
         found.update(re.findall(r"[a-z_][\w']*", names))
@@ -34,26 +36,34 @@ def bound_in(text: str) -> set[str]:
     return found
 
 
-def variables_of(left: str) -> set[str]:
-    """The variables of the left side of a clause, whose first word is the name that it defines."""
-    words = WORD.findall(left)[1:]
+def variables_of(left: str, is_operator: bool = False) -> set[str]:
+    """The variables of the left side of a clause, whose first word is the name that it defines, or is a variable where
+    an operator is defined."""
+    words = WORD.findall(left)[0 if is_operator else 1:]
     return {word for word in words if word[0].islower() and "." not in word} - CONSTRUCTORS
 
 
+def patterns_of(clause: str) -> set[str]:
+    """The words in capitals on the left side of a clause."""
+    left, *body = EQUALS.split(clause, maxsplit=1)
+    return {word for word in WORD.findall(left)[1:] if word[0].isupper()} if body else set()
+
+
 def names_in(text: str, bound: set[str]) -> list[str]:
-    """The words of a text that may be names of definitions, each once, in their order."""
+    """The words of a text that may be names of definitions, each once, in their order. `do` is another way to write
+    `>>=`."""
     found = []
     for match in WORD.finditer(text):
-        word = match[0].strip("«»")
+        word = ">>=" if match[0] == "do" else match[0].strip("«»")
         before, after = text[match.start() - 1:match.start()], text[match.end():match.end() + 3]
-        is_field = before == "." or after.startswith(" = ")
+        is_field = before == "." or after in (" = ", " =\n")
         if word not in found and word not in LANGUAGE and not is_field and word.split(".")[0] not in bound:
             found.append(word)
     return found
 
 
-def names_of_clause(text: str) -> list[str]:
+def names_of_clause(text: str, is_operator: bool = False) -> list[str]:
     """The names in a clause `name pattern = body`; without a body the whole is looked at."""
     left, *body = EQUALS.split(text, maxsplit=1)
-    bound = bound_in(text) | (variables_of(left) if body else set())
+    bound = bound_in(text) | (variables_of(left, is_operator) if body else set())
     return names_in(left, bound) + names_in("".join(body), bound)

@@ -1,36 +1,38 @@
-"""What clients ask before they start a stream, and what they are told."""
+"""What clients ask before they start a stream, and the answers."""
 
-import re
+from collections.abc import Callable, Sequence
+from dataclasses import dataclass
 
-from fronting import frames
+from fronting import copying, frames
 from fronting.catalog import Catalog
+from fronting.copying import Copying
+from fronting.forms import Form, Found
+from fronting.frames import INTEGER, NAMES, TEXT, position_text
+from fronting.recording import BEGIN_OF_LOG
+from fronting.slots import COPIES, Refused, Slots
+from fronting.tokens import Kind, Token
 
-
-def question(words: str) -> re.Pattern:
-    """A query of these words, with any white space between them."""
-    return re.compile(r"\s*" + words.replace(" ", r"\s+") + r"\s*;?\s*$", re.I | re.S)
-
-
-NAME = r"""(?:"(?P<quoted>(?:[^"]|"")*)"|(?P<word>\w+))"""
-IDENTITY = question("IDENTIFY_SYSTEM")
-SETTING = question(r"SHOW (?P<name>.*?)")
-SEARCH_PATH = question(r"SELECT pg_catalog\.set_config\('search_path', '', false\)")
-CREATE_SLOT = question(rf'CREATE_REPLICATION_SLOT {NAME}(?: TEMPORARY)? LOGICAL "?pgoutput"?(?P<options>.*)')
-DROP_SLOT = question(rf"DROP_REPLICATION_SLOT {NAME}(?: WAIT)?")
+IDENTITY = Form("IDENTIFY_SYSTEM")
+SETTING = Form("SHOW $name")
+SEARCH_PATH = Form("SELECT pg_catalog.set_config('search_path', '', false)")
+BEGIN = Form("BEGIN READ ONLY ISOLATION LEVEL REPEATABLE READ")
+COMMIT = Form("COMMIT")
+CREATE_SLOT = [Form(f"CREATE_REPLICATION_SLOT $name {kind} LOGICAL pgoutput $rest") for kind in ("", "TEMPORARY")]
+CREATE_QUOTED = [Form(f'CREATE_REPLICATION_SLOT $name {kind} LOGICAL "pgoutput" $rest') for kind in ("", "TEMPORARY")]
+DROP_SLOT, DROP_FREE_SLOT = Form("DROP_REPLICATION_SLOT $name"), Form("DROP_REPLICATION_SLOT $name WAIT")
 # What a subscriber asks when it is created, and when its publications are refreshed.
-PUBLICATIONS = question(
-    r"SELECT t\.pubname FROM pg_catalog\.pg_publication t WHERE t\.pubname IN \((?P<names>.*)\)")
-TABLES = question(
-    r"SELECT DISTINCT t\.schemaname, t\.tablename(?P<columns>\s*, t\.attnames)? "
-    r"FROM pg_catalog\.pg_publication_tables t WHERE t\.pubname IN \((?P<names>.*)\)")
-COPY = question(r"(BEGIN|COPY)\b.*|.*\bpg_get_publication_tables\b.*")
-STRING = re.compile(r"'((?:[^']|'')*)'")
-# Slots keep no snapshot from which tables could be copied.
-SNAPSHOTS = re.compile(r"'(export|use)'|\b(EXPORT|USE)_SNAPSHOT\b", re.I)
+PUBLICATIONS = Form("SELECT t.pubname FROM pg_catalog.pg_publication t WHERE t.pubname IN ($names)")
+TABLES, TABLES_WITH_COLUMNS = [Form(f"""
+    SELECT DISTINCT t.schemaname, t.tablename {columns} FROM pg_catalog.pg_publication_tables t
+    WHERE t.pubname IN ($names)
+""") for columns in ("", ", t.attnames")]
+
+# A longer name is nobody's, and is not repeated in full.
+LONGEST_NAME = 63
 
 NO_COPY = frames.error(
-    "0A000", "pgshard serve has no initial copy of tables",
-    "Its tables begin empty. Create the subscription WITH (create_slot = false, copy_data = false).")
+    "0A000", "tools/front has tables to copy only as they are at the begin of the log, which is empty",
+    "A subscription copies them by slots of its own. Other clients start their streams from 0/0.")
 NO_SQL = frames.error(
     "0A000", "this is tools/front before pgshard serve, which takes no SQL",
     "It takes START_REPLICATION SLOT .. LOGICAL, and what clients ask before that.")
@@ -39,12 +41,22 @@ NO_CATALOG = frames.error(
     "Start it with --catalog FILE, the input of pgshard serve or its first part.")
 
 
+@dataclass
+class Asker:
+    """Who asks: the database that it named, and whether it has begun a transaction, and has a slot's snapshot in it."""
+
+    database: str
+    in_transaction: bool = False
+    has_snapshot: bool = False
+
+
 class Answers:
     """The answers of a front, which tells a version and may know a catalog."""
 
-    def __init__(self, version: str, catalog: Catalog | None) -> None:
+    def __init__(self, version: str, catalog: Catalog | None, slots: Slots) -> None:
         self.version = version
         self.catalog = catalog
+        self.slots = slots
         self.settings = {
             "server_version": version,
             "server_encoding": "UTF8",
@@ -61,66 +73,102 @@ class Answers:
         # What pg_recvlogical asks beside these.
         self.shown = {name.lower(): value for name, value in self.settings.items()} | {
             "data_directory_mode": "0700", "wal_segment_size": "16MB"}
+        self.forms: list[tuple[Form, Callable[[Found, Asker], bytes]]] = [
+            (SEARCH_PATH, lambda found, asker: frames.selected([("set_config", TEXT)], [("",)])),
+            (IDENTITY, self.identity),
+            (SETTING, self.setting),
+            (BEGIN, self.begin),
+            (COMMIT, self.commit),
+            *((form, self.slot) for form in [*CREATE_SLOT, *CREATE_QUOTED]),
+            (DROP_SLOT, self.drop),
+            (DROP_FREE_SLOT, self.drop),
+        ]
+        self.forms += self.catalog_forms(catalog) if catalog is not None else [
+            (form, lambda found, asker: NO_CATALOG) for form in (PUBLICATIONS, TABLES, TABLES_WITH_COLUMNS)]
 
-    def answer(self, query: str, database: str) -> bytes:
+    def catalog_forms(self, catalog: Catalog) -> list[tuple[Form, Callable[[Found, Asker], bytes]]]:
+        """The forms that only a catalog answers."""
+        made = Copying(catalog)
+        return [
+            (PUBLICATIONS, lambda found, asker: publications(catalog, found)),
+            (TABLES, lambda found, asker: tables(catalog, found, width=2)),
+            (TABLES_WITH_COLUMNS, lambda found, asker: tables(catalog, found, width=3)),
+            (copying.RELATION, lambda found, asker: made.relation(found)),
+            (copying.COLUMN_LISTS, lambda found, asker: made.column_lists(found)),
+            *((form, lambda found, asker: made.columns(found)) for form in copying.COLUMNS),
+            (copying.ROW_FILTERS, lambda found, asker: made.row_filters(found)),
+            (copying.COPY, lambda found, asker: (made.copy(found) if asker.has_snapshot else None) or NO_COPY),
+        ]
+
+    def answer(self, tokens: Sequence[Token], asker: Asker) -> bytes:
         """The answer of a query that starts no stream, without ReadyForQuery."""
-        if not query.strip("; \t\r\n"):
+        if not tokens:
             return frames.frame(b"I")
-        if SEARCH_PATH.match(query):
-            return frames.rows([("set_config", frames.TEXT)], [("",)], "SELECT 1")
-        if DROP_SLOT.match(query):
-            return frames.complete("DROP_REPLICATION_SLOT")
-        if IDENTITY.match(query):
-            return self.identity(database)
-        if asked := SETTING.match(query):
-            return self.setting(asked["name"])
-        if created := CREATE_SLOT.match(query):
-            return self.slot(created)
-        if asked := PUBLICATIONS.match(query):
-            return self.publications(names_in(asked))
-        if asked := TABLES.match(query):
-            return self.tables(names_in(asked), with_columns=asked["columns"] is not None)
-        return NO_COPY if COPY.match(query) else NO_SQL
+        try:
+            for form, answer in self.forms:
+                found = form.match(tokens)
+                if found is not None:
+                    return answer(found, asker)
+        except Refused as refused:
+            return refused.response
+        is_copy = tokens[0].kind is Kind.WORD and tokens[0].text in ("begin", "copy")
+        return NO_COPY if is_copy else NO_SQL
 
     @staticmethod
-    def identity(database: str) -> bytes:
-        columns = [
-            ("systemid", frames.TEXT), ("timeline", frames.INTEGER), ("xlogpos", frames.TEXT), ("dbname", frames.TEXT)]
-        return frames.rows(columns, [("0", "1", "0/0", database)], "IDENTIFY_SYSTEM")
+    def identity(found: Found, asker: Asker) -> bytes:
+        """Where the log begins, and which database it is."""
+        columns = [("systemid", TEXT), ("timeline", INTEGER), ("xlogpos", TEXT), ("dbname", TEXT)]
+        return frames.rows(columns, [("0", "1", "0/0", asker.database)], "IDENTIFY_SYSTEM")
 
-    def setting(self, name: str) -> bytes:
+    def setting(self, found: Found, asker: Asker) -> bytes:
+        """A setting's value."""
+        name = found["$name"][0][:LONGEST_NAME]
         value = self.shown.get(name.lower())
         if value is None:
             return frames.error("42704", f'unrecognized configuration parameter "{name}"')
-        return frames.rows([(name, frames.TEXT)], [(value,)], "SHOW")
+        return frames.rows([(name, TEXT)], [(value,)], "SHOW")
 
     @staticmethod
-    def slot(created: re.Match) -> bytes:
-        """Slots are fixed by the catalog of pgshard serve, so nothing is made. A slot that is not there is refused when
-        its stream is started."""
-        if SNAPSHOTS.search(created["options"]):
+    def begin(found: Found, asker: Asker) -> bytes:
+        """A transaction begins in which a table is copied."""
+        asker.in_transaction = True
+        return frames.complete("BEGIN")
+
+    @staticmethod
+    def commit(found: Found, asker: Asker) -> bytes:
+        """The transaction has ended, and its snapshot with it."""
+        asker.in_transaction = asker.has_snapshot = False
+        return frames.complete("COMMIT")
+
+    def slot(self, found: Found, asker: Asker) -> bytes:
+        """A slot is made, from the begin of the log on, where all tables are empty."""
+        name, options = found["$name"][0], {word.lower() for word in found["$rest"]}
+        wants_snapshot = bool(options & {"use", "export", "use_snapshot", "export_snapshot"})
+        if wants_snapshot and not (COPIES.fullmatch(name) and asker.in_transaction):
             return NO_COPY
-        name = created["word"].lower() if created["word"] else created["quoted"].replace('""', '"')
-        columns = [(it, frames.TEXT) for it in ("slot_name", "consistent_point", "snapshot_name", "output_plugin")]
-        return frames.rows(columns, [(name, "0/0", None, "pgoutput")], "CREATE_REPLICATION_SLOT")
+        self.slots.make(name)
+        asker.has_snapshot = wants_snapshot
+        columns = [(it, TEXT) for it in ("slot_name", "consistent_point", "snapshot_name", "output_plugin")]
+        row = name, position_text(BEGIN_OF_LOG), None, "pgoutput"
+        return frames.rows(columns, [row], "CREATE_REPLICATION_SLOT")
 
-    def publications(self, asked: list[str]) -> bytes:
-        if self.catalog is None:
-            return NO_CATALOG
-        found = [(name,) for name in asked if name in self.catalog.publications]
-        return frames.rows([("pubname", frames.TEXT)], found, f"SELECT {len(found)}")
-
-    def tables(self, asked: list[str], with_columns: bool) -> bytes:
-        if self.catalog is None:
-            return NO_CATALOG
-        columns = [("schemaname", frames.TEXT), ("tablename", frames.TEXT), ("attnames", frames.NAMES)]
-        width = 3 if with_columns else 2
-        found = [(it.schema, it.name, array(it.columns))[:width] for it in self.catalog.tables_of(asked)]
-        return frames.rows(columns[:width], found, f"SELECT {len(found)}")
+    def drop(self, found: Found, asker: Asker) -> bytes:
+        """A slot is dropped."""
+        self.slots.drop(found["$name"][0])
+        return frames.complete("DROP_REPLICATION_SLOT")
 
 
-def names_in(asked: re.Match) -> list[str]:
-    return [name.replace("''", "'") for name in STRING.findall(asked["names"])]
+def publications(catalog: Catalog, found: Found) -> bytes:
+    """Which of some publications are there."""
+    listed = [(name,) for name in found["$names"] if name in catalog.publications]
+    return frames.selected([("pubname", TEXT)], listed)
+
+
+def tables(catalog: Catalog, found: Found, width: int) -> bytes:
+    """The tables that some publications carry, with so many columns of the answer."""
+    columns = [("schemaname", TEXT), ("tablename", TEXT), ("attnames", NAMES)]
+    listed = [(it.schema, it.name, array(it.columns))[:width] for it in catalog.tables_of(found["$names"])]
+    return frames.selected(columns[:width], listed)
 
 
 def array(names: tuple[str, ...]) -> str:

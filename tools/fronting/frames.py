@@ -1,127 +1,113 @@
-"""Frames of PostgreSQL's protocol (55.7. Message Formats), and where they are read from and written to."""
+"""Frames of PostgreSQL's protocol ("55.7. Message Formats"), as a server sends them."""
 
-import socket
 import struct
+import time
 from collections.abc import Sequence
 
-# No client of a front has more to say at once.
-LONGEST_FROM_CLIENT = 1 << 20
-# No frame of pgshard serve is longer.
-LONGEST_FROM_PUBLISHER = 1 << 24
+BOOLEAN, BIGINT, SMALLINT, INTEGER, TEXT, OID = 16, 20, 21, 23, 25, 26
+CHARACTER, NAMES, VECTOR = 18, 1003, 22
 
-PIECE = 1 << 16
+QUERY, SYNC, PASSWORD, TERMINATE = b"Q", b"S", b"p", b"X"
+ERROR, COPY_BOTH, COPY_DATA, COPY_DONE, COPY_FAIL = b"E", b"W", b"d", b"c", b"f"
+# Frames of the extended query protocol; the next Sync is answered by ReadyForQuery.
+EXTENDED = (b"P", b"B", b"D", b"E", b"C", b"H", b"F")
 
-TEXT, INTEGER, NAMES = 25, 23, 1003
+XLOG_DATA, KEEPALIVE, STATUS = b"w", b"k", b"r"
 
+# The seconds from 1970 to 2000, from where clocks count.
+EPOCH = 946_684_800
 
-class Lost(Exception):
-    """The connection has ended, or what comes is no frame."""
-
-
-class Peer:
-    """A connection that frames are read from, and bytes are sent to."""
-
-    def __init__(self, connection: socket.socket, longest: int) -> None:
-        connection.setsockopt(socket.IPPROTO_TCP, socket.TCP_NODELAY, 1)
-        self.connection = connection
-        self.longest = longest
-        self.waiting = bytearray()
-
-    def send(self, sent: bytes) -> None:
-        try:
-            self.connection.sendall(sent)
-        except OSError as error:
-            raise Lost from error
-
-    def fill(self) -> None:
-        """Reads some more bytes."""
-        try:
-            piece = self.connection.recv(PIECE)
-        except OSError as error:
-            raise Lost from error
-        if not piece:
-            raise Lost
-        self.waiting += piece
-
-    def take(self, count: int) -> bytes:
-        while len(self.waiting) < count:
-            self.fill()
-        taken = bytes(self.waiting[:count])
-        del self.waiting[:count]
-        return taken
-
-    def startup_body(self) -> bytes:
-        """The body of a first packet, which has no kind."""
-        return self.take(self.length(self.take(4)))
-
-    def frame(self) -> tuple[bytes, bytes]:
-        """The next frame's kind and body."""
-        head = self.take(5)
-        return head[:1], self.take(self.length(head[1:]))
-
-    def frames(self) -> list[tuple[bytes, bytes]]:
-        """The frames that are whole, at least one."""
-        frames = [self.frame()]
-        while len(self.waiting) >= 5 and len(self.waiting) >= 5 + self.length(self.waiting[1:5]):
-            frames.append(self.frame())
-        return frames
-
-    def length(self, number: bytes) -> int:
-        """How many bytes come after a length."""
-        length = int.from_bytes(number, "big", signed=True) - 4
-        if not 0 <= length <= self.longest:
-            raise Lost
-        return length
-
-    def shut(self) -> None:
-        """Ends the connection both ways, also for another thread that waits for it."""
-        try:
-            self.connection.shutdown(socket.SHUT_RDWR)
-        except OSError:
-            pass
-
-    def close(self) -> None:
-        self.shut()
-        self.connection.close()
+Frame = tuple[bytes, bytes]
 
 
 def frame(kind: bytes, body: bytes = b"") -> bytes:
+    """A frame of a kind."""
     return kind + struct.pack("!I", len(body) + 4) + body
 
 
 def text(word: str) -> bytes:
-    return word.encode(errors="replace") + b"\0"
+    """A string with its zero byte. What has a zero byte or is no UTF-8 is shown by question marks."""
+    return word.encode(errors="replace").replace(b"\0", b"?") + b"\0"
 
 
 def error(code: str, words: str, hint: str = "", severity: str = "ERROR") -> bytes:
     """An ErrorResponse."""
     fields = {"S": severity, "V": severity, "C": code, "M": words} | ({"H": hint} if hint else {})
-    return frame(b"E", b"".join(text(letter + value) for letter, value in fields.items()) + b"\0")
+    return frame(ERROR, b"".join(text(letter + value) for letter, value in fields.items()) + b"\0")
 
 
 def parameter(name: str, value: str) -> bytes:
+    """A ParameterStatus."""
     return frame(b"S", text(name) + text(value))
 
 
-def ready() -> bytes:
-    """ReadyForQuery, outside of a transaction."""
-    return frame(b"Z", b"I")
+def authentication(code: int, body: bytes = b"") -> bytes:
+    """A request or an answer about the client's authentication."""
+    return frame(b"R", struct.pack("!I", code) + body)
+
+
+def ready(in_transaction: bool = False) -> bytes:
+    """ReadyForQuery."""
+    return frame(b"Z", b"T" if in_transaction else b"I")
 
 
 def complete(tag: str) -> bytes:
+    """CommandComplete."""
     return frame(b"C", text(tag))
 
 
 def rows(columns: Sequence[tuple[str, int]], listed: Sequence[tuple[str | None, ...]], tag: str) -> bytes:
     """The answer of a query: its columns with the OIDs of their types, and its rows."""
     described = b"".join(text(name) + struct.pack("!IHIhih", 0, 0, oid, -1, -1, 0) for name, oid in columns)
-    answer = frame(b"T", struct.pack("!H", len(columns)) + described)
-    for row in listed:
-        answer += frame(b"D", struct.pack("!H", len(row)) + b"".join(map(cell, row)))
-    return answer + complete(tag)
+    answer = [frame(b"T", struct.pack("!H", len(columns)) + described)]
+    answer += [frame(b"D", struct.pack("!H", len(row)) + b"".join(map(cell, row))) for row in listed]
+    return b"".join(answer) + complete(tag)
+
+
+def selected(columns: Sequence[tuple[str, int]], listed: Sequence[tuple[str | None, ...]]) -> bytes:
+    """The answer of a SELECT."""
+    return rows(columns, listed, f"SELECT {len(listed)}")
 
 
 def cell(value: str | None) -> bytes:
+    """A column of a row."""
     if value is None:
         return struct.pack("!i", -1)
-    return struct.pack("!i", len(value.encode())) + value.encode()
+    encoded = value.encode()
+    return struct.pack("!i", len(encoded)) + encoded
+
+
+def empty_copy(columns: int) -> bytes:
+    """The answer of a COPY TO STDOUT of no rows, in text format."""
+    response = frame(b"H", struct.pack("!BH", 0, columns) + bytes(2 * columns))
+    return response + frame(COPY_DONE) + complete("COPY 0")
+
+
+def copy_both() -> bytes:
+    """CopyBothResponse, by which a stream begins."""
+    return frame(COPY_BOTH, bytes(3))
+
+
+def clock() -> int:
+    """The microseconds since the year 2000."""
+    return int((time.time() - EPOCH) * 1_000_000)
+
+
+def xlog_data(position: int, message: bytes) -> bytes:
+    """A message that is sent with a position."""
+    return frame(COPY_DATA, XLOG_DATA + struct.pack("!QQQ", position, position, clock()) + message)
+
+
+def keepalive(position: int, wants_reply: bool = False) -> bytes:
+    """Tells a client how far it is."""
+    return frame(COPY_DATA, KEEPALIVE + struct.pack("!QQB", position, clock(), wants_reply))
+
+
+def status(position: int, wants_reply: bool) -> bytes:
+    """A standby status update, as clients send it, that confirms up to a position."""
+    return frame(COPY_DATA, STATUS + struct.pack("!QQQQB", position, position, position, clock(), wants_reply))
+
+
+def position_text(position: int) -> str:
+    """A position as a pg_lsn is written."""
+    return f"{position >> 32:X}/{position & 0xFFFFFFFF:X}"

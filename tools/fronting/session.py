@@ -1,136 +1,264 @@
 """One client's connection, from its first packet to its end."""
 
-import secrets
-import socket
-import struct
+import asyncio
+from collections.abc import Sequence
+from dataclasses import dataclass
 
-from fronting import frames, starting
-from fronting.answers import Answers
-from fronting.frames import LONGEST_FROM_CLIENT, LONGEST_FROM_PUBLISHER, Lost, Peer
-from fronting.streaming import COPY_BOTH, LOST, TERMINATE, Stream
+from fronting import frames
+from fronting.answers import DROP_FREE_SLOT, Answers, Asker
+from fronting.frames import (
+    COPY_BOTH, COPY_DATA, COPY_DONE, COPY_FAIL, EXTENDED, KEEPALIVE, QUERY, SYNC, TERMINATE, Frame, position_text)
+from fronting.greeting import Denied, Terms, greet, welcome
+from fronting.peer import Lost, Peer, peer_at
+from fronting.recording import BEGIN_OF_LOG, KEPT_POSITION, Recording, number
+from fronting.slots import ANEW, COPIES, Refused, Slot
+from fronting.starting import Start, start_of
+from fronting.streaming import Stream
+from fronting.tokens import Token, TooManyTokens, tokens_of
 
-CANCEL, TLS, GSS = 80877102, 80877103, 80877104
-VERSION_3 = 3 << 16
-
-# Texts are sent as they are, in UTF-8.
-ENCODINGS = {"", "UTF8", "UNICODE", "SQLASCII"}
-
-QUERY, SYNC = b"Q", b"S"
-# Frames of the extended query protocol; the next Sync is answered by ReadyForQuery.
-EXTENDED = (b"P", b"B", b"D", b"E", b"C", b"H", b"F")
-
+TOO_COMPLEX = frames.error("54001", "statement too complex for tools/front")
 NO_EXTENDED = frames.error("0A000", "tools/front takes simple queries alone")
+
+LOST = frames.error("08006", "the connection to pgshard serve has ended", severity="FATAL")
+TOO_LATE = frames.error("57014", "canceling authentication due to timeout", severity="FATAL")
+
+
+@dataclass(frozen=True)
+class Backend:
+    """Where pgshard serve listens, how many seconds it has for an answer, and how many a client in a stream may be
+    silent."""
+
+    port: int
+    seconds: float
+    patience: float
 
 
 class Session:
-    """A client that is answered until it starts a stream of the publisher at a port."""
+    """A client that is answered until it starts streams, and then between them."""
 
-    def __init__(self, connection: socket.socket, answers: Answers, port: int, number: int) -> None:
-        self.client = Peer(connection, LONGEST_FROM_CLIENT)
+    def __init__(self, client: Peer, answers: Answers, backend: Backend, terms: Terms, number: int) -> None:
+        self.client = client
         self.answers = answers
-        self.port = port
+        self.slots = answers.slots
+        self.backend = backend
+        self.terms = terms
         self.number = number
-        self.database = ""
+        self.asker = Asker("")
+        # What the log says that it did, and whether it is a stream now.
+        self.story = "no startup"
+        self.is_streaming = False
 
-    def run(self) -> None:
-        """Serves the client until one of both ends."""
+    async def run(self) -> str:
+        """Serves the client until one of both ends. The answer is how it ended."""
         try:
-            if self.greet():
-                self.answer_queries()
-        except Lost:
-            pass
-        finally:
-            self.client.close()
+            return await self.serve()
+        except Lost as lost:
+            if lost.peer is not self.client:
+                self.client.write(LOST)
+            return str(lost)
+        except Denied as denied:
+            self.client.write(denied.response)
+            return str(denied)
 
-    def greet(self) -> bool:
-        """Takes the client's startup packet. The answer is whether the connection goes on."""
-        packet = self.client.startup_body()
-        while packet[:4] in (struct.pack("!I", TLS), struct.pack("!I", GSS)):
-            self.client.send(b"N")
-            packet = self.client.startup_body()
-        version = int.from_bytes(packet[:4], "big")
-        if version == CANCEL:
-            return False
-        if version >> 16 != VERSION_3 >> 16:
-            return self.refuse("0A000", "tools/front takes protocol version 3.0")
-        words = packet[4:].decode(errors="replace").split("\0")
-        given = dict(zip(words[::2], words[1::2]))
-        encoding = given.get("client_encoding", "").replace("-", "").replace("_", "").upper()
-        if encoding not in ENCODINGS:
-            return self.refuse("22023", f"texts come in UTF8 here, not in {given['client_encoding']}")
-        self.welcome(version, given)
-        return True
+    async def serve(self) -> str:
+        """Lets the client in, and answers its queries. The answer is how it ended."""
+        try:
+            async with asyncio.timeout(self.terms.seconds):
+                guest = await greet(self.client, self.terms)
+        except TimeoutError:
+            self.client.write(TOO_LATE)
+            return f"not started within {self.terms.seconds:g} seconds"
+        if guest is None:
+            return "a request to cancel a query, which is never taken"
+        self.asker.database = guest.database
+        self.story = f"user {guest.user!r:.70}"
+        await self.client.send(welcome(guest, self.answers.settings, self.number))
+        await self.answer_queries()
+        return "the client ended the connection"
 
-    def refuse(self, code: str, words: str) -> bool:
-        self.client.send(frames.error(code, words, severity="FATAL"))
-        return False
-
-    def welcome(self, version: int, given: dict[str, str]) -> None:
-        user = given.get("user", "")
-        self.database = given.get("database") or user
-        told = {"session_authorization": user, "application_name": given.get("application_name", "")}
-        settings = self.answers.settings | told
-        self.client.send(b"".join([
-            frames.frame(b"v", struct.pack("!II", 0, 0)) if version != VERSION_3 else b"",
-            frames.frame(b"R", struct.pack("!I", 0)),
-            *(frames.parameter(*it) for it in settings.items()),
-            frames.frame(b"K", struct.pack("!I", self.number) + secrets.token_bytes(4)),
-            frames.ready()]))
-
-    def answer_queries(self) -> None:
+    async def answer_queries(self) -> None:
+        """Answers queries up to the end that the client asks for. After each the other clients have their turn."""
         while True:
-            kind, body = self.client.frame()
+            await asyncio.sleep(0)
+            kind, body = await self.client.frame()
             if kind == TERMINATE:
                 return
             if kind == QUERY:
-                if not self.answer_query(body.rstrip(b"\0").decode(errors="replace")):
+                if not await self.answer_query(body.rstrip(b"\0").decode(errors="replace")):
                     return
-                self.client.send(frames.ready())
+                await self.client.send(frames.ready(self.asker.in_transaction))
             elif kind in EXTENDED:
-                self.client.send(NO_EXTENDED)
-                self.skip_to_sync()
+                await self.client.send(NO_EXTENDED)
+                await self.skip_to_sync()
             elif kind == SYNC:
-                self.client.send(frames.ready())
+                await self.client.send(frames.ready())
+            elif kind not in (COPY_DATA, COPY_DONE, COPY_FAIL):
+                raise Denied("08P01", f"invalid frontend message type {kind[0]}")
 
-    def skip_to_sync(self) -> None:
-        while self.client.frame()[0] != SYNC:
+    async def skip_to_sync(self) -> None:
+        """Passes over what belongs to a query of the extended protocol."""
+        while (await self.client.frame())[0] != SYNC:
             pass
-        self.client.send(frames.ready())
+        await self.client.send(frames.ready())
 
-    def answer_query(self, query: str) -> bool:
-        """Whether the connection goes on."""
-        if starting.is_start(query):
-            return self.stream(query)
-        self.client.send(self.answers.answer(query, self.database))
-        return True
-
-    def stream(self, query: str) -> bool:
-        """Starts a stream by a connection of its own to the publisher, and relays it."""
+    async def answer_query(self, query: str) -> bool:
+        """Answers a query, or serves a stream. The answer is whether the connection goes on."""
         try:
-            connection = socket.create_connection(("127.0.0.1", self.port))
-        except OSError as error:
-            words = f"no pgshard serve is at port {self.port}: {error.strerror}"
-            self.client.send(frames.error("08001", words))
+            tokens = tokens_of(query)
+            start = start_of(query, tokens, self.answers.version.startswith("15."))
+        except TooManyTokens:
+            await self.client.send(TOO_COMPLEX)
             return True
-        publisher = Peer(connection, LONGEST_FROM_PUBLISHER)
+        if start is None:
+            await self.wait_for_slot(tokens)
+            await self.client.send(self.answers.answer(tokens, self.asker))
+            return True
         try:
-            return self.stream_from(publisher, query)
+            self.is_streaming = True
+            return await (self.copy(start) if COPIES.fullmatch(start.slot) else self.stream(start))
+        except Refused as refused:
+            await self.client.send(refused.response)
+            return True
+        finally:
+            self.is_streaming = False
+
+    async def wait_for_slot(self, tokens: Sequence[Token]) -> None:
+        """Waits for a while until a slot is free that is to be dropped then."""
+        found = DROP_FREE_SLOT.match(tokens)
+        slot = self.slots.known.get(found["$name"][0]) if found is not None else None
+        if slot is not None:
+            try:
+                async with asyncio.timeout(self.backend.seconds):
+                    await slot.is_free.wait()
+            except TimeoutError:
+                pass
+
+    async def copy(self, start: Start) -> bool:
+        """Serves the stream by which a subscriber catches up that has copied a table."""
+        slot = self.slots.copied(start)
+        self.story = f"{slot.name}, a copy, from {position_text(start.position)}"
+        await self.client.send(frames.copy_both())
+        stream = Stream(self.client, None, self.backend.patience, self.backend.seconds)
+        return await self.finish(await stream.repeat(slot.recording, start.position))
+
+    async def stream(self, start: Start) -> bool:
+        """Serves the stream of a slot of the catalog."""
+        slot = self.slots.slot(start.slot)
+        if not slot.is_free.is_set():
+            raise Refused("55006", f'replication slot "{slot.name}" is active')
+        slot.is_free.clear()
+        stream = Stream(self.client, slot, self.backend.patience, self.backend.seconds)
+        try:
+            if slot.begin_of(start) < slot.before:
+                if not slot.recording.covers(slot.begin_of(start)):
+                    words = f'the stream of replication slot "{slot.name}" is not recorded from there'
+                    raise Refused("55000", words, ANEW)
+                return await self.resume(start, slot, stream)
+            return await self.relay(start, slot, stream)
+        finally:
+            if stream.position:
+                self.story += f" to {position_text(stream.position)}"
+            slot.is_free.set()
+
+    async def relay(self, start: Start, slot: Slot, stream: Stream) -> bool:
+        """Starts a stream by a connection of its own to the publisher, and relays it."""
+        begin = slot.begin_of(start)
+        if slot.recording.reach and not slot.recording.fits(begin):
+            slot.recording.end(f"the slot continues from {position_text(begin)}")
+            slot.recording = Recording(self.slots.spool)
+        asked = frames.status(0, wants_reply=True) if slot.recording.reach == 0 else b""
+        publisher = await self.connected()
+        try:
+            query = frames.frame(QUERY, frames.text(start.at(begin).query()))
+            kind, body = await self.answer_of(publisher, query + asked)
+            if kind != COPY_BOTH:
+                await self.client.send(frames.frame(kind, body))
+                return True
+            told: list[Frame] = []
+            if slot.is_promised and asked:
+                told = await self.first_told(publisher, slot, max(begin, BEGIN_OF_LOG))
+            slot.publications = start.publications
+            self.slots.keep(slot)
+            self.story = f"{slot.name} from {position_text(begin)}"
+            # One that does not know what is confirmed has to hear it first: it may have tables that catch up to there.
+            stream.position = begin if begin > start.position else 0
+            first = frames.keepalive(begin) if stream.position else b""
+            await self.client.send(frames.frame(kind, body) + first)
+            return await self.finish(await stream.relay(publisher, slot.recording, told))
         finally:
             publisher.close()
 
-    def stream_from(self, publisher: Peer, query: str) -> bool:
-        if self.answers.version.startswith("15."):
-            query = starting.in_version_1(query)
+    async def resume(self, start: Start, slot: Slot, stream: Stream) -> bool:
+        """Starts a slot that was dropped, by what was recorded of it."""
+        begin = slot.begin_of(start)
+        opened: list[Peer] = []
+
+        async def connect(position: int) -> Peer:
+            """A connection to the publisher that streams from a position on."""
+            opened.append(await self.connected())
+            query = frames.frame(QUERY, frames.text(start.at(position).query()))
+            kind, body = await self.answer_of(opened[0], query)
+            if kind != COPY_BOTH:
+                await self.client.send(frames.frame(kind, body))
+                raise Lost(opened[0], "refused to go on with the stream")
+            return opened[0]
+
+        slot.publications = start.publications
+        self.story = f"{slot.name}, which was dropped, from {position_text(begin)}"
+        await self.client.send(frames.copy_both())
         try:
-            publisher.send(frames.frame(QUERY, frames.text(query)))
-            kind, body = publisher.frame()
-        except Lost:
-            self.client.send(LOST)
-            return False
-        self.client.send(frames.frame(kind, body))
-        if kind != COPY_BOTH:
-            return True
-        if not Stream(self.client, publisher).relay():
-            return False
-        self.client.send(frames.complete("COPY 0"))
-        return True
+            return await self.finish(await stream.resume(slot.recording, begin, connect))
+        finally:
+            for publisher in opened:
+                publisher.close()
+
+    async def finish(self, is_done: bool) -> bool:
+        """Completes the command of a stream that is done, with both answers that a server gives: a subscriber that ends
+        a stream waits for the second."""
+        if is_done:
+            await self.client.send(frames.complete("COPY 0") + frames.complete("START_REPLICATION"))
+        return is_done
+
+    async def connected(self) -> Peer:
+        """A connection to the publisher."""
+        try:
+            return await peer_at(self.backend.port, "pgshard serve", self.backend.seconds)
+        except (OSError, TimeoutError) as fault:
+            why = getattr(fault, "strerror", None) or f"no answer within {self.backend.seconds:g} seconds"
+            raise Refused("08001", f"no pgshard serve is at port {self.backend.port}: {why}") from fault
+
+    async def answer_of(self, publisher: Peer, query: bytes) -> Frame:
+        """The publisher's answer, unless it takes too long, or the client is gone before it comes."""
+        await publisher.send(query)
+        answer = asyncio.create_task(publisher.frame())
+        gone = asyncio.create_task(self.client.ended.wait())
+        try:
+            await asyncio.wait([answer, gone], timeout=self.backend.seconds, return_when=asyncio.FIRST_COMPLETED)
+            if answer.done():
+                return answer.result()
+            if gone.done():
+                raise Lost(self.client, "closed the connection")
+            raise Lost(publisher, f"gave no answer within {self.backend.seconds:g} seconds")
+        finally:
+            answer.cancel()
+            gone.cancel()
+            await asyncio.gather(answer, gone, return_exceptions=True)
+
+    async def first_told(self, publisher: Peer, slot: Slot, begin: int) -> list[Frame]:
+        """The first frames of a stream whose slot has to be fresh. The first says from where the stream comes, which is
+        to be where it is wanted, and not later."""
+        try:
+            async with asyncio.timeout(self.backend.seconds):
+                told = await publisher.frames()
+        except TimeoutError:
+            told = []
+        why = "pgshard serve does not say from where it comes"
+        if told and told[0][0] == COPY_DATA and told[0][1][:1] == KEEPALIVE:
+            position = number(told[0][1][KEPT_POSITION])
+            if position <= begin:
+                slot.is_promised = position > BEGIN_OF_LOG
+                return told
+            why = f"it was confirmed up to {position_text(position)} before"
+        raise Refused(
+            "55000", f'replication slot "{slot.name}" does not start from the beginning: {why}',
+            f"Use create_slot = false and copy_data = false to continue from there. {ANEW}")

@@ -1,12 +1,14 @@
 """A catalog text that is judged as it is, by what it names."""
 
 import re
+from collections.abc import Sequence
 from dataclasses import dataclass
 
-from judging import marks, program, report, verdicts
-from judging.catalog_tokens import statements_of, stored, table_of
+from judging import marks, program, report, saying, verdicts
+from judging.catalog_tokens import Table, statements_of, stored, table_of
 from judging.faults import BAD_COMMAND, NO_PROGRAM, NOT_READ, NOT_SOUND, SOUND, Fault
 from judging.kinds import KINDS
+from judging.options import Options
 from judging.verdicts import Verdict
 
 
@@ -14,10 +16,10 @@ from judging.verdicts import Verdict
 class Names:
     """What a catalog names, as it is stored and in its order, and all words of its publications, their filters' too."""
 
-    tables: list
-    publications: list
-    subscriptions: list
-    publication_words: set
+    tables: list[Table]
+    publications: list[str]
+    subscriptions: list[str]
+    publication_words: set[str]
 
 
 @dataclass
@@ -25,16 +27,20 @@ class Source:
     """What a report says of where the catalog is from."""
 
     name: str
-    unpublished: tuple = ()
+    unpublished: tuple[str, ...] = ()
+    note: str | None = None
 
 
-def judge(path, options):
+def judge(path: str, options: Options) -> int:
     """Judges the catalog of a file, and answers the exit status."""
-    if options.explain or options.copied or options.partial or options.catalog or options.subscriber:
-        raise Fault(BAD_COMMAND, "a file is judged as it is: of judge's options only --all and --json go with one")
+    only_of_servers = (options.copied, options.partial, options.catalog, options.subscriber, options.migration,
+                       options.intent, options.repair, options.keep, options.count, options.html)
+    if options.explain or any(only_of_servers):
+        raise Fault(BAD_COMMAND, "a catalog text is judged as it is, and can be combined only with --all, "
+                                 "--detailed-status, --json, --nagios, --prometheus, --seconds and --strict")
     catalog = read_file(path)
     made = program.run("make", catalog)
-    if isinstance(made, program.Unreadable):
+    if not isinstance(made, str):
         marks.mark_fault(path, catalog, made)
         raise Fault(NOT_READ, why_not_read(made, catalog))
     names = names_of(catalog)
@@ -42,12 +48,13 @@ def judge(path, options):
     status = SOUND if found and all(it.answer == verdicts.SOUND for it in found) else NOT_SOUND
     unpublished = tuple(re.findall(r"(?m)^-- not published: (.*)$", catalog))
     answer = report.Report(Source(path, unpublished), [], None, found, {}, status)
-    print(report.json_text(answer) if options.json else report.text(answer, options.all), flush=True)
+    status = saying.say(answer, options)
     marks.mark_tables(path, catalog, found)
     return status
 
 
-def read_file(path):
+def read_file(path: str) -> str:
+    """The text of a file."""
     try:
         with open(path, encoding="utf-8", newline="") as file:
             return file.read()
@@ -55,14 +62,16 @@ def read_file(path):
         raise Fault(BAD_COMMAND, f"cannot read {path}: {fault}") from fault
 
 
-def run(subcommand, text, catalog):
+def run(subcommand: str, text: str, catalog: str) -> str:
+    """The output of a run of pgshard that read its input."""
     output = program.run(subcommand, text)
     if isinstance(output, program.Unreadable):
         raise Fault(NOT_READ, why_not_read(output, catalog))
     return output
 
 
-def why_not_read(fault, catalog):
+def why_not_read(fault: program.Unreadable, catalog: str) -> str:
+    """A fault of the catalog, with its line."""
     if fault.part != "catalog":
         return "refused: the catalog is not UTF-8, has over 16,777,216 bytes, or has a line that is %% and nothing else"
     before = catalog.encode("utf-8", "surrogateescape")[:fault.place].decode("utf-8", "surrogateescape")
@@ -79,7 +88,7 @@ def why_not_read(fault, catalog):
     ])
 
 
-def names_of(catalog):
+def names_of(catalog: str) -> Names:
     """Of a catalog that pgshard reads."""
     names = Names([], [], [], set())
     for statement in statements_of(catalog):
@@ -94,7 +103,7 @@ def names_of(catalog):
     return names
 
 
-def verdicts_of(catalog, names, made):
+def verdicts_of(catalog: str, names: Names, made: str) -> list[Verdict]:
     """What is found of each table. `make` prints only certificates that the check accepts; the check of all tables
     together says what else is refused."""
     answers, at = [], 0
@@ -115,7 +124,8 @@ def verdicts_of(catalog, names, made):
     return found
 
 
-def verdict_of(table, answer, names):
+def verdict_of(table: Table, answer: program.Made, names: Names) -> Verdict:
+    """What `make` answers of a table."""
     if answer.certificate:
         return Verdict(table.name, verdicts.SOUND, certificate=answer.certificate)
     if answer.row is None:
@@ -125,24 +135,25 @@ def verdict_of(table, answer, names):
     return Verdict(table.name, verdicts.NOT_SOUND, row=row, takers=answer.owners, matters=matters)
 
 
-def check(catalog, names, certificates):
+def check(catalog: str, names: Names, certificates: Sequence[str]) -> tuple[dict[str, str], str]:
     """Why tables are refused, by their names, and the last answer of `pgshard check`.
 
     The check answers its first reason alone. To see those of other tables, too, it is asked again with an identity by
     which the first table has no such reason.
     """
-    refused = {}
+    refused: dict[str, str] = {}
     while True:
         text = "".join([catalog, "\n%%\n", *(f"{certificate}\n" for certificate in certificates)])
         last = run("check", text, catalog).removesuffix("\n")
-        table, words = refusal_of(last, names)
-        if table is None or table.name in refused:
+        refusal = refusal_of(last, names)
+        if refusal is None or refusal[0].name in refused:
             return refused, last
+        table, words = refusal
         refused[table.name] = words
         catalog += f"\nALTER TABLE {table.written} REPLICA IDENTITY FULL;"
 
 
-def refusal_of(line, names):
+def refusal_of(line: str, names: Names) -> tuple[Table, str] | None:
     """The table whose identity the check refuses, if it refuses one, and what an operator is told."""
     for table in names.tables:
         if line == f"refused NoIdentity {table.name}":
@@ -154,9 +165,10 @@ def refusal_of(line, names):
                         f"the filter of publication {publication} names column {column}, which is not in the table's "
                         "replica identity, so the server refuses its updates and deletes"
                     )
-    return None, None
+    return None
 
 
-def words_of_missing(line):
+def words_of_missing(line: str) -> str:
+    """That an operation is not published, in words."""
     publication, operation = line.removeprefix("refused PublishMissing ").rsplit(" ", 1)
     return f"publication {publication}, which has a subscriber, does not publish {operation}"

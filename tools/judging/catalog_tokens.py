@@ -1,6 +1,7 @@
 """The statements of a catalog text that pgshard reads, as lists of tokens."""
 
 import re
+from collections.abc import Iterable, Iterator
 from dataclasses import dataclass
 
 TOKEN = re.compile(r"""\s+|--[^\n\r]*|/\*|'(?:[^']|'')*'|"(?:[^"]|"")*"|[\w$]+|.""", re.S)
@@ -8,16 +9,20 @@ TOKEN = re.compile(r"""\s+|--[^\n\r]*|/\*|'(?:[^']|'')*'|"(?:[^"]|"")*"|[\w$]+|.
 
 @dataclass
 class Table:
+    """The name of a table, as it is stored and as it is written, and its columns."""
+
     name: str
     written: str
-    columns: list
+    columns: list[str]
 
 
-def placed_tokens(text):
+def placed_tokens(text: str) -> Iterator[tuple[int, str]]:
     """The tokens of a catalog with their places, without white space and comments."""
     at = 0
     while at < len(text):
-        token = TOKEN.match(text, at).group()
+        found = TOKEN.match(text, at)
+        # A character that is nothing else is a token.
+        token = found[0] if found else text[at]
         if token == "/*":
             at = end_of_comment(text, at)
             continue
@@ -26,12 +31,13 @@ def placed_tokens(text):
         at += len(token)
 
 
-def tokens_of(text):
+def tokens_of(text: str) -> Iterable[str]:
     """The tokens of a catalog, without white space and comments."""
     return (token for _, token in placed_tokens(text))
 
 
-def end_of_comment(text, begin):
+def end_of_comment(text: str, begin: int) -> int:
+    """The place after a comment, in which there may be others."""
     depth = 0
     for mark in re.finditer(r"/\*|\*/", text[begin:]):
         depth += 1 if mark.group() == "/*" else -1
@@ -40,8 +46,9 @@ def end_of_comment(text, begin):
     return len(text)
 
 
-def statements_of(text):
-    statement = []
+def statements_of(text: str) -> Iterator[list[str]]:
+    """The statements, without their semicolons."""
+    statement: list[str] = []
     for token in tokens_of(text):
         if token == ";":
             yield statement
@@ -50,14 +57,17 @@ def statements_of(text):
             statement.append(token)
 
 
-def stored(token):
+def stored(token: str) -> str:
+    """A name as it is stored."""
     return token[1:-1].replace('""', '"') if token.startswith('"') else token.lower()
 
 
-def table_of(tokens):
+def table_of(tokens: list[str]) -> Table:
+    """The table that a CREATE TABLE makes, by what follows these words."""
     begin = tokens.index("(")
     name = ".".join(stored(token) for token in tokens[:begin] if token != ".")
-    columns, depth = [], 0
+    columns: list[str] = []
+    depth = 0
     for before, token in zip(tokens[begin:], tokens[begin + 1:]):
         depth += (before == "(") - (before == ")")
         if depth == 1 and before in "(," and token.upper() != "PRIMARY":

@@ -1,9 +1,14 @@
 """The catalog of one table that pgshard is given."""
 
+from collections.abc import Sequence
+from typing import Any
+
 from judging import printing
+from judging.database import Table
 from judging.formulas import Const, both, either, negation, tested
 from judging.printing import name_text
 from judging.rewriting import free_name
+from judging.shares import Shares, Takers
 
 # Rows that the server refuses have a subscriber of their own, so that the others need not have them. So have rows that
 # are published to nobody on purpose.
@@ -12,12 +17,12 @@ NOBODY = "nobody, on purpose"
 KEY = "the row's number"
 
 
-def subscriber_names(takers, purpose):
+def subscriber_names(takers: Takers, purpose: str | None) -> list[str]:
     """All names that an answer may have, in the order of the catalog."""
     return [*takers, REFUSED_ROWS, NOBODY]
 
 
-def catalog_of(db, shares, takers, purpose, trial):
+def catalog_of(shares: Shares, takers: Takers, purpose: str | None, trial: Any) -> str:
     """A catalog with the table, its publications that are taken, and who takes them.
 
     The table's key is a column that no filter names, since a key tells nothing of where a row goes; what the replica
@@ -33,7 +38,7 @@ def catalog_of(db, shares, takers, purpose, trial):
     held = both(*trial.constraints) if trial.constraints else None
     for name in taken:
         formula = filter_text(trial.filters[name], held)
-        lines.append(publication_text(table, name, formula, db.publications[name]["operations"]))
+        lines.append(publication_text(table, name, formula, shares.operations[name]))
     extras = extra_publications(trial, taken, held, purpose)
     for name, formula in extras.items():
         lines.append(publication_text(table, name, formula, None))
@@ -44,11 +49,13 @@ def catalog_of(db, shares, takers, purpose, trial):
     return "\n".join(lines) + "\n"
 
 
-def table_name(table):
+def table_name(table: Table) -> str:
+    """The name of a table as it is written."""
     return f"{name_text(table['schema'])}.{name_text(table['name'])}"
 
 
-def table_text(table, listed):
+def table_text(table: str, listed: Sequence[Any]) -> str:
+    """CREATE TABLE, with a column for each coding."""
     key = name_text(free_name(KEY, {coded.name for coded in listed}))
     columns = [f"{key} bigint"]
     for coded in listed:
@@ -59,7 +66,7 @@ def table_text(table, listed):
     return f"CREATE TABLE {table} (\n    {inner}\n);"
 
 
-def origin_text(coded):
+def origin_text(coded: Any) -> str:
     """A comment with what a printed column is of, where it is not that column itself."""
     if coded.is_tight and coded.subject.is_column:
         return ""
@@ -67,7 +74,7 @@ def origin_text(coded):
     return f" /* {' '.join(origin.split())} */"
 
 
-def filter_text(formula, held):
+def filter_text(formula: Any, held: Any) -> Any:
     """A filter where constraints hold; None for none."""
     if held is None:
         return formula
@@ -75,8 +82,9 @@ def filter_text(formula, held):
     return is_held if formula is None else both(tested("TRUE", formula), is_held)
 
 
-def extra_publications(trial, taken, held, purpose):
-    extras = {}
+def extra_publications(trial: Any, taken: Sequence[str], held: Any, purpose: str | None) -> dict[str, Any]:
+    """Publications that the server does not have, with their filters."""
+    extras: dict[str, Any] = {}
     if held is not None:
         extras[REFUSED_ROWS] = tested("FALSE", held)
     if purpose == "partial":
@@ -86,9 +94,10 @@ def extra_publications(trial, taken, held, purpose):
     return extras
 
 
-def publication_text(table, name, formula, operations):
+def publication_text(table: str, name: str, formula: Any, operations: Sequence[str] | None) -> str:
+    """CREATE PUBLICATION."""
     where = "" if formula is None else f" WHERE ({printing.text_of(formula)})"
-    is_part = operations is not None and set(operations) != {"insert", "update", "delete", "truncate"}
-    options = f" WITH (publish = '{', '.join(operations)}')" if is_part else ""
+    is_whole = operations is None or set(operations) == {"insert", "update", "delete", "truncate"}
+    options = "" if is_whole else f" WITH (publish = '{', '.join(operations or ())}')"
     return f"CREATE PUBLICATION {name_text(name)} FOR TABLE {table}{where}{options};"
 

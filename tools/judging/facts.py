@@ -3,36 +3,68 @@
 They are given to pgshard as constraints. Each is a law of arithmetic or of NULL, so no row is lost by them.
 """
 
-from judging import codings, ranges
-from judging.formulas import IsNull, Subject, Within, both, either, leaves_of, negation
-from judging.rewriting import free_name
+from typing import Callable
+
+from judging import bits, codings, ranges
+from judging.codings import Coding, Remainders
+from judging.formulas import Formula, IsNull, Subject, Within, both, either, leaves_of, negation
+from judging.ranges import Range, Ranges
+from judging.rewriting import Rewritten, free_name
 
 # Facts of more pieces of a column than these would only make the filters long.
 MOST_PIECES = 100
 
 
-def facts_of(rewritten, not_null_columns):
+def facts_of(rewritten: Rewritten, not_null_columns: set[str]) -> list[Formula]:
     """All facts that join what is asked of a table's columns."""
-    return [*facts_of_remainders(rewritten), *facts_of_nulls(rewritten, not_null_columns)]
+    return [*facts_of_remainders(rewritten), *facts_of_bits(rewritten), *facts_of_bounds(rewritten),
+            *facts_of_nulls(rewritten, not_null_columns)]
 
 
-def facts_of_remainders(rewritten):
+def facts_of_bounds(rewritten: Rewritten) -> list[Formula]:
+    """A function with few results has none but these."""
+    return [Within(coded, (coded.subject.bounds,)) for coded in rewritten.codings
+            if coded.subject.bounds is not None and isinstance(coded, codings.Integers)]
+
+
+def facts_of_remainders(rewritten: Rewritten) -> list[Formula]:
     """In each piece between the constants that a column is compared with, only some remainders occur: above zero none
     that is negative, below zero none that is positive, and in a short piece only those of its numbers."""
-    facts = []
+    facts: list[Formula] = []
     for by_modulus in rewritten.remainders.values():
         for coded in dict.fromkeys(by_modulus.values()):
             pieces = pieces_of(rewritten, coded.base)
             if 1 < len(pieces) <= MOST_PIECES:
-                facts.extend(facts_of_pieces(coded, pieces))
+                facts.extend(facts_between(
+                    coded.base, coded, pieces, lambda low, high: remainders_in(coded, low, high)))
     return facts
 
 
-def pieces_of(rewritten, base):
+def facts_of_bits(rewritten: Rewritten) -> list[Formula]:
+    """In each piece between the constants that a column is compared with, or its remainder by a multiple of the bits'
+    power of two, only some bits occur."""
+    facts: list[Formula] = []
+    by_sql = {it.subject.sql: it for it in rewritten.codings}
+    for coded in rewritten.codings:
+        if coded.subject.type != bits.TYPE:
+            continue
+        below, width = coded.subject.bits_below, coded.subject.modifier
+        base = by_sql.get(coded.subject.sides[0])
+        remainders = {it for by_modulus in rewritten.remainders.values() for it in by_modulus.values() if it.base is base}
+        # In two's complement numbers of one class by 2^k have the same last k bits.
+        others = [it for it in remainders if it.modulus % 2 ** (below + width) == 0]
+        for other in [*([base] if isinstance(base, codings.Integers) else []), *others]:
+            pieces = pieces_of(rewritten, other)
+            if 1 < len(pieces) <= MOST_PIECES:
+                facts.extend(facts_between(other, coded, pieces, lambda low, high: bits.bits_in(low, high, below, width)))
+    return facts
+
+
+def pieces_of(rewritten: Rewritten, base: Coding) -> list[Range]:
     """The column's numbers, cut at all ends of ranges that a formula asks for."""
-    cuts = set()
+    cuts: set[int] = set()
     for formula in rewritten.formulas:
-        for leaf in leaves_of(formula):
+        for leaf in leaves_of(formula) if formula is not None else ():
             if isinstance(leaf, Within) and leaf.coded is base:
                 cuts.update(low for low, _ in leaf.ranges)
                 cuts.update(high + 1 for _, high in leaf.ranges)
@@ -40,17 +72,19 @@ def pieces_of(rewritten, base):
     return [(low, high - 1) for low, high in zip(begins, [*begins[1:], base.high + 1])]
 
 
-def facts_of_pieces(coded, pieces):
-    by_remainders = {}
+def facts_between(one: Coding, other: Coding, pieces: list[Range],
+                  possible: Callable[[int, int], Ranges]) -> list[Formula]:
+    """Where one coding is in some pieces, the other is in what is possible there."""
+    by_ranges: dict[Ranges, list[Range]] = {}
     for piece in pieces:
-        found = remainders_in(coded, *piece)
-        if found != coded.full:
-            by_remainders.setdefault(found, []).append(piece)
-    return [either(negation(Within(coded.base, ranges.normal(those))), Within(coded, found))
-            for found, those in by_remainders.items()]
+        found = possible(*piece)
+        if found != other.full:
+            by_ranges.setdefault(found, []).append(piece)
+    return [either(negation(Within(one, ranges.normal(those))), Within(other, found))
+            for found, those in by_ranges.items()]
 
 
-def remainders_in(coded, low, high):
+def remainders_in(coded: Remainders, low: int, high: int) -> Ranges:
     """The remainders of the numbers between two ends."""
     if low < 0 < high:
         return ranges.union(remainders_in(coded, low, 0), remainders_in(coded, 0, high))
@@ -63,7 +97,7 @@ def remainders_in(coded, low, high):
     return ranges.intersection([found], coded.full)
 
 
-def wrapped(coded, low, high):
+def wrapped(coded: Remainders, low: int, high: int) -> list[Range]:
     """Remainders of a short run of numbers that passes a multiple of the modulus."""
     begin, end = ranges.remainder(low, coded.modulus), ranges.remainder(high, coded.modulus)
     if high > 0:
@@ -71,9 +105,9 @@ def wrapped(coded, low, high):
     return [(begin, 0), (1 - coded.modulus, end)]
 
 
-def facts_of_nulls(rewritten, not_null_columns):
+def facts_of_nulls(rewritten: Rewritten, not_null_columns: set[str]) -> list[Formula]:
     """An expression is NULL where one of its columns is, if it is strict, and only there, if it is total, too."""
-    by_column = {}
+    by_column: dict[str, list[Coding]] = {}
     for coding in rewritten.codings:
         for name in coding.subject.columns:
             by_column.setdefault(name, []).append(coding)
@@ -82,7 +116,7 @@ def facts_of_nulls(rewritten, not_null_columns):
     columns = {
         name: column_coding(rewritten, name, by_column[name])
         for coding in asked for name in coding.subject.columns if name not in not_null_columns}
-    facts = []
+    facts: list[Formula] = []
     for coding in asked:
         names = [it for it in coding.subject.columns if it not in not_null_columns]
         if coding in columns.values():
@@ -95,7 +129,7 @@ def facts_of_nulls(rewritten, not_null_columns):
     return facts
 
 
-def column_coding(rewritten, name, shared):
+def column_coding(rewritten: Rewritten, name: str, shared: list[Coding]) -> Coding:
     """The coding of a column itself; one is made where only expressions over it are asked for."""
     for coding in [*shared, *rewritten.codings]:
         if coding.subject.is_column and coding.subject.columns == (name,):

@@ -9,16 +9,24 @@ FAILURES = (ArithmeticError, AttributeError, LookupError, RecursionError, StopIt
 class Fault(Exception):
     """An exit status and the line that is said."""
 
-    def __init__(self, status, words):
+    def __init__(self, status: int, words: str) -> None:
         super().__init__(words)
         self.status = status
+        self.words = words
+
+
+class Undecided(Exception):
+    """Why nothing is known of one table. The others are judged."""
+
+    def __init__(self, words: str) -> None:
+        super().__init__(words)
         self.words = words
 
 
 class Unread(Exception):
     """A form of a filter that is not read, and how to write it otherwise where that is known."""
 
-    def __init__(self, form, advice=""):
+    def __init__(self, form: str, advice: str = "") -> None:
         super().__init__(form)
         self.form = form
         self.advice = advice

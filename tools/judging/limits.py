@@ -1,6 +1,9 @@
 """Faults of a catalog in the words of an operator, the limits by name."""
 
+from typing import Any
+
 from judging import printing
+from judging.program import Unreadable
 
 LIMITS = {
     "Tables": "64 tables", "Columns": "100 columns in a table", "Publications": "64 publications",
@@ -12,18 +15,18 @@ LIMITS = {
 ATOMS = 64
 
 
-def words(trial, unreadable):
+def words(trial: Any, unreadable: Unreadable) -> str:
     """Why a catalog that judge made is past a limit of pgshard."""
     place = trial.catalog.encode("utf-8", "surrogateescape")[unreadable.place:].decode("utf-8", "surrogateescape")
     if unreadable.kind == "TooMany":
-        return f"it is past a limit of pgshard: {LIMITS[limit_of(trial, place)]}"
+        return f"it exceeds a limit of pgshard: {LIMITS[limit_of(trial, place)]}"
     kinds = {"TooDeep": "a filter nests over 64 deep", "NameTooLong": "a name has over 63 bytes",
              "NumberTooLarge": "a number is past 9223372036854775807"}
     found = kinds.get(unreadable.kind, f"{unreadable.kind} at {' '.join(place[:60].split())}")
-    return f"it is past a limit of pgshard: {found}"
+    return f"it exceeds a limit of pgshard: {found}"
 
 
-def limit_of(trial, place):
+def limit_of(trial: Any, place: str) -> str:
     """Which limit a TooMany is of: by where it is, and for filters by how many conditions there are."""
     if place.startswith("WHERE"):
         listed = [*trial.filters.values(), *trial.constraints]

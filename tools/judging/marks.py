@@ -2,21 +2,24 @@
 terminal opens the file there."""
 
 import sys
+from collections.abc import Sequence
 
 from judging import report, verdicts
 from judging.kinds import KINDS
+from judging.program import Unreadable
+from judging.verdicts import Verdict
 from pointing.catalogs import made_in
 from pointing.source import Source
 
 
-def mark_fault(path, catalog, fault):
+def mark_fault(path: str, catalog: str, fault: Unreadable) -> None:
     """A catalog that is not read."""
     if fault.part == "catalog":
         source = source_of(path, catalog)
         mark(f"{source.at(fault.place)}: {KINDS.get(fault.kind, fault.kind)}: {source.there(fault.place)}")
 
 
-def mark_tables(path, catalog, found):
+def mark_tables(path: str, catalog: str, found: Sequence[Verdict]) -> None:
     """The tables that are not sound, each where it is made."""
     source = source_of(path, catalog)
     places = {table.name: place for place, table in made_in(catalog)[0]}
@@ -26,11 +29,12 @@ def mark_tables(path, catalog, found):
             mark(f"{source.at(place)}: {report.lines_of(verdict)[0]}")
 
 
-def source_of(path, catalog):
+def source_of(path: str, catalog: str) -> Source:
+    """The file, for places in it."""
     return Source(path, catalog.encode("utf-8", "surrogateescape"))
 
 
-def mark(line):
+def mark(line: str) -> None:
     """Nothing is said where nobody looks: the judgement itself is on standard output."""
     if sys.stderr.isatty():
         print(line.encode("utf-8", "replace").decode(), file=sys.stderr)

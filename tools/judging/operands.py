@@ -1,9 +1,10 @@
 """What may be on a side of a comparison."""
 
-from dataclasses import dataclass
-from typing import Callable
+from dataclasses import dataclass, field
+from typing import Any, Callable, TypeAlias
 
-from judging.formulas import Subject
+from judging.formulas import Formula, Subject
+from judging.steps import Step
 
 
 @dataclass(frozen=True)
@@ -11,14 +12,14 @@ class Value:
     """A constant of a type, None for NULL."""
 
     type: str
-    value: object
+    value: Any
 
 
 @dataclass(frozen=True)
 class Array:
-    """A constant list, None for NULL."""
+    """A list of operands, None for NULL."""
 
-    parts: tuple | None
+    parts: "tuple[Operand, ...] | None"
 
 
 @dataclass(frozen=True)
@@ -30,25 +31,14 @@ class Ref:
 
 
 @dataclass(frozen=True)
-class Mixed:
-    """A function of the remainder of a column by a modulus. Without a function it is the remainder itself."""
+class Whole:
+    """What some steps make of a column of whole numbers, as a value of an integer type. It is NULL just where the column
+    is. Where the result of a step does not fit its type the server fails, and here the number just goes on."""
 
     subject: Subject
-    modulus: int
+    steps: tuple[Step, ...]
     type: str
-    function: Callable | None = None
-
-    def at(self, remainder):
-        return self.function(remainder) if self.function else remainder
-
-
-@dataclass(frozen=True)
-class Quotient:
-    """A column divided by a positive number, toward zero."""
-
-    subject: Subject
-    divisor: int
-    type: str
+    sql: str = field(default="", compare=False)
 
 
 @dataclass(frozen=True)
@@ -59,16 +49,38 @@ class DayOf:
 
 
 @dataclass(frozen=True)
+class Derived:
+    """A function of an operand. Some comparisons with constants (= < <=) are such of that operand; of others it answers
+    None, and of these the function is a column of its own. They may go by the collation of that column. The result may be
+    a whole number of another type, which has no room for it where a formula is TRUE."""
+
+    ref: Ref
+    means: "Callable[[Ref, str, Value], Formula | None]" = field(compare=False)
+    too_large: Formula | None = field(default=None, compare=False)
+
+
+@dataclass(frozen=True)
 class Choice:
     """One operand where a condition is TRUE, else the other."""
 
-    condition: object
-    one: object
-    other: object
+    condition: Formula
+    one: "Operand"
+    other: "Operand"
+
+
+@dataclass(frozen=True)
+class Extreme:
+    """The greatest or the least of some operands that are not NULL; NULL where all of them are."""
+
+    is_greatest: bool
+    parts: "tuple[Operand, ...]"
 
 
 @dataclass(frozen=True)
 class Truth:
     """A condition."""
 
-    formula: object
+    formula: Formula
+
+
+Operand: TypeAlias = Value | Array | Ref | Whole | DayOf | Derived | Choice | Extreme | Truth

@@ -6,9 +6,12 @@ from dataclasses import dataclass
 from fractions import Fraction
 
 DAY = 86_400_000_000
-# Days and microseconds since 2000-01-01, the first and the last that the server takes.
+# Days since 2000-01-01, the first and the last that the server takes.
 FIRST_DAY, LAST_DAY = -2_451_545, 2_145_031_948
-FIRST_TIME, LAST_TIME = FIRST_DAY * DAY, 9_223_371_331_200_000_000 - 1
+# Microseconds since then. The server reads and computes timestamps up to LAST_READ. Rounding to fewer digits, as by
+# ::timestamp(0), leads to one more, LAST_TIME, which each column takes, also one that has all digits.
+FIRST_TIME, LAST_TIME = FIRST_DAY * DAY, 9_223_371_331_200_000_000
+LAST_READ = LAST_TIME - 1
 DATE = re.compile(r"(\d{4,7})-(\d\d)-(\d\d)")
 TIME = re.compile(r"(\d\d):(\d\d):(\d\d)(?:\.(\d{1,6}))?")
 
@@ -21,22 +24,22 @@ class Point:
     side: int
     value: Fraction = Fraction(0)
 
-    def __lt__(self, other):
+    def __lt__(self, other: "Point") -> bool:
         return (self.side, self.value) < (other.side, other.value)
 
     @property
-    def is_finite(self):
+    def is_finite(self) -> bool:
         return self.side == 0
 
 
 LEAST, GREATEST, NOT_A_NUMBER = Point(-1), Point(1), Point(2)
 
 
-def finite(number):
+def finite(number: int | Fraction) -> Point:
     return Point(0, Fraction(number))
 
 
-def number_point(text):
+def number_point(text: str) -> Point:
     """A number as the server writes it."""
     word = text.strip().lower()
     match word:
@@ -49,7 +52,7 @@ def number_point(text):
     return finite(Fraction(word))
 
 
-def number_text(point):
+def number_text(point: Point) -> str:
     match point.side:
         case -1:
             return "-Infinity"
@@ -68,7 +71,7 @@ def number_text(point):
     return f"{sign}{scaled // 10**digits}.{scaled % 10**digits:0{digits}d}"
 
 
-def days_of(year, month, day):
+def days_of(year: int, month: int, day: int) -> int:
     """Days since 2000-01-01 in the Gregorian calendar, with a year 0 before the year 1."""
     year -= month <= 2
     era, of_era = divmod(year, 400)
@@ -76,7 +79,7 @@ def days_of(year, month, day):
     return era * 146_097 + of_era * 365 + of_era // 4 - of_era // 100 + of_year - 730_425
 
 
-def date_of(days):
+def date_of(days: int) -> tuple[int, int, int]:
     """The year, month and day of a number of days since 2000-01-01."""
     era, of_era = divmod(days + 730_425, 146_097)
     year = (of_era - of_era // 1460 + of_era // 36_524 - of_era // 146_096) // 365
@@ -87,47 +90,53 @@ def date_of(days):
     return year + era * 400 + (month <= 2), month, day
 
 
-def infinite(text):
+def infinite(text: str) -> Point | None:
     """The point of the words infinity and -infinity, or None."""
     return {"infinity": GREATEST, "-infinity": LEAST}.get(text.strip().lower())
 
 
-def date_point(text):
+def date_point(text: str) -> Point:
     """A date in ISO form, in days; `BC` may follow."""
     if point := infinite(text):
         return point
-    year, month, day = (int(part) for part in DATE.match(text).groups())
+    found = DATE.match(text)
+    if found is None:
+        raise ValueError(text)
+    year, month, day = (int(part) for part in found.groups())
     return finite(days_of(1 - year if text.endswith("BC") else year, month, day))
 
 
-def clock_point(text):
+def clock_point(text: str) -> Point:
     """A time of day, in microseconds."""
-    hours, minutes, seconds, rest = TIME.search(text).groups()
+    found = TIME.search(text)
+    if found is None:
+        raise ValueError(text)
+    hours, minutes, seconds, rest = found.groups()
     whole = (int(hours) * 60 + int(minutes)) * 60 + int(seconds)
     return finite(whole * 1_000_000 + int((rest or "").ljust(6, "0")))
 
 
-def time_point(text):
+def time_point(text: str) -> Point:
     """A timestamp in ISO form, in microseconds. One with a time zone is written in UTC."""
     if point := infinite(text):
         return point
     return finite(date_point(text).value * DAY + clock_point(text).value)
 
 
-def date_text(point):
+def date_text(point: Point) -> str:
     if not point.is_finite:
         return "infinity" if point == GREATEST else "-infinity"
     year, month, day = date_of(int(point.value))
     return f"{year:04d}-{month:02d}-{day:02d}" if year > 0 else f"{1 - year:04d}-{month:02d}-{day:02d} BC"
 
 
-def clock_text(microseconds):
+def clock_text(microseconds: int) -> str:
     seconds, rest = divmod(microseconds, 1_000_000)
     fraction = f".{rest:06d}".rstrip("0") if rest else ""
     return f"{seconds // 3600:02d}:{seconds // 60 % 60:02d}:{seconds % 60:02d}{fraction}"
 
 
-def time_text(point, zone=""):
+def time_text(point: Point, zone: str = "") -> str:
     if not point.is_finite:
         return date_text(point)
     days, clock = divmod(int(point.value), DAY)
@@ -135,10 +144,10 @@ def time_text(point, zone=""):
     return f"{date} {clock_text(clock)}{zone}" + (f" {era}" if era else "")
 
 
-def uuid_point(text):
+def uuid_point(text: str) -> Point:
     return finite(int(text.replace("-", "").strip("{}"), 16))
 
 
-def uuid_text(point):
+def uuid_text(point: Point) -> str:
     digits = f"{int(point.value):032x}"
     return "-".join([digits[:8], digits[8:12], digits[12:16], digits[16:20], digits[20:]])

@@ -1,23 +1,26 @@
 """Formulas over codings in the grammar that pgshard reads."""
 
 from dataclasses import dataclass
+from typing import Any, Iterator
 
 from judging import ranges
-from judging.formulas import And, Const, Is, IsNull, Not, Or, Within
+from judging.codings import Coding
+from judging.formulas import And, Const, Formula, Is, IsNull, Not, Or, Within
+from judging.ranges import Ranges
 
 LONGEST_LIST = 100
 
 
-def name_text(name):
+def name_text(name: str) -> str:
     return '"' + name.replace('"', '""') + '"'
 
 
-def term_text(coded):
+def term_text(coded: Coding) -> str:
     name = name_text(coded.name)
     return f"{name} % {coded.modulus}" if coded.modulus else name
 
 
-def text_of(part):
+def text_of(part: Formula) -> str:
     """A formula with all its parentheses."""
     match part:
         case Const():
@@ -37,12 +40,12 @@ def text_of(part):
     raise TypeError(part)
 
 
-def in_parentheses(part):
+def in_parentheses(part: Formula) -> str:
     text = text_of(part)
     return text if isinstance(part, Const) else f"({text})"
 
 
-def within_text(coded, found):
+def within_text(coded: Coding, found: Ranges) -> str:
     """Whether a column's code is in some ranges, by the fewest conditions; NULL where the column is."""
     if not found or found == coded.full:
         is_never = not found
@@ -60,11 +63,11 @@ class Condition:
 
     text: str
     atom: str
-    coded: object
-    ranges: tuple
+    coded: Any
+    ranges: Ranges | None
 
 
-def atoms_of(part):
+def atoms_of(part: Formula) -> Iterator[Condition]:
     """The conditions of a formula from the left, as pgshard counts them: each with its text, and its meaning."""
     match part:
         case Not() | Is():
@@ -78,7 +81,7 @@ def atoms_of(part):
             yield from atoms_within(part.coded, part.ranges)
 
 
-def atoms_within(coded, found):
+def atoms_within(coded: Coding, found: Ranges) -> Iterator[Condition]:
     if found and found != coded.full:
         yield from conditions(coded, found)[0]
     elif not coded.not_null:
@@ -87,7 +90,7 @@ def atoms_within(coded, found):
         yield Condition(text, text, coded, ((code, code),))
 
 
-def conditions(coded, found):
+def conditions(coded: Coding, found: Ranges) -> tuple[list[Condition], bool]:
     """Conditions one of which holds where the code is in the ranges, or none of which does, if the second is true."""
     rest = ranges.complement(found, coded.low, coded.high)
     if coded.printed_type == "boolean":
@@ -99,17 +102,17 @@ def conditions(coded, found):
     return inside, False
 
 
-def is_upper_half(coded, found):
+def is_upper_half(coded: Coding, found: Ranges) -> bool:
     """x >= k is NOT x < k, so that both ways to write it are one condition."""
     return len(found) == 1 and found[0][1] == coded.high and found[0][0] != found[0][1]
 
 
-def has_last(coded, found):
+def has_last(coded: Coding, found: Ranges) -> bool:
     """The last code of a text is that of all other texts, which no list can name."""
     return coded.printed_type == "text" and found[-1][1] == coded.high
 
 
-def never_text(coded):
+def never_text(coded: Coding) -> str:
     """FALSE, but NULL where the column is."""
     if coded.not_null:
         return "FALSE"
@@ -120,9 +123,11 @@ def never_text(coded):
     return f"{term} = {value} AND NOT {term} = {value}"
 
 
-def pieces(coded, found):
+def pieces(coded: Coding, found: Ranges) -> list[Condition]:
     """Conditions one of which holds where the code is in the ranges."""
-    term, singles, listed = term_text(coded), [], []
+    term = term_text(coded)
+    singles: list[int] = []
+    listed: list[Condition] = []
     for low, high in found:
         if coded.printed_type == "text" or high - low < 3 and can_name(coded, low) and can_name(coded, high):
             singles.extend(range(low, high + 1))
@@ -141,11 +146,11 @@ def pieces(coded, found):
     return listed
 
 
-def condition(coded, text, low, high):
+def condition(coded: Coding, text: str, low: int, high: int) -> Condition:
     return Condition(text, text, coded, ((low, high),))
 
 
-def can_name(coded, code):
+def can_name(coded: Coding, code: int) -> bool:
     """Whether a code is one value: past the ends of one that is not tight, pgshard has other values, which count as
     the end; and it reads no number as low as the least bigint."""
     return (coded.is_tight or coded.low < code < coded.high) and code > -(2**63)

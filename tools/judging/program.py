@@ -1,14 +1,15 @@
 """Runs of pgshard, and what its answers say."""
 
+import functools
 import os
 import re
 import subprocess
+from collections.abc import Iterable, Sequence
 from dataclasses import dataclass
 
+from installation import script
+from judging import timing
 from judging.faults import NO_PROGRAM, Fault
-
-ROOT = os.path.dirname(os.path.dirname(os.path.dirname(os.path.realpath(__file__))))
-BUILT = os.path.join(ROOT, "crates", "publisher_main", "out", "publisher_main")
 
 VALUE = r"(?:NULL|TRUE|FALSE|-?\d+|'(?:[^']|'')*')"
 ROW = rf"\({VALUE}(?:, {VALUE})*\)"
@@ -24,34 +25,55 @@ class Unreadable:
     kind: str
 
 
-def program():
-    """The program that is run: the one that the environment names, or the one that is built here."""
-    named = os.environ.get("PGSHARD")
-    if named:
-        return named
-    if not os.access(BUILT, os.X_OK):
-        raise Fault(
-            NO_PROGRAM, f"pgshard is not built: `{ROOT}/pgshard --version` builds it, which takes an hour or two")
-    return BUILT
+def program() -> str:
+    """The program that is run: the one that the environment names, or the one that the script pgshard would run."""
+    return os.environ.get("PGSHARD") or program_of_script()
 
 
-def run(subcommand, text):
-    """The status and the output of a run that came to an answer, or Unreadable."""
-    data = text.encode("utf-8", "surrogateescape")
+@functools.cache
+def program_of_script() -> str:
+    """The released program, or the one that was proved here. This never builds it."""
+    command = script()
     try:
-        answer = subprocess.run([program(), subcommand], input=data, stdout=subprocess.PIPE)
+        answer = subprocess.run([command, "--program"], capture_output=True, encoding="utf-8")
+    except FileNotFoundError as fault:
+        raise Fault(
+            NO_PROGRAM, "the command pgshard is not found; the environment variable PGSHARD may name it") from fault
     except OSError as fault:
-        raise Fault(NO_PROGRAM, f"cannot run pgshard: {fault}") from fault
-    output = answer.stdout.decode("utf-8", "surrogateescape")
-    if answer.returncode == 3:
+        raise Fault(NO_PROGRAM, f"cannot run {command}: {fault}") from fault
+    if answer.returncode != 0:
+        raise Fault(NO_PROGRAM, answer.stderr.strip().removeprefix("pgshard: "))
+    return answer.stdout.removesuffix("\n")
+
+
+def run(subcommand: str, text: str) -> str | Unreadable:
+    """The output of a run that came to an answer, or Unreadable."""
+    status, data = answer_of(subcommand, text.encode("utf-8", "surrogateescape"))
+    output = data.decode("utf-8", "surrogateescape")
+    if status == 3:
         word, *rest = output.split()
         return Unreadable(word, int(rest[0]) if rest and rest[0].isdigit() else 0, rest[-1] if rest else "")
-    if answer.returncode not in (0, 1):
-        raise Fault(NO_PROGRAM, f"pgshard {subcommand} ended with status {answer.returncode}: {output.strip()}")
+    if status not in (0, 1):
+        raise Fault(NO_PROGRAM, f"pgshard {subcommand} ended with status {status}: {output.strip()}")
     return output
 
 
-def one_of(names):
+def answer_of(subcommand: str, data: bytes) -> tuple[int, bytes]:
+    """The status and the output of a run, whose time counts as that of the table. It ends with an exception."""
+    try:
+        process = subprocess.Popen([program(), subcommand], stdin=subprocess.PIPE, stdout=subprocess.PIPE)
+    except OSError as fault:
+        raise Fault(NO_PROGRAM, f"cannot run pgshard: {fault}") from fault
+    with process, timing.counted(process.pid):
+        try:
+            output, _ = process.communicate(data)
+        except BaseException:
+            process.kill()
+            raise
+    return process.returncode, output
+
+
+def one_of(names: Iterable[str]) -> str:
     """A pattern for one of some names, the longest that fits."""
     return "(?:" + "|".join(re.escape(it) for it in sorted(names, key=len, reverse=True)) + ")"
 
@@ -61,12 +83,12 @@ class Made:
     """The answer of `pgshard make` for a table: a certificate, a row with the subscribers that get it, or a word."""
 
     certificate: str | None
-    row: list | None
-    owners: list
+    row: list[str] | None
+    owners: list[str]
     word: str
 
 
-def made_of(output, at, table, subscribers):
+def made_of(output: str, at: int, table: str, subscribers: Sequence[str]) -> tuple[Made, int]:
     """The answer for a table at a place of the output, and where it ends. Rows and names may have newlines."""
     name, one = re.escape(table), one_of(subscribers)
     found = re.compile(
@@ -80,7 +102,7 @@ def made_of(output, at, table, subscribers):
     return Made(found["certificate"], row, owners, found["word"] or ""), found.end()
 
 
-def checked(catalog, certificates):
+def checked(catalog: str, certificates: Iterable[str]) -> str | Unreadable:
     """The answer of `pgshard check`."""
     text = "".join([catalog, "\n%%\n", *(f"{certificate}\n" for certificate in certificates)])
     return run("check", text)

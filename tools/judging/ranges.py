@@ -1,11 +1,16 @@
 """Sets of integers as ranges in ascending order, both ends included, that do not touch each other."""
 
 import math
+from fractions import Fraction
+from typing import Iterable, TypeAlias
+
+Range: TypeAlias = tuple[int, int]
+Ranges: TypeAlias = tuple[Range, ...]
 
 
-def normal(ranges):
+def normal(ranges: Iterable[Range]) -> Ranges:
     """The ranges sorted and joined, without empty ones."""
-    joined = []
+    joined: list[Range] = []
     for low, high in sorted(it for it in ranges if it[0] <= it[1]):
         if joined and low <= joined[-1][1] + 1:
             joined[-1] = (joined[-1][0], max(joined[-1][1], high))
@@ -14,24 +19,37 @@ def normal(ranges):
     return tuple(joined)
 
 
-def union(one, other):
+def union(one: Iterable[Range], other: Iterable[Range]) -> Ranges:
     return normal([*one, *other])
 
 
-def complement(ranges, low, high):
+def complement(ranges: Iterable[Range], low: int, high: int) -> Ranges:
     """What is between two ends and in none of the ranges."""
-    rest, at = [], low
+    rest: list[Range] = []
+    at = low
     for begin, end in ranges:
         rest.append((at, begin - 1))
         at = end + 1
     return normal([*rest, (at, high)])
 
 
-def intersection(one, other):
-    return normal([(max(a, c), min(b, d)) for a, b in one for c, d in other])
+def intersection(one: Iterable[Range], other: Iterable[Range]) -> Ranges:
+    """What both have. In ascending order, one look at each range is enough."""
+    first, second = normal(one), normal(other)
+    found: list[Range] = []
+    a = b = 0
+    while a < len(first) and b < len(second):
+        low, high = max(first[a][0], second[b][0]), min(first[a][1], second[b][1])
+        if low <= high:
+            found.append((low, high))
+        if first[a][1] < second[b][1]:
+            a += 1
+        else:
+            b += 1
+    return tuple(found)
 
 
-def compared(op, number, low, high):
+def compared(op: str, number: Fraction, low: int, high: int) -> Ranges:
     """The integers between two ends that are = < or <= a number, which may be a fraction."""
     if op == "=":
         found = [(int(number), int(number))] if number == int(number) else []
@@ -40,18 +58,18 @@ def compared(op, number, low, high):
     return normal([(low, min(last, high))])
 
 
-def of_numbers(numbers):
+def of_numbers(numbers: Iterable[int]) -> Ranges:
     return normal([(it, it) for it in numbers])
 
 
-def size(ranges):
+def size(ranges: Iterable[Range]) -> int:
     return sum(high - low + 1 for low, high in ranges)
 
 
-def numbers_of(ranges):
+def numbers_of(ranges: Iterable[Range]) -> list[int]:
     return [it for low, high in ranges for it in range(low, high + 1)]
 
 
-def remainder(number, modulus):
+def remainder(number: int, modulus: int) -> int:
     """The server's %, which goes toward zero: the sign is that of the number."""
     return number % modulus if number >= 0 else -(-number % modulus)

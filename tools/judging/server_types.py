@@ -2,8 +2,9 @@
 
 import struct
 from fractions import Fraction
+from typing import Any
 
-from judging import points
+from judging import points, wholes
 from judging.faults import Unread
 from judging.points import Point
 
@@ -11,24 +12,39 @@ from judging.points import Point
 INTEGERS = {"int2": (16, "smallint"), "int4": (32, "integer"), "int8": (64, "bigint")}
 NUMBERS = {*INTEGERS, "numeric", "float4", "float8"}
 TIMES = {"date", "timestamp", "timestamptz", "time"}
+ROUNDED = {"timestamp", "timestamptz"}
 TEXTS = {"text", "varchar", "bpchar"}
 # Types of which two values are equal just where the server writes the same text of both.
-LABELS = {"name", "char", "bytea", "inet", "cidr", "macaddr", "macaddr8"}
-ORDERED = NUMBERS | TIMES | {"uuid", "text", "varchar", "bpchar"}
+LABELS = {"name", "char", "bytea", "macaddr8"}
+# Of these a value is a whole number, without a unit.
+WHOLE = {"uuid", "interval", "inet", "cidr", "macaddr", "pg_lsn"}
+ORDERED = NUMBERS | TIMES | WHOLE | {"text", "varchar", "bpchar"}
 
 
-def family(type):
+# Types of each row are compared with each other by operators whose order, or equality, is that of judge.
+COMPARED = (
+    {"int2", "int4", "int8"}, {"float4", "float8"}, {"numeric"}, {"date", "timestamp"}, {"timestamptz"}, {"time"},
+    {"uuid"}, {"text"}, {"bpchar"}, {"bool"}, {"name", "text"}, {"char"}, {"bytea"}, {"inet"}, {"macaddr"},
+    {"macaddr8"}, {"anyenum"}, {"interval"}, {"pg_lsn"})
+
+
+def comparable(one: str, other: str = "") -> bool:
+    """Whether judge knows what the comparisons that are declared of two types mean."""
+    return any(one in it and other in it for it in COMPARED)
+
+
+def family(type: str) -> str:
     """Types of one family are compared with each other."""
     if type in NUMBERS:
         return "number"
-    return "text" if type in ("text", "varchar") else type
+    return {"varchar": "text", "cidr": "inet"}.get(type, type)
 
 
-def is_ordered(type):
+def is_ordered(type: str) -> bool:
     return type in ORDERED
 
 
-def binary_float(text, form):
+def binary_float(text: str, form: str) -> Point:
     """The number that a float has, which is not the one that is written."""
     point = points.number_point(text)
     if not point.is_finite:
@@ -37,11 +53,16 @@ def binary_float(text, form):
     return Point(0, Fraction(struct.unpack("f", struct.pack("f", number))[0] if form == "f" else number))
 
 
-def quoted(text):
+def collation_sql(name: str) -> str:
+    """A collation as SQL has it. The name of one of the database's own has its schema, and quotes already."""
+    return name if name.startswith('"') else '"' + name.replace('"', '""') + '"'
+
+
+def quoted(text: str) -> str:
     return "'" + text.replace("'", "''") + "'"
 
 
-def value_of(type, text):
+def value_of(type: str, text: str) -> Any:
     """The value of a constant of a type: a point, a text, or a truth value."""
     try:
         match type:
@@ -57,6 +78,8 @@ def value_of(type, text):
                 return points.clock_point(text)
             case "uuid":
                 return points.uuid_point(text)
+            case "interval" | "inet" | "cidr" | "macaddr" | "pg_lsn":
+                return wholes.point_of(type, text)
             case "bool":
                 return text in ("t", "true")
             case "bpchar":
@@ -66,7 +89,7 @@ def value_of(type, text):
     return text
 
 
-def text_of(type, value):
+def text_of(type: str, value: Any) -> str:
     """A value as the server reads it, without quotes."""
     match type:
         case "date":
@@ -79,24 +102,34 @@ def text_of(type, value):
             return points.clock_text(int(value.value))
         case "uuid":
             return points.uuid_text(value)
+        case "interval" | "inet" | "cidr" | "macaddr" | "pg_lsn":
+            return wholes.text_of(type, value)
         case "bool":
             return "TRUE" if value else "FALSE"
         case "float4" | "float8" if value.is_finite:
             return repr(float(value.value))
-    return points.number_text(value) if isinstance(value, Point) else value
+    return points.number_text(value) if isinstance(value, Point) else str(value)
 
 
-def literal(type, value):
+def literal(type: str, value: Any) -> str:
     """A value as a constant of SQL."""
     if value is None:
         return "NULL"
     text = text_of(type, value)
     if type == "bool" or type in NUMBERS and value.is_finite:
         return text
+    return readable(type, text)
+
+
+def readable(type: str, text: str) -> str:
+    """What the server writes of a value, as a constant that it reads. The last timestamp, which it does not read, is what
+    the one before it is rounded to."""
+    if type in ROUNDED and text == text_of(type, points.finite(points.LAST_TIME)):
+        return f"{quoted(text_of(type, points.finite(points.LAST_READ)))}::{type}(0)"
     return quoted(text)
 
 
-def number_form(type, modifier):
+def number_form(type: str, modifier: int) -> tuple[int, int] | None:
     """The digits and the scale of a numeric with a limit, or None."""
     if type != "numeric" or modifier < 4:
         return None
@@ -104,7 +137,7 @@ def number_form(type, modifier):
     return (modifier - 4) >> 16 & 0xFFFF, (scale ^ 1024) - 1024
 
 
-def length_limit(type, modifier):
+def length_limit(type: str, modifier: int) -> int | None:
     """How many characters a text may have, or None."""
     return modifier - 4 if type in ("varchar", "bpchar") and modifier >= 4 else None
 
@@ -116,11 +149,19 @@ PLAIN = {
     "uuid": "'00000000-0000-0000-0000-000000000000'", "json": "'{}'", "jsonb": "'{}'", "bytea": "'\\x'",
     "inet": "'0.0.0.0'", "cidr": "'0.0.0.0/32'", "macaddr": "'00:00:00:00:00:00'", "point": "'(0,0)'",
     "macaddr8": "'00:00:00:00:00:00:00:00'", "money": "0", "oid": "0", "xml": "''", "tsvector": "''", "tsquery": "''",
-    "bit": "B'0'", "varbit": "B'0'", "pg_lsn": "'0/0'",
+    "bit": "B'0'", "varbit": "B'0'", "pg_lsn": "'0/0'", "line": "'{1,0,0}'", "lseg": "'[(0,0),(1,0)]'",
+    "box": "'(1,1),(0,0)'", "path": "'[(0,0)]'", "polygon": "'((0,0))'", "circle": "'<(0,0),1>'", "jsonpath": "'$'",
+    "tid": "'(0,0)'", "xid": "'0'", "xid8": "'0'", "cid": "'0'", "pg_snapshot": "'1:1:'", "txid_snapshot": "'1:1:'",
 }
 
 
-def plain_literal(column):
+def is_plain(column: dict[str, Any]) -> bool:
+    """Whether it is known that a column's type takes its plain value."""
+    type = column["type"]
+    return column["kind"] == "b" and (type in PLAIN or type in NUMBERS or type in TEXTS or type in ("name", "char"))
+
+
+def plain_literal(column: dict[str, Any]) -> str:
     """A constant that a column takes, where its domain or its constraints do not refuse it."""
     type = column["type"]
     if column["kind"] == "e":

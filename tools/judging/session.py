@@ -1,17 +1,16 @@
-"""Questions to the server about values: whether it takes a row, who gets it, and how it orders texts.
-
-They are asked in one psql, which can only read, and name no table.
-"""
+"""Questions to the server about values. They are asked in one psql, which can only read, and name no table."""
 
 import json
 import subprocess
 import uuid
+from collections.abc import Sequence
 
-from judging.faults import NO_ANSWER, Fault
-from judging.parser import columns_of
-from judging.rows import Confirmed
-from judging.server_types import quoted
+from judging.database import Database
+from judging.faults import NO_ANSWER, Fault, Undecided
+from judging.meanings import Meanings
+from judging.server_types import collation_sql, quoted
 
+# Of texts in UTF8 psql leaves out what Unicode says is no character, and what is no UTF8. As bytes it prints them whole.
 SETUP = r"""
 \set QUIET on
 \set ON_ERROR_STOP off
@@ -24,100 +23,99 @@ SETUP = r"""
 \pset tuples_only on
 SET default_transaction_read_only = on;
 SET search_path = pg_catalog;
-SET client_encoding = 'UTF8';
+SELECT CASE WHEN current_setting('server_encoding') IN ('UTF8', 'SQL_ASCII') THEN 'SQL_ASCII' ELSE 'UTF8' END AS encoding \gset
+SET client_encoding = :'encoding';
+\unset encoding
 SET standard_conforming_strings = on;
 SET timezone = 'UTC';
 SET datestyle = 'ISO, YMD';
-SET statement_timeout = '60s';
+SET intervalstyle = 'postgres';
+SET bytea_output = 'hex';
+SET extra_float_digits = 1;
+SET lock_timeout = '5s';
+SET statement_timeout = '{milliseconds}ms';
 """
 
 LOST = "the connection to the server is lost"
 
 
 class Session:
-    """A psql that is started with the first question."""
+    """A psql that is started with the first question. The server gives up a question after some seconds."""
 
-    def __init__(self, words):
+    def __init__(self, words: Sequence[str], seconds: float = 60) -> None:
         self.words = words
-        self.process = None
+        self.seconds = seconds
+        self.process: "subprocess.Popen[str] | None" = None
+        self.known_meanings: Meanings | None = None
 
-    def ask(self, query):
+    def meanings(self, db: Database) -> Meanings:
+        """What the server says of the calls in its filters, asked for once."""
+        if self.known_meanings is None:
+            self.known_meanings = Meanings(self, db)
+        return self.known_meanings
+
+    def ask(self, query: str) -> str:
         """The answer of a query, '' where it fails."""
         try:
             return self.answered(query)
         except BrokenPipeError as fault:
             raise Fault(NO_ANSWER, LOST) from fault
 
-    def answered(self, query):
-        if self.process is None:
-            self.process = subprocess.Popen(
-                ["psql", "-X", "-q", *self.words], stdin=subprocess.PIPE, stdout=subprocess.PIPE,
-                stderr=subprocess.DEVNULL, encoding="utf-8", errors="surrogateescape")
-            self.process.stdin.write(SETUP)
+    def ask_for(self, seconds: int, query: str) -> str:
+        """The answer of a query that has a time of its own."""
+        return self.ask(f"BEGIN; SET LOCAL statement_timeout = '{seconds}s'; {query}; COMMIT")
+
+    def answered(self, query: str) -> str:
+        """The same, in a psql that is started where there is none."""
+        process = self.process or self.started()
+        assert process.stdin is not None and process.stdout is not None
         end = f"end {uuid.uuid4()}"
-        self.process.stdin.write(f"{query};\n\\echo\n\\echo '{end}'\n")
-        self.process.stdin.flush()
-        lines = []
-        for line in self.process.stdout:
+        process.stdin.write(f"{query};\n\\echo\n\\echo '{end}'\n")
+        process.stdin.flush()
+        lines: list[str] = []
+        for line in process.stdout:
             if line.rstrip("\n") == end:
                 return "".join(lines).removesuffix("\n").removesuffix("\n")
             lines.append(line)
         raise Fault(NO_ANSWER, LOST)
 
-    def close(self):
-        if self.process is not None:
-            self.process.stdin.close()
-            self.process.stdout.close()
-            self.process.wait()
+    def started(self) -> "subprocess.Popen[str]":
+        """A psql that has its settings."""
+        self.process = subprocess.Popen(
+            ["psql", "-X", "-q", *self.words], stdin=subprocess.PIPE, stdout=subprocess.PIPE,
+            stderr=subprocess.DEVNULL, encoding="utf-8", errors="surrogateescape")
+        assert self.process.stdin is not None
+        self.process.stdin.write(self.setup())
+        return self.process
 
-    def sorted_texts(self, collation, texts):
+    def setup(self) -> str:
+        """The settings, with the time that the server has for a question."""
+        return SETUP.replace("{milliseconds}", str(max(1, int(self.seconds * 1000))))
+
+    def close(self) -> None:
+        """Ends the psql, if there is one."""
+        process, self.process = self.process, None
+        if process is not None:
+            assert process.stdin is not None and process.stdout is not None
+            process.stdin.close()
+            process.stdout.close()
+            process.wait()
+
+    def stop(self) -> None:
+        """Ends the psql in the middle of a question. The next question starts another."""
+        process, self.process = self.process, None
+        if process is not None:
+            process.kill()
+            process.communicate()
+
+    def sorted_texts(self, collation: str, texts: Sequence[str]) -> list[str]:
         """Texts in the order of a collation; the server tells those that are equal in it apart by their bytes."""
-        listed = quoted(json.dumps(sorted(texts)))
-        name = '"' + collation.replace('"', '""') + '"'
+        # A server whose encoding is SQL_ASCII has the bytes of a letter, and knows no number of it.
+        listed = quoted(json.dumps(sorted(texts), ensure_ascii=False))
+        name = collation_sql(collation)
         answer = self.ask(
             f"SELECT json_agg(x ORDER BY x COLLATE {name}) FROM json_array_elements_text({listed}) AS t (x)")
         if not answer:
-            raise Fault(NO_ANSWER, f"the server does not order texts by {name}")
-        return json.loads(answer)
-
-    def confirmed(self, read, takers, row):
-        """Whether the constraints take a row, and which of the takers get it, by the server's own evaluation.
-
-        Where it cannot say, as at a value that a type or a domain refuses, the row is not taken.
-        """
-        shares = read.shares
-        filters = {name: text or "true" for name, text in shares.filters.items() if name in read.filters}
-        checks = self.checks(read)
-        texts = [f"({text}) IS TRUE" for text in filters.values()] + [f"({text}) IS NOT FALSE" for text in checks]
-        named = {name for text in [*filters.values(), *checks] for name in columns_of(text)}
-        columns = [it for it in shares.table["columns"] if it["name"] in named]
-        values = [value_text(it, row[it["name"]]) for it in columns]
-        answer = self.ask(
-            f"SELECT json_build_array({', '.join(texts)}) FROM (SELECT {', '.join(values) or '1 AS one'}) AS the_row")
-        if not answer:
-            return Confirmed(False, [])
-        found = json.loads(answer)
-        passed = {name for name, value in zip(filters, found) if value}
-        others = [it for it in shares.table["columns"] if it["name"] not in named and it["kind"] != "b"]
-        unfit = [it["name"] for it in others if not self.is_value(it, row[it["name"]])]
-        return Confirmed(
-            all(found[len(filters):]), [name for name, names in takers.items() if passed & set(names)], tuple(unfit))
-
-    def is_value(self, column, literal):
-        """Whether a type of the database's own takes a value."""
-        return literal in ("NULL", "DEFAULT") or self.ask(f"SELECT ({literal})::{column['written']} IS NULL") != ""
-
-    @staticmethod
-    def checks(read):
-        """The constraints that the server is asked of: not those with functions of the database's own, which are called
-        by nobody here."""
-        texts = {f"CHECK {it['name']}": it["text"] for it in read.shares.table["checks"] if it["is_valid"]}
-        texts["the bounds of the partition"] = read.shares.table["partition"]
-        unread = [it.text for it in read.unread.values() if it.is_built_in]
-        return [*(texts[name] for name in read.constraints), *unread]
-
-
-def value_text(column, literal):
-    """A column of the row. Without parentheses the least number would be cast before its minus."""
-    collation = f' COLLATE "{column["collation"]}"' if column["collation"] not in (None, "default") else ""
-    return f"({literal})::{column['written']}{collation} AS {column['quoted']}"
+            raise Undecided(f"the server does not order the constants of its filters by the collation {name}")
+        found: list[str] = json.loads(answer)
+        return found

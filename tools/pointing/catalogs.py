@@ -21,7 +21,8 @@ def made_in(text: str) -> tuple[list[tuple[int, Table]], dict[str, int], list[st
 
 def placed_statements(text: str) -> list[list[tuple[int, str]]]:
     """The statements of a catalog, as lists of tokens with their places."""
-    found, statement = [], []
+    found: list[list[tuple[int, str]]] = []
+    statement: list[tuple[int, str]] = []
     for at, token in placed_tokens(text):
         if token == ";":
             found.append(statement)

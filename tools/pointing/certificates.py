@@ -2,7 +2,6 @@
 
 import re
 
-WORD = re.compile(r"[^ ]+| ")
 NUMBER = re.compile(r"(?:0|[1-9]\d*)\Z")
 
 
@@ -10,7 +9,7 @@ def place_of_fault(line: str) -> int:
     """Where a line stops being a certificate, in characters from 0."""
     at, wanted, is_letter = 0, 1, True
     while wanted > 0 or not is_letter:
-        word = re.compile(r"[^ ]*").match(line, at)[0]
+        word = line[at:].split(" ", 1)[0]
         if is_letter and word not in ("s", "o", "e", "n") or not is_letter and NUMBER.match(word) is None:
             return at
         if is_letter:

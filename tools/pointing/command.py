@@ -5,10 +5,16 @@ import stat
 import subprocess
 import sys
 import threading
+from typing import IO
 
 from pointing.lines import explained
 from pointing.sentences import MAX_BYTES
-from pointing.source import Source, name_of_input
+from pointing.source import Source, files_of_input, name_of_input
+
+USAGE = """\
+Runs pgshard, and explains its answer on standard error in sentences, with positions in the input.
+
+    explain PROGRAM [ARGUMENTS]    runs the program with these arguments on standard input"""
 
 PIECE = 65_536
 
@@ -28,14 +34,14 @@ class Input:
         """What the program gets as its standard input: a pipe, or this process's own."""
         return subprocess.PIPE if self.is_pipe else None
 
-    def begin(self, running: subprocess.Popen) -> None:
+    def begin(self, running: "subprocess.Popen[bytes]") -> None:
         """Hands on what comes, beside the run."""
         if self.is_pipe:
             threading.Thread(target=self.hand_on, args=[running.stdin], daemon=True).start()
         elif stat.S_ISREG(os.fstat(0).st_mode):
             self.pieces.append(os.pread(0, MAX_BYTES + 1, 0))
 
-    def hand_on(self, pipe) -> None:
+    def hand_on(self, pipe: IO[bytes]) -> None:
         """Until the input ends, or the program reads no more."""
         try:
             while piece := os.read(0, PIECE):
@@ -51,11 +57,19 @@ class Input:
         return b"".join(self.pieces)
 
 
+def main() -> int:
+    """Runs the command with the arguments of this process."""
+    if len(sys.argv) < 2:
+        print(USAGE, file=sys.stderr)
+        return 2
+    return run(sys.argv[1], sys.argv[2:])
+
+
 def run(program: str, words: list[str]) -> int:
     """The exit status of the run."""
     given = Input()
     status, output = handed_on(program, words, given)
-    source = Source(name_of_input(), given.data())
+    source = Source(name_of_input(), given.data(), files_of_input())
     for line in explained(words, source, status, output.decode("utf-8", "surrogateescape")):
         print(line.encode("utf-8", "replace").decode(), file=sys.stderr)
     return status
@@ -66,13 +80,15 @@ def handed_on(program: str, words: list[str], given: Input) -> tuple[int, bytes]
     read from any more, so that it finds the same failure."""
     kept = bytearray()
     running = subprocess.Popen([program, *words], stdin=given.handle(), stdout=subprocess.PIPE)
+    printed = running.stdout
+    assert printed is not None
     given.begin(running)
     try:
-        while piece := os.read(running.stdout.fileno(), PIECE):
+        while piece := os.read(printed.fileno(), PIECE):
             write(piece)
             kept.extend(piece[:MOST_LOOKED_AT - len(kept)])
     except OSError:
-        running.stdout.close()
+        printed.close()
     except KeyboardInterrupt:
         pass
     status = running.wait()

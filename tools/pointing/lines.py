@@ -2,8 +2,9 @@
 
 import re
 
+from judging.catalog_tokens import Table
 from judging.faults import Fault
-from judging.program import made_of
+from judging.program import Made, made_of
 from pointing import sentences
 from pointing.catalogs import made_in
 from pointing.certificates import place_of_fault, place_of_node
@@ -27,10 +28,10 @@ def explained(words: list[str], source: Source, status: int, output: str) -> lis
     if status == 3:
         return [of_input(subcommand, source, last)]
     if status == 4:
-        where = ", or the port cannot be had" if subcommand == "serve" else ""
-        return [f"pgshard: the output cannot be written{where}"]
+        where = ", or the port is not available" if subcommand == "serve" else ""
+        return [f"pgshard: cannot write the output{where}"]
     if status == 5:
-        return ["pgshard: memory ran out"]
+        return ["pgshard: out of memory"]
     if status != 1:
         return []
     if subcommand == "eval":
@@ -70,7 +71,8 @@ def of_rows(source: Source, words: list[str], lines: list[str]) -> list[str]:
     texts = rows.data.removesuffix(b"\n").split(b"\n")
     if len(texts) != len(lines):
         return []
-    columns, begin, found = columns_of(catalog, words), rows.begin, []
+    columns, begin = columns_of(catalog, words), rows.begin
+    found: list[str] = []
     bad = sum(line.startswith(("unreadable ", "invalid ")) for line in lines)
     for data, line in zip(texts, lines):
         if len(found) == MOST_TOLD < bad:
@@ -108,7 +110,8 @@ def columns_of(catalog: Part, words: list[str]) -> list[str]:
 def of_tables(source: Source, output: str) -> list[str]:
     """The tables that have no certificate."""
     tables, _, subscriptions = made_in(source.parts()[0].text)
-    found, at = [], 0
+    found: list[str] = []
+    at = 0
     for place, table in tables:
         try:
             made, at = made_of(output, at, table.name, subscriptions)
@@ -119,11 +122,11 @@ def of_tables(source: Source, output: str) -> list[str]:
     return found
 
 
-def why_not(made) -> str:
+def why_not(made: Made) -> str:
     """Why a table has no certificate."""
     if made.row is None:
         is_large = made.word == "too large"
-        reason = "the certificate would be past its limits" if is_large else "the search ended without one"
+        reason = "the certificate would exceed its limits" if is_large else "the search ended without one"
         return f"neither a certificate nor a row that shows a fault was found: {reason}"
     row = f"({', '.join(made.row)})"
     if not made.owners:
@@ -146,7 +149,7 @@ def of_refusal(source: Source, line: str) -> list[str]:
     if line == "refused CertCount":
         lines = parts[1].data.removesuffix(b"\n")
         count = lines.count(b"\n") + 1 if lines else 0
-        return [f"{source.at(parts[1].begin)}: the catalog has {len(tables)} tables, and here are {count} certificates"]
+        return [f"{source.at(parts[1].begin)}: the catalog has {len(tables)} tables, but there are {count} certificates"]
     for name, place in publications.items():
         where = at_character(source, place)
         missing = re.fullmatch(rf"refused PublishMissing {re.escape(name)} (\w+)", line)
@@ -160,15 +163,15 @@ def of_refusal(source: Source, line: str) -> list[str]:
     return of_table(source, parts, tables, line)
 
 
-def of_table(source: Source, parts: list[Part], tables: list, line: str) -> list[str]:
+def of_table(source: Source, parts: list[Part], tables: list[tuple[int, Table]], line: str) -> list[str]:
     """A sharding that is refused for a table or a node of its certificate."""
     for number, (place, table) in enumerate(tables):
         if line == f"refused NoIdentity {table.name}":
-            return [f"{at_character(source, place)}: the replica identity of {table.name} does not tell its rows apart"]
+            return [f"{at_character(source, place)}: the replica identity of {table.name} does not identify its rows"]
         node = re.fullmatch(rf"refused (\w+) {re.escape(table.name)} (\d+)(?: (.*))?", line)
         if node is not None and node[1] in sentences.NODES:
             begin, text = line_of(parts[1], number)
             at = place_of_node(text, int(node[2]))
-            also = f", which is {node[3]}" if node[3] else ""
+            also = f": {node[3]}" if node[3] else ""
             return [f"{source.at(begin + at)}: {table.name}: {sentences.NODES[node[1]]}{also}"]
     return []

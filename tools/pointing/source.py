@@ -21,10 +21,11 @@ class Part:
 
 @dataclass(frozen=True)
 class Source:
-    """An input, with the name that a person knows it by."""
+    """An input, with the name that a person knows it by, or those of the files that are its parts."""
 
     name: str
     data: bytes
+    files: tuple[str, ...] = ()
 
     def parts(self) -> list[Part]:
         """The texts between the lines that are `%%` and nothing else."""
@@ -36,10 +37,19 @@ class Source:
 
     def at(self, place: int) -> str:
         """The file, the line and the column of a place in bytes. A column is counted in characters, from 1."""
-        before = self.data[:place]
+        name, begin = self.file_at(place)
+        before = self.data[begin:place]
         begin = before.rfind(b"\n") + 1
         column = len(before[begin:].decode("utf-8", "replace")) + 1
-        return f"{self.name}:{before.count(10) + 1}:{column}"
+        return f"{name}:{before.count(10) + 1}:{column}"
+
+    def file_at(self, place: int) -> tuple[str, int]:
+        """The name of the file that has a place, and where it begins. Where there are more parts than files, it is not
+        known which file has which parts."""
+        parts = self.parts()
+        if len(self.files) != len(parts):
+            return self.name, 0
+        return next((name, part.begin) for name, part in reversed([*zip(self.files, parts)]) if part.begin <= place)
 
     def there(self, place: int) -> str:
         """The token at a place, for a sentence."""
@@ -61,3 +71,9 @@ def name_of_input() -> str:
         return "input"
     near = os.path.relpath(path)
     return path if near.startswith("..") else near
+
+
+def files_of_input() -> tuple[str, ...]:
+    """The files that the script pgshard joined to the standard input."""
+    named = os.environ.get("PGSHARD_PARTS")
+    return tuple("input" if name == "-" else name for name in named.split("\n")) if named else ()

@@ -2,6 +2,8 @@
 
 import pathlib
 import re
+import subprocess
+import sys
 
 from tally import Tally
 
@@ -12,13 +14,19 @@ CRATES = ROOT / "crates"
 WORDS = {"README.md": 1100, "docs/ARCHITECTURE.md": 1200, "docs/TESTED.md": 500, "bench/README.md": 1500}
 
 # How many lines the README of a crate may have.
-LINES = range(20, 81)
+LINES = range(20, 96)
 
 QUOTED = re.compile(r"`([^`\n]+)`")
 BLOCK = re.compile(r"^```.*?^```$", re.S | re.M)
 PATH = re.compile(r"[\w.*-]+(?:/[\w.*-]+)+/?\Z")
 NAME = re.compile(r"[A-Za-z_]\w*_\w*\Z")
 WORD = re.compile(r"\w+")
+
+# Functions that a README says are in a crate's files: `one` and `other` of `crate` (`src/file.rt`, `beside.rt`).
+CITED = re.compile(r"((?:`\w+`(?:, | and )?)+) of `(\w+)`\s\(((?:`[\w/]+\.rt`(?:, | and )?)+)\)")
+
+# How long the first build takes: one figure in all documents.
+BUILD = re.compile(r"(?:first build|--build)[^.\n]{0,80}?\b(\d+)(?: to \d+)? (?:processor )?minutes")
 
 # Where the names are that documents may use.
 SOURCES = "crates/*/src/**/*.rt", "crates/*/specs/**/*.antt", "crates/*/proofs/**/*.antt", "tools/**/*", "examples/*"
@@ -27,7 +35,7 @@ SOURCES = "crates/*/src/**/*.rt", "crates/*/specs/**/*.antt", "crates/*/proofs/*
 BEGINS = [ROOT, CRATES, ROOT / "tools", ROOT / "tools" / "testing", *CRATES.iterdir()]
 
 # What is PostgreSQL's, and paths that are made or mean others.
-ELSEWHERE = {"information_schema", "t_pkey", "X/X"}
+ELSEWHERE = {"information_schema", "pg_read_all_stats", "t_pkey", "X/X"}
 MEANS_OTHERS = re.compile(r"NAME|MODULE|out/|\*")
 
 
@@ -46,6 +54,39 @@ def check_documents(tally: Tally) -> None:
         text = BLOCK.sub("", document.read_text(encoding="utf-8"))
         missing = sorted({word for word in QUOTED.findall(text) if is_missing(document, word, known)})
         tally.check(f"what {document.relative_to(ROOT)} names and is not there", missing, [])
+
+
+    check_citations(tally)
+    check_drawing(tally)
+    figures = {figure for document in documents for figure in BUILD.findall(document.read_text(encoding="utf-8"))}
+    tally.check("figures for the first build", len(figures) <= 1, True)
+
+
+def check_citations(tally: Tally) -> None:
+    """That a function which a crate's README shows is in the file and the crate that it names."""
+    for readme in sorted(CRATES.glob("*/README.md")):
+        for names, crate, files in CITED.findall(readme.read_text(encoding="utf-8")):
+            if not (CRATES / crate).is_dir():
+                continue
+            text = "".join(path.read_text(encoding="utf-8") for path in cited_files(crate, files) if path.exists())
+            missing = [name for name in QUOTED.findall(names) if not re.search(rf"\bfn {name}\b", text)]
+            tally.check(f"functions that {readme.parent.name} cites of {crate} and are not in {files}", missing, [])
+
+
+def cited_files(crate: str, files: str) -> list[pathlib.Path]:
+    """The files, of which the first begins with src/ or a crate, and others may be beside it."""
+    first, *others = [pathlib.Path(name) for name in QUOTED.findall(files)]
+    path = CRATES / crate / first if first.parts[0] == "src" else CRATES / first
+    return [path, *(path.parent / name if len(name.parts) == 1 else CRATES / name for name in others)]
+
+
+def check_drawing(tally: Tally) -> None:
+    """That the drawing of the crates is that of crates.txt, and that no file is a link, which the gate refuses."""
+    drawn = subprocess.run([sys.executable, ROOT / "tools" / "crate_graph", "--check"], capture_output=True)
+    tally.check("docs/crates.svg, which tools/crate_graph writes", drawn.returncode, 0)
+    listed = subprocess.run(["git", "-C", ROOT, "ls-files", "-s"], capture_output=True, encoding="utf-8")
+    links = [line for line in listed.stdout.splitlines() if line.startswith("120000")]
+    tally.check("files that are links", links, [])
 
 
 def crates() -> list[str]:

@@ -9,6 +9,14 @@ from tally import Tally
 ROOT = TOOLS.parent
 EXAMPLES = ROOT / "examples"
 
+# The table of docs/JUDGING.md.
+SHOWN = """
+    CREATE TABLE orders (id integer PRIMARY KEY, region text);
+    ALTER TABLE orders REPLICA IDENTITY FULL;
+    CREATE PUBLICATION p FOR TABLE orders WHERE (id < 200 AND region IS NOT NULL);
+    CREATE PUBLICATION q FOR TABLE orders WHERE (id >= 100 AND region IS NOT NULL);
+"""
+
 
 @dataclass(frozen=True)
 class Example:
@@ -44,6 +52,12 @@ def check_judge_example(tally: Tally, server) -> None:
     output, status = judge(*server.words("shown")).rsplit("status ", 1)
     tally.check("the status of the README's database", status, "1\n")
     tally.check("what the README shows of its database", is_shown("README.md", output), True)
+    server.create("shown_of_judge", SHOWN)
+    words = server.words("shown_of_judge")
+    regions = judge(*words).partition("each publication")[0]
+    repair = judge(*words, "--repair", "orders").rpartition("status ")[0]
+    for what, text in ("regions", regions), ("a repair", repair):
+        tally.check(f"what docs/JUDGING.md shows of {what}", text if not is_shown("docs/JUDGING.md", text) else "", "")
 
 
 def examples() -> list[Example]:
@@ -53,6 +67,7 @@ def examples() -> list[Example]:
     moves = f"{shop}%%\n{certificates}%%\n{read('moves.txt')}"
     return [
         Example(("README.md",), ("make",), lossy, 1),
+        Example(("docs/OUTPUT.md",), ("show",), lossy, 0),
         Example(("docs/CERTIFICATES.md",), ("make",), shop, 0),
         Example(("docs/CERTIFICATES.md",), ("make",), shop.replace(", nowhere;", ";"), 1),
         Example(("docs/OUTPUT.md",), ("eval", "orders"), read("orders.txt"), 1),

@@ -2,12 +2,12 @@
 
 import os
 import pathlib
-import shutil
 import subprocess
 import sys
 import tempfile
 
 from programs import PGSHARD, TOOLS
+from script_checks import installed
 from tally import Tally
 
 sys.path.insert(0, str(TOOLS))
@@ -31,33 +31,33 @@ LINES = CATALOG.count("\n")
 TOLD = [
     # Texts that are not read: a column is counted in characters.
     (["make"], "CREATE TABLE ö (", 3, "catalog 13 BadToken\n",
-     ["f:1:14: this is not SQL, or a quote or a comment that is not closed: ö"]),
+     ["f:1:14: this is not an SQL token, or a quote or comment is not terminated: ö"]),
     (["make"], CATALOG.replace("region < 5", "regio < 5"), 3,
      f"catalog {CATALOG.encode().index(b'region < 5')} UnknownName\n",
-     ["f:4:41: nothing has this name: regio"]),
+     ["f:4:41: this name does not exist: regio"]),
     (["make"], "CREATE TABLE t (id\n", 3, "catalog 19 Expected\n",
-     ["f:2:1: something else is expected here: the end of the text"]),
+     ["f:2:1: syntax error: the end of the text"]),
     (["check"], f"{CATALOG}%%\ns 0 o 0 x\n", 3, "certificate 1 BadToken\n",
-     [f"f:{LINES + 2}:9: this is no part of a certificate, which has letters s, o, e, n with a number after each"]),
+     [f"f:{LINES + 2}:9: this is not part of a certificate, which consists of letters s, o, e, n with a number after each"]),
     (["simulate"], f"{CATALOG}%%\no 0\n%%\nCOMMIT;\nVIEWS;", 3, "script 8 UnknownName\n",
-     [f"f:{LINES + 5}:1: nothing has this name: VIEWS"]),
+     [f"f:{LINES + 5}:1: this name does not exist: VIEWS"]),
     (["eval", "x"], f"{CATALOG}%%\n", 3, "table x\n", ["pgshard: the catalog has no table x"]),
     (["check"], CATALOG, 3, "input\n",
-     ["pgshard: pgshard check wants 2 parts, with a line %% between each two; the input has 1"]),
+     ["pgshard: pgshard check needs 2 parts, separated by lines %%; the input has 1"]),
     (["make"], f"{CATALOG}%%\n", 3, "input\n",
-     ["pgshard: pgshard make wants one part, with a line %% between each two; the input has 2"]),
-    (["make"], b"CREATE\xff", 3, "input\n", ["pgshard: the input is not UTF-8, at byte 6"]),
+     ["pgshard: pgshard make needs one part, separated by lines %%; the input has 2"]),
+    (["make"], b"CREATE\xff", 3, "input\n", ["pgshard: the input is not valid UTF-8, at byte 6"]),
     # Rows, each by the line of its answer.
     (["eval", "t"], f"{CATALOG}%%\n(1, 'ä, b', 3)\n(1, 2\n(1, 'a, ''b''', 3000000000)\n(1, 'a')\n(1, 'ä', x)\n", 1,
      "p=true q 2=false\nunreadable 5 Expected\ninvalid OutOfRange 2\ninvalid Width\nunreadable 10 Expected\n",
-     [f"f:{LINES + 3}:6: something else is expected here: the end of the row",
-      f"f:{LINES + 4}:17: region: the number is past the range of the column's type",
-      f"f:{LINES + 5}:1: the row has another number of values than the table has columns",
-      f"f:{LINES + 6}:10: something else is expected here: x"]),
+     [f"f:{LINES + 3}:6: syntax error: the end of the row",
+      f"f:{LINES + 4}:17: region: the number is out of range for the column's type",
+      f"f:{LINES + 5}:1: the row does not have as many values as the table has columns",
+      f"f:{LINES + 6}:10: syntax error: x"]),
     (["eval", "public.t"], f"{CATALOG}%%\n(1, NULL, NULL)", 1, "invalid NullInNotNull 2\n",
      [f"f:{LINES + 2}:11: region: the value is null, and the column is NOT NULL"]),
     (["eval", "t"], f"{CATALOG}%%\n" + "(1)\n" * 23, 1, "invalid Width\n" * 23,
-     [*(f"f:{LINES + 2 + row}:1: the row has another number of values than the table has columns" for row in range(20)),
+     [*(f"f:{LINES + 2 + row}:1: the row does not have as many values as the table has columns" for row in range(20)),
       "pgshard: and 3 more rows"]),
     # Tables without a certificate.
     (["make"], CATALOG, 1, "counter public.t (0, '', 5) owners none\n",
@@ -67,27 +67,26 @@ TOLD = [
     (["make"], CATALOG, 1, "unknown public.t\n",
      ["f:1:14: public.t: neither a certificate nor a row that shows a fault was found: the search ended without one"]),
     (["make"], CATALOG, 1, "too large public.t\n",
-     ["f:1:14: public.t: neither a certificate nor a row that shows a fault was found: the certificate would be past "
+     ["f:1:14: public.t: neither a certificate nor a row that shows a fault was found: the certificate would exceed "
       "its limits"]),
     # Shardings that are refused.
     (["check"], f"{CATALOG}%%\ns 0 o 0 o 1 n 0\n", 1, "refused SecondOwner public.t 2 s\n",
-     [f"f:{LINES + 2}:9: public.t: the certificate names a subscriber, but another one may take the row, too, which "
-      "is s"]),
+     [f"f:{LINES + 2}:9: public.t: the certificate names a subscriber, but another one may also take the row: s"]),
     (["check"], f"{CATALOG}%%\n", 1, "refused CertCount\n",
-     [f"f:{LINES + 2}:1: the catalog has 1 tables, and here are 0 certificates"]),
+     [f"f:{LINES + 2}:1: the catalog has 1 tables, but there are 0 certificates"]),
     (["check"], f"{CATALOG}%%\no 0\n", 1, "refused PublishMissing q 2 truncate\n",
      ["f:5:20: publication q 2, which a subscription takes, does not publish truncate"]),
     (["check"], f"{CATALOG}%%\no 0\n", 1, "refused NotCovered p public.t region\n",
      ["f:4:20: the filter of publication p names column region, which is not in the replica identity of public.t"]),
     (["simulate"], f"{CATALOG}%%\no 0\n%%\n", 1, "refused NoIdentity public.t\n",
-     ["f:1:14: the replica identity of public.t does not tell its rows apart"]),
+     ["f:1:14: the replica identity of public.t does not identify its rows"]),
     (["serve", "--port", "1"], f"{CATALOG}%%\no 0\n%%\n", 1, "listening 1\nclose TakenDiffers\n",
-     ["pgshard: a connection took other commits than those of the log"]),
+     ["pgshard: a connection took commits other than those of the log"]),
     # What points at nothing.
     (["make"], CATALOG, 0, "o 0\n", []),
-    (["make"], CATALOG, 4, "", ["pgshard: the output cannot be written"]),
-    (["serve", "--port", "1"], CATALOG, 4, "", ["pgshard: the output cannot be written, or the port cannot be had"]),
-    (["make"], CATALOG, 5, "o 0\nout of memory\n", ["pgshard: memory ran out"]),
+    (["make"], CATALOG, 4, "", ["pgshard: cannot write the output"]),
+    (["serve", "--port", "1"], CATALOG, 4, "", ["pgshard: cannot write the output, or the port is not available"]),
+    (["make"], CATALOG, 5, "o 0\nout of memory\n", ["pgshard: out of memory"]),
     (["nothing"], "", 2, "command line\nwhy\n", []),
 ]
 
@@ -164,21 +163,23 @@ def explain(program: pathlib.Path, *words: str, WRITES: str, ENDS: str, **given)
 
 
 def check_script(tally: Tally, root: pathlib.Path) -> None:
-    """The script pgshard, in a repository whose program is built: only a person at a terminal is told."""
-    (root / "crates" / "publisher_main" / "out").mkdir(parents=True)
-    for folder in "src", "specs", "proofs":
-        (root / "crates" / "publisher_main" / folder).mkdir()
-    (root / "tools").symlink_to(TOOLS)
-    (root / "crates.txt").write_text("")
-    script = pathlib.Path(shutil.copy(TOOLS.parent / "pgshard", root))
-    written(root / "crates" / "publisher_main" / "out" / "publisher_main", PROGRAM)
+    """The script pgshard in an installed copy: only a person at a terminal is told, and of files by their names."""
+    installed(root, PROGRAM)
+    (root / "catalog").write_text("CREATE\n")
+    (root / "certificates").write_text("o 0\no x\n")
     environment = os.environ | {"WRITES": "input\n", "ENDS": "3"}
-    sentence = "pgshard: pgshard make wants one part, with a line %% between each two; the input has 2\n"
+    sentence = "pgshard: pgshard make needs one part, separated by lines %%; the input has 2\n"
     for is_terminal in True, False:
-        found = at_terminal([script, "make"], b"%%\n", environment) if is_terminal else (
-            by_pipes([script, "make"], b"%%\n", environment))
+        found = at_terminal([root / "pgshard", "make"], b"%%\n", environment) if is_terminal else (
+            by_pipes([root / "pgshard", "make"], b"%%\n", environment))
         told = sentence if is_terminal else ""
         tally.check(f"the script, {'at a terminal' if is_terminal else 'by pipes'}", found, (3, "input\n", told))
+    files = [root / "catalog", root / "certificates"]
+    for words, given in ([files[0], files[1]], b""), ([files[0], "-"], b"o 0\no x\n"), ([files[0]], b""):
+        says = "catalog 0 Expected\n" if len(words) == 1 else "certificate 2 BadToken\n"
+        name = f"{files[0]}:1:1" if len(words) == 1 else f"{'input' if words[1] == '-' else words[1]}:2:3"
+        _, _, told = at_terminal([root / "pgshard", "check", *words], given, environment | {"WRITES": says})
+        tally.check(f"where a fault of {len(words)} files is", told.partition(": ")[0], name)
 
 
 def check_judge_marks(tally: Tally, folder: pathlib.Path) -> None:
@@ -188,7 +189,7 @@ def check_judge_marks(tally: Tally, folder: pathlib.Path) -> None:
     environment = os.environ | {"PGSHARD": str(program), "WRITES": "catalog 13 TypeClash\n", "ENDS": "3"}
     status, _, told = at_terminal([TOOLS / "judge", catalog], b"", environment)
     tally.check("a file that judge does not read", (status, told), (
-        3, f"{catalog}:1:14: the parts of this expression do not fit together: t\n"))
+        3, f"{catalog}:1:14: the types in this expression do not match: t\n"))
     answers = folder / "answers"
     written(answers, ANSWERS)
     status, output, told = at_terminal([TOOLS / "judge", catalog], b"", environment | {"PGSHARD": str(answers)})
@@ -202,11 +203,12 @@ def check_program(tally: Tally) -> None:
     """Runs of pgshard itself."""
     cases = [
         (["make"], CATALOG.replace("region < 5", "region < 6"), 1, "1:14: public.t: s and u get the row"),
-        (["make"], CATALOG.replace("PUBLICATION p;", "PUBLICATION r;"), 3, "6:49: nothing has this name: r\n"),
+        (["make"], CATALOG.replace("PUBLICATION p;", "PUBLICATION r;"), 3, "6:49: this name does not exist: r\n"),
+        (["show"], CATALOG.replace("PUBLICATION p;", "PUBLICATION r;"), 3, "6:49: this name does not exist: r\n"),
         (["eval", "t"], f"{CATALOG}%%\n(1, 'ä', 7)\n(1, 'ä', 3000000000)\n", 1,
-         f"{LINES + 3}:10: region: the number is past"),
+         f"{LINES + 3}:10: region: the number is out of range"),
         (["simulate"], f"{CATALOG}%%\no 0\n%%\nVIEW;\n  PUMP;\n", 3,
-         f"{LINES + 5}:7: something else is expected here: ;\n"),
+         f"{LINES + 5}:7: syntax error: ;\n"),
     ]
     for words, text, status, begin in cases:
         answer = subprocess.run(

@@ -1,5 +1,6 @@
 """Runs of catalog.sql, pgshard and judge."""
 
+import functools
 import os
 import pathlib
 import subprocess
@@ -8,6 +9,34 @@ from server import environment
 
 TOOLS = pathlib.Path(__file__).resolve().parent.parent
 PGSHARD = os.environ.get("PGSHARD") or str(TOOLS.parent / "pgshard")
+
+
+@functools.cache
+def why_unusable() -> str | None:
+    """Why the program can't be run, or None. Where PGSHARD names none, the script proves and builds it here."""
+    try:
+        ended = subprocess.run([PGSHARD, "--version"], stdin=subprocess.DEVNULL, stdout=subprocess.DEVNULL)
+    except OSError as fault:
+        return str(fault)
+    return f"{PGSHARD} --version ended with status {ended.returncode}" if ended.returncode else None
+
+
+def prepare() -> None:
+    """Makes sure that the program can be run, so that no run with a time limit has to build it."""
+    why = why_unusable()
+    if why is not None:
+        raise RuntimeError(f"the program can't be run: {why}")
+
+
+def program() -> str:
+    """The program itself: the one that PGSHARD names now, or the one that the script runs."""
+    return os.environ.get("PGSHARD") or program_of_script()
+
+
+@functools.cache
+def program_of_script() -> str:
+    """The program that the script runs."""
+    return subprocess.run([PGSHARD, "--program"], stdout=subprocess.PIPE, encoding="utf-8", check=True).stdout.strip()
 
 
 def catalog_of(server, database, *words):
@@ -40,9 +69,14 @@ def decoded(output: bytes) -> str:
 def judge(*words, program=PGSHARD):
     """What judge prints, with its status as the last line."""
     answer = subprocess.run(
-        [TOOLS / "judge", *words],
+        [TOOLS / "judge", *patience(words), *words],
         stdout=subprocess.PIPE, stderr=subprocess.STDOUT, encoding="utf-8", env=environment() | {"PGSHARD": program})
     return f"{answer.stdout}status {answer.returncode}\n"
+
+
+def patience(words):
+    """More time for judge than it has, so that a machine that is busy changes no answer."""
+    return () if "--seconds" in words else ("--seconds", "300")
 
 
 def without_subscriptions(catalog):

@@ -14,7 +14,7 @@ import sys
 sys.dont_write_bytecode = True
 sys.path.insert(0, str(pathlib.Path(__file__).resolve().parent))
 
-from random_cases.comparison import check_random, results, seed, tell
+from random_cases.comparison import check_seed, results, seed, tell
 from random_cases.plan import case_of
 from tally import Tally
 
@@ -33,7 +33,7 @@ def main() -> int:
         print(" ".join(case.words))
         return 0
     if options.case is None:
-        check_random(tally, options.seed)
+        check_seed(tally, options.seed)
     else:
         for result in results(options.seed, [options.case]):
             tell(tally, options.seed, result)

@@ -1,6 +1,8 @@
 """That docs/READING.md names the definitions that give the main theorems their meaning, and that tools/reading finds them."""
 
 import pathlib
+import shutil
+import subprocess
 import sys
 import tempfile
 
@@ -9,6 +11,7 @@ from tally import Tally
 sys.path.insert(0, str(pathlib.Path(__file__).resolve().parent.parent))
 
 from believing import code, definitions
+from believing.library import CRATES, ROOT
 from believing.page import PAGE, computed
 from believing.theorems import THEOREMS
 from believing.walking import count, not_read, places
@@ -61,6 +64,7 @@ ghost use Rattle.one.specs.Two.{
 pub struct Tower {
     pub base: Stone,
     inside: Hidden,
+    ghost wide: { IsWide base (longest inside) },
 }
 
 impl Model for Tower {
@@ -90,6 +94,30 @@ pub fn build(tower: &mut Tower) -> bool
 """
 
 
+# Premises, and a name that is gone, each of which the page has to show or to miss: the file, a text of it, what is put in
+# its place, and what tools/reading says then.
+DIFFERS = "docs/READING.md differs from the definitions"
+PLANTS = {
+    "a new requires": (
+        "shard_checker/src/sharding.rt", "    requires { plan_view plan ≡ plan_of (catalog_view catalog) }\n    ensures sound",
+        "    requires { plan_view plan ≡ plan_of (catalog_view catalog) }\n"
+        "    requires same { catalog_view catalog ≡ catalog_view catalog }\n    ensures sound", DIFFERS),
+    "a new ghost field": (
+        "pub_catalog/src/catalog.rt", "    ghost few_tables: { length tables.items ≤ 64 },\n",
+        "    ghost few_tables: { length tables.items ≤ 64 },\n    ghost fewer: { length tables.items ≤ 3 },\n", DIFFERS),
+    "a ghost field that says more": (
+        "pub_catalog/src/catalog.rt", "{ length subscriptions.items ≤ 32 }", "{ length subscriptions.items ≤ 1 }", DIFFERS),
+    "an invariant": (
+        "filter_tree/src/text.rt", "    ghost view = { λ t. string_bytes t.text };\n",
+        "    ghost view = { λ t. string_bytes t.text };\n    ghost invariant = { λ t. is_short (string_bytes t.text) };\n",
+        "the word is_short is not found"),
+    "a definition that is renamed away": (
+        "shard_checker/specs/Sound.antt", "pub record IsSound ", "pub record IsSoundToo ", "the word IsSound is not found"),
+    "a type that is renamed away": (
+        "pub_catalog/src/catalog.rt", "pub struct Catalog {", "pub struct CatalogToo {", "Catalog is not found"),
+}
+
+
 def check_reading(tally: Tally) -> None:
     """The page, and then how names are found."""
     text = PAGE.read_text(encoding="utf-8")
@@ -97,12 +125,37 @@ def check_reading(tally: Tally) -> None:
     for theorem in THEOREMS:
         met = sorted(place.name for place in not_read(theorem))
         tally.check(f"the names that are not read for {theorem.key}", met, sorted(theorem.tokens))
-        if theorem.most is not None:
-            lines, _ = count(places(theorem))
-            tally.check(f"{lines} lines for {theorem.key}, at most {theorem.most}", lines <= theorem.most, True)
+        lines, _ = count(places(theorem))
+        tally.check(f"{lines} lines for {theorem.key}, at most {theorem.most}", lines <= theorem.most, True)
     with tempfile.TemporaryDirectory() as folder:
         check_definitions(tally, pathlib.Path(folder) / "Example.antt")
         check_code(tally, pathlib.Path(folder) / "example.rt")
+        check_plants(tally, pathlib.Path(folder) / "repository")
+
+
+def check_plants(tally: Tally, root: pathlib.Path) -> None:
+    """The page beside a copy of the sources, and beside copies in which a premise is new or a name is gone."""
+    for name in "tools/believing", *(f"crates/{crate.name}/{part}" for crate in CRATES.iterdir() for part in ("src", "specs")):
+        if (ROOT / name).is_dir():
+            shutil.copytree(ROOT / name, root / name)
+    (root / "docs").mkdir()
+    shutil.copy2(PAGE, root / "docs")
+    shutil.copy2(ROOT / "tools" / "reading", root / "tools")
+    tally.check("the status of tools/reading on a copy", reading(root)[0], 0)
+    for what, (name, old, new, said) in PLANTS.items():
+        file = root / "crates" / name
+        text = file.read_text(encoding="utf-8")
+        tally.check(f"{what}: how often its place is there", text.count(old), 1)
+        file.write_text(text.replace(old, new), encoding="utf-8")
+        status, output = reading(root)
+        tally.check(f"{what}: what tools/reading says", (status, said if said in output else output), (1, said))
+        file.write_text(text, encoding="utf-8")
+
+
+def reading(root: pathlib.Path) -> tuple[int, str]:
+    """The status of tools/reading in a repository, and what it says."""
+    ended = subprocess.run([sys.executable, root / "tools" / "reading"], capture_output=True, encoding="utf-8")
+    return ended.returncode, ended.stdout + ended.stderr
 
 
 def check_definitions(tally: Tally, file: pathlib.Path) -> None:
@@ -122,10 +175,13 @@ def check_code(tally: Tally, file: pathlib.Path) -> None:
     file.write_text(CODE, encoding="utf-8")
     tower, build = code.item(file, "Tower"), code.contract(file, "build", ("answer",))
     tally.check("the types of a struct, of its public fields", tower.types, ["Tower", "Stone"])
-    tally.check("what a struct is seen as", tower.names, ["List", "Shade", "lower"])
+    tally.check("the names of ghost fields, and of what a struct is seen as with its invariant", tower.names, [
+        "IsWide", "longest", "List", "Shade", "lower", "IsHigh"])
+    tally.check("what holds of each value of a struct", tower.premises, ["IsWide base (longest inside)", "λ it. IsHigh it"])
     roof = code.item(file, "Roof")
     tally.check("the names of a trait", (roof.names, len(roof.lines)), (["walk", "≡", "top"], 8))
-    tally.check("the names of a clause", build.names, ["≡", "walk", "tower.old"])
+    tally.check("the names of a clause and of what is required", build.names, ["IsLow", "≡", "walk"])
+    tally.check("what is required", (build.premises, build.types), (["IsLow tower.old"], ["Tower"]))
     both = code.contract(file, "build", ())
-    tally.check("the names of all clauses", both.names[0], "top")
+    tally.check("the names of all clauses", both.names, ["IsLow", "top", "≡", "walk"])
     tally.check("the imports of clauses", code.read(file).imports[0].names, {"lower": "lower", "top": "upper"})

@@ -7,7 +7,6 @@ The program `refused_calls` makes the calls, and tests what is left after each r
 import os
 import pathlib
 import re
-import shutil
 import subprocess
 import tempfile
 
@@ -29,11 +28,6 @@ SECONDS = 120
 def why_not_built() -> str | None:
     """Why the program can't be run here. One that the environment names is always run."""
     return None if NAMED or BUILT.exists() else "the program refused_calls is not built"
-
-
-def why_skipped() -> str | None:
-    """Why no request can be refused here."""
-    return "no C compiler is installed" if shutil.which("cc") is None else why_not_built()
 
 
 def program() -> str:

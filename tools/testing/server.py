@@ -42,12 +42,25 @@ class Server:
         """The words by which psql connects."""
         return ["-h", str(self.folder), "-U", USER, "-d", database]
 
-    def psql(self, database, sql):
+    def psql(self, database: str, sql: str) -> str:
         """What some statements print, without its last newline."""
         words = ["psql", "-X", "-q", "-A", "-t", "-v", "ON_ERROR_STOP=1", *self.words(database)]
         answer = subprocess.run(
             words, input=sql, stdout=subprocess.PIPE, encoding="utf-8", check=True, env=environment())
         return answer.stdout.removesuffix("\n")
+
+    def refusal(self, database: str, sql: str) -> str:
+        """What the server says to some statements, of which it refuses one, and '' where it refuses none."""
+        words = ["psql", "-X", "-q", "-A", "-t", "-v", "ON_ERROR_STOP=1", *self.words(database)]
+        answer = subprocess.run(words, input=sql, capture_output=True, encoding="utf-8", env=environment())
+        return answer.stderr if answer.returncode else ""
+
+    def told(self, database: str, sql: str) -> str:
+        """What psql says of some statements, notices and faults too, without where it is in its input."""
+        answer = subprocess.run(
+            ["psql", "-X", "-q", "-A", "-t", *self.words(database), "-c", sql], stdin=subprocess.DEVNULL,
+            stdout=subprocess.PIPE, stderr=subprocess.STDOUT, encoding="utf-8", env=environment())
+        return answer.stdout
 
     def create(self, database, sql):
         """Makes a database, and runs some statements in it."""
@@ -78,7 +91,8 @@ def endings_held():
 
 
 @contextlib.contextmanager
-def server():
+def server(settings=""):
+    """A server with these words for its start."""
     with tempfile.TemporaryDirectory(prefix="pgshard_tools_", dir="/tmp") as name:
         folder = pathlib.Path(name)
         if os.geteuid() == 0:
@@ -87,16 +101,16 @@ def server():
         data = folder / "data"
         try:
             with endings_held():
-                start(data, folder)
+                start(data, folder, settings)
             yield Server(folder)
         finally:
             with endings_held():
                 stop(data)
 
 
-def start(data, folder):
+def start(data, folder, settings=""):
     run_as_user(PROGRAMS / "initdb", "-D", data, "-U", USER, "-A", "trust", "-E", "UTF8", "--locale=C", "--no-sync")
-    options = f"-k {folder} -c listen_addresses='' -c wal_level=logical -c fsync=off"
+    options = f"-k {folder} -c listen_addresses='' -c wal_level=logical -c fsync=off {settings}"
     run_as_user(PROGRAMS / "pg_ctl", "-D", data, "-o", options, "-l", folder / "log", "-w", "start")
 
 

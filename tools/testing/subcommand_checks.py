@@ -10,17 +10,17 @@ from tally import Tally
 CRATES = pathlib.Path(__file__).resolve().parent.parent.parent / "crates"
 
 # Where the subcommands are declared, and how.
-SOURCES = "subcommands/src/arguments.rt", "script_server/src/arguments.rt"
+SOURCE = "cli/src/tree.rt"
 DECLARED = re.compile(r'Command::new\(\s*alloc,\s*"(\w+)"')
 
-# What listens has runs with clients in the file serves.py of each folder.
-LISTENS = {"serve"}
+# What listens has runs of its own: in the files serves.py and publishes.py of each folder.
+LISTENS = {"serve", "publish"}
 
 
 def check_subcommands(tally: Tally) -> None:
     """Compares the subcommands with the first words of the cases."""
-    texts = [(CRATES / source).read_text(encoding="utf-8") for source in SOURCES]
-    subcommands = {name for text in texts for name in DECLARED.findall(text)} - {"pgshard"}
+    text = (CRATES / SOURCE).read_text(encoding="utf-8")
+    subcommands = set(DECLARED.findall(text)) - {"pgshard"}
     tally.check("subcommands that listen", LISTENS - subcommands, set())
     for what, cases in ("memory is refused", refused.cases), ("a read or a write fails", failed.cases):
         words = {case.words[0] for case in cases.cases()}

@@ -11,6 +11,7 @@ from random_cases.running import compiled, program
 from tally import Tally
 
 from .cases import Case, cases
+from .publishes import check_publishes
 from .running import READS, WRITES, Answer, Failure, failed_runs, run, run_with
 from .serves import check_serves
 
@@ -42,6 +43,7 @@ def check_failed_runs(tally: Tally) -> None:
         for case in cases():
             met += check_case(tally, case, library)
         met += check_serves(tally, library)
+        met += check_publishes(tally, library)
         print(f"runs whose reads and writes fail: {met[READS]:,} with a read that failed, {met[WRITES]:,} with a write")
 
 

@@ -76,7 +76,8 @@ def serve_at(port: int, failure: Failure, library: str) -> tuple[Answer, bool]:
             status = started.wait()
             late.cancel()
         errors.seek(0)
-        return Answer(status, output.decode(errors="backslashreplace")), errors.read() == b"failed\n"
+        # Lines of the program go before that of the library.
+        return Answer(status, output.decode(errors="backslashreplace")), errors.read().splitlines()[-1:] == [b"failed"]
 
 
 def connect_twice(port: int) -> None:

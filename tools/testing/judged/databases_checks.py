@@ -6,17 +6,23 @@ import subprocess
 from concurrent.futures import ThreadPoolExecutor
 
 from judged.databases import DATABASES
-from programs import PGSHARD, TOOLS, judge
+from judged.meanings import MEANINGS
+from judged.published import PUBLISHED
+from programs import PGSHARD, TOOLS, judge, patience
 from server import PROGRAMS, environment
+
+# Of so many regions of a table the row is inserted.
+MOST_FAULTS = 4
 
 
 def check_databases(tally, server):
     """All databases."""
-    for case in DATABASES:
+    cases = [*DATABASES, *PUBLISHED, *MEANINGS]
+    for case in cases:
         server.create(case.name, case.setup)
     with ThreadPoolExecutor(len(os.sched_getaffinity(0))) as threads:
-        answers = list(threads.map(lambda case: answers_of(server, case), DATABASES))
-    for case, (report, status, lines) in zip(DATABASES, answers):
+        answers = list(threads.map(lambda case: answers_of(server, case), cases))
+    for case, (report, status, lines) in zip(cases, answers):
         check_case(tally, server, case, report, status, lines)
 
 
@@ -29,7 +35,7 @@ def answers_of(server, case):
 def report_of(server, database, words):
     """What judge says, as JSON."""
     answer = subprocess.run(
-        [TOOLS / "judge", "--json", *server.words(database), *words],
+        [TOOLS / "judge", "--json", *patience(words), *server.words(database), *words],
         stdout=subprocess.PIPE, encoding="utf-8", env=environment() | {"PGSHARD": PGSHARD})
     return json.loads(answer.stdout), answer.returncode
 
@@ -43,9 +49,15 @@ def check_case(tally, server, case, report, status, lines):
         tally.check(f"{case.name}: what is told", part if part in lines else lines, part)
     for table in report["tables"]:
         if "row" in table and table["table"].removeprefix("public.") not in case.refusing:
-            check_row(tally, server, case, report, table)
+            check_row(tally, server, case, report, table["table"], table["row"], table["goes_to"])
+            for fault in [it for it in table.get("faults", []) if it["row"] is not None][:MOST_FAULTS]:
+                server.psql(case.name, f"DELETE FROM {table['table']};")
+                check_row(tally, server, case, report, table["table"], fault["row"], fault["goes_to"])
         if table["table"].removeprefix("public.") in case.regions:
             check_regions(tally, server, case, table, report)
+    for statement, message in case.fails:
+        found = server.refusal(case.name, statement)
+        tally.check(f"{case.name}: why the server refuses {statement}", message if message in found else found, message)
 
 
 def check_regions(tally, server, case, table, report):
@@ -79,9 +91,8 @@ def status_of(truth):
     return 3 if "not read" in answers else 0
 
 
-def check_row(tally, server, case, report, table):
+def check_row(tally, server, case, report, name, row, goes_to):
     """Inserts the row, and looks at what the server sends of it under each subscriber's publications."""
-    name, row = table["table"], table["row"]
     columns = ", ".join(f'"{column}"' for column in row)
     server.psql(case.name, "SELECT FROM pg_create_logical_replication_slot('judged', 'pgoutput');")
     server.psql(case.name, f"""
@@ -90,7 +101,7 @@ def check_row(tally, server, case, report, table):
     """)
     takers = [it["name"] for it in report["subscribers"] if is_sent(server, case.name, it["publications"])]
     server.psql(case.name, "SELECT FROM pg_drop_replication_slot('judged');")
-    tally.check(f"{case.name}: who gets the row of {name}", sorted(takers), sorted(table["goes_to"]))
+    tally.check(f"{case.name}: who gets the row {list(row.values())} of {name}", sorted(takers), sorted(goes_to))
 
 
 def is_sent(server, database, publications):

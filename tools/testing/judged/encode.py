@@ -10,14 +10,14 @@ import sys
 sys.dont_write_bytecode = True
 sys.path.insert(0, str(pathlib.Path(__file__).resolve().parent.parent.parent))
 
-from judging import catalogs, database, formulas, printing
+from judging import catalogs, database, facts, formulas, laws, printing
 from judging.faults import Unread
 from judging.rewriting import rewritten
 from judging.session import Session
 from judging.terms import Reader
 
 # Filters in one catalog: they have at most 64 conditions together.
-FILTERS = 8
+FILTERS = 4
 
 
 def main(words):
@@ -29,17 +29,21 @@ def main(words):
 
 
 def catalogs_of(db, table, session):
-    reader = Reader(table["columns"])
+    reader = Reader(table["columns"], session.meanings(db), [table["oid"]])
     having = {name: it for name, it in db.publications.items() if db.entry(it, table["oid"])}
     entries = {name: db.filter_of(it, table["oid"]) for name, it in having.items()}
     names = [name for name in entries if is_read(reader, entries[name])]
     for begin in range(0, len(names), FILTERS):
         part = names[begin:begin + FILTERS]
         read = [reader.formula(entries[name]) for name in part]
-        coded = rewritten(read, set(), session.sorted_texts)
+        known = laws.laws_of(read, reader.nulls)
+        coded = rewritten([*read, *known], set(), session.sorted_texts)
+        held = {f"fact_{place}": fact for place, fact in enumerate([
+            *coded.formulas[len(read):], *facts.facts_of(coded, set())])}
         yield {
             "table": table["name"],
-            "catalog": catalog_text(table, coded, part),
+            "catalog": catalog_text(table, coded, part, held),
+            "facts": {name: printing.text_of(fact) for name, fact in held.items()},
             "rows": rows_of(table, coded, session),
             "filters": {name: entries[name] for name in part},
             "has_null": [name for name, formula in zip(part, read) if formulas.has_null(formula)],
@@ -54,11 +58,11 @@ def is_read(reader, text):
         return False
 
 
-def catalog_text(table, coded, names):
+def catalog_text(table, coded, names, held):
     name = catalogs.table_name(table)
     lines = [catalogs.table_text(name, coded.codings)]
     lines += [f"CREATE PUBLICATION {it} FOR TABLE {name} WHERE ({printing.text_of(formula)});"
-              for it, formula in zip(names, coded.formulas)]
+              for it, formula in [*zip(names, coded.formulas), *held.items()]]
     return "\n".join(lines) + "\n"
 
 

@@ -8,11 +8,13 @@ class Group:
     """A table, its rows as SQL writes them, and filters of it."""
 
     columns: str
-    rows: list
-    filters: list
+    rows: list[str]
+    filters: list[str]
+    # A query whose rows are there, too.
+    filling: str = ""
 
 
-def values(*columns):
+def values(*columns: list[str]) -> list[str]:
     """Rows with all values of the first column beside the first of the others, and so on."""
     found = []
     for place, listed in enumerate(columns):
@@ -23,7 +25,7 @@ def values(*columns):
     return found
 
 
-def pairs(one, other):
+def pairs(one: list[str], other: list[str]) -> list[str]:
     return [f"({a}, {b})" for a in one for b in other]
 
 
@@ -126,3 +128,58 @@ GROUPS = [
         "q = '10.0.0.1'", "q <> '10.0.0.0/8'", "a @> ARRAY[2]",
     ]),
 ]
+
+# What is NULL where: each kind of node, over 10,000 rows in which each column is often NULL.
+NULLS = Group("a integer, b integer, c smallint, t text, u text, l integer[], o boolean, p boolean", [], [
+    # Operators and functions that are strict.
+    "a = b", "a < b", "a + 1 > b", "a - b >= 0", "a * 2 = 2", "a % 3 = 1", "-a = 2", "abs(a) > 1", "~a < 0", "a & 1 = 0",
+    "a = NULL", "t = u", "t < 'b'", "t || u = 'ab'", "length(t) > length(u)", "lower(t) = 'a'", "left(t, a) = ''",
+    "t LIKE 'a%'", "o = p", "o::integer = 1", "a::bigint > b",
+    # ANY and ALL, over lists with and without NULL, and over lists that are columns.
+    "a = ANY (ARRAY[1, 2, NULL])", "a <> ALL (ARRAY[1, NULL])", "a IN (1, 2)", "a NOT IN (1, NULL)",
+    "a = ANY ('{}'::integer[])", "a <> ALL ('{}'::integer[])", "NOT (a = ANY ('{}'::integer[]))",
+    "a = ANY (ARRAY[b, 1])", "a < ALL (ARRAY[b, c::integer])", "a > ANY (ARRAY[b, NULL])", "a = ANY (NULL::integer[])",
+    "1 = ANY (l)", "a = ANY (l)", "a <> ALL (l)", "NOT (a = ANY (l))", "(a = ANY (l)) IS NULL",
+    "t LIKE ANY (ARRAY['a%', NULL])", "t LIKE ALL (ARRAY['a%', '%b'])", "o = ANY (ARRAY[true, NULL])",
+    # Rows.
+    "(a, b) < (1, 2)", "(a, b) >= (b, a)", "(a, b, c) <= (1, 1, 1)", "(a, b) > (0, c)", "(a, b) = (1, 2)",
+    "(a, t) <> (1, 'a')", "(1, a) < (1, b)", "(a, t) < (1, 'b')",
+    # CASE, coalesce, nullif, greatest and least.
+    "CASE WHEN a > 0 THEN o WHEN b > 0 THEN p END", "CASE WHEN o THEN a ELSE b END = 1",
+    "CASE a WHEN 1 THEN b WHEN b THEN c END > 0", "CASE t WHEN 'a' THEN 1 WHEN NULL THEN 2 ELSE 3 END = 3",
+    "coalesce(a, b, 0) = 1", "coalesce(o, p)", "coalesce(t, u) = 'a'", "coalesce(a, b) IS NULL", "coalesce(a, 0) % 3 = 1",
+    "nullif(a, b) = 1", "nullif(a, 1) IS NULL", "nullif(t, 'a') < 'b'", "nullif(a, NULL) = 1",
+    "greatest(a, b) > 1", "greatest(a, b, 0) = 0", "least(a, b) < 0", "least(a, b) <= c", "greatest(a, NULL) <> 1",
+    "least(a, 2, b) = 2", "greatest(a, b) IS NULL", "greatest(a, b) = least(b, c::integer)", "least(t, u) = 'a'",
+    # Logic, and tests that are never NULL.
+    "o AND p", "o OR p", "NOT o", "a BETWEEN 0 AND 1 AND o", "(o OR p) OR a = 1", "o AND (p AND a = 1)",
+    "a NOT BETWEEN 0 AND 1 OR b = 1 OR c BETWEEN 0 AND 1", "((o AND p) AND a = 1) AND b = 1", "o OR p AND a = 1", "o OR (a = 1)", "(o AND p) IS UNKNOWN", "o IS NOT TRUE", "(a = b) IS FALSE",
+    "a IS DISTINCT FROM b", "a IS NOT DISTINCT FROM b", "t IS DISTINCT FROM 'a'", "a IS NULL", "l IS NOT NULL",
+    "(o IS NULL) = (p IS NULL)",
+], """
+    SELECT nullif(floor(random() * 7)::integer - 3, -3), nullif(floor(random() * 7)::integer - 3, 3),
+        nullif(floor(random() * 4)::smallint, 3), (ARRAY['a', 'b', 'ab', '', 'A', NULL])[ceil(random() * 6)],
+        (ARRAY['a', 'b', '', NULL])[ceil(random() * 4)],
+        (ARRAY['{}', '{1}', '{NULL}', '{1,NULL}', '{2,-1}', NULL])[ceil(random() * 6)]::integer[],
+        (ARRAY[true, false, NULL])[ceil(random() * 3)], (ARRAY[true, false, NULL])[ceil(random() * 3)]
+    FROM setseed(0.4), generate_series(1, 10000)
+""")
+# Arithmetic of one column, step by step, of numbers that make none of it fail; bits of any mask.
+NUMBERS = Group("i integer, b bigint, s smallint", [
+    *values(["NULL", "0", "1", "-1", "7", "-7", "1000", "-1000", "4095", "4096", "-4096", "16777216", "-16777217",
+             "1073741823", "-1073741824", "715827882", "-715827882"],
+            ["NULL", "0", "-1", "4194304", "-4194305", "1099511627776", "-1099511627777", "4611686018427387903",
+             "-4611686018427387904"], ["NULL", "0", "1", "-1", "16383", "-16384"])], [
+    "i + 1 > 5", "s * 2 = 14", "s * -2 < 14", "abs(i) = 7", "-i >= 7", "i / 1000 = 0", "i / -7 = 1", "(i / 1000) % 4 = -1",
+    "i >> 22 = 3", "i >> 3 < -1", "(i >> 22) & 3 = 2", "(b >> 22) & 1023 = 1023", "mod(abs(i), 4) = 3", "abs(i) % 4 = 0",
+    "(i + 3) % 8 = 1", "(i - 5) % 7 = -2", "(s * 3) % 7 = 2", "(s * 6) % 4 = -2", "(7 - i) % 4 = 3", "i % 5000 = 4096",
+    "(i + 1) % 5000 = 1", "(i >> 2) % 5000 = -1", "(i / 3) % 5000 = -333", "abs(i) % 5000 > 4095", "-i % 10000 < 0",
+    "(i % 6000) % 4 = 3", "(i % 6000 + 6000) % 6000 < 1001", "i % 4 + i % 3 = 0", "(i & 3) * (i % 5) = 2",
+    "(i & 16777216) = 0", "(i & 1073741824) <> 0", "(i & 5) = 4", "(i & 17895697) > 3", "(i & -8) = 8",
+    "(b & 1099511627776) = 0", "(b & 1099511627775) < 8", "(b & 4611686018427387904) > 0", "(i & 65535) = 4096",
+    "i & 16777217 BETWEEN 1 AND 16777216", "(i & 2147483648) = 0", "(b & 4294967296) = (i & 1)",
+    "i # 1 = 0", "i | 1 = 1", "(i & 7) | 8 = 9", "s + 1 = 2", "i + s > 5",
+    "i::bigint * 2 > 3000000000", "i * 1.5 > 10.5", "i + 1 > b", "(i & 3) = s", "~i & 1 = 0", "~(i & 7) < -3",
+    "i % 3 = i % 5", "(i / 2) * 2 = i", "abs(i % 7) - 3 = abs(b % 7)",
+])
+GROUPS += [NULLS, NUMBERS]

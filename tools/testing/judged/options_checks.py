@@ -9,7 +9,7 @@ import tempfile
 import time
 
 from programs import PGSHARD, TOOLS, judge, pgshard
-from server import environment
+from server import PROGRAMS, environment
 
 PUBLISHER = """
     CREATE TABLE orders (id integer PRIMARY KEY, region integer);
@@ -20,9 +20,12 @@ PUBLISHER = """
     CREATE PUBLICATION elsewhere FOR TABLE orders WHERE (region >= 100);
     CREATE PUBLICATION nowhere FOR TABLE orders WHERE (region IS NULL);
     CREATE ROLE stranger LOGIN;
+"""
+SLOTS = """
     SELECT FROM pg_create_logical_replication_slot('london', 'pgoutput');
     SELECT FROM pg_create_logical_replication_slot('tokyo', 'pgoutput');
 """
+WAITING = "nobody is connected to slot {}, so the server keeps what it has not sent to it"
 LONDON = """
     CREATE TABLE orders (id integer PRIMARY KEY, region integer);
     CREATE TABLE elsewhere.unrelated (id integer);
@@ -39,6 +42,8 @@ SOUND = ["public.orders: sound"]
 NOT_SOUND = [
     "public.orders: NOT SOUND: the row (0, NULL) goes to no subscriber",
     "    region = NULL, no filter names another column"]
+NULL_ROWS = "    region IS NULL -> nobody, as (0, NULL)"
+HIGH_ROWS = "    region >= 100 -> nobody, as (0, 100)"
 ENDING = "tables: 1 judged, {} sound; 2 not published, which --all names"
 EACH = "each publication counts as a subscriber of its own; -v subscriptions='..' names others"
 
@@ -47,8 +52,16 @@ def check_options(tally, server):
     """All of these."""
     server.create("options", PUBLISHER)
     check_variable(tally, server)
+    server.psql("options", SLOTS)
     check_subscribers(tally, server)
     check_walsenders(tally, server)
+    check_recvlogical(tally, server)
+    check_missing_publication(tally, server)
+    server.psql("options", "SELECT pg_drop_replication_slot(slot_name) FROM pg_replication_slots "
+                           "WHERE database = current_database();")
+    check_locked(tally, server)
+    check_seconds(tally, server)
+    check_strict(tally, server)
     check_json(tally, server)
     check_catalog(tally, server)
     check_refusals(tally, server)
@@ -65,7 +78,7 @@ def check_variable(tally, server):
         given = ["subscriptions=london=europe tokyo=elsewhere"]
         given = [f"{variable}{given[0]}"] if variable.endswith("=") else [variable, *given]
         check_lines(tally, f"subscribers by {variable}", judge(*words, *given), [
-            *NOT_SOUND, "the subscribers are those of -v subscriptions", ENDING.format(0)], 1)
+            *NOT_SOUND, NULL_ROWS, "the subscribers are those of -v subscriptions", ENDING.format(0)], 1)
     check_lines(tally, "--all", judge(*words, "--all"), [
         "public.drafts: not published, so not judged", "public.notes: not published, so not judged", *SOUND, EACH,
         "tables: 1 judged, 1 sound; 2 not published"], 0)
@@ -81,15 +94,20 @@ def check_subscribers(tally, server):
     known = "the subscribers are those of the databases given by --subscriber"
     check_lines(tally, "--subscriber", judge(*server.words("options"), *given), [
         "subscription london is disabled", "subscription tokyo is disabled",
-        "subscription tokyo has slot tokyo_gone, which is missing at the publisher", *SOUND, known,
-        ENDING.format(1)], 0)
+        "subscription tokyo has slot tokyo_gone, which is missing at the publisher", WAITING.format("tokyo"), *SOUND,
+        known, ENDING.format(1)], 1)
+    tally.check("--detailed-status of subscriptions", judge(
+        *server.words("options"), *given, "--detailed-status").splitlines()[-1], "status 11")
+    tally.check("--nagios of subscriptions", judge(
+        *server.words("options"), *given, "--nagios").splitlines()[-1], "status 1")
     check_lines(tally, "one --subscriber", judge(*server.words("options"), f"--subscriber={names[0]}"), [
-        "subscription london is disabled", *NOT_SOUND, known, ENDING.format(0)], 1)
+        "subscription london is disabled", WAITING.format("tokyo"), *NOT_SOUND, HIGH_ROWS, NULL_ROWS, known,
+        ENDING.format(0)], 1)
     check_lines(tally, "a database without subscriptions", judge(
         *server.words("options"), "--subscriber", connection), [
         "none of the databases given by --subscriber has a subscription to this one"], 3)
     check_lines(tally, "no connection text", judge(*server.words("options"), "--subscriber", "london"), [
-        "judge: --subscriber wants a connection text such as 'host=london dbname=shop', not london"], 2)
+        "judge: --subscriber needs a connection string such as 'host=london dbname=shop', not london"], 2)
 
 
 def check_walsenders(tally, server):
@@ -98,20 +116,105 @@ def check_walsenders(tally, server):
     wait_for_walsender(server, "t")
     words = server.words("options")
     check_lines(tally, "who is connected", judge(*words), [
-        *NOT_SOUND, "the subscribers are those that are connected now; nobody is connected to slot tokyo, so its "
-        "subscriber does not count", ENDING.format(0)], 1)
+        WAITING.format("tokyo"), *NOT_SOUND, HIGH_ROWS, NULL_ROWS, "the subscribers are those that are connected now; "
+        "nobody is connected to slot tokyo, so its subscriber does not count", ENDING.format(0)], 1)
     check_lines(tally, "who is connected, to a stranger", judge(*words, "-U", "stranger"), [
-        *SOUND, EACH, ENDING.format(1)], 0)
+        WAITING.format("tokyo"), *SOUND, EACH, ENDING.format(1)], 1)
     server.psql("london", "ALTER SUBSCRIPTION london DISABLE;")
     wait_for_walsender(server, "f")
 
 
-def wait_for_walsender(server, active):
+def wait_for_walsender(server, active, slot="london"):
     """Waits up to a minute until somebody is connected to the slot of the subscription, or nobody is."""
     for _ in range(600):
-        if server.psql("options", "SELECT active FROM pg_replication_slots WHERE slot_name = 'london';") == active:
+        if server.psql("options", f"SELECT active FROM pg_replication_slots WHERE slot_name = '{slot}';") == active:
             return
         time.sleep(0.1)
+
+
+def check_recvlogical(tally, server):
+    """A client that writes the names of options in double quotes, as psycopg2 and pgjdbc do, and names of publications
+    without."""
+    client = subprocess.Popen(
+        [PROGRAMS / "pg_recvlogical", *server.words("options"), "--slot", "tokyo", "--start", "-f", "-",
+         "-o", "proto_version=1", "-o", "publication_names=Elsewhere, nowhere"],
+        stdout=subprocess.DEVNULL, stderr=subprocess.DEVNULL, env=environment())
+    try:
+        wait_for_walsender(server, "t", "tokyo")
+        found = judge(*server.words("options"))
+        for part in ("goes to no subscriber", "the subscribers are those that are connected now; nobody is connected "
+                     "to slot london", "status 1"):
+            tally.check(f"pg_recvlogical is connected: {part}", part if part in found else found, part)
+        tally.check("pg_recvlogical is connected: its rows", "region = NULL" in found, False)
+    finally:
+        client.terminate()
+        client.wait()
+    wait_for_walsender(server, "f", "tokyo")
+
+
+def check_missing_publication(tally, server):
+    """A subscription of a publication that is not there. The server says what that does to its stream."""
+    connection = f"host={server.folder} user=postgres dbname=options"
+    server.create("missing", f"""
+        CREATE SUBSCRIPTION all_of_it CONNECTION '{connection}' PUBLICATION europe, elsewhere, nowhere, gone
+            WITH (connect = false, slot_name = 'tokyo');
+    """)
+    refused = server.refusal("options", """
+        SELECT FROM pg_create_logical_replication_slot('peeked', 'pgoutput', true);
+        INSERT INTO orders VALUES (1, 1);
+        SELECT FROM pg_logical_slot_peek_binary_changes(
+            'peeked', NULL, NULL, 'proto_version', '1', 'publication_names', 'europe,gone');
+    """)
+    tally.check("what the server does without a publication", 'publication "gone" does not exist' in refused, True)
+    server.psql("options", "DELETE FROM orders;")
+    check_lines(tally, "a publication that is not there", judge(
+        *server.words("options"), "--subscriber", f"host={server.folder} user=postgres dbname=missing"), [
+        "subscription all_of_it is disabled", "subscription all_of_it takes publication gone, which does not exist",
+        WAITING.format("london"),
+        "public.orders: REFUSED: each row passes the filters of one subscriber, but subscriber all_of_it takes "
+        "publication gone, which does not exist, so the server ends its replication",
+        "the subscribers are those of the databases given by --subscriber", ENDING.format(0)], 1)
+
+
+def check_locked(tally, server):
+    """A table that another session has locked, beside one that it has not."""
+    server.create("locked", """
+        CREATE TABLE one (id integer PRIMARY KEY); CREATE TABLE two (id integer PRIMARY KEY CHECK (id > 0));
+        CREATE PUBLICATION p FOR TABLE one, two WHERE (id > 0);
+    """)
+    words = ["psql", "-X", "-q", "-A", "-t", *server.words("locked")]
+    holder = subprocess.Popen(
+        words, stdin=subprocess.PIPE, stdout=subprocess.PIPE, encoding="utf-8", env=environment())
+    holder.stdin.write("BEGIN; LOCK TABLE two IN ACCESS EXCLUSIVE MODE; SELECT 'locked';\n")
+    holder.stdin.flush()
+    tally.check("the lock", holder.stdout.readline(), "locked\n")
+    check_lines(tally, "a table that is locked", judge(*server.words("locked")), [
+        "public.one: sound", "public.two: not decided: another session holds or awaits an ACCESS EXCLUSIVE lock on it",
+        EACH, "tables: 2 judged, 1 sound"], 1)
+    holder.communicate("ROLLBACK;\n")
+    check_lines(tally, "the table without its lock", judge(*server.words("locked")), [
+        "public.one: sound", "public.two: sound", EACH, "tables: 2 judged, 2 sound"], 0)
+
+
+def check_seconds(tally, server):
+    """A table that takes too long: of a program that has no end for it."""
+    with tempfile.TemporaryDirectory() as folder:
+        program = pathlib.Path(folder) / "program"
+        program.write_text(f"""#!/bin/sh
+input=$(cat)
+case $input in *two*) while :; do :; done;; esac
+printf '%s\\n' "$input" | {PGSHARD} "$@"
+""")
+        program.chmod(0o700)
+        found = judge(*server.words("locked"), "--seconds", "2", program=str(program))
+        tally.check("a table that takes too long", found.split("\n")[:-1], [
+            "public.one: sound", "public.two: not decided: it takes over 2 seconds; raise --seconds", EACH,
+            "tables: 2 judged, 1 sound", "status 1"])
+
+
+def check_strict(tally, server):
+    """Without a filter that fails, --strict changes nothing."""
+    check_lines(tally, "--strict", judge(*server.words("options"), "--strict"), [*SOUND, EACH, ENDING.format(1)], 0)
 
 
 def check_json(tally, server):
@@ -124,7 +227,9 @@ def check_json(tally, server):
                         {"name": "tokyo", "publications": ["elsewhere"], "remarks": []}],
         "subscribers_known": "the subscribers are those of -v subscriptions",
         "tables": [{"table": "public.orders", "answer": "not sound", "row": {"id": "0", "region": "NULL"},
-                    "goes_to": [], "columns": ["region"]}],
+                    "goes_to": [], "columns": ["region"], "faults": [
+                        {"rows": "region IS NULL", "goes_to": [], "row": {"id": "0", "region": "NULL"}}],
+                    "more_faults": 0}],
         "unpublished": ["public.drafts", "public.notes"]}, "1\n"))
     found, _, status = judge(*server.words("options"), "--json", "--explain").rpartition("status ")
     tables = json.loads(found)["tables"]
@@ -149,7 +254,15 @@ def check_refusals(tally, server):
     check_lines(tally, "--copied of no table", judge(*words, "--copied", "none"), [
         "judge: --copied none: no such table is published"], 2)
     check_lines(tally, "an option without its word", judge(*words, "--partial"), [
-        "judge: --partial wants a word after it"], 2)
+        "judge: argument --partial: expected one argument; --help lists the options"], 2)
+    check_lines(tally, "an unknown option", judge(*words, "--parts"), [
+        "judge: unrecognized arguments: --parts; --help lists the options"], 2)
+    check_lines(tally, "an unknown variable", judge(*words, "-v", "subscription=a"), [
+        "judge: -v subscription=a: judge has no variable but subscriptions"], 2)
+    check_lines(tally, "a database too many", judge(*words[:-2], "options", "postgres", "more"), [
+        "judge: unexpected argument postgres; --help lists the options"], 2)
+    version = (TOOLS.parent / "VERSION").read_text().strip()
+    check_lines(tally, "--version", judge("--version"), [f"judge (pgshard) {version}"], 0)
     check_lines(tally, "a file that is not there", judge("none.sql"), [
         "judge: there is no file none.sql; a database is named as in: -d shop"], 2)
     with tempfile.TemporaryDirectory() as name:
@@ -158,10 +271,10 @@ def check_refusals(tally, server):
         psql.write_text("#!/bin/sh\necho '{\"version\": 140005}'\n")
         psql.chmod(0o700)
         check_lines(tally, "another version", in_folder(folder, words), [
-            "judge: the server has version 14.5, and what is judged here are filters of version 15"], 4)
+            "judge: the server has version 14.5, and judge judges versions 15 to 18"], 4)
         shutil.copytree(TOOLS, folder / "tools", ignore=shutil.ignore_patterns("testing"))
-        check_lines(tally, "pgshard that is not built", not_built(folder), [
-            f"judge: pgshard is not built: `{folder}/pgshard --version` builds it, which takes an hour or two"], 5)
+        check_lines(tally, "no pgshard", not_built(folder), [
+            "judge: the command pgshard is not found; the environment variable PGSHARD may name it"], 5)
     check_lines(tally, "no pglast", without_pglast(words), [
         "judge: pglast, which is PostgreSQL's parser as a Python library, is not installed: on Debian 12 "
         "`apt-get install python3-pglast` installs it"], 5)

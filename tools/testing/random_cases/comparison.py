@@ -2,7 +2,6 @@
 
 import datetime
 import functools
-import multiprocessing
 import os
 import pathlib
 import shutil
@@ -11,6 +10,7 @@ from collections import Counter
 from collections.abc import Iterator
 from dataclasses import dataclass, field
 
+import processes
 from tally import Tally, show
 
 from .case import Case
@@ -86,18 +86,18 @@ def seed() -> int:
 
 
 def results(seed: int, numbers: list[int]) -> Iterator[Result]:
-    """What came of cases, in the order in which they end."""
+    """What came of cases, in the order of their numbers."""
     with tempfile.TemporaryDirectory() as folder:
         made = functools.partial(result_of, seed, compiled(folder))
-        processes = min(len(os.sched_getaffinity(0)), len(numbers))
-        if processes == 1:
-            yield from map(made, numbers)
-            return
-        with multiprocessing.Pool(processes) as pool:
-            yield from pool.imap_unordered(made, numbers, chunksize=1)
+        yield from processes.each(made, numbers)
 
 
-def check_random(tally: Tally, seed: int) -> None:
+def check_random(tally: Tally) -> None:
+    """Makes all cases of the seed that the environment gives."""
+    check_seed(tally, seed())
+
+
+def check_seed(tally: Tally, seed: int) -> None:
     """Makes all cases of a seed. Each case is a check, and so is what they met."""
     if not pathlib.Path(program()).exists():
         return tally.check("the program that random cases try", f"{program()} is not there", "it is built")

@@ -4,7 +4,7 @@ while all else goes well."""
 CATALOGS = [
     "several schemas", "a name between quotes", "a name of 63 bytes", "a subscriber of three publications",
     "a subscription of 64 publications", "32 subscribers", "a publication of all tables", "a publication of a schema",
-    "a publication that leaves out an operation", "over 3 tables", "over 10 publications",
+    "a table that is carried twice", "a publication that leaves out an operation", "over 3 tables", "over 10 publications",
     "a subscription of over 10 publications", "a table of over 5 columns", "a table of 100 columns",
     "a key of several columns", "a unique index", "a unique index of two columns",
     "a unique index over a column that may be null",

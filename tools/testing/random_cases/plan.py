@@ -3,7 +3,7 @@
 import random
 from collections.abc import Callable
 
-from . import checks, evals, inputs, large, makes, simulations
+from . import checks, evals, inputs, large, makes, shows, simulations
 from .case import Case
 
 Maker = Callable[[random.Random, int], object]
@@ -16,6 +16,7 @@ PLAN: dict[str, tuple[int, Maker]] = {
     "make": (1_000, lambda chance, _: makes.case(chance)),
     "check": (1_600, lambda chance, _: checks.case(chance)),
     "eval": (1_200, evals.case),
+    "show": (600, lambda chance, _: shows.case(chance)),
 }
 
 CASES = sum(count for count, _ in PLAN.values())

@@ -7,8 +7,9 @@ import shutil
 import subprocess
 from dataclasses import dataclass
 
+from programs import program
+
 TESTING = pathlib.Path(__file__).resolve().parent.parent
-BUILT = TESTING.parent.parent / "crates" / "publisher_main" / "out" / "publisher_main"
 
 # How long a run may take.
 SECONDS = 60
@@ -35,11 +36,6 @@ class Answer:
         if self.status is None or not 0 <= self.status <= 3:
             return f"the status is {self.status}"
         return "the line is 'input'" if self.output == "input\n" else None
-
-
-def program() -> str:
-    """The program that is tried."""
-    return os.environ.get("PGSHARD") or str(BUILT)
 
 
 def compiled(folder: str, name: str = "watching") -> str | None:

@@ -8,8 +8,13 @@ from random_cases.running import compiled, program
 from tally import Tally
 
 from .cases import Case, cases
+from .publishes import Publishing, fault_of as fault_of_publish, is_whole, refused_publishes
+from .publishes import refused_threads as threads_of_publish
 from .running import NO_MEMORY, Answer, Refusal, refused_runs, run
 from .serves import LONG_IDLE_SECONDS, SHOP, Serving, refused_serves, refused_threads
+
+# How a run ends to which nothing is refused: it does not give up.
+ENDED_STATUSES = (0, 1, 2, 3)
 
 # Of so many runs of a case that fail, what is wrong is shown.
 MOST_SHOWN = 3
@@ -35,6 +40,8 @@ def check_all(tally: Tally, library: str) -> None:
     serving = Serving(SHOP, library)
     met += check_serving(tally, serving)
     check_threads(tally, serving)
+    met += check_publishing(tally, Publishing(library))
+    tally.check("whether any request was refused in runs without memory", met["refused"] > 0, True)
     print(
         f"runs without memory: {met['runs']:,}, with {met['refused']:,} requests refused; {met['ended']:,} ended, "
         f"{met['other']:,} went on with other lines, and {met['same']:,} as if nothing was refused")
@@ -44,6 +51,7 @@ def check_case(tally: Tally, case: Case, library: str) -> Counter[str]:
     """A run without refusals, and those with them. What they met."""
     plain = run(case.words, case.text, Refusal(0, False).variables(library))
     tally.check(f"{case.name}: a plain run", (plain.refused, case.fault(plain, plain)), (0, None))
+    tally.check(f"{case.name}: the status of a plain run", plain.status in ENDED_STATUSES, True)
     met: Counter[str] = Counter()
     faults = []
     for refusal, found in refused_runs(case.words, case.text, library):
@@ -89,6 +97,22 @@ def check_threads(tally: Tally, serving: Serving) -> None:
         if fault is not None:
             faults.append(f"{refusal} serve: {fault}")
     tally.check("serve: with threads refused", faults[:MOST_SHOWN], [])
+
+
+def check_publishing(tally: Tally, publishing: Publishing) -> Counter[str]:
+    """The same for `publish`: a client may be ended for want of memory, and a commit refused."""
+    plain = publishing.run(Refusal(0, False), LONG_IDLE_SECONDS)
+    tally.check("publish: a plain run", (fault_of_publish(plain), is_whole(plain)), (None, True))
+    met: Counter[str] = Counter()
+    for what, runs in ("requests for memory", refused_publishes), ("threads", threads_of_publish):
+        faults = []
+        for refusal, found in runs(publishing):
+            fault = fault_of_publish(found)
+            if fault is not None:
+                faults.append(f"{refusal} publish: {fault}")
+            meet(met, plain.answer, found.answer)
+        tally.check(f"publish: with {what} refused", faults[:MOST_SHOWN], [])
+    return met
 
 
 def meet(met: Counter[str], plain: Answer, found: Answer) -> None:

@@ -3,8 +3,10 @@
 import os
 import re
 import subprocess
-from collections.abc import Iterator
+from collections.abc import Callable, Iterator
+from concurrent.futures import ThreadPoolExecutor
 from dataclasses import dataclass
+from typing import Protocol, TypeVar
 
 from random_cases.running import program
 
@@ -23,6 +25,9 @@ MOST_UNTOLD = 5
 
 # How far apart the requests are from which on all are refused.
 STRIDE_AFTER = 5
+
+# How many runs with clients there are at a time, which mostly wait.
+AT_A_TIME = 4
 
 COUNT = re.compile("([0-9]+) refused\n")
 
@@ -52,6 +57,33 @@ class Refusal:
 
     def __str__(self) -> str:
         return f"REFUSED_{self.kind}={self.number}{' REFUSED_AFTER=1' if self.and_after else ''}"
+
+
+class Ran(Protocol):
+    """What came of a run with clients."""
+
+    @property
+    def answer(self) -> Answer:
+        """What the program answered."""
+
+
+Found = TypeVar("Found", bound=Ran)
+
+
+def refused_in_turn(run: Callable[[Refusal], Found], stride: int, stride_after: int) -> Iterator[tuple[Refusal, Found]]:
+    """Runs with some of the requests refused, several at a time, up to runs that meet no refusal; and the same with all
+    after them. Strides are from one of these requests to the next."""
+    for and_after, step in (False, stride), (True, stride_after):
+        first = 1
+        with ThreadPoolExecutor(AT_A_TIME) as pool:
+            while first < MOST_REQUESTS:
+                end = first + step * AT_A_TIME
+                refusals = [Refusal(number, and_after) for number in range(first, end, step)]
+                made = list(zip(refusals, pool.map(run, refusals)))
+                yield from made
+                if any(not found.answer.refused for _, found in made):
+                    break
+                first = end
 
 
 def run(words: tuple[str, ...], text: bytes, variables: dict[str, str]) -> Answer:

@@ -18,16 +18,13 @@ from served.sharding import Sharding
 from served.shop import CATALOG, COMMITS, LONDON, TABLES, TOKYO
 from served.whole import whole_stream
 
-from .running import MOST_REQUESTS, NO_MEMORY, OUT_OF_MEMORY, SECONDS, Answer, Refusal, count_of
+from .running import NO_MEMORY, OUT_OF_MEMORY, SECONDS, Answer, Refusal, count_of, refused_in_turn
 
 # Commits of every kind.
 SHOP = Sharding(CATALOG, TABLES, (LONDON, TOKYO), COMMITS[:9])
 
 # How long a client waits for more before it leaves: after a refusal it may not get all, and is not told.
 IDLE_SECONDS = 0.15
-
-# How many runs there are at a time, which mostly wait.
-AT_A_TIME = 4
 
 # How far apart the requests are that are refused, and those from which on all are.
 STRIDE = 4
@@ -82,25 +79,15 @@ class Serving:
                 late.cancel()
             errors.seek(0)
             output = (first + rest).decode(errors="backslashreplace").replace(f" {port}\n", " PORT\n")
-            return Served(Answer(status, output, count_of(errors.read())), got)
+            # Lines of the program go before that of the library.
+            told = b"".join(errors.read().splitlines(keepends=True)[-1:])
+            return Served(Answer(status, output, count_of(told)), got)
 
     def clients(self, port: int, idle: float) -> dict[str, bytes]:
         """What the clients get, side by side."""
         with ThreadPoolExecutor(len(self.subscribers)) as pool:
-            found = pool.map(lambda subscriber: self.client(port, subscriber, idle), self.subscribers)
+            found = pool.map(lambda subscriber: sent_to(port, self.publisher, subscriber, idle), self.subscribers)
             return {subscriber.slot: sent for subscriber, sent in zip(self.subscribers, found)}
-
-    def client(self, port: int, subscriber: Subscriber, idle: float) -> bytes:
-        """What a client gets that leaves once it has its stream, or nothing more has come for a while."""
-        found = b""
-        with contextlib.suppress(OSError), client(port) as made:
-            made.start(subscriber)
-            made.opened.settimeout(idle)
-            found = made.receive_as_is(len(self.publisher.stream(subscriber))).removesuffix(NO_END)
-            made.opened.settimeout(SECONDS)
-            made.send(messages.COPY_DONE)
-            found += made.receive_as_is(1 << 30)
-        return found
 
     def fault(self, found: Served) -> str | None:
         """What is wrong with a run, which may have been refused memory."""
@@ -123,6 +110,21 @@ class Serving:
             messages.without_times(found.got[it.slot]) == whole_stream(self.publisher, it) for it in self.subscribers)
 
 
+def sent_to(
+        port: int, publisher: Publisher, subscriber: Subscriber, idle: float, patience: float = SECONDS) -> bytes:
+    """What a client gets that leaves once it has its stream, or nothing more has come for a while. It waits so long for
+    the end of the connection."""
+    found = b""
+    with contextlib.suppress(OSError), client(port) as made:
+        made.start(subscriber)
+        made.opened.settimeout(idle)
+        found = made.receive_as_is(len(publisher.stream(subscriber))).removesuffix(NO_END)
+        made.opened.settimeout(patience)
+        made.send(messages.COPY_DONE)
+        found += made.receive_as_is(1 << 30).removesuffix(NO_END)
+    return found
+
+
 def is_first_part(sent: bytes, publisher: Publisher, subscriber: Subscriber) -> bool:
     """Whether a client got the first bytes of its stream, and after some whole frames perhaps the end of it. Of a frame
     that came in part only the kind and the length are looked at."""
@@ -138,17 +140,7 @@ def is_first_part(sent: bytes, publisher: Publisher, subscriber: Subscriber) -> 
 
 def refused_serves(serving: Serving) -> Iterator[tuple[Refusal, Served]]:
     """Runs with some of the requests refused, up to runs that meet no refusal; and the same with all after them."""
-    for and_after, stride in (False, STRIDE), (True, STRIDE_AFTER):
-        first = 1
-        with ThreadPoolExecutor(AT_A_TIME) as pool:
-            while first < MOST_REQUESTS:
-                end = first + stride * AT_A_TIME
-                refusals = [Refusal(number, and_after) for number in range(first, end, stride)]
-                made = list(zip(refusals, pool.map(serving.run, refusals)))
-                yield from made
-                if any(not found.answer.refused for _, found in made):
-                    break
-                first = end
+    return refused_in_turn(serving.run, STRIDE, STRIDE_AFTER)
 
 
 def refused_threads(serving: Serving) -> Iterator[tuple[Refusal, Served]]:

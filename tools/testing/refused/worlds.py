@@ -15,7 +15,7 @@ from model.worlds import Step, Subscriber, World
 REFUSED = {"commit": "refused OutOfMemory"}
 LOST = "out of memory"
 
-# Answers that want of memory never takes the place of.
+# Answers that out of memory never takes the place of.
 NEEDS_NONE = {
     "refused EmptyTransaction", "refused TooManyCommands", "refused LogFull", "no subscriber", "already open",
     "not open", "not started", "idle", "lost",

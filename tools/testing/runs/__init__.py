@@ -3,22 +3,19 @@
 Each file has a topic, and its function `cases` gives the topic's runs.
 """
 
-from programs import pgshard
 from tally import Tally
 
 from . import (
     certificates, checks, command_lines, families, filters, forms, inputs, inserts, limits, loads, long, losses, makes,
-    memory, most, rows, serves, simulations)
+    memory, most, peaks, rows, serves, shows, simulations)
 
 TOPICS = [
-    checks, certificates, forms, makes, families, simulations, losses, serves, loads, rows, inserts, filters, inputs,
-    command_lines, limits, most, long, memory]
+    checks, certificates, shows, forms, makes, families, simulations, losses, serves, loads, rows, inserts, filters,
+    inputs, command_lines, limits, most, long, peaks, memory]
 
 
 def check_runs(tally: Tally) -> None:
     """Makes all the runs."""
-    # Where PGSHARD names no program, the first run proves and builds it, and none of those below may take so long.
-    pgshard("--version", text="")
     for topic in TOPICS:
         for case in topic.cases():
             case.check(tally)

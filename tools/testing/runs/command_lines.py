@@ -1,12 +1,15 @@
-"""Words of a command line that ask nothing of the input.
+"""Usage errors, help and versions.
 
 A command line without any word, not even the program's name, is tested in crates/sender_tests.
 """
 
 from collections.abc import Iterator
+from pathlib import Path
 
 from .case import Case, Outline
 from .catalogs import BASE
+
+VERSION = (Path(__file__).resolve().parents[3] / "VERSION").read_text(encoding="utf-8").strip()
 
 REFUSED: list[tuple[str, ...]] = [
     (),
@@ -21,6 +24,9 @@ REFUSED: list[tuple[str, ...]] = [
     ("check", "t"),
     ("check", "check"),
     ("check", "--insert"),
+    ("check", "--show", "--show"),
+    ("show", "t"),
+    ("show", "--show"),
     ("Check",),
     ("simulate", "t"),
     ("simulate", "--limit"),
@@ -29,14 +35,14 @@ REFUSED: list[tuple[str, ...]] = [
 # Limits of a log that are none.
 LIMITS = ["0", "1000000001", "4294967297", "1e3"]
 
-# Words that ask for a help, and a part of it.
+# What asks for help, and a part of the help.
 HELP: list[tuple[tuple[str, ...], str]] = [
-    (("--help",), "pgshard 0.1.0"),
+    (("--help",), f"pgshard {VERSION}"),
     (("--help",), "standard input"),
     (("--help",), "separated by lines that are exactly %%"),
-    (("--help",), "eval takes a catalog and rows"),
+    (("--help",), "eval reads a catalog and rows"),
     (("--help",), "check a catalog and certificates"),
-    (("--help",), "make a catalog alone"),
+    (("--help",), "show and make a catalog alone"),
     (("--help",), "\n  0  "),
     (("--help",), "\n  1  "),
     (("--help",), "\n  2  "),
@@ -44,20 +50,27 @@ HELP: list[tuple[tuple[str, ...], str]] = [
     (("--help",), "\n  4  "),
     (("--help",), "\n  5  "),
     (("-h",), "Exit status"),
-    (("eval", "--help"), "a catalog, a line %% and rows"),
+    (("eval", "--help"), "reads a catalog and rows"),
     (("eval", "t", "-h"), "--insert"),
-    (("check", "--help"), "a catalog, a line %% and certificates"),
+    (("check", "--help"), "reads a catalog and certificates"),
+    (("check", "--help"), "--show"),
+    (("show", "--help"), "as SQL"),
     (("make", "--help"), "reads a catalog"),
-    (("--help",), "simulate a catalog, certificates and a script"),
+    (("--help",), "simulate and serve a catalog, certificates and a script"),
+    (("--help",), "\n  serve "),
+    (("--help",), "and serves subscribers over sockets"),
+    (("--help",), "\n  publish "),
+    (("publish", "--help"), "--port-file <FILE>"),
     (("simulate", "--help"), "--limit <N>"),
     (("help",), "standard input"),
 ]
 
 VERSIONS: list[tuple[tuple[str, ...], str]] = [
-    (("--version",), "pgshard 0.1.0\n"),
-    (("-V",), "pgshard 0.1.0\n"),
-    (("eval", "--version"), "pgshard-eval 0.1.0\n"),
-    (("serve", "--version"), "pgshard-serve 0.1.0\n"),
+    (("--version",), f"pgshard {VERSION}\n"),
+    (("-V",), f"pgshard {VERSION}\n"),
+    (("eval", "--version"), f"pgshard-eval {VERSION}\n"),
+    (("serve", "--version"), f"pgshard-serve {VERSION}\n"),
+    (("publish", "--version"), f"pgshard-publish {VERSION}\n"),
 ]
 
 

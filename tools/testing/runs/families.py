@@ -3,7 +3,7 @@ accepts, or, where one of its conditions is a little wrong, a row that shows it.
 
 from collections.abc import Iterator, Sequence
 
-from .case import Case, Made, Outline, Sized
+from .case import LONG_SECONDS, Case, Made, Outline, Sized
 
 # The columns of a table: a key of each type of integer, a region or none, and a truth value or none.
 KEYS = ["id smallint PRIMARY KEY", "id integer PRIMARY KEY", "id bigint PRIMARY KEY"]
@@ -102,6 +102,48 @@ def pairs(count: int) -> tuple[str, list[str]]:
     return ID + columns, [some, f"NOT ({some})"]
 
 
+def names(count: int, letters: str) -> list[str]:
+    """Names of so many columns for each of these letters."""
+    return [f"{letter}{at}" for at in range(count) for letter in letters]
+
+
+def nullable(columns: list[str], filters: list[str]) -> str:
+    """A table with these columns of truth values or none."""
+    return catalog(", ".join([ID, *(f"{it} boolean" for it in columns)]), filters)
+
+
+def one_of_flags(count: int) -> str:
+    """Rows in which one of so many truth values is true, and the others."""
+    some = " OR ".join(names(count, "f"))
+    return nullable(names(count, "f"), [some, f"({some}) IS NOT TRUE"])
+
+
+def first_flag(count: int) -> str:
+    """Rows by the first of so many truth values that is true, and those without one."""
+    flags = names(count, "f")
+    before = [" AND ".join(["TRUE", *(f"{it} IS NOT TRUE" for it in flags[:at])]) for at in range(count + 1)]
+    return nullable(flags, [*(f"{others} AND {it} IS TRUE" for it, others in zip(flags, before)), before[-1]])
+
+
+def nullable_pairs(count: int) -> str:
+    """Rows in which one of so many pairs is true and true, and the others."""
+    some = " OR ".join(f"a{at} AND b{at}" for at in range(count))
+    return nullable(names(count, "ab"), [some, f"({some}) IS NOT TRUE"])
+
+
+def many_nodes() -> Iterator[Case | Sized]:
+    """Tables whose certificates grow by a power of the number of columns, up to the limit of a million nodes."""
+    # Each of n columns is false or null where none is true: 2^n leaves, and one for each split where a column is true.
+    for count in (2, 8, 16, 18):
+        yield Sized(f"nodes for one of {count} columns or none", one_of_flags(count), 3 * 2**count - 2, 3 * 2**count - 1)
+        yield Sized(f"nodes for the first of {count} columns", first_flag(count), 3 * 2**count - 2, 3 * 2**count - 1)
+    # A pair is not true in four ways: the first is false or null, or it is true and the second is false or null.
+    for count in (2, 4, 8, 9):
+        yield Sized(f"nodes for {count} pairs with nulls", nullable_pairs(count), 2 * 4**count - 1, 2 * 4**count)
+    for name, text in [("one of 19", one_of_flags(19)), ("first of 19", first_flag(19)), ("10 pairs", nullable_pairs(10))]:
+        yield Case(f"make of a table past the limit: {name}", ("make",), text, 1, "too large public.t\n", LONG_SECONDS)
+
+
 def listed() -> Iterator[tuple[str, str, list[str], bool]]:
     """For each sharding its name, the columns and the filters, and whether it is sound."""
     for key in KEYS:
@@ -149,3 +191,4 @@ def cases() -> Iterator[Case | Made | Sized]:
         yield Sized(f"nodes for {count} pairs", catalog(*pairs(count)), fewest, 2 * fewest + 2)
     yield Sized("nodes for 32 ranges", catalog(ID, ranges(32)), 1, 2_000)
     yield Sized("nodes for 8 regions in 4 ranges", catalog(REGION, regions_in_ranges(8, 4, 0)), 1, 2_000)
+    yield from many_nodes()

@@ -175,6 +175,6 @@ def cases() -> Iterator[Kept]:
     yield Kept("10,000 refused commits", FIRST + refusals(range(100)), refusals(range(100, 100 + MANY)))
     full = Script([commit(insert(key)) for key in KEYS], ["refused LogFull"] * MANY)
     yield Kept("10,000 commits into a full log", FIRST, full, words=("--limit", "1"))
-    for name, lists, most in ("one by one", one_by_one(), 540), ("1,000 at once", all_at_once(), 408):
+    for name, lists, most in ("one by one", one_by_one(), 560), ("1,000 at once", all_at_once(), 408):
         blocks = COMMIT_BLOCKS * len(lists) + ROW_BLOCKS * MANY
         yield Kept(f"10,000 rows that come and go {name}", FIRST, commits(lists, 2), blocks, most * MANY)

@@ -9,7 +9,7 @@ from served import beside, lost, whole
 from served.program import NotStarted, serving, use_up
 from served.publisher import Command, Delete, Insert, Publisher, Update
 from served.sharding import Sharding
-from served.shardings import HALVES_CATALOG, S0, S1, crowd, halves, large
+from served.shardings import HALVES_CATALOG, S0, S1, crowd, growing, halves, large
 from served.shop import LONDON, SHOP, TOKYO
 from tally import Tally
 
@@ -101,6 +101,7 @@ def runs() -> Iterator[Run]:
     limited = halves(whole.TWO_COMMITS, frozenset({2}))
     yield Run("serve with a log of one commit", limited, whole.together((S0, S1)), words=("--limit", "1"))
     yield Run("serve of a shop", SHOP, whole.together((LONDON, TOKYO)))
+    yield Run("serve of commits of 1 to 64 commands", growing(), whole.together((S0, S1)))
     crowded = crowd()
     yield Run("serve of 32 subscribers", crowded, whole.together(crowded.subscribers))
     yield Run("serve of 1,000 connections", halves(whole.TWO_COMMITS), whole.together((S0, S1)), 1_000)
@@ -113,6 +114,9 @@ def runs() -> Iterator[Run]:
     yield Run("serve of a client that is lost again and again", SHOP, lost.lost_again, VERY_MANY)
     yield Run("serve of a client that confirms", SHOP, lost.confirms, MANY)
     yield Run("serve of a client that confirms too much", SHOP, lost.confirms_too_much, MANY)
+    yield Run("serve of a client that confirms with its start", SHOP, lost.confirms_with_its_start, MANY)
+    yield Run("serve of a client that confirms what is on its way", large(), lost.confirms_what_is_on_its_way, MANY)
+    yield Run("serve of a client that confirms what it was sent", SHOP, lost.confirms_what_it_was_sent, MANY)
     yield Run("serve of two clients of one slot", SHOP, beside.one_slot, 3)
     yield Run("serve of bad starts", SHOP, beside.bad_starts, len(beside.BAD_STARTS) + 2)
     yield Run("serve of a client that never reads", large(), beside.never_reads)

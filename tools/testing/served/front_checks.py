@@ -21,19 +21,23 @@ NO_SQL = (
     "ERROR:  this is tools/front before pgshard serve, which takes no SQL\n"
     "HINT:  It takes START_REPLICATION SLOT .. LOGICAL, and what clients ask before that.\n")
 NO_COPY = (
-    "ERROR:  pgshard serve has no initial copy of tables\n"
-    "HINT:  Its tables begin empty. Create the subscription WITH (create_slot = false, copy_data = false).\n")
+    "ERROR:  tools/front has tables to copy only as they are at the begin of the log, which is empty\n"
+    "HINT:  A subscription copies them by slots of its own. Other clients start their streams from 0/0.\n")
 
 # What psql sends, and what it prints.
 QUERIES = [
     ("SELECT 1", NO_SQL),
-    ("BEGIN READ ONLY ISOLATION LEVEL REPEATABLE READ", NO_COPY),
+    ("BEGIN", NO_COPY),
+    ("BEGIN READ ONLY ISOLATION LEVEL REPEATABLE READ", ""),
     ("COPY public.t (id) TO STDOUT", NO_COPY),
     ('CREATE_REPLICATION_SLOT "s0" LOGICAL pgoutput (SNAPSHOT \'use\')', NO_COPY),
-    ("CREATE_REPLICATION_SLOT s0 LOGICAL pgoutput NOEXPORT_SNAPSHOT", "s0|0/0||pgoutput\n"),
+    ("CREATE_REPLICATION_SLOT s0 LOGICAL pgoutput NOEXPORT_SNAPSHOT", "s0|0/40||pgoutput\n"),
     ("CREATE_REPLICATION_SLOT s0 LOGICAL test_decoding", NO_SQL),
     ("CREATE_REPLICATION_SLOT s0 PHYSICAL", NO_SQL),
     ('DROP_REPLICATION_SLOT "s0" WAIT', ""),
+    ("CREATE_REPLICATION_SLOT pg_1_sync_2_3 LOGICAL pgoutput", "pg_1_sync_2_3|0/40||pgoutput\n"),
+    ("DROP_REPLICATION_SLOT pg_1_sync_2_3", ""),
+    ("DROP_REPLICATION_SLOT pg_1_sync_2_3", 'ERROR:  replication slot "pg_1_sync_2_3" does not exist\n'),
     ("IDENTIFY_SYSTEM", "0|1|0/0|shop\n"),
     ("SHOW server_version", "15.18\n"),
     ("SHOW SERVER_ENCODING;", "UTF8\n"),
@@ -62,6 +66,7 @@ CREATE PUBLICATION none WITH (publish = 'insert');
 CREATE PUBLICATION first FOR TABLE ONLY t * WHERE (id < 5 AND ("a,b" = 'x, u' OR id IN (1, 2))), u;
 CREATE PUBLICATION schemas FOR TABLES IN SCHEMA "S", CURRENT_SCHEMA;
 CREATE PUBLICATION mixed FOR TABLE public.u WHERE (id = 1), TABLES IN SCHEMA "S" WITH (publish_via_partition_root);
+CREATE SUBSCRIPTION s0 CONNECTION '' PUBLICATION every;
 %%
 CREATE TABLE no (id integer PRIMARY KEY);
 """
@@ -125,20 +130,32 @@ RELAYED = [
     (messages.xlog_data(64, BEGIN), messages.xlog_data(64, BEGIN), 0),
     (messages.xlog_data(64, COMMIT), messages.xlog_data(128, COMMIT), 128),
     (messages.keepalive(192), messages.keepalive(192), 192),
-    (2 * messages.xlog_data(64, COMMIT), 2 * messages.xlog_data(128, COMMIT), 128),
+    # A client's position does not fall.
+    (2 * messages.xlog_data(64, COMMIT), 2 * messages.xlog_data(128, COMMIT), 192),
 ]
-DONE = messages.COPY_DONE + messages.frame(b"C", b"COPY 0\0") + messages.frame(b"Z", b"I")
+DONE = b"".join([
+    messages.COPY_DONE, messages.frame(b"C", b"COPY 0\0"), messages.frame(b"C", b"START_REPLICATION\0"),
+    messages.frame(b"Z", b"I")])
 STARTUP = struct.pack("!I", 0x30000) + b"user\0postgres\0database\0shop\0replication\0database\0\0"
 
 # Words of the command line, and the status. PORT and TAKEN are ports.
 COMMAND_LINES = [
     ((), 2),
-    (("--port", "0", "--backend", "1"), 2),
+    (("--port", "PORT", "--backend", "0"), 2),
     (("--port", "1", "--backend", "65536"), 2),
     (("--port", "PORT", "--backend", "1", "--server-version", "14.9"), 2),
     (("--port", "PORT", "--backend", "1", "--catalog", "/nowhere"), 2),
+    (("--port", "PORT", "--backend", "1", "--password-file", "/nowhere"), 2),
+    (("--port", "PORT", "--backend", "1", "--password-file", "/dev/null"), 2),
+    (("--port", "PORT", "--backend", "1", "--certificate", "/nowhere"), 2),
+    (("--port", "PORT", "--backend", "1", "--key", "/nowhere"), 2),
+    (("--port", "PORT", "--backend", "1", "--listen", "localhost"), 2),
+    (("--port", "PORT", "--backend", "1", "--listen", "0.0.0.0"), 2),
+    (("--port", "PORT", "--backend", "1", "--listen", "::"), 2),
+    (("--port", "PORT", "--backend", "1", "--timeout", "0"), 2),
     (("--port", "TAKEN", "--backend", "1"), 4),
     (("--help",), 0),
+    (("--version",), 0),
 ]
 
 
@@ -169,7 +186,7 @@ def check_before_publisher(tally: Tally) -> None:
                 tally.check(f"what front answers to {query}", psql(front_port, query), printed)
             tally.check("a question for publications without a catalog", psql(front_port, PUBLICATIONS_OF), NO_CATALOG)
             found = psql(front_port, "SHOW server_version", PGCLIENTENCODING="LATIN1")
-            expected = "FATAL:  texts come in UTF8 here, not in LATIN1\n"
+            expected = "FATAL:  the only supported encoding is UTF8, not LATIN1\n"
             tally.check("a client with another encoding", found[-len(expected):], expected)
         with fronting(port, "--server-version", "13.18") as (_, front_port):
             tally.check("the version that is told", psql(front_port, "SHOW server_version"), "13.18\n")
@@ -240,7 +257,9 @@ def check_starts(tally: Tally) -> None:
                     accepted, _ = publisher.accept()
                     with accepted:
                         found = accepted.recv(1 << 16)
-                    tally.check(f"how {start} is passed on", found, messages.query(expected))
+                    # Then the front asks from where the stream comes, by a status with a clock.
+                    end = len(found) - len(messages.status(0))
+                    tally.check(f"how {start} is passed on", found[:end], messages.query(expected))
                     frames, _ = messages.frames_of(made.receive_all())
                     tally.check("what a client is told of a start that nobody answers", frames[-1], LOST)
 
@@ -252,15 +271,17 @@ def check_relay(tally: Tally) -> None:
         with client(port) as made:
             made.send(packet(STARTUP))
             # A client may start again once a stream is done.
-            for _ in range(2):
-                made.send(messages.query(START.format(version=1)))
+            for slot in "s0", "s1":
+                start = messages.query(START.format(version=1).replace("s0", slot))
+                made.send(start)
                 accepted, _ = listener.accept()
                 with accepted:
-                    check_frames(tally, made, Connection(accepted))
+                    check_frames(tally, made, Connection(accepted), start)
 
 
-def check_frames(tally: Tally, made: Connection, publisher: Connection) -> None:
-    publisher.receive(len(messages.query(START.format(version=1))))
+def check_frames(tally: Tally, made: Connection, publisher: Connection, start: bytes) -> None:
+    # Of a slot that the front does not know it asks from where the stream comes.
+    publisher.receive(len(start + messages.status(0)))
     publisher.send(messages.COPY_BOTH_RESPONSE)
     made.receive_until(messages.COPY_BOTH_RESPONSE)
     for told, expected, position in RELAYED:
@@ -284,6 +305,7 @@ def check_command_lines(tally: Tally) -> None:
             given = [ports.get(word, word) for word in words]
             answer = subprocess.run([TOOLS / "front", *given], capture_output=True, timeout=SECONDS)
             tally.check(f"front {' '.join(words)}", answer.returncode, status)
+            tally.check(f"front {' '.join(words)}: a traceback", b"Traceback" in answer.stderr, False)
 
 
 def packet(body: bytes) -> bytes:

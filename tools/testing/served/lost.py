@@ -1,10 +1,12 @@
 """Clients that lose their connections to `pgshard serve` and come back, and what it keeps of what they confirm."""
 
 import itertools
+import time
 
 from . import messages
-from .clients import back_again, client
+from .clients import LITTLE, back_again, client
 from .publisher import Publisher, end_of
+from .shardings import S0, S1
 from .shop import LONDON, TOKYO
 from .whole import Findings, got_whole
 
@@ -13,6 +15,9 @@ HALF_READ = 5
 
 # How many bytes more a client reads each time before it is lost.
 MORE = 61
+
+# For how many seconds a client that doesn't read waits until what it said is heard.
+UNTIL_HEARD = 2
 
 
 def lost_and_back(port: int, publisher: Publisher) -> Findings:
@@ -67,3 +72,49 @@ def confirms_too_much(port: int, publisher: Publisher) -> Findings:
             yield f"what comes after a status of {messages.written(position)}", first.receive_all(), b""
     with back_again(port, LONDON, 0) as again:
         yield from got_whole(again, publisher, LONDON)
+
+
+def confirms_with_its_start(port: int, publisher: Publisher) -> Findings:
+    """A client that confirms the first commit in the bytes that start its stream was sent nothing yet, though the log
+    has that commit."""
+    with client(port) as other:
+        other.start(TOKYO)
+        yield from got_whole(other, publisher, TOKYO)
+    with client(port) as first:
+        first.send(messages.start(LONDON.slot, 0, list(LONDON.publications)) + messages.status(end_of(1)))
+        yield "what comes after a status with the start", first.receive_all(), messages.COPY_BOTH_RESPONSE
+    with back_again(port, LONDON, 0) as again:
+        yield from got_whole(again, publisher, LONDON)
+
+
+def confirms_what_is_on_its_way(port: int, publisher: Publisher) -> Findings:
+    """A slow client confirms the whole log, of which it was sent a part. It loses its connection, and what it said is
+    not kept."""
+    stream = publisher.stream(S1)
+    with client(port, LITTLE) as slow, client(port) as other:
+        slow.start(S1)
+        other.start(S0)
+        yield from got_whole(other, publisher, S0)
+        slow.send(messages.status(publisher.end()))
+        time.sleep(UNTIL_HEARD)
+        found = slow.receive_all()
+        yield "whether a slow client is sent all", len(found) < len(stream), True
+        yield "what it is sent", stream.startswith(found), True
+    with back_again(port, S1, 0) as again:
+        yield from got_whole(again, publisher, S1)
+
+
+def confirms_what_it_was_sent(port: int, publisher: Publisher) -> Findings:
+    """A client confirms each commit when it has come. Each time it then has its connection, and its stream in the end
+    goes on to the end of the log."""
+    with client(port) as first:
+        first.start(LONDON)
+        found = first.receive(len(messages.COPY_BOTH_RESPONSE))
+        for listed in publisher.transactions(LONDON):
+            found += first.receive(sum(len(messages.xlog_data(*it)) for it in listed))
+            first.send(messages.status(listed[0][0] + 64))
+        found += first.finish()
+        yield "what a client gets that confirms each commit", found, publisher.stream(LONDON) + messages.COPY_DONE
+    last = publisher.transactions(LONDON)[-1][0][0] + 64
+    with back_again(port, LONDON, 0) as again:
+        yield from got_whole(again, publisher, LONDON, last)

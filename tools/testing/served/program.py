@@ -1,4 +1,4 @@
-"""`pgshard serve` and tools/front, each started on a port of its own and gone afterwards."""
+"""`pgshard serve`, `pgshard publish` and tools/front, each started on a port of its own and gone afterwards."""
 
 import contextlib
 import queue
@@ -22,15 +22,24 @@ class Started:
     """A program whose lines are read as they come."""
 
     def __init__(self, words: list[str], text: str = "") -> None:
-        self.process = subprocess.Popen(words, stdin=subprocess.PIPE, stdout=subprocess.PIPE)
+        self.process = subprocess.Popen(
+            words, stdin=subprocess.PIPE, stdout=subprocess.PIPE, stderr=subprocess.PIPE)
         self.lines: queue.Queue[str | None] = queue.Queue()
+        # What it writes to its standard error.
+        self.log: list[str] = []
         threading.Thread(target=self.read, daemon=True).start()
+        self.logging = threading.Thread(target=self.read_log, daemon=True)
+        self.logging.start()
         threading.Thread(target=self.write, args=(text.encode(),), daemon=True).start()
 
     def read(self) -> None:
         for line in self.process.stdout:
             self.lines.put(decoded(line))
         self.lines.put(None)
+
+    def read_log(self) -> None:
+        for line in self.process.stderr:
+            self.log.append(decoded(line))
 
     def write(self, given: bytes) -> None:
         # A program that ends before it has read all is told of by its status.
@@ -58,6 +67,11 @@ class Started:
         except subprocess.TimeoutExpired:
             return None, [f"no end within {seconds} seconds\n"]
         return status, list(iter(self.line, None))
+
+    def whole_log(self) -> list[str]:
+        """All that it has written to its standard error, once it has ended."""
+        self.logging.join(SECONDS)
+        return self.log
 
     def stop(self) -> None:
         """Ends it, if it still runs."""
@@ -108,10 +122,46 @@ def serving(text: str, *words: str, seconds: float = SECONDS) -> Iterator[tuple[
         yield program
 
 
+class Publication(Started):
+    """pgshard publish, to which lines are said one at a time."""
+
+    def write(self, given: bytes) -> None:
+        with contextlib.suppress(OSError):
+            self.process.stdin.write(given)
+            self.process.stdin.flush()
+
+    def say(self, line: str) -> None:
+        self.write(f"{line}\n".encode())
+
+    def ask(self, line: str) -> str | None:
+        """The first line of what is answered."""
+        self.say(line)
+        return self.line()
+
+    def finish(self) -> tuple[int | None, list[str]]:
+        """Ends the input."""
+        self.process.stdin.close()
+        return self.end()
+
+
 @contextlib.contextmanager
-def fronting(backend: int, *words: str) -> Iterator[tuple[Started, int]]:
-    """tools/front before a publisher, and its port."""
-    with listening([str(TOOLS / "front"), "--backend", str(backend), *words]) as program:
+def publishing(text: str, *words: str) -> Iterator[tuple[Publication, int]]:
+    """pgshard publish that listens, and its port. The text is a catalog and certificates."""
+    program = Publication([PGSHARD, "publish", "--port", "0", *words], text)
+    try:
+        line = program.line()
+        if line is None or not line.startswith("listening "):
+            raise NotStarted(f"publish wrote {line!r} and has the status {program.process.poll()}")
+        yield program, int(line.split()[1])
+    finally:
+        program.stop()
+
+
+@contextlib.contextmanager
+def fronting(backend: int, *words: str, limit: str | None = None) -> Iterator[tuple[Started, int]]:
+    """tools/front before a publisher, with a limit that prlimit sets, and its port."""
+    limited = ["prlimit", limit] if limit is not None else []
+    with listening([*limited, str(TOOLS / "front"), "--backend", str(backend), *words]) as program:
         yield program
 
 

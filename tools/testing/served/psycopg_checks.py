@@ -2,8 +2,10 @@
 
 import pathlib
 import subprocess
+import sys
 import time
 
+from pythons import python_with
 from server import environment
 from tally import Tally
 
@@ -23,8 +25,9 @@ READ_FIRST = 4
 Transactions = list[list[tuple[int, bytes]]]
 
 
-def check_psycopg(tally: Tally, python: str) -> None:
+def check_psycopg(tally: Tally) -> None:
     """The first client reads some transactions and confirms them; the second asks for all and gets the others."""
+    python = python_with("psycopg2") or sys.executable
     publisher = SHOP.publisher()
     first = publisher.transactions(TOKYO)[:READ_FIRST]
     confirmed = first[-1][-1][0] + 64

@@ -41,7 +41,19 @@ def check_start(tally: Tally, port: int, subscriber: Subscriber, position: int) 
         found = file.read_bytes() if file.exists() else b""
         expected = written_messages(subscriber, position)
         tally.check(f"{name}: its messages", lines_of(cut(found, expected)), lines_of(expected))
-        tally.check(f"{name}: a slot is dropped", run(port, subscriber, "--drop-slot"), (0, ""))
+        dropped = run(port, subscriber, "--drop-slot")
+        expected = (0, "") if position == 0 else (1, not_dropped(subscriber, position))
+        tally.check(f"{name}: a slot is dropped", dropped, expected)
+
+
+def not_dropped(subscriber: Subscriber, position: int) -> str:
+    """What it says where a slot would not start afresh, since nobody had its stream from the begin of the log."""
+    return (
+        f'pg_recvlogical: error: could not send replication command "DROP_REPLICATION_SLOT "{subscriber.slot}"": '
+        f'ERROR:  replication slot "{subscriber.slot}" cannot be dropped, since it would not start from the beginning: '
+        f"its stream is known only from {messages.written(position)} on\n"
+        "HINT:  To drop a subscription without its slot, use ALTER SUBSCRIPTION .. SET (slot_name = NONE) first. "
+        "Restart pgshard serve and tools/front together to start all slots from the beginning.\n")
 
 
 def start_words(subscriber: Subscriber, position: int, file: pathlib.Path) -> list[str]:

@@ -1,5 +1,7 @@
 """Halves of a table, a table that is split over many subscribers, and rows that take megabytes."""
 
+import itertools
+
 from .publisher import Command, Insert, Subscriber, Table, Update
 from .sharding import Sharding
 
@@ -23,6 +25,8 @@ ROUNDS = 10
 LARGE = 60_000
 LARGE_ROWS = 120
 
+MOST_COMMANDS = 64
+
 
 def halves(commits: list[list[Command]], refused: frozenset[int] = frozenset()) -> Sharding:
     """Rows go to s0 where the number is below 100, and else to s1."""
@@ -35,6 +39,14 @@ def large() -> Sharding:
         [Insert("t", (100 + number, "x" * LARGE)), Insert("t", (-number, None))] for number in range(LARGE_ROWS)])
 
 
+def growing() -> Sharding:
+    """Commits of 1 to 64 commands, each of which inserts a row; every second row is for s1."""
+    numbers = itertools.count(1)
+    return halves([
+        [Insert("t", (number * (-1) ** number + 100, None)) for number in itertools.islice(numbers, count)]
+        for count in range(1, MOST_COMMANDS + 1)])
+
+
 def crowd() -> Sharding:
     """Each of many subscribers has one row, which goes from one to the next."""
     commits: list[list[Command]] = [[Insert("t", (number, number)) for number in range(CROWD)]]
@@ -43,16 +55,16 @@ def crowd() -> Sharding:
     return of_crowd((("id", "integer"), ("turn", "integer")), commits)
 
 
-def of_crowd(columns: tuple[tuple[str, str], ...], commits: list[list[Command]]) -> Sharding:
+def of_crowd(columns: tuple[tuple[str, str], ...], commits: list[list[Command]], many: int = CROWD) -> Sharding:
     """The second column of a table, from 0, says which of many subscribers has a row."""
-    tests = ["turn < 1", *(f"turn = {number}" for number in range(1, CROWD - 1)), f"turn >= {CROWD - 1}"]
+    tests = ["turn < 1", *(f"turn = {number}" for number in range(1, many - 1)), f"turn >= {many - 1}"]
     listed = ", ".join(f"{name} {kind} NOT NULL" for name, kind in columns)
     catalog = f"CREATE TABLE t ({listed}, PRIMARY KEY (id));\nALTER TABLE t REPLICA IDENTITY FULL;\n"
     for number, test in enumerate(tests):
         catalog += f"CREATE PUBLICATION p{number} FOR TABLE t WHERE ({test});\n"
         catalog += f"CREATE SUBSCRIPTION s{number} CONNECTION '' PUBLICATION p{number};\n"
     table = Table("t", columns, key=(0,), letter="f", identity=tuple(range(len(columns))))
-    return Sharding(catalog, (table,), tuple(map(one_of_crowd, range(CROWD))), commits)
+    return Sharding(catalog, (table,), tuple(map(one_of_crowd, range(many))), commits)
 
 
 def one_of_crowd(number: int) -> Subscriber:

@@ -23,8 +23,17 @@ CONNECTIONS = 30
 # Of which transaction that tokyo gets the first half comes, and then the end of the connection.
 CUT = 6
 
+# Which versions of PostgreSQL clients are told of.
+VERSIONS = ["15.18", "13.18"]
+
 # In place of the five seconds that a server waits before it connects again.
 SETTINGS = ["ALTER SYSTEM SET wal_retrieve_retry_interval = '200ms';", "SELECT pg_reload_conf();"]
+
+
+def check_versions(tally: Tally, server: Server) -> None:
+    """Both subscribers of a publisher of each version."""
+    for version in VERSIONS:
+        check_subscribers(tally, server, version)
 
 
 def check_subscribers(tally: Tally, server: Server, version: str) -> None:

@@ -1,0 +1,102 @@
+"""Authentication by a password that is never sent: SCRAM-SHA-256, as RFC 5802 and RFC 7677 have it ("55.3. SASL
+Authentication"). No channel is bound."""
+
+import base64
+import binascii
+import hashlib
+import hmac
+import secrets
+
+MECHANISM = "SCRAM-SHA-256"
+ITERATIONS = 4096
+
+# What a client may say of channel binding: that it cannot, or that it could if the server did.
+HEADERS = ("n", "y")
+
+
+class NotAuthentic(Exception):
+    """The client does not know the password, or does not keep to the protocol."""
+
+
+class Password:
+    """What a server keeps of a password."""
+
+    def __init__(self, password: str) -> None:
+        self.salt = secrets.token_bytes(16)
+        salted = hashlib.pbkdf2_hmac("sha256", password.encode("ascii"), self.salt, ITERATIONS)
+        self.stored_key = hashlib.sha256(signed(salted, b"Client Key")).digest()
+        self.server_key = signed(salted, b"Server Key")
+
+
+class Exchange:
+    """One client's authentication."""
+
+    def __init__(self, password: Password) -> None:
+        self.password = password
+        self.header = ""
+        self.nonce = ""
+        self.before = ""
+
+    def first_answer(self, message: bytes) -> bytes:
+        """The server's first message, after the client's."""
+        flag, name, bare = split(text_of(message), 3)
+        if flag not in HEADERS or name:
+            raise NotAuthentic("channel binding and names of others are not supported")
+        self.header = f"{flag},,"
+        client_nonce = attribute(split(bare, 2)[1].split(",")[0], "r")
+        self.nonce = client_nonce + secrets.token_urlsafe(18)
+        salt = base64.b64encode(self.password.salt).decode()
+        answer = f"r={self.nonce},s={salt},i={ITERATIONS}"
+        self.before = f"{bare},{answer}"
+        return answer.encode()
+
+    def last_answer(self, message: bytes) -> bytes:
+        """The server's last message, after a client's last that proves that it knows the password."""
+        text = text_of(message)
+        without_proof, _, proof = text.rpartition(",")
+        binding, nonce = split(without_proof, 2)
+        header = base64.b64encode(self.header.encode()).decode()
+        if attribute(binding, "c") != header or attribute(nonce.split(",")[0], "r") != self.nonce:
+            raise NotAuthentic("the message does not follow the first one")
+        told = f"{self.before},{without_proof}".encode("latin-1")
+        signature = signed(self.password.stored_key, told)
+        key = bytes(one ^ other for one, other in zip(decoded(attribute(proof, "p")), signature, strict=True))
+        if not hmac.compare_digest(hashlib.sha256(key).digest(), self.password.stored_key):
+            raise NotAuthentic("the password is another")
+        return b"v=" + base64.b64encode(signed(self.password.server_key, told))
+
+
+def signed(key: bytes, message: bytes) -> bytes:
+    """The HMAC of a message."""
+    return hmac.new(key, message, hashlib.sha256).digest()
+
+
+def text_of(message: bytes) -> str:
+    """A message's text. A user's name may have any bytes, and counts for nothing."""
+    return message.decode("latin-1")
+
+
+def split(text: str, count: int) -> list[str]:
+    """So many parts with commas between them; the last one may have more."""
+    parts = text.split(",", count - 1)
+    if len(parts) != count:
+        raise NotAuthentic("a message of SCRAM lacks a part")
+    return parts
+
+
+def attribute(part: str, letter: str) -> str:
+    """An attribute's value."""
+    if not part.startswith(f"{letter}=") or len(part) < 3:
+        raise NotAuthentic(f"a message of SCRAM lacks {letter}=")
+    return part[2:]
+
+
+def decoded(value: str) -> bytes:
+    """The bytes of a proof."""
+    try:
+        proof = base64.b64decode(value, validate=True)
+    except (binascii.Error, ValueError):
+        raise NotAuthentic("a proof of SCRAM is not in base64") from None
+    if len(proof) != 32:
+        raise NotAuthentic("a proof of SCRAM has another length")
+    return proof

@@ -1,0 +1,11 @@
+-- How psql prints for judge: the values alone, whatever the user's own settings are.
+
+\set QUIET on
+\set ON_ERROR_STOP on
+\set ECHO none
+\timing off
+\pset pager off
+\pset expanded off
+\pset format unaligned
+\pset recordsep '\n'
+\pset tuples_only on

@@ -1,0 +1,1 @@
+"""The release in the repository: its manifest, and what it is compared with."""

@@ -1,0 +1,163 @@
+"""Random tables with constraints, publications and subscribers."""
+
+import random
+from dataclasses import dataclass, field
+
+from . import kinds_numbers, kinds_others, kinds_texts, kinds_times
+from .conditions import Column, Conditions, Takes, family
+from .kinds import Kind
+from .plans import filters_of
+
+KINDS = [*kinds_numbers.KINDS, *kinds_texts.KINDS, *kinds_times.KINDS, *kinds_others.KINDS]
+UNFILTERED = kinds_others.UNFILTERED
+# Types and collations of a database's own, which each database has.
+OWN_TYPES = tuple(it.needs for it in UNFILTERED)
+SUBSCRIBERS = 5
+OFTEN = {
+    "int4": 5, "int8": 4, "int2": 3, "text": 4, "varchar": 2, "varchar3": 2, "char3": 3, "numeric": 3, "cents": 3,
+    "bool": 3, "date": 3, "timestamp": 3, "timestamptz": 2, "uuid": 2, "float8": 2, "int4range": 2, "int4array": 3,
+    "textarray": 2, "jsonb": 2}
+OPERATIONS = ("insert", "insert, update", "insert, update, delete", "update, delete", "insert, delete, truncate")
+# By this column rows are told apart; no filter names it.
+NUMBER = "row_number"
+
+
+@dataclass
+class Publication:
+    """A publication, how it is made, and the number of the subscriber that takes it, None for nobody."""
+
+    name: str
+    statement: str
+    taker: int | None
+    filter: str | None = None
+
+
+@dataclass
+class Design:
+    """A table, or a tree of partitions, with its publications."""
+
+    name: str
+    columns: list[Column]
+    setup: list[str]
+    publications: list[Publication] = field(default_factory=list)
+    # Into which tables rows are inserted, if these are others than the table itself.
+    targets: list[str] = field(default_factory=list)
+    # Rows that are written by hand, as statements with {number}.
+    rows: list[str] = field(default_factory=list)
+
+    @property
+    def table(self) -> str:
+        """The table, or the root of all others."""
+        return f"{self.name}.rows"
+
+    def filters(self) -> list[str]:
+        """All filters, each once."""
+        return list(dict.fromkeys(it.filter for it in self.publications if it.filter is not None))
+
+    def statements(self) -> list[str]:
+        """All that makes it."""
+        return [f"CREATE SCHEMA {self.name}", *self.setup, *(it.statement for it in self.publications)]
+
+
+class Designs:
+    """Makes designs by chance."""
+
+    def __init__(self, chance: random.Random, takes: Takes, kinds: list[Kind]) -> None:
+        self.chance = chance
+        self.kinds = kinds
+        self.conditions = Conditions(chance, takes)
+
+    def columns(self) -> list[Column]:
+        """One to three columns; where there are several, they are often of one family."""
+        first = self.kind(self.kinds)
+        found = [first]
+        for _ in range(self.chance.choice((0, 0, 1, 1, 2))):
+            alike = [it for it in self.kinds if family(it) == family(first)]
+            found.append(self.kind(alike if self.chance.random() < 0.6 else self.kinds))
+        names = ["x1", "x2", '"Größe x3"']
+        return [Column(name, kind, self.chance.random() < 0.4) for name, kind in zip(names, found)]
+
+    def kind(self, among: list[Kind]) -> Kind:
+        """One of some kinds, those that people divide tables by more often than others."""
+        return self.chance.choices(among, [OFTEN.get(it.name, 1) for it in among])[0]
+
+    def unfiltered(self) -> list[Column]:
+        """Now and then a column that filters can't name."""
+        if self.chance.random() < 0.9:
+            return []
+        return [Column("x4", self.chance.choice(UNFILTERED), self.chance.random() < 0.3)]
+
+    def checks(self, columns: list[Column]) -> list[str]:
+        """Conditions that each row meets."""
+        wanted = self.chance.choice((0, 0, 0, 1, 1, 2))
+        return [self.check(columns) for _ in range(wanted)]
+
+    def check(self, columns: list[Column]) -> str:
+        """One that many rows meet."""
+        column, kind = self.chance.choice(columns), self.chance.random()
+        if column.kind.is_ordered and kind < 0.5:
+            sign = self.chance.choice((">=", "<=", ">", "<", "<>"))
+            return f"{column.name} {sign} {self.conditions.constant(column)}"
+        if kind < 0.6:
+            return f"({self.conditions.condition(columns)}) IS NOT FALSE"
+        return self.conditions.formula(columns, 1)
+
+    def design(self, name: str) -> Design:
+        """A table with a plan."""
+        columns, others = self.columns(), self.unfiltered()
+        design = Design(name, [*columns, *others], [])
+        listed = [declared(it) for it in design.columns]
+        listed += [f"CHECK ({it})" for it in self.checks(design.columns)]
+        listed.append(f"{NUMBER} bigint PRIMARY KEY")
+        design.setup.append(f"CREATE TABLE {design.table} ({', '.join(listed)})")
+        design.setup.extend(self.identity(design))
+        filters = filters_of(self.conditions, columns)[:SUBSCRIBERS + 1]
+        design.publications = self.publications(design, filters)
+        return design
+
+    def identity(self, design: Design) -> list[str]:
+        """The replica identity: mostly the full row, so that filters may name each column."""
+        kind = self.chance.random()
+        if kind < 0.85:
+            return [f"ALTER TABLE {design.table} REPLICA IDENTITY FULL"]
+        if kind < 0.9:
+            return [f"ALTER TABLE {design.table} REPLICA IDENTITY NOTHING"]
+        indexed = [it for it in design.columns if it.is_not_null and it.kind.is_ordered]
+        if kind < 0.95 and indexed:
+            listed = ", ".join(it.name for it in indexed)
+            return [f"CREATE UNIQUE INDEX rows_identity ON {design.table} ({NUMBER}, {listed})",
+                    f"ALTER TABLE {design.table} REPLICA IDENTITY USING INDEX rows_identity"]
+        return []
+
+    def publications(self, design: Design, filters: list[str]) -> list[Publication]:
+        """A publication for each filter, each with a subscriber of its own as a rule."""
+        found = []
+        for place, filter in enumerate(filters):
+            taker: int | None = place % SUBSCRIBERS
+            if self.chance.random() < 0.08:
+                taker = self.chance.choice((None, 0, max(0, place - 1)))
+            found.append(self.publication(design, place, filter, taker))
+        if self.chance.random() < 0.08:
+            found.append(self.publication(design, len(filters), self.conditions.condition(self.filtered(design)), None))
+        return found
+
+    @staticmethod
+    def filtered(design: Design) -> list[Column]:
+        """The columns that filters may name."""
+        return [it for it in design.columns if it.kind.is_filtered]
+
+    def publication(self, design: Design, place: int, filter: str, taker: int | None) -> Publication:
+        """One publication, now and then with a column list or other operations."""
+        name, listed, options = f"{design.name}_p{place}", "", ""
+        if self.chance.random() < 0.06:
+            some = [it.name for it in design.columns if self.chance.random() < 0.7]
+            listed = f" ({', '.join([NUMBER, *some])})"
+        if self.chance.random() < 0.08:
+            options = f" WITH (publish = '{self.chance.choice(OPERATIONS)}')"
+        statement = f"CREATE PUBLICATION {name} FOR TABLE {design.table}{listed} WHERE ({filter}){options}"
+        return Publication(name, statement, taker, filter)
+
+
+def declared(column: Column) -> str:
+    """A column in CREATE TABLE."""
+    return f"{column.name} {column.kind.type}{' NOT NULL' if column.is_not_null else ''}"

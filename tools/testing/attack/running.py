@@ -1,0 +1,167 @@
+"""An attack as long as it is wanted, by several processes beside one server."""
+
+import argparse
+import collections
+import contextlib
+import functools
+import multiprocessing
+import os
+import pathlib
+import random
+import signal
+import threading
+import time
+from collections.abc import Iterator
+
+from server import environment, server, stop_on_endings
+
+from . import batches
+from .batches import Place, Result
+from .by_hand import PLACES, WRITTEN, by_hand
+from .comparison import Finding
+from .conditions import Takes
+from .designs import KINDS, Designs
+from .kinds import Kind
+from .known import Known, prepare
+from .topologies import Topologies
+
+TOOLS = pathlib.Path(__file__).resolve().parent.parent.parent
+# So many designs, and so many topologies, are in one database.
+DESIGNS, TOPOLOGIES = 10, 5
+SETTINGS = "-c max_replication_slots=80 -c max_connections=60 -c max_wal_senders=0 -c log_min_messages=panic"
+
+
+def arguments(words: list[str], help: str) -> argparse.Namespace:
+    """What the command line says."""
+    parser = argparse.ArgumentParser(prog="attack", description=help,
+        formatter_class=argparse.RawDescriptionHelpFormatter)
+    parser.add_argument("--seed", type=int, help="the same databases once more; otherwise each run has a new seed")
+    parser.add_argument("--minutes", type=float, help="how long to go on; without it, until the designs are done")
+    parser.add_argument("--designs", type=int, default=300, help="how many random tables (default: 300)")
+    parser.add_argument("--topologies", type=int, default=30, help="how many trees of partitions (default: 30)")
+    names = [it.name for it in KINDS]
+    parser.add_argument("--kinds", nargs="+", metavar="KIND", choices=names, default=names,
+                        help=f"only random tables of these kinds of columns, of {', '.join(names)}")
+    parser.add_argument("--only", type=int, metavar="N", help="only the database of this number")
+    parser.add_argument("--jobs", type=int, default=len(os.sched_getaffinity(0)), help="how many at a time")
+    parser.add_argument("--verdicts", action="store_true", help="print each verdict")
+    parser.add_argument("--server", metavar="TEXT",
+    help="the connection text of a running server, as 'host=/tmp user=me'")
+    parser.add_argument("--judge", default=str(TOOLS / "judge"), help="another judge to attack")
+    return parser.parse_args(words)
+
+
+@functools.cache
+def known_at(words: str) -> Known:
+    """What a process knows of the conditions that the server takes."""
+    return Known(words)
+
+
+def result_of(place: Place, seed: int, kinds: list[str], task: tuple[int, str, int]) -> tuple[int, Result]:
+    """The database of a number."""
+    number, kind, count = task
+    draw = functools.partial(drawer, known_at(place.words).takes, kind, [it for it in KINDS if it.name in kinds])
+    name = f"attack_by_hand{-number}" if number < 0 else f"attack_{number}"
+    try:
+        return number, batches.attack(place, name, seed * 100_000 + number, draw, count, PLACES.get(kind))
+    except Exception as fault:  # What was not foreseen of one database is told beside the others.
+        result = Result()
+        result.counts[f"the attack itself fails at {number}: {type(fault).__name__}: {fault}"] += 1
+        return number, result
+
+
+def drawer(takes: Takes, kind: str, kinds: list[Kind], chance: random.Random) -> batches.Draw:
+    """Draws tables, or trees; or gives those that are written by hand."""
+    if kind in WRITTEN:
+        return dict((it.name.replace("h", "d"), it) for it in by_hand(kind)).__getitem__
+    return Topologies(chance, takes).design if kind == "topologies" else Designs(chance, takes, kinds).design
+
+
+def tasks(given: argparse.Namespace) -> Iterator[tuple[int, str, int]]:
+    """Databases by their numbers; without an end where minutes are given."""
+    yield from ((-1 - place, kind, len(WRITTEN[kind])) for place, kind in enumerate(WRITTEN))
+    kinds = ["designs"] * -(-given.designs // DESIGNS) + ["topologies"] * -(-given.topologies // TOPOLOGIES)
+    random.Random(0).shuffle(kinds)
+    number = 0
+    while True:
+        for kind in kinds:
+            yield number, kind, DESIGNS if kind == "designs" else TOPOLOGIES
+            number += 1
+        if not given.minutes:
+            return
+
+
+def run(words: list[str], help: str) -> int:
+    """Runs the attack; answers the exit status: 1 where something differs."""
+    given = arguments(words, help)
+    seed = given.seed if given.seed is not None else random.SystemRandom().randrange(10**6)
+    print(f"attack with seed {seed}", flush=True)
+    stop_on_endings()
+    with contextlib.nullcontext() if given.server else server(SETTINGS) as started:
+        place = Place(given.server or f"host={started.folder} user=postgres", given.judge)
+        prepare(place.words)
+        counts, findings = gather(given, place, seed)
+    tell(counts)
+    print(f"{findings} differences with seed {seed}")
+    return 1 if findings or any(it.startswith("the attack itself") for it in counts) else 0
+
+
+def gather(
+    given: argparse.Namespace, place: Place, seed: int,
+) -> tuple[collections.Counter[str], int]:
+    """Makes all databases, and prints what differs as it comes."""
+    counts: collections.Counter[str] = collections.Counter()
+    findings, end = 0, time.monotonic() + 60 * (given.minutes or 10**6)
+    made = functools.partial(result_of, place, seed, given.kinds)
+    wanted = (it for it in tasks(given) if given.only in (None, it[0]))
+    # The pool takes tasks as fast as they come, so that no more of them come than are at work.
+    room = threading.Semaphore(2 * given.jobs)
+    stopped = threading.Event()
+    # A worker ends by a signal as programs do: an exit from the middle of a wait would leave the others waiting.
+    with multiprocessing.Pool(given.jobs, signal.signal, (signal.SIGTERM, signal.SIG_DFL)) as pool:
+        try:
+            for number, result in pool.imap_unordered(made, until(end, wanted, room, stopped)):
+                room.release()
+                counts += result.counts
+                for line in result.verdicts if given.verdicts else ():
+                    print(line, flush=True)
+                for finding in result.findings:
+                    findings += 1
+                    show(finding, result, seed, number)
+        finally:
+            # Whoever gives the tasks may be waiting for room, and the pool for whoever gives them.
+            stopped.set()
+            room.release()
+        pool.close()
+        pool.join()
+    return counts, findings
+
+
+def until(
+    end: float, wanted: Iterator[tuple[int, str, int]], room: threading.Semaphore, stopped: threading.Event,
+) -> Iterator[tuple[int, str, int]]:
+    """Tasks until a time has come, or nobody takes more, each when there is room for it."""
+    for task in wanted:
+        room.acquire()
+        if stopped.is_set() or time.monotonic() > end:
+            return
+        yield task
+
+
+def show(finding: Finding, result: Result, seed: int, number: int) -> None:
+    """A difference, with the statements that make it."""
+    print(f"== {finding.kind}")
+    print(f"   {finding.words}")
+    if finding.row:
+        print(f"   row: {finding.row}")
+    print(f"   judge: {finding.verdict.words()}")
+    for statement in (*result.setup, *finding.design.statements()):
+        print(f"   {statement};" if not statement.startswith("\\") else f"   {statement}")
+    takers = ", ".join(f"s{it.taker} takes {it.name}" for it in finding.design.publications if it.taker is not None)
+    print(f"   {takers}; again: tools/attack --seed {seed} --only {number}", flush=True)
+
+
+def tell(counts: collections.Counter[str]) -> None:
+    """The counts, each in a line."""
+    for what, count in sorted(counts.items()):
+        print(f"{count:8,} {what}")

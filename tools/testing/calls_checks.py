@@ -1,0 +1,66 @@
+"""Calls of the libraries, one by one, by the program `call_driver`, and what each has to answer.
+
+The answers come from the rules, from PostgreSQL's documentation or from a server, and never from the program.
+"""
+
+import os
+import pathlib
+import subprocess
+from collections.abc import Iterable
+
+from calls import topics
+from calls.table import Call
+from tally import Tally
+
+TESTING = pathlib.Path(__file__).resolve().parent
+BUILT = TESTING.parent.parent / "crates" / "call_driver" / "out" / "call_driver"
+NAMED = os.environ.get("CALL_DRIVER")
+
+# How long the calls of one topic may take.
+SECONDS = 120
+
+# How much of a line is shown where an answer is wrong.
+SHOWN = 200
+
+
+def why_not_built() -> str | None:
+    """Why the program can't be run here. One that the environment names is always run."""
+    return None if NAMED or BUILT.exists() else "the program call_driver is not built"
+
+
+def answers(lines: Iterable[str]) -> list[str]:
+    """What the program answers to each of the lines, or why it does not."""
+    try:
+        run = subprocess.run(
+            [NAMED or str(BUILT)], input="".join(f"{line}\n" for line in lines), encoding="utf-8", timeout=SECONDS,
+            stdout=subprocess.PIPE, stderr=subprocess.PIPE)
+    except subprocess.TimeoutExpired:
+        return [f"no end within {SECONDS} seconds"]
+    except OSError as error:
+        return [str(error)]
+    found = run.stdout.split("\n")[:-1]
+    return found if run.returncode == 0 else [*found, f"status {run.returncode}: {run.stderr}"]
+
+
+def short(text: str) -> str:
+    """The text, cut short where it is long."""
+    return text if len(text) <= SHOWN else f"{text[:SHOWN]}.. ({len(text)} characters)"
+
+
+def check_topic(tally: Tally, topic: str, calls: list[Call]) -> None:
+    """Makes the calls of a topic, which begin with a desk that is clear."""
+    found = answers(call.line for call in calls)
+    tally.check(f"{topic}: how many lines are answered", len(found), len(calls))
+    for call, answer in zip(calls, found):
+        is_right = answer == call.answer
+        tally.check(f"{topic}: {short(call.line)}", (is_right, short(answer)), (True, short(call.answer)))
+
+
+def check_calls(tally: Tally) -> None:
+    """Makes the calls of all topics, and says how many they are."""
+    count = 0
+    for topic, calls in topics():
+        listed = list(calls)
+        count += len(listed)
+        check_topic(tally, topic, listed)
+    print(f"{count} calls were made one by one")

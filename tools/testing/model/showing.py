@@ -1,0 +1,190 @@
+"""The text of a catalog as `show` prints it."""
+
+from .catalogs import OPERATIONS, Catalog, Column, Filter, Publication, Subscription, Table, Value
+from .values import written
+
+# How tightly parts of a filter bind: OR least, then AND, NOT, the IS tests, and comparisons and constants most.
+OR, AND, NOT, TEST, OPERAND = range(5)
+TRUTHS = {True: "TRUE", False: "FALSE", None: "UNKNOWN"}
+
+# The heads of filters that have a place for NOT.
+TESTS = ("null", "in", "between", "distinct", "is")
+
+Entry = tuple[int, Filter | None]
+
+
+def text_of(catalog: Catalog) -> str:
+    """The statements, one a line."""
+    return "".join(f"{it};\n" for it in statements(catalog))
+
+
+def statements(catalog: Catalog) -> list[str]:
+    """The statements of a catalog."""
+    found: list[str] = []
+    made = {"public"}
+    for table in catalog.tables:
+        if table.schema not in made:
+            found.append(f"CREATE SCHEMA {quoted(table.schema)}")
+            made.add(table.schema)
+        found += of_table(table)
+    found += [of_publication(catalog, it) for it in catalog.publications]
+    return found + [of_subscription(catalog, it) for it in catalog.subscriptions]
+
+
+def quoted(name: str) -> str:
+    """A name between quotes."""
+    return '"' + name.replace('"', '""') + '"'
+
+
+def listed(names: list[str]) -> str:
+    """Names between parentheses."""
+    return f"({', '.join(quoted(name) for name in names)})"
+
+
+# ---- tables
+
+
+def full_name(table: Table) -> str:
+    """The name with its schema."""
+    return f"{quoted(table.schema)}.{quoted(table.name)}"
+
+
+def of_table(table: Table) -> list[str]:
+    """A table, its indexes and its identity."""
+    name = full_name(table)
+    columns = [of_column(column, number in table.key) for number, column in enumerate(table.columns)]
+    key = f"PRIMARY KEY {columns_of(table, table.key)}"
+    indexes = [
+        f"CREATE UNIQUE INDEX {quoted(it.name)} ON {name} {columns_of(table, it.columns)}" for it in table.indexes]
+    identity = f"ALTER TABLE {name} REPLICA IDENTITY {identity_of(table)}"
+    return [f"CREATE TABLE {name} ({', '.join([*columns, key])})", *indexes, identity]
+
+
+def of_column(column: Column, is_key: bool) -> str:
+    """A column. Those of the key take no null."""
+    return f"{quoted(column.name)} {column.kind}{' NOT NULL' if column.not_null or is_key else ''}"
+
+
+def columns_of(table: Table, numbers: tuple[int, ...]) -> str:
+    """A list of columns."""
+    return listed([table.columns[number].name for number in numbers])
+
+
+def identity_of(table: Table) -> str:
+    """A replica identity."""
+    if isinstance(table.identity, str):
+        return table.identity
+    return f"USING INDEX {quoted(table.indexes[table.identity].name)}"
+
+
+# ---- publications
+
+
+def carried(catalog: Catalog, publication: Publication) -> list[Entry]:
+    """The tables that a publication carries: those that it names, and then those that it carries whole."""
+    whole: list[Entry] = [
+        (number, None) for number, table in enumerate(catalog.tables)
+        if publication.all_tables or table.schema in publication.schemas]
+    return [*publication.entries, *whole]
+
+
+def comes_twice(entries: list[Entry]) -> bool:
+    """Whether some table comes twice."""
+    return len({number for number, _ in entries}) < len(entries)
+
+
+def schemas_of(catalog: Catalog, entries: list[Entry]) -> list[str]:
+    """The schemas of the tables, each once."""
+    return list(dict.fromkeys(catalog.tables[number].schema for number, _ in entries))
+
+
+def objects_of(catalog: Catalog, entries: list[Entry]) -> list[str]:
+    """The tables of a publication by name. Where one comes twice, the last ones are named by their schemas: as many as
+    are every table of some schemas."""
+    named = len(entries)
+    if comes_twice(entries):
+        named = next(at for at in range(len(entries)) if are_schemas(catalog, entries[at:]))
+    schemas = schemas_of(catalog, entries[named:])
+    return [
+        *(of_entry(catalog.tables[number], condition) for number, condition in entries[:named]),
+        *(f"TABLES IN SCHEMA {quoted(schema)}" for schema in schemas)]
+
+
+def are_schemas(catalog: Catalog, entries: list[Entry]) -> bool:
+    """Whether these are every table of some schemas, whole and in the order of the tables."""
+    schemas = schemas_of(catalog, entries)
+    every: list[Entry] = [(number, None) for number, table in enumerate(catalog.tables) if table.schema in schemas]
+    return entries == every
+
+
+def of_entry(table: Table, condition: Filter | None) -> str:
+    """A table with its filter."""
+    where = "" if condition is None else f" WHERE ({of_filter(table, condition)})"
+    return f"TABLE {full_name(table)}{where}"
+
+
+def of_publication(catalog: Catalog, publication: Publication) -> str:
+    """A publication."""
+    objects = objects_of(catalog, carried(catalog, publication))
+    scope = f" FOR {', '.join(objects)}" if objects else ""
+    publishes = ", ".join(it for it in OPERATIONS if it in publication.operations)
+    return f"CREATE PUBLICATION {quoted(publication.name)}{scope} WITH (publish = '{publishes}')"
+
+
+def of_subscription(catalog: Catalog, subscription: Subscription) -> str:
+    """A subscription."""
+    taken = ", ".join(quoted(catalog.publications[number].name) for number in subscription.publications)
+    return f"CREATE SUBSCRIPTION {quoted(subscription.name)} CONNECTION '' PUBLICATION {taken}"
+
+
+# ---- filters
+
+
+def of_filter(table: Table, it: Filter, level: int = OR) -> str:
+    """A filter where parts of a level are due."""
+    own, text = unclosed(table, it)
+    return f"({text})" if own < level else text
+
+
+def unclosed(table: Table, it: Filter) -> tuple[int, str]:
+    """A filter without parentheses, and how tightly it binds."""
+    match it:
+        case ("or", left, right):
+            return OR, f"{of_filter(table, left, OR)} OR {of_filter(table, right, AND)}"
+        case ("and", left, right):
+            return AND, f"{of_filter(table, left, AND)} AND {of_filter(table, right, NOT)}"
+        case ("not", inner) if inner[0] in TESTS:
+            return tested(table, inner, " NOT")
+        case ("not", inner):
+            return NOT, f"NOT {of_filter(table, inner, NOT)}"
+        case ("const", value):
+            return OPERAND, TRUTHS[value]
+        case ("cmp", column, divisor, operator, literal):
+            return OPERAND, f"{term(table, column, divisor)} {operator} {of_literal(literal)}"
+    return tested(table, it, "")
+
+
+def tested(table: Table, it: Filter, negation: str) -> tuple[int, str]:
+    """A test that has a place for NOT."""
+    match it:
+        case ("is", truth, inner):
+            return TEST, f"{of_filter(table, inner, OPERAND)} IS{negation} {TRUTHS[truth]}"
+        case ("null", column):
+            return TEST, f"{term(table, column, 0)} IS{negation} NULL"
+        case ("distinct", column, divisor, literal):
+            return TEST, f"{term(table, column, divisor)} IS{negation} DISTINCT FROM {of_literal(literal)}"
+        case ("between", column, divisor, low, high):
+            return OPERAND, f"{term(table, column, divisor)}{negation} BETWEEN {low} AND {high}"
+    _, column, divisor, literals = it
+    return OPERAND, f"{term(table, column, divisor)}{negation} IN ({', '.join(of_literal(one) for one in literals)})"
+
+
+def term(table: Table, column: int, divisor: int) -> str:
+    """A column, or its remainder."""
+    name = quoted(table.columns[column].name)
+    return f"{name} % {divisor}" if divisor else name
+
+
+def of_literal(value: Value) -> str:
+    """A constant."""
+    return written(value)

@@ -1,0 +1,219 @@
+"""The Debian package: its files, and runs of its commands from another root by a user without rights; its manual pages,
+its completion, and that `make install` installs the same."""
+
+import gzip
+import os
+import shutil
+import socket
+import subprocess
+import tempfile
+from pathlib import Path
+
+from programs import TOOLS, program
+from tally import Tally
+
+ROOT = TOOLS.parent
+EXAMPLES = ROOT / "examples"
+VERSION = (ROOT / "VERSION").read_text().strip()
+NOBODY = 65534
+
+# What a package has; a folder's name ends with a slash.
+FILES = [
+    "usr/bin/pgshard", "usr/lib/pgshard/release/pgshard", "usr/lib/pgshard/tools/judge", "usr/lib/pgshard/tools/front",
+    "usr/share/man/man1/pgshard.1.gz", "usr/share/man/man1/pgshard-judge.1.gz", "usr/share/man/man1/pgshard-serve.1.gz",
+    "usr/share/man/man1/pgshard-publish.1.gz",
+    "usr/share/man/man1/pgshard-front.1.gz", "usr/share/bash-completion/completions/pgshard",
+    "usr/share/doc/pgshard/README.md", "usr/share/doc/pgshard/docs/OUTPUT.md", "usr/share/doc/pgshard/examples/shop.sql",
+    "usr/share/doc/pgshard/copyright", "usr/share/doc/pgshard/changelog.gz",
+]
+
+# What Debian's package alone has.
+DEBIAN_ALONE = {"usr/share/doc/pgshard/copyright", "usr/share/doc/pgshard/changelog.gz",
+                "usr/share/lintian/overrides/pgshard"}
+
+NEEDED = {"Depends": ["libc6", "python3"], "Recommends": ["postgresql-client", "python3-pglast"]}
+
+
+def check_package(tally: Tally) -> None:
+    """Builds the package of the program that is tested, and tries it."""
+    with tempfile.TemporaryDirectory() as name:
+        folder = Path(name)
+        folder.chmod(0o755)
+        package = folder / f"pgshard_{VERSION}_amd64.deb"
+        made = subprocess.run(
+            [TOOLS / "package", "--program", program(), "--output", folder], stdout=subprocess.PIPE, encoding="utf-8")
+        tally.check("a package", (made.returncode, made.stdout), (0, f"{package}\n"))
+        subprocess.run(["dpkg-deb", "-x", package, folder / "root"], check=True)
+        check_files(tally, package, folder / "root")
+        check_commands(tally, folder)
+        check_serving(tally, folder)
+        check_pages(tally, folder / "root" / "usr" / "share" / "man" / "man1")
+        check_completion(tally, folder / "root")
+        check_make(tally, folder)
+        check_lintian(tally, package)
+        check_refused(tally, folder)
+
+
+def check_files(tally: Tally, package: Path, root: Path) -> None:
+    missing = [name for name in FILES if not (root / name).is_file()]
+    tally.check("files that the package lacks", missing, [])
+    link = os.readlink(root / "usr" / "bin" / "pgshard")
+    tally.check("the command is a link within the package", link, "../lib/pgshard/pgshard")
+    released = (root / "usr/lib/pgshard/release/pgshard").read_bytes()
+    tally.check("the program is the same to the last bit", released == Path(program()).read_bytes(), True)
+    shown = subprocess.run(["dpkg-deb", "-f", package], stdout=subprocess.PIPE, encoding="utf-8", check=True).stdout
+    fields = dict(line.split(": ", 1) for line in shown.splitlines() if not line.startswith(" "))
+    tally.check("its name and version", (fields["Package"], fields["Version"]), ("pgshard", VERSION))
+    for field, names in NEEDED.items():
+        found = [it.split(" ")[0] for it in fields[field].split(", ")]
+        tally.check(f"what the package {field.lower()}", [name for name in names if name not in found], [])
+    changes = gzip.decompress((root / "usr/share/doc/pgshard/changelog.gz").read_bytes()).decode()
+    tally.check("its newest change", changes.splitlines()[0], f"pgshard ({VERSION}) unstable; urgency=medium")
+
+
+def check_commands(tally: Tally, folder: Path) -> None:
+    """Runs in another folder, where the user may write nothing."""
+    away = folder / "away"
+    away.mkdir()
+    for name in "shop.sql", "lossy.sql":
+        shutil.copy(EXAMPLES / name, away)
+    status, certificates, _ = run(folder, "make", "shop.sql")
+    (away / "shop.certs").write_text(certificates)
+    tally.check("make", (status, certificates.count("\n")), (0, 2))
+    tally.check("check of two files", run(folder, "check", "shop.sql", "shop.certs"), (0, "accepted\n", ""))
+    tally.check("make of a fault", run(folder, "make", "lossy.sql"), (
+        1, "counter public.orders (0, NULL, 0) owners none\n", ""))
+    tally.check("judge of a file", run(folder, "judge", "shop.sql"), (
+        0, "public.orders: sound\npublic.rates: sound\ntables: 2 judged, 2 sound\n", ""))
+    status, shown, _ = run(folder, "help")
+    tally.check("help", (status, "Usage: pgshard <COMMAND>" in shown), (0, True))
+    for words in ("--version",), ("judge", "--version"), ("front", "--version"):
+        status, shown, _ = run(folder, *words)
+        tally.check(" ".join(words), (status, VERSION in shown.split()), (0, True))
+
+
+def run(folder: Path, *words: str) -> tuple[int, str, str]:
+    """A run of the installed command: its status, its output and its errors."""
+    answer = subprocess.run(
+        [folder / "root" / "usr" / "bin" / "pgshard", *words], stdin=subprocess.DEVNULL, stdout=subprocess.PIPE,
+        stderr=subprocess.PIPE, encoding="utf-8", cwd=folder / "away", env=environment(), **rights())
+    return answer.returncode, answer.stdout, answer.stderr
+
+
+def environment() -> dict[str, str]:
+    """A user's, with nothing of the repository."""
+    return {"PATH": "/usr/bin:/bin", "LANG": "C.UTF-8", "HOME": "/nonexistent"}
+
+
+def rights() -> dict:
+    """Those of a user who may write nothing, where the tests run as root."""
+    return {"user": NOBODY, "group": NOBODY, "extra_groups": []} if os.geteuid() == 0 else {}
+
+
+def check_serving(tally: Tally, folder: Path) -> None:
+    """serve and front, until they listen."""
+    shutil.copy(EXAMPLES / "feed.txt", folder / "away")
+    ports = free_ports()
+    serve = "serve", "--port", str(ports[0]), "shop.sql", "shop.certs", "feed.txt"
+    front = "front", "--port", str(ports[1]), "--backend", str(ports[0]), "--catalog", "shop.sql"
+    for words, port in (serve, ports[0]), (front, ports[1]):
+        running = subprocess.Popen(
+            [folder / "root" / "usr" / "bin" / "pgshard", *words], stdin=subprocess.DEVNULL, stdout=subprocess.PIPE,
+            encoding="utf-8", cwd=folder / "away", env=environment(), **rights())
+        assert running.stdout is not None
+        tally.check(f"{words[0]} listens", running.stdout.readline(), f"listening {port}\n")
+        running.terminate()
+        running.communicate()
+
+
+def free_ports() -> list[int]:
+    """Two ports that were free just now."""
+    with socket.socket() as one, socket.socket() as other:
+        for it in one, other:
+            it.bind(("127.0.0.1", 0))
+        return [it.getsockname()[1] for it in (one, other)]
+
+
+def check_pages(tally: Tally, folder: Path) -> None:
+    """That the manual pages are rendered without a warning, and have their lists."""
+    pages = sorted(folder.glob("*.gz"))
+    for path in pages:
+        text = gzip.decompress(path.read_bytes()).decode()
+        for heading in "OPTIONS", "EXIT STATUS":
+            tally.check(f"{path.name} has {heading}", f".SH {heading}\n.TP\n" in text, True)
+        tally.check(f"{path.name} has the version", f'"pgshard {VERSION}"' in text.splitlines()[0], True)
+        for command in "man --warnings -l", "mandoc -T lint -W warning", "groff -man -ww -K utf8 -z":
+            check_page(tally, command.split(), path, text)
+    commands = gzip.decompress((folder / "pgshard.1.gz").read_bytes()).decode()
+    listed = [name for name in ("show", "make", "check", "eval", "simulate", "judge", "front") if f"\\fB{name}\\fR" not in commands]
+    tally.check("commands that the manual lacks", listed, [])
+
+
+def check_page(tally: Tally, command: list[str], path: Path, text: str) -> None:
+    """That a command renders a page, and says nothing of it on standard error."""
+    if shutil.which(command[0]) is None:
+        print(f"skipped: {path.name} by {command[0]}, which is not installed")
+        return
+    plain = path.with_suffix("")
+    plain.write_text(text)
+    answer = subprocess.run(
+        [*command, plain], stdout=subprocess.PIPE, stderr=subprocess.PIPE, encoding="utf-8",
+        env=environment() | {"MANWIDTH": "80"})
+    said = answer.stderr + (answer.stdout if command[0] == "mandoc" else "")
+    tally.check(f"what {command[0]} says of {path.name}", (answer.returncode, said), (0, ""))
+    plain.unlink()
+
+
+def check_completion(tally: Tally, root: Path) -> None:
+    """What bash completes."""
+    cases = [
+        (["ju"], ["judge"]), (["sim"], ["simulate"]), (["sh"], ["show"]), (["check", "--s"], ["--show"]), (["--v"], ["--version"]), (["help", "fr"], ["front"]),
+        (["eval", "--i"], ["--insert"]), (["serve", "--po"], ["--port"]), (["judge", "--ex"], ["--explain"]),
+        (["front", "--cat"], ["--catalog"]), (["make", "shop.s"], ["shop.sql"]), (["check", "shop.sql", "shop.c"], ["shop.certs"]),
+    ]
+    script = 'source "$1"; shift; COMP_WORDS=(pgshard "$@"); COMP_CWORD=$#; _pgshard; printf "%s\\n" "${COMPREPLY[@]}"'
+    for words, expected in cases:
+        answer = subprocess.run(
+            ["bash", "-c", script, "bash", root / "usr/share/bash-completion/completions/pgshard", *words],
+            stdout=subprocess.PIPE, encoding="utf-8", cwd=root.parent / "away",
+            env=environment() | {"PATH": f"{root / 'usr' / 'bin'}:/usr/bin:/bin"})
+        tally.check(f"the completion of {' '.join(words)}", answer.stdout.split(), expected)
+
+
+def check_make(tally: Tally, folder: Path) -> None:
+    """That make installs the files of the package under another prefix, and removes them."""
+    variables = [f"DESTDIR={folder / 'stage'}", "PREFIX=/opt/x", f"PROGRAM={Path(program()).resolve()}"]
+    words = ["make", "-s", "-C", str(ROOT), *variables]
+    subprocess.run([*words, "install"], check=True)
+    found = files_below(folder / "stage" / "opt" / "x")
+    expected = {name.removeprefix("usr/") for name in files_below(folder / "root") - DEBIAN_ALONE}
+    tally.check("what make installs", found ^ expected, set())
+    answer = subprocess.run(
+        [folder / "stage/opt/x/bin/pgshard", "make", "shop.sql"], stdout=subprocess.PIPE, cwd=folder / "away",
+        env=environment(), **rights())
+    tally.check("a run of what make installed", (answer.returncode, answer.stdout.count(b"\n")), (0, 2))
+    subprocess.run([*words, "uninstall"], check=True)
+    tally.check("what is left of it", files_below(folder / "stage"), set())
+
+
+def files_below(root: Path) -> set[str]:
+    return {str(it.relative_to(root)) for it in root.rglob("*") if it.is_symlink() or it.is_file()}
+
+
+def check_lintian(tally: Tally, package: Path) -> None:
+    if shutil.which("lintian") is None:
+        print("skipped: lintian, which is not installed")
+        return
+    answer = subprocess.run(
+        ["lintian", "--fail-on", "error", package], stdout=subprocess.PIPE, stderr=subprocess.DEVNULL, encoding="utf-8",
+        **rights())
+    errors = [line for line in answer.stdout.splitlines() if line.startswith("E:")]
+    tally.check("errors that lintian reports", (answer.returncode, errors), (0, []))
+
+
+def check_refused(tally: Tally, folder: Path) -> None:
+    """A program that is not there."""
+    answer = subprocess.run(
+        [TOOLS / "package", "--program", folder / "none", "--output", folder], stdout=subprocess.PIPE,
+        stderr=subprocess.DEVNULL)
+    tally.check("a package without a program", (answer.returncode, answer.stdout), (1, b""))

@@ -1,0 +1,149 @@
+"""Runs of `publish` with two clients, in which memory or threads are refused."""
+
+import contextlib
+import os
+import re
+import subprocess
+import tempfile
+import threading
+from collections.abc import Iterator
+from concurrent.futures import ThreadPoolExecutor
+from dataclasses import dataclass, field
+
+from random_cases.running import program
+from runs.catalogs import C
+from served import messages
+from served.publisher import Insert, Publisher, command_text
+from served.shardings import HALVES_CATALOG, S0, S1, TABLE
+from served.whole import whole_stream
+
+from .running import AT_A_TIME, NO_MEMORY, OUT_OF_MEMORY, SECONDS, Answer, Refusal, count_of, refused_in_turn
+from .serves import IDLE_SECONDS, LONG_IDLE_SECONDS, is_first_part, sent_to
+
+# A commit of one row each, for each subscriber in turn.
+COMMITS = [[Insert("t", (number + 100 * (number % 2), "x"))] for number in range(8)]
+SUBSCRIBERS = S0, S1
+TEXT = "\n".join(
+    [f"{HALVES_CATALOG}%%", f"{C}%%", *(f"COMMIT {command_text(it)};" for [it] in COMMITS), ""]).encode()
+
+# How far apart the requests are that are refused, and those from which on all are.
+STRIDE = 7
+STRIDE_AFTER = 29
+
+# Which threads are refused: those of the session, of the keepalives, of some places and of clients.
+THREADS = [1, 2, 3, 4, 20, 60, *range(64, 76)]
+
+LISTENING = re.compile(r"listening \d+\n")
+CLOSED = re.compile(r"closed (\d+) (\d+)\n")
+
+
+@dataclass
+class Published:
+    """A run, and what each client got."""
+
+    answer: Answer
+    got: dict[str, bytes] = field(default_factory=dict)
+
+
+class Publishing:
+    """A publication for two clients."""
+
+    def __init__(self, library: str) -> None:
+        self.library = library
+
+    def run(self, refusal: Refusal, idle: float = IDLE_SECONDS) -> Published:
+        """Makes a run, whose input ends when the clients have left."""
+        with tempfile.TemporaryFile() as errors:
+            words, variables = [program(), "publish", "--port", "0"], os.environ | refusal.variables(self.library)
+            with subprocess.Popen(
+                    words, stdin=subprocess.PIPE, stdout=subprocess.PIPE, stderr=errors, env=variables) as started:
+                late = threading.Timer(SECONDS, started.kill)
+                late.start()
+                # It may have ended before it has read all.
+                with contextlib.suppress(BrokenPipeError):
+                    started.stdin.write(TEXT)
+                    started.stdin.flush()
+                first = started.stdout.readline()
+                got = clients(int(first.split()[1]), idle) if first.startswith(b"listening") else {}
+                with contextlib.suppress(BrokenPipeError):
+                    started.stdin.close()
+                rest = started.stdout.read()
+                status = started.wait()
+                late.cancel()
+            errors.seek(0)
+            # Lines of the program go before that of the library.
+            told = b"".join(errors.read().splitlines(keepends=True)[-1:])
+            return Published(Answer(status, (first + rest).decode(errors="backslashreplace"), count_of(told)), got)
+
+
+def clients(port: int, idle: float) -> dict[str, bytes]:
+    """What the clients get, side by side."""
+    with ThreadPoolExecutor(len(SUBSCRIBERS)) as pool:
+        # Where no thread serves them, nobody ends their connections before the input ends.
+        found = pool.map(lambda subscriber: sent_to(port, whole_publisher(), subscriber, idle, idle), SUBSCRIBERS)
+        return {subscriber.slot: sent for subscriber, sent in zip(SUBSCRIBERS, found)}
+
+
+def whole_publisher() -> Publisher:
+    """A publisher that has made all commits."""
+    made = Publisher((TABLE,))
+    for commands in COMMITS:
+        made.commit(commands)
+    return made
+
+
+def publisher_of(answers: list[str]) -> Publisher | None:
+    """The publisher that gives these answers; none where one is wrong."""
+    made = Publisher((TABLE,))
+    for commands, answer in zip(COMMITS, answers):
+        if answer == f"commit {len(made.log) + 1}\n":
+            made.commit(commands)
+        elif answer != "refused OutOfMemory\n":
+            return None
+    return made
+
+
+def fault_of(found: Published) -> str | None:
+    """What is wrong with a run, which may have been refused memory."""
+    answer = found.answer
+    if answer.refused is None or answer.status not in (0, NO_MEMORY):
+        return f"status {answer.status}, {answer.output!r}, {answer.refused} refused"
+    lines = answer.output.splitlines(keepends=True)
+    if answer.status == NO_MEMORY and lines[-1:] != [OUT_OF_MEMORY]:
+        return f"status {answer.status}, {answer.output!r}"
+    last = lines.pop()
+    if lines and not LISTENING.fullmatch(lines.pop(0)) or len(lines) > len(COMMITS):
+        return f"the first line, or too many: {answer.output!r}"
+    publisher = publisher_of(lines)
+    if publisher is None or answer.status == 0 and not is_closed(last, lines, publisher):
+        return f"status {answer.status}, {answer.output!r}"
+    for subscriber in SUBSCRIBERS:
+        if not is_first_part(found.got.get(subscriber.slot, b""), publisher, subscriber):
+            return f"{subscriber.slot} gets {found.got[subscriber.slot][-200:]!r}"
+    return None
+
+
+def is_closed(last: str, answers: list[str], publisher: Publisher) -> bool:
+    """Whether the last line says how many commits there are, of all the lines, and not too many connections."""
+    closed = CLOSED.fullmatch(last)
+    return closed is not None and len(answers) == len(COMMITS) and int(closed[1]) == len(publisher.log) and (
+        int(closed[2]) <= len(SUBSCRIBERS))
+
+
+def is_whole(found: Published) -> bool:
+    """Whether all was made, and the clients got all."""
+    publisher = whole_publisher()
+    return found.answer.output.endswith(f"commit {len(COMMITS)}\nclosed {len(COMMITS)} {len(SUBSCRIBERS)}\n") and all(
+        messages.without_times(found.got[it.slot]) == whole_stream(publisher, it) for it in SUBSCRIBERS)
+
+
+def refused_publishes(publishing: Publishing) -> Iterator[tuple[Refusal, Published]]:
+    """Runs with some of the requests refused, up to runs that meet no refusal; and the same with all after them."""
+    return refused_in_turn(publishing.run, STRIDE, STRIDE_AFTER)
+
+
+def refused_threads(publishing: Publishing) -> Iterator[tuple[Refusal, Published]]:
+    """Runs with some threads refused, and with all after them."""
+    refusals = [Refusal(number, and_after, "THREAD") for number in THREADS for and_after in (False, True)]
+    with ThreadPoolExecutor(AT_A_TIME) as pool:
+        yield from zip(refusals, pool.map(lambda it: publishing.run(it, LONG_IDLE_SECONDS / 5), refusals))

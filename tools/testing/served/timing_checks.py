@@ -1,0 +1,172 @@
+"""What `pgshard publish` does as time goes by, and what it says of connections as objects of JSON."""
+
+import json
+import socket
+import time
+
+from programs import PGSHARD, pgshard
+from tally import Tally
+
+from . import messages
+from .clients import Connection, client
+from .program import SECONDS, publishing, started
+from .publish_checks import commit_line, head
+from .shop import LONDON, SHOP, TOKYO
+
+# For how many seconds a client may be silent, and how long one stays that is not.
+SILENCE = 2
+STAY = 5
+PAUSE = 0.2
+
+# How many keepalives are awaited, a second apart, and how soon the last may come after the first.
+KEEPALIVES = 4
+LEAST = 1.5
+
+WRONG_WORDS = [
+    ("--keepalive", "0"), ("--keepalive", "86401"), ("--keepalive", "x"), ("--timeout", "0"), ("--timeout", "86401"),
+    ("--timeout",), ("--timeout", "5", "--timeout", "5"), ("--log", "xml"), ("--log", "JSON"), ("--log", ""), ("--log",),
+]
+
+TAKEN = "port {} of 127.0.0.1 cannot be used: Address already in use (os error 98)"
+
+# The name of a slot in which JSON needs escapes, and as SQL has it.
+STRANGE = 'a"b\\c'
+STRANGE_QUOTED = '"a""b\\c"'
+
+
+def check_timing(tally: Tally) -> None:
+    """All of it."""
+    text = head()
+    check_words(tally, text)
+    check_keepalives(tally, text)
+    check_silence(tally, text)
+    check_objects(tally, text)
+    check_strange_name(tally, text)
+    check_fault(tally, text)
+
+
+def check_words(tally: Tally, text: str) -> None:
+    """Words that ask nothing, and a help that has the options."""
+    for wrong in WRONG_WORDS:
+        status, output = pgshard("publish", "--port", "0", *wrong, text=text, seconds=SECONDS)
+        tally.check(f"publish {' '.join(wrong)}", (status, output.startswith("command line\n")), (2, True))
+    _, shown = pgshard("publish", "--help", text="", seconds=SECONDS)
+    for option in "--keepalive", "--timeout", "--log":
+        tally.check(f"the help of publish has {option}", option in shown, True)
+
+
+def next_frame(made: Connection) -> bytes:
+    """The next frame, with no clock."""
+    first = made.receive_as_is(5)
+    return messages.without_times(first + made.receive_as_is(int.from_bytes(first[1:5], "big") - 4))
+
+
+def check_keepalives(tally: Tally, text: str) -> None:
+    """Each client gets keepalives a second apart, which say how far it was sent the log."""
+    with publishing(text, "--keepalive", "1") as (program, port), client(port) as made, client(port) as other:
+        for connection, subscriber in (made, LONDON), (other, TOKYO):
+            connection.start(subscriber)
+            connection.receive(len(messages.COPY_BOTH_RESPONSE))
+        tally.check("a keepalive before the first commit", next_frame(made), messages.keepalive(64))
+        begin = time.monotonic()
+        found = [next_frame(made) for _ in range(KEEPALIVES - 1)]
+        tally.check("further keepalives", found, [messages.keepalive(64)] * (KEEPALIVES - 1))
+        tally.check("how soon they come", LEAST < time.monotonic() - begin < SECONDS, True)
+        publisher = SHOP.publisher().__class__(SHOP.tables)
+        publisher.commit(SHOP.commits[0])
+        program.ask(commit_line(SHOP.commits[0]))
+        for name, connection, subscriber in ("london", made, LONDON), ("tokyo", other, TOKYO):
+            frames = [next_frame(connection)]
+            while frames[-1] != messages.keepalive(publisher.end()) and len(frames) < 20:
+                frames.append(next_frame(connection))
+            tally.check(f"a keepalive of {name} after a commit", frames[-1], messages.keepalive(publisher.end()))
+            told = [it for it in frames if it[5:6] == b"w"]
+            expected = publisher.stream(subscriber).removeprefix(messages.COPY_BOTH_RESPONSE)
+            tally.check(f"what {name} gets beside keepalives", b"".join(told), expected)
+        tally.check("the end after keepalives", program.finish()[0], 0)
+
+
+def check_silence(tally: Tally, text: str) -> None:
+    """A client that says nothing for a while is given up, and one that says something is not."""
+    words = "--timeout", str(SILENCE)
+    with publishing(text, *words) as (program, port), client(port) as silent, client(port) as other:
+        silent.start(LONDON)
+        begin, given_up = time.monotonic(), 0.0
+        other.start(TOKYO)
+        other.receive(len(messages.COPY_BOTH_RESPONSE))
+        while time.monotonic() - begin < STAY:
+            other.send(messages.status(0))
+            time.sleep(PAUSE)
+            if program.log and not given_up:
+                given_up = time.monotonic() - begin
+        tally.check("what a silent client gets", silent.receive_all(), messages.COPY_BOTH_RESPONSE)
+        tally.check("how soon it is given up", SILENCE - 0.1 < given_up < STAY, True)
+        other.send(messages.status(0, wants_reply=True))
+        tally.check("the reply to one that is not silent", next_frame(other), messages.keepalive(64))
+        said = "london: sent from 0/0 to 0/0: the connection was lost, or the client was waited for too long\n"
+        tally.check("what is said of the silent client", program.log, [said])
+        other.finish()
+        tally.check("the end after a silent client", program.finish(), (0, ["closed 0 2\n"]))
+
+
+def address(opened: socket.socket) -> str:
+    host, port = opened.getsockname()
+    return f"{host}:{port}"
+
+
+def timeless(lines: list[str], begin: float) -> list[dict[str, object]]:
+    """The objects of some lines, whose times are whether they are of the run, in milliseconds."""
+    objects = [json.loads(line) for line in lines]
+    for it in objects:
+        it["time"] = begin - 1 <= it["time"] / 1000 <= time.time() + 1
+    return objects
+
+
+def check_objects(tally: Tally, text: str) -> None:
+    """A client that is sent a commit, and one that starts nothing."""
+    begin = time.time()
+    with publishing(text, "--log", "json") as (program, port):
+        program.ask(commit_line(SHOP.commits[0]))
+        with client(port) as made:
+            first = address(made.opened)
+            made.start(LONDON)
+            made.receive_until(messages.COPY_BOTH_RESPONSE)
+            made.finish()
+        with client(port) as nothing:
+            second = address(nothing.opened)
+            nothing.send(messages.TERMINATE)
+            nothing.receive_all()
+        tally.check("the end with objects", program.finish(), (0, ["closed 1 2\n"]))
+        lines = program.whole_log()
+    closed = "the client closed the connection"
+    expected = [
+        {"event": "accepted", "client": first, "time": True},
+        {"event": "ended", "client": first, "time": True, "subscription": "london", "from": "0/0", "to": "0/80",
+         "reason": closed},
+        {"event": "accepted", "client": second, "time": True},
+        {"event": "ended", "client": second, "time": True, "subscription": None, "reason": closed},
+    ]
+    tally.check("the objects of two connections", timeless(lines, begin), expected)
+
+
+def check_strange_name(tally: Tally, text: str) -> None:
+    """A name in which JSON needs escapes."""
+    strange = text.replace("CREATE SUBSCRIPTION london", f"CREATE SUBSCRIPTION {STRANGE_QUOTED}")
+    start = f"START_REPLICATION SLOT {STRANGE_QUOTED} LOGICAL 0/0 (proto_version '1', publication_names 'low')"
+    with publishing(strange, "--log", "json") as (program, port):
+        with client(port) as made:
+            made.send(messages.query(start))
+            tally.check("the start of a strange slot", made.receive(9)[:1], messages.COPY_BOTH_RESPONSE[:1])
+            made.finish()
+        program.finish()
+        found = [json.loads(line).get("subscription") for line in program.whole_log()]
+    tally.check("a strange name in objects", found, [None, STRANGE])
+
+
+def check_fault(tally: Tally, text: str) -> None:
+    """A port that is taken."""
+    begin = time.time()
+    with publishing(text) as (_, port), started([PGSHARD, "publish", "--port", str(port), "--log", "json"], text) as second:
+        tally.check("publish with objects at a port that is taken", second.end(), (4, []))
+        expected = [{"event": "fault", "fault": TAKEN.format(port), "time": True}]
+        tally.check("what it says in an object", timeless(second.whole_log(), begin), expected)

@@ -1,0 +1,34 @@
+"""Runs these tests by a Python that has pglast, which some of the modules need, and mypy over the modules."""
+
+import os
+import pathlib
+import subprocess
+
+from pythons import python_with
+from tally import Tally
+
+FOLDER = pathlib.Path(__file__).resolve().parent
+
+# What is installed of tools/
+INSTALLED = ["installation", "judging", "fronting", "pointing", "judge"]
+
+
+def check_types(tally: Tally) -> None:
+    """All modules that are installed are strict."""
+    python = python_with("mypy")
+    assert python is not None
+    answer = subprocess.run(
+        [python, "-m", "mypy", "--strict", "--cache-dir", os.devnull, *INSTALLED], cwd=FOLDER.parent.parent,
+        capture_output=True, encoding="utf-8")
+    tally.check("mypy --strict", "" if answer.returncode == 0 else answer.stdout, "")
+
+
+def check_units(tally: Tally) -> None:
+    """Each file of tests is one check."""
+    python = python_with("pglast")
+    assert python is not None
+    for path in sorted(FOLDER.glob("test_*.py")):
+        answer = subprocess.run(
+            [python, "-m", "unittest", "-q", f"units.{path.stem}"], cwd=FOLDER.parent, capture_output=True,
+            encoding="utf-8", env=os.environ | {"PYTHONDONTWRITEBYTECODE": "1"})
+        tally.check(f"units/{path.name}", "" if answer.returncode == 0 else answer.stderr, "")

@@ -1,0 +1,147 @@
+"""Why the server refuses updates and deletes, and ends streams: CheckCmdReplicaIdentity and pgoutput of version 15."""
+
+import unittest
+
+from units.catalogs import column, database, entry, publication, table
+from judging.database import Subscriber
+from judging.refusals import refusals_of
+from judging.shares import shares_of_all
+
+
+def refused(tables, publications, *taken, version=150018, missing=()):
+    """The first words of each reason that matter, for the first table."""
+    db = database(tables, publications, version=version)
+    subscriber = Subscriber("s", list(taken), missing=list(missing))
+    return refusals_of(db, shares_of_all(db, [subscriber])[0])
+
+
+class Identities(unittest.TestCase):
+    def test_covered(self) -> None:
+        self.assertEqual(refused([table(1, "t")], [publication("p", entry(1, "(id > 5)"))], "p"), [])
+        self.assertEqual(refused([table(1, "t", identity="f")], [publication("p", entry(1, "(region > 5)"))], "p"), [])
+
+    def test_of_a_publication_that_nobody_takes(self) -> None:
+        found = refused([table(1, "t")], [publication("p", entry(1)), publication("q", entry(1, "(region > 5)"))], "p")
+        self.assertEqual(len(found), 1)
+        self.assertIn("publication q names column region", found[0])
+
+    def test_of_a_publication_of_inserts(self) -> None:
+        self.assertEqual(refused([table(1, "t")], [
+            publication("p", entry(1)), publication("q", entry(1, "(region > 5)"), operations=["insert"])], "p"), [])
+
+    def test_no_identity(self) -> None:
+        for identity, numbers in ("n", None), ("d", None), ("i", None):
+            with self.subTest(identity):
+                found = refused(
+                    [table(1, "t", identity=identity, identity_numbers=numbers)], [publication("p", entry(1))], "p")
+                self.assertEqual(len(found), 1)
+                self.assertIn("no replica identity that can be used, so the server refuses its updates and", found[0])
+
+    def test_only_deletes(self) -> None:
+        found = refused([table(1, "t", identity="n", identity_numbers=None)], [
+            publication("p", entry(1), operations=["insert", "truncate"]),
+            publication("q", entry(1), operations=["delete"])], "p")
+        self.assertEqual(len(found), 2)
+        self.assertIn("so the server refuses its deletes", found[1])
+
+    def test_lists_and_full(self) -> None:
+        found = refused([table(1, "t", identity="f")], [publication("p", entry(1, None, [1, 2]))], "p")
+        self.assertEqual(len(found), 1)
+        self.assertIn("replica identity is FULL", found[0])
+
+    def test_a_list_without_the_key(self) -> None:
+        found = refused([table(1, "t")], [publication("p", entry(1, None, [2]))], "p")
+        self.assertEqual(len(found), 1)
+        self.assertIn("lacks column id", found[0])
+
+    def test_a_filter_beside_its_schema(self) -> None:
+        found = refused([table(1, "t")], [publication("p", entry(1, "(region > 5)"), schemas=["public"])], "p")
+        self.assertEqual(len(found), 1)
+
+    def test_a_filter_of_all_tables_is_none(self) -> None:
+        self.assertEqual(refused([table(1, "t")], [publication("p", all=True)], "p"), [])
+
+    def test_an_unlogged_partition_is_not_asked(self) -> None:
+        root = table(1, "log", kind="p")
+        gone = table(2, "gone", ancestors=[1], identity="n", identity_numbers=None, is_publishable=False)
+        self.assertEqual(refused([root, gone], [publication("p", entry(1), via_root=True)], "p"), [])
+
+    def test_generated_columns_of_later_versions(self) -> None:
+        columns = [column(1, "id"), column(2, "twice", generated=True)]
+        for published, numbers, is_virtual, is_refused in (
+                (None, None, False, False), ("n", None, False, True), ("s", None, False, False),
+                ("s", None, True, True), ("n", [1, 2], False, False), ("n", [1], False, True)):
+            with self.subTest((published, numbers, is_virtual)):
+                identity = {"identity": "i", "identity_numbers": [1, 2]} if numbers else {"identity": "f"}
+                columns[1]["is_virtual"] = is_virtual
+                found = refused([table(1, "t", columns=columns, **identity)], [
+                    publication("p", entry(1, None, numbers), generated=published)], "p", version=180001)
+                self.assertEqual(any("column twice" in it and "is generated" in it for it in found), is_refused)
+
+    def test_each_partition_has_its_identity(self) -> None:
+        root = table(1, "log", kind="p")
+        low, high = table(2, "low", ancestors=[1]), table(3, "high", ancestors=[1], identity_numbers=[2])
+        found = refused([root, low, high], [publication("p", entry(1, "(id > 5)"), via_root=True)], "p")
+        self.assertEqual(len(found), 1)
+        self.assertIn("of partition public.high", found[0])
+
+
+class Streams(unittest.TestCase):
+    def lists(self, one, two, **others):
+        return refused([table(1, "t", **others)], [
+            publication("p", entry(1, None, one)), publication("q", entry(1, None, two))], "p", "q")
+
+    def test_lists_that_are_one(self) -> None:
+        for one, two in ([1], [1]), ([1, 2], [2, 1]), (None, None), ([1, 2], None):
+            with self.subTest((one, two)):
+                self.assertEqual(self.lists(one, two), [])
+
+    def test_lists_that_differ(self) -> None:
+        for one, two in ([1], [1, 2]), ([1], None):
+            with self.subTest((one, two)):
+                self.assertIn("whose column lists differ", self.lists(one, two)[0])
+
+    def test_a_whole_list_where_a_column_was_dropped(self) -> None:
+        self.assertEqual(self.lists([1, 2], [2, 1], has_dropped=True), [])
+        self.assertIn("whose column lists differ", self.lists([1, 2], None, has_dropped=True)[0])
+
+    def test_a_whole_list_where_a_column_is_generated(self) -> None:
+        columns = [column(1, "id"), column(2, "twice", generated=True)]
+        self.assertIn("whose column lists differ", self.lists([1], None, columns=columns)[0])
+
+    def test_publications_of_later_versions_of_which_one_has_generated_columns(self) -> None:
+        columns = [column(1, "id"), column(2, "twice", generated=True)]
+        for one, other, numbers, is_refused in (
+                ("n", "n", None, False), ("s", "s", None, False), ("s", "n", None, True), ("s", "n", [1, 2], False)):
+            with self.subTest((one, other, numbers)):
+                found = refused([table(1, "t", columns=columns, identity_numbers=[1])], [
+                    publication("p", entry(1), generated=one),
+                    publication("q", entry(1, None, numbers), generated=other)], "p", "q", version=180001)
+                self.assertEqual(any("column lists differ" in it for it in found), is_refused)
+
+    def test_a_publication_that_is_not_there(self) -> None:
+        found = refused([table(1, "t")], [publication("p", entry(1))], "p", missing=["gone"])
+        self.assertIn("takes publication gone, which does not exist", found[0])
+
+
+class Operations(unittest.TestCase):
+    def test_an_operation_that_is_missing(self) -> None:
+        for operations, missing in (["insert"], "update"), (["update", "delete", "truncate"], "insert"):
+            with self.subTest(missing):
+                found = refused([table(1, "t")], [publication("p", entry(1), operations=operations)], "p")
+                self.assertEqual(found, [f"publication p, which has a subscriber, does not publish {missing}"])
+
+    def test_operations_by_two_filters(self) -> None:
+        found = refused([table(1, "t")], [
+            publication("p", entry(1, "(id > 5)"), operations=["insert"]),
+            publication("q", entry(1, "(id <= 5)"), operations=["update", "delete", "truncate"])], "p", "q")
+        self.assertEqual(found, ["subscriber s takes publications p and q, which filter update otherwise than insert"])
+
+    def test_operations_by_one_filter(self) -> None:
+        self.assertEqual(refused([table(1, "t")], [
+            publication("p", entry(1, "(id > 5)"), operations=["insert"]),
+            publication("q", entry(1, "(id > 5)"), operations=["update", "delete", "truncate"])], "p", "q"), [])
+
+
+if __name__ == "__main__":
+    unittest.main()
