@@ -92,14 +92,16 @@ def whole_publisher() -> Publisher:
     return made
 
 
-def publisher_of(answers: list[str]) -> Publisher | None:
-    """The publisher that gives these answers; none where one is wrong."""
+def publisher_of(answers: list[str], unanswered: int = 0) -> Publisher | None:
+    """The publisher that gives these answers, and has made some commits more; none where an answer is wrong."""
     made = Publisher((TABLE,))
     for commands, answer in zip(COMMITS, answers):
         if answer == f"commit {len(made.log) + 1}\n":
             made.commit(commands)
         elif answer != "refused OutOfMemory\n":
             return None
+    for commands in COMMITS[len(answers):len(answers) + unanswered]:
+        made.commit(commands)
     return made
 
 
@@ -117,8 +119,10 @@ def fault_of(found: Published) -> str | None:
     publisher = publisher_of(lines)
     if publisher is None or answer.status == 0 and not is_closed(last, lines, publisher):
         return f"status {answer.status}, {answer.output!r}"
+    # A run that gives up may have made a commit for whose answer there was no memory, and clients may have it.
+    sent = publisher if answer.status == 0 else publisher_of(lines, unanswered=1)
     for subscriber in SUBSCRIBERS:
-        if not is_first_part(found.got.get(subscriber.slot, b""), publisher, subscriber):
+        if not is_first_part(found.got.get(subscriber.slot, b""), sent, subscriber):
             return f"{subscriber.slot} gets {found.got[subscriber.slot][-200:]!r}"
     return None
 
