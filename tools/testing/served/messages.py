@@ -152,7 +152,12 @@ def time_of(message: bytes) -> int | None:
     return None if at is None else int.from_bytes(message[at:at + 8], "big")
 
 
+def is_commit(whole: bytes) -> bool:
+    """Whether a frame is of a Commit."""
+    return whole[MESSAGE:MESSAGE + 1] == b"C"
+
+
 def end_in(frames: list[bytes], before: int) -> int:
     """Where the last transaction of some frames ends, as its Commit says, or where the stream was before."""
-    ends = [whole[MESSAGE + 10:MESSAGE + 18] for whole in frames if whole[MESSAGE:MESSAGE + 1] == b"C"]
+    ends = [whole[MESSAGE + 10:MESSAGE + 18] for whole in frames if is_commit(whole)]
     return int.from_bytes(ends[-1], "big") if ends else before
