@@ -97,7 +97,7 @@ def check_ports(tally: Tally, text: str) -> None:
         with started([PGSHARD, "publish", "--port", str(port)], text) as second:
             tally.check("publish at a port that is taken", second.end(), (4, []))
             said = [f"port {port} of 127.0.0.1 cannot be used: Address already in use (os error 98)\n"]
-            tally.check("what it says", second.log, said)
+            tally.check("what it says", second.whole_log(), said)
 
 
 def check_stream(tally: Tally, text: str) -> None:
