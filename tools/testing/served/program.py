@@ -10,8 +10,8 @@ from collections.abc import Iterator
 
 from programs import PGSHARD, TOOLS, decoded
 
-# How long anything here may take.
-SECONDS = 20
+# How long anything here may take, on a machine that does much else, too.
+SECONDS = 60
 
 # How many ports are tried, and the status of a program that can't have one.
 PORTS = 3

@@ -11,16 +11,17 @@ from . import messages
 from .clients import Connection, client
 from .program import SECONDS, publishing, started
 from .publish_checks import commit_line, head
+from .publisher import Publisher
 from .shop import LONDON, SHOP, TOKYO
 
-# For how many seconds a client may be silent, and how long one stays that is not.
-SILENCE = 2
-STAY = 5
+# For how many seconds a client may be silent, and how long one stays at least that is not.
+SILENCE = 4
+STAY = 7
 PAUSE = 0.2
 
-# How many keepalives are awaited, a second apart, and how soon the last may come after the first.
+# How many keepalives are awaited, a second apart. The first may be one that was due before the stream began.
 KEEPALIVES = 4
-LEAST = 1.5
+LEAST = KEEPALIVES - 2
 
 WRONG_WORDS = [
     ("--keepalive", "0"), ("--keepalive", "86401"), ("--keepalive", "x"), ("--timeout", "0"), ("--timeout", "86401"),
@@ -64,21 +65,19 @@ def next_frame(made: Connection) -> bytes:
 def check_keepalives(tally: Tally, text: str) -> None:
     """Each client gets keepalives a second apart, which say how far it was sent the log."""
     with publishing(text, "--keepalive", "1") as (program, port), client(port) as made, client(port) as other:
+        begin = time.monotonic()
         for connection, subscriber in (made, LONDON), (other, TOKYO):
             connection.start(subscriber)
             connection.receive(len(messages.COPY_BOTH_RESPONSE))
-        tally.check("a keepalive before the first commit", next_frame(made), messages.keepalive(64))
-        begin = time.monotonic()
-        found = [next_frame(made) for _ in range(KEEPALIVES - 1)]
-        tally.check("further keepalives", found, [messages.keepalive(64)] * (KEEPALIVES - 1))
+        found = [next_frame(made) for _ in range(KEEPALIVES)]
+        tally.check("a keepalive before the first commit", found[0], messages.keepalive(64))
+        tally.check("further keepalives", found[1:], [messages.keepalive(64)] * (KEEPALIVES - 1))
         tally.check("how soon they come", LEAST < time.monotonic() - begin < SECONDS, True)
-        publisher = SHOP.publisher().__class__(SHOP.tables)
+        publisher = Publisher(SHOP.tables)
         publisher.commit(SHOP.commits[0])
         program.ask(commit_line(SHOP.commits[0]))
         for name, connection, subscriber in ("london", made, LONDON), ("tokyo", other, TOKYO):
-            frames = [next_frame(connection)]
-            while frames[-1] != messages.keepalive(publisher.end()) and len(frames) < 20:
-                frames.append(next_frame(connection))
+            frames = frames_up_to(connection, messages.keepalive(publisher.end()))
             tally.check(f"a keepalive of {name} after a commit", frames[-1], messages.keepalive(publisher.end()))
             told = [it for it in frames if it[5:6] == b"w"]
             expected = publisher.stream(subscriber).removeprefix(messages.COPY_BOTH_RESPONSE)
@@ -86,21 +85,30 @@ def check_keepalives(tally: Tally, text: str) -> None:
         tally.check("the end after keepalives", program.finish()[0], 0)
 
 
+def frames_up_to(made: Connection, last: bytes) -> list[bytes]:
+    """The next frames up to this one, or as many as come in time."""
+    until = time.monotonic() + SECONDS
+    frames = [next_frame(made)]
+    while frames[-1] and frames[-1] != last and time.monotonic() < until:
+        frames.append(next_frame(made))
+    return frames
+
+
 def check_silence(tally: Tally, text: str) -> None:
     """A client that says nothing for a while is given up, and one that says something is not."""
-    words = "--timeout", str(SILENCE)
+    words = "--timeout", str(SILENCE), "--keepalive", "86400"
     with publishing(text, *words) as (program, port), client(port) as silent, client(port) as other:
-        silent.start(LONDON)
         begin, given_up = time.monotonic(), 0.0
+        silent.start(LONDON)
         other.start(TOKYO)
         other.receive(len(messages.COPY_BOTH_RESPONSE))
-        while time.monotonic() - begin < STAY:
+        while (stayed := time.monotonic() - begin) < STAY or not given_up and stayed < SECONDS:
             other.send(messages.status(0))
             time.sleep(PAUSE)
             if program.log and not given_up:
                 given_up = time.monotonic() - begin
         tally.check("what a silent client gets", silent.receive_all(), messages.COPY_BOTH_RESPONSE)
-        tally.check("how soon it is given up", SILENCE - 0.1 < given_up < STAY, True)
+        tally.check("how soon it is given up", SILENCE - 0.1 < given_up < SECONDS, True)
         other.send(messages.status(0, wants_reply=True))
         tally.check("the reply to one that is not silent", next_frame(other), messages.keepalive(64))
         said = "london: sent from 0/0 to 0/0: the connection was lost, or the client was waited for too long\n"
@@ -125,12 +133,14 @@ def timeless(lines: list[str], begin: float) -> list[dict[str, object]]:
 def check_objects(tally: Tally, text: str) -> None:
     """A client that is sent a commit, and one that starts nothing."""
     begin = time.time()
+    publisher = Publisher(SHOP.tables)
+    publisher.commit(SHOP.commits[0])
     with publishing(text, "--log", "json") as (program, port):
         program.ask(commit_line(SHOP.commits[0]))
         with client(port) as made:
             first = address(made.opened)
             made.start(LONDON)
-            made.receive_until(messages.COPY_BOTH_RESPONSE)
+            made.receive(len(publisher.stream(LONDON)))
             made.finish()
         with client(port) as nothing:
             second = address(nothing.opened)
@@ -156,7 +166,8 @@ def check_strange_name(tally: Tally, text: str) -> None:
     with publishing(strange, "--log", "json") as (program, port):
         with client(port) as made:
             made.send(messages.query(start))
-            tally.check("the start of a strange slot", made.receive(9)[:1], messages.COPY_BOTH_RESPONSE[:1])
+            response = messages.COPY_BOTH_RESPONSE
+            tally.check("the start of a strange slot", made.receive(len(response)), response)
             made.finish()
         program.finish()
         found = [json.loads(line).get("subscription") for line in program.whole_log()]
