@@ -7,8 +7,8 @@ from dataclasses import dataclass
 
 from random_cases.running import program
 
-# How long a run may take.
-SECONDS = 30
+# How long a run may take, on a machine that does much else, too.
+SECONDS = 300
 
 # After so many calls no further one fails, though there may be more.
 MOST_CALLS = 2_000

@@ -84,4 +84,4 @@ def connect_twice(port: int) -> None:
     """Makes two connections, and ends them."""
     for _ in range(2):
         with contextlib.suppress(OSError):
-            socket.create_connection(("127.0.0.1", port), timeout=1).close()
+            socket.create_connection(("127.0.0.1", port), timeout=SECONDS).close()

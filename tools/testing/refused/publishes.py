@@ -18,7 +18,7 @@ from served.shardings import HALVES_CATALOG, S0, S1, TABLE
 from served.whole import whole_stream
 
 from .running import AT_A_TIME, NO_MEMORY, OUT_OF_MEMORY, SECONDS, Answer, Refusal, count_of, refused_in_turn
-from .serves import IDLE_SECONDS, LONG_IDLE_SECONDS, is_first_part, sent_to
+from .serves import IDLE_SECONDS, is_first_part, sent_to
 
 # A commit of one row each, for each subscriber in turn.
 COMMITS = [[Insert("t", (number + 100 * (number % 2), "x"))] for number in range(8)]
@@ -32,6 +32,9 @@ STRIDE_AFTER = 29
 
 # Which threads are refused: those of the session, of the keepalives, of some places and of clients.
 THREADS = [1, 2, 3, 4, 20, 60, *range(64, 76)]
+
+# How long a client waits for more where threads are refused.
+THREADS_IDLE_SECONDS = 1
 
 LISTENING = re.compile(r"listening \d+\n")
 CLOSED = re.compile(r"closed (\d+) (\d+)\n")
@@ -175,4 +178,4 @@ def refused_threads(publishing: Publishing) -> Iterator[tuple[Refusal, Published
     """Runs with some threads refused, and with all after them."""
     refusals = [Refusal(number, and_after, "THREAD") for number in THREADS for and_after in (False, True)]
     with ThreadPoolExecutor(AT_A_TIME) as pool:
-        yield from zip(refusals, pool.map(lambda it: publishing.run(it, LONG_IDLE_SECONDS / 5), refusals))
+        yield from zip(refusals, pool.map(lambda it: publishing.run(it, THREADS_IDLE_SECONDS), refusals))

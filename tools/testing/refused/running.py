@@ -10,8 +10,9 @@ from typing import Protocol, TypeVar
 
 from random_cases.running import program
 
-# How long a run may take.
-SECONDS = 30
+# How long a run may take, on a machine that does much else, too. One of `publish` in which no place is begun sleeps
+# 10,000 times for a millisecond, and each of these sleeps may be several times as long.
+SECONDS = 300
 
 # The last line of a run that memory ran out for, and its status.
 OUT_OF_MEMORY = "out of memory\n"

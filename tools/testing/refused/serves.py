@@ -34,7 +34,7 @@ STRIDE_AFTER = 16
 MOST_THREADS = 20
 
 # How long a client waits that is to get all, or to be told.
-LONG_IDLE_SECONDS = 5
+LONG_IDLE_SECONDS = 60
 
 
 @dataclass

@@ -1,5 +1,6 @@
 """What a run of pgshard is given, and what it has to answer."""
 
+import resource
 from dataclasses import dataclass
 
 from programs import pgshard
@@ -8,9 +9,9 @@ from tally import Tally
 # What check writes of a sound sharding.
 ACCEPTED = "accepted\n"
 
-# How long a run may take, and how long one whose input is so long that it would take longer if its time grew by the
-# square of that.
-SECONDS = 60
+# How long a run may take, on a machine that does much else, too; and how many seconds of a processor one whose input is
+# so long that it would take more if its time grew by the square of that.
+SECONDS = 300
 LONG_SECONDS = 20
 
 
@@ -34,7 +35,8 @@ class Outline:
 
 @dataclass(frozen=True)
 class Case:
-    """A run, with the status that it has to have, its whole output or an outline of it, and how long it may take."""
+    """A run, with the status that it has to have, its whole output or an outline of it, and how many seconds of a
+    processor it may take."""
 
     name: str
     words: tuple[str, ...]
@@ -45,7 +47,10 @@ class Case:
 
     def check(self, tally: Tally) -> None:
         """Makes the run."""
-        status, output = pgshard(*self.words, text=self.text, seconds=self.seconds)
+        before = processor_seconds()
+        status, output = pgshard(*self.words, text=self.text, seconds=SECONDS)
+        if processor_seconds() - before > self.seconds:
+            status, output = None, f"over {self.seconds} seconds of a processor\n"
         if isinstance(self.expected, Outline):
             found = status, self.expected.of(output)
             tally.check(f"{self.name}, which wrote {output!r}", found, (self.status, self.expected))
@@ -85,6 +90,12 @@ class Sized:
         nodes = sum(word in ("s", "o", "e", "n") for word in output.split())
         found = status, self.fewest <= nodes < self.end
         tally.check(f"{self.name}, of which there are {nodes}", found, (0, True))
+
+
+def processor_seconds() -> float:
+    """What the programs have used of processors that have ended."""
+    used = resource.getrusage(resource.RUSAGE_CHILDREN)
+    return used.ru_utime + used.ru_stime
 
 
 def ended(status: int | None, output: str) -> str:

@@ -11,8 +11,9 @@ from tally import Tally
 # How many connections are accepted: more than clients need that are lost and try to come back.
 CONNECTIONS = 400
 
-# How long a run may take until it listens, and from there to its end, in seconds each.
-LONGEST = 60
+# How long a run may take until it listens, and from there to its end, in seconds each, on a machine that does much
+# else, too.
+LONGEST = 300
 
 # By how much the memory may be more where some clients are rough: by this part, and by so many bytes for what is kept
 # of the connections that they have made beside the last ones.

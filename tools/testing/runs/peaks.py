@@ -13,17 +13,17 @@ from pathlib import Path
 from programs import pgshard, program
 from tally import Tally
 
-from .case import ACCEPTED, two_parts
+from .case import ACCEPTED, SECONDS, two_parts
 from .inputs import MAX_INPUT
 from .simulations import three_parts
 
 OUTPUT = Path(__file__).resolve().parent.parent.parent.parent / "docs" / "OUTPUT.md"
 
-# What the page says of a run, in megabytes, and how long a run may take, in seconds of a processor.
+# What the page says of a run, in megabytes, and how many seconds of a processor a run may take.
 FIGURE = re.compile(r"^\| `(\w+)` at all limits \| ([0-9,]+) MB \|$", re.M)
 
 MEGABYTE = 1_000_000
-SECONDS = 60
+PROCESSOR_SECONDS = 60
 
 COMMANDS = 1_000
 TABLES, COLUMNS, INDEXES, PUBLICATIONS, SUBSCRIPTIONS = 64, 100, 8, 64, 32
@@ -59,7 +59,7 @@ class Peak:
             given.write(self.text.encode())
             given.seek(0)
             ended = subprocess.run(
-                [sys.executable, "-c", MEASURED, str(most), str(SECONDS), program(), *self.words], stdin=given,
+                [sys.executable, "-c", MEASURED, str(most), str(PROCESSOR_SECONDS), program(), *self.words], stdin=given,
                 stdout=written, stderr=subprocess.PIPE)
             written.seek(0)
             return ended.returncode, written.read().decode(), int(ended.stderr)
