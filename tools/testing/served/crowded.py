@@ -15,7 +15,7 @@ from tally import Tally
 
 from . import messages
 from .clients import Connection, back_again
-from .program import SECONDS, Publication, publishing
+from .program import SECONDS, Publication, processor_time, publishing
 from .publisher import Command, Insert, Publisher, Subscriber, Update, command_text
 from .shardings import of_crowd
 
@@ -107,12 +107,6 @@ def files(count: int) -> Iterator[None]:
         yield
     finally:
         resource.setrlimit(resource.RLIMIT_NOFILE, (soft, hard))
-
-
-def processor_time(process: int) -> float:
-    """The seconds of processor time that a process has used."""
-    fields = Path(f"/proc/{process}/stat").read_text(encoding="ascii").rpartition(")")[2].split()
-    return (int(fields[11]) + int(fields[12])) / os.sysconf("SC_CLK_TCK")
 
 
 def resident(process: int) -> int:

@@ -11,7 +11,7 @@ from tally import Tally
 
 from . import messages
 from .clients import Connection, client
-from .program import SECONDS, Started, free_port, fronting, serving
+from .program import SECONDS, Started, free_port, fronting, nobody, serving
 from .publisher import Insert
 from .shardings import halves
 
@@ -165,7 +165,7 @@ def check_front(tally: Tally) -> None:
         file.write(CATALOG)
         file.flush()
         check_command_lines(tally)
-        with fronting(free_port(), "--catalog", file.name) as (front, port):
+        with nobody() as backend, fronting(backend, "--catalog", file.name) as (front, port):
             check_catalog(tally, port)
             check_packets(tally, port)
             check_extended(tally, port)

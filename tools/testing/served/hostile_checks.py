@@ -13,7 +13,7 @@ from . import messages
 from .clients import client
 from .front_checks import DONE, START, STARTUP, packet, psql
 from .load import resident
-from .program import SECONDS, Started, fronting, serving
+from .program import SECONDS, Started, fronting, nobody, processor_time, serving
 from .publisher import Insert, end_of
 from .sharding import Sharding
 from .shardings import halves
@@ -26,8 +26,12 @@ SLOW = [
     f"SELECT t.pubname FROM pg_catalog.pg_publication t WHERE t.pubname IN ({LONG // 4 * chr(39) * 2}",
     f"START_REPLICATION SLOT s0 LOGICAL 0/0 ({LONG // 2 * 'a,'}",
 ]
-# How long the others may wait meanwhile, on a machine that does other work, too.
-PATIENCE = 2
+# How many seconds of a processor the front may take meanwhile, for which the others wait.
+MOST_BUSY = 2
+
+# How many seconds a client has that does not start, how many one that is silent, and how many a publisher for its answer.
+# A front that is not run for so long gives up those that are well, too.
+TO_START, TO_SPEAK, TO_ANSWER = 3, 6, 3
 
 FILES = 64
 # More than those files allow.
@@ -65,12 +69,13 @@ def check_slow_queries(tally: Tally) -> None:
                 for made in slow, other:
                     made.send(packet(STARTUP))
                     made.receive_until(b"Z\0\0\0\x05I")
-                begin = time.monotonic()
+                before = processor_time(front.process.pid)
                 slow.send(messages.query(query))
                 other.send(messages.query("SHOW TimeZone"))
                 other.receive_until(b"Z\0\0\0\x05I")
                 slow.receive_until(b"Z\0\0\0\x05I")
-                tally.check(f"{query[:40]!r}..: it keeps nobody", time.monotonic() - begin < PATIENCE, True)
+                used = processor_time(front.process.pid) - before
+                tally.check(f"{query[:40]!r}..: it keeps nobody, with {used:.2f} s", used < MOST_BUSY, True)
         check_front_is_well(tally, "after slow queries", front)
 
 
@@ -78,7 +83,7 @@ def check_silent_publisher(tally: Tally) -> None:
     """A publisher that does not answer costs each client its connection, and nothing is left of those that vanish
     meanwhile."""
     with silent() as port:
-        with fronting(port, "--backend-timeout", "1") as (front, front_port), client(front_port) as made:
+        with fronting(port, "--backend-timeout", str(TO_ANSWER)) as (front, front_port), client(front_port) as made:
             made.send(packet(STARTUP) + messages.query(START.format(version=1)))
             frames, _ = messages.frames_of(made.receive_all())
             tally.check("what a client is told where the publisher is silent", frames[-1], LOST)
@@ -119,7 +124,7 @@ def check_silence(tally: Tally) -> None:
     """Clients that say nothing: before they have started, and in a stream. One that answers stays."""
     with (
         serving(halves([[Insert("t", (7, "eu"))]]).input(), "--connections", "20") as (_, port),
-        fronting(port, "--start-timeout", "1", "--timeout", "2") as (front, front_port),
+        fronting(port, "--start-timeout", str(TO_START), "--timeout", str(TO_SPEAK)) as (front, front_port),
         client(front_port) as waiting, client(front_port) as stopping,
     ):
         begin = time.monotonic()
@@ -127,12 +132,12 @@ def check_silence(tally: Tally) -> None:
         tally.check("what a client is told that starts nothing", waiting.receive_all(), TOO_LATE)
         frames, _ = messages.frames_of(stopping.receive_all())
         tally.check("the last frame before a silent client is given up", frames[-1][-1:], b"\1")
-        tally.check("a silent client is given up in time", 1.5 < time.monotonic() - begin < SECONDS, True)
+        tally.check("a silent client is given up in time", TO_SPEAK - 0.5 < time.monotonic() - begin < SECONDS, True)
         tally.check("nothing is left of both", settles(lambda: sockets(front), 1), True)
         tally.check("a line of the log for each", settles(lambda: len(front.log), 2), True)
         tally.check(
             "what the log says of both", [line.split(": ", 2)[-1] for line in front.log],
-            ["not started within 1 seconds\n", "the client said nothing for 2 seconds\n"])
+            [f"not started within {TO_START} seconds\n", f"the client said nothing for {TO_SPEAK} seconds\n"])
         check_front_is_well(tally, "after silent clients", front)
 
 
@@ -235,14 +240,6 @@ def vanish(port: int, given: bytes) -> None:
         for _ in range(VANISHED):
             opened.enter_context(client(port)).send(given)
         time.sleep(0.5)
-
-
-@contextlib.contextmanager
-def nobody() -> Iterator[int]:
-    """A port where nobody listens."""
-    with socket.socket() as bound:
-        bound.bind(("127.0.0.1", 0))
-        yield bound.getsockname()[1]
 
 
 @contextlib.contextmanager

@@ -1,6 +1,8 @@
 """`pgshard serve`, `pgshard publish` and tools/front, each started on a port of its own and gone afterwards."""
 
 import contextlib
+import os
+import pathlib
 import queue
 import socket
 import subprocess
@@ -95,6 +97,14 @@ def free_port() -> int:
         return taken.getsockname()[1]
 
 
+@contextlib.contextmanager
+def nobody() -> Iterator[int]:
+    """A port where nobody listens, and nobody can."""
+    with socket.socket() as bound:
+        bound.bind(("127.0.0.1", 0))
+        yield bound.getsockname()[1]
+
+
 class NotStarted(Exception):
     """A program does not listen."""
 
@@ -163,6 +173,12 @@ def fronting(backend: int, *words: str, limit: str | None = None) -> Iterator[tu
     limited = ["prlimit", limit] if limit is not None else []
     with listening([*limited, str(TOOLS / "front"), "--backend", str(backend), *words]) as program:
         yield program
+
+
+def processor_time(process: int) -> float:
+    """The seconds of processor time that a process has used."""
+    fields = pathlib.Path(f"/proc/{process}/stat").read_text(encoding="ascii").rpartition(")")[2].split()
+    return (int(fields[11]) + int(fields[12])) / os.sysconf("SC_CLK_TCK")
 
 
 def use_up(program: Started, port: int) -> None:

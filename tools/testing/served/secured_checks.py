@@ -13,8 +13,7 @@ from tally import Tally
 from . import messages
 from .clients import client
 from .front_checks import STARTUP, packet, psql
-from .hostile_checks import nobody
-from .program import fronting
+from .program import fronting, nobody
 
 PASSWORD = "a, long=password"
 DENIED = 'FATAL:  password authentication failed for user "postgres"\n'
