@@ -11,8 +11,8 @@ from tally import Tally
 
 GATE_MINUTES = pathlib.Path(__file__).resolve().parent.parent / "gate_minutes"
 
-# Is run as the prover, for long enough to be seen.
-PROVER = "#!/bin/sh\nsleep 1.2\n"
+# Is run as the prover, for long enough to be seen, also on a machine that does much else.
+PROVER = "#!/bin/sh\nsleep 5\n"
 
 # What is found of a command line in a folder.
 LINES = [

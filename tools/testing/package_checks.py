@@ -4,12 +4,12 @@ its completion, and that `make install` installs the same."""
 import gzip
 import os
 import shutil
-import socket
 import subprocess
 import tempfile
 from pathlib import Path
 
 from programs import TOOLS, program
+from served.program import NO_PORT, PORTS, free_port
 from tally import Tally
 
 ROOT = TOOLS.parent
@@ -111,27 +111,23 @@ def rights() -> dict:
 
 
 def check_serving(tally: Tally, folder: Path) -> None:
-    """serve and front, until they listen."""
+    """serve and front, until they listen. Another port is tried where somebody else has taken the first one."""
     shutil.copy(EXAMPLES / "feed.txt", folder / "away")
-    ports = free_ports()
-    serve = "serve", "--port", str(ports[0]), "shop.sql", "shop.certs", "feed.txt"
-    front = "front", "--port", str(ports[1]), "--backend", str(ports[0]), "--catalog", "shop.sql"
-    for words, port in (serve, ports[0]), (front, ports[1]):
-        running = subprocess.Popen(
-            [folder / "root" / "usr" / "bin" / "pgshard", *words], stdin=subprocess.DEVNULL, stdout=subprocess.PIPE,
-            encoding="utf-8", cwd=folder / "away", env=environment(), **rights())
-        assert running.stdout is not None
-        tally.check(f"{words[0]} listens", running.stdout.readline(), f"listening {port}\n")
-        running.terminate()
-        running.communicate()
-
-
-def free_ports() -> list[int]:
-    """Two ports that were free just now."""
-    with socket.socket() as one, socket.socket() as other:
-        for it in one, other:
-            it.bind(("127.0.0.1", 0))
-        return [it.getsockname()[1] for it in (one, other)]
+    serve = "serve", "shop.sql", "shop.certs", "feed.txt"
+    front = "front", "--backend", "1", "--catalog", "shop.sql"
+    for words in serve, front:
+        for _ in range(PORTS):
+            port = str(free_port())
+            running = subprocess.Popen(
+                [folder / "root" / "usr" / "bin" / "pgshard", *words, "--port", port], stdin=subprocess.DEVNULL,
+                stdout=subprocess.PIPE, encoding="utf-8", cwd=folder / "away", env=environment(), **rights())
+            assert running.stdout is not None
+            found = running.stdout.readline()
+            running.terminate()
+            running.communicate()
+            if found or running.returncode != NO_PORT:
+                break
+        tally.check(f"{words[0]} listens", found, f"listening {port}\n")
 
 
 def check_pages(tally: Tally, folder: Path) -> None:

@@ -130,4 +130,4 @@ def check_command_line(tally: Tally) -> None:
 
 def test(*words: str) -> subprocess.CompletedProcess[str]:
     """A run of tools/test."""
-    return subprocess.run([sys.executable, TEST, *words], capture_output=True, encoding="utf-8", timeout=60)
+    return subprocess.run([sys.executable, TEST, *words], capture_output=True, encoding="utf-8", timeout=600)

@@ -158,7 +158,7 @@ def explain(program: pathlib.Path, *words: str, WRITES: str, ENDS: str, **given)
     environment = os.environ | {"WRITES": WRITES, "ENDS": ENDS}
     answer = subprocess.run(
         [TOOLS / "explain", program, *words], stdout=subprocess.PIPE, stderr=subprocess.PIPE, env=environment,
-        encoding="utf-8", cwd=program.parent, timeout=60, **given)
+        encoding="utf-8", cwd=program.parent, timeout=300, **given)
     return answer.returncode, answer.stdout, answer.stderr
 
 
@@ -222,7 +222,7 @@ def at_terminal(command: list, given: bytes, environment: dict[str, str]) -> tup
     leader, follower = os.openpty()
     try:
         answer = subprocess.run(
-            command, input=given, stdout=subprocess.PIPE, stderr=follower, env=environment, timeout=60)
+            command, input=given, stdout=subprocess.PIPE, stderr=follower, env=environment, timeout=300)
         os.close(follower)
         return answer.returncode, answer.stdout.decode(), read_all(leader).decode().replace("\r\n", "\n")
     finally:
@@ -245,7 +245,7 @@ def read_all(terminal: int) -> bytes:
 def by_pipes(command: list, given: bytes, environment: dict[str, str]) -> tuple[int, str, str]:
     """The same without a terminal."""
     answer = subprocess.run(
-        command, input=given, stdout=subprocess.PIPE, stderr=subprocess.PIPE, env=environment, timeout=60)
+        command, input=given, stdout=subprocess.PIPE, stderr=subprocess.PIPE, env=environment, timeout=300)
     return answer.returncode, answer.stdout.decode(), answer.stderr.decode()
 
 
