@@ -1,10 +1,12 @@
 """Clients that lose their connections to `pgshard serve` and come back, and what it keeps of what they confirm."""
 
 import itertools
+import pathlib
 import time
 
 from . import messages
-from .clients import LITTLE, back_again, client
+from .clients import LITTLE, Connection, back_again, client
+from .program import SECONDS
 from .publisher import Publisher, end_of
 from .shardings import S0, S1
 from .shop import LONDON, TOKYO
@@ -16,8 +18,9 @@ HALF_READ = 5
 # How many bytes more a client reads each time before it is lost.
 MORE = 61
 
-# For how many seconds a client that doesn't read waits until what it said is heard.
-UNTIL_HEARD = 2
+# The system's connections, and its number of the state of one whose end no program has closed.
+CONNECTIONS = pathlib.Path("/proc/net/tcp")
+ESTABLISHED = "01"
 
 
 def lost_and_back(port: int, publisher: Publisher) -> Findings:
@@ -96,12 +99,28 @@ def confirms_what_is_on_its_way(port: int, publisher: Publisher) -> Findings:
         other.start(S0)
         yield from got_whole(other, publisher, S0)
         slow.send(messages.status(publisher.end()))
-        time.sleep(UNTIL_HEARD)
+        await_closed(port, slow)
         found = slow.receive_all()
         yield "whether a slow client is sent all", len(found) < len(stream), True
         yield "what it is sent", stream.startswith(found), True
     with back_again(port, S1, 0) as again:
         yield from got_whole(again, publisher, S1)
+
+
+def await_closed(port: int, made: Connection) -> None:
+    """Waits until a server has closed its end of a connection, of which the client learns only by reading."""
+    until = time.monotonic() + SECONDS
+    while is_open(port, made.opened.getsockname()[1]) and time.monotonic() < until:
+        time.sleep(0.05)
+
+
+def is_open(port: int, other: int) -> bool:
+    """Whether the connection of a port to another one has its end."""
+    for line in CONNECTIONS.read_text(encoding="ascii").splitlines()[1:]:
+        _, local, remote, state, *_ = line.split()
+        if local.endswith(f":{port:04X}") and remote.endswith(f":{other:04X}"):
+            return state == ESTABLISHED
+    return False
 
 
 def confirms_what_it_was_sent(port: int, publisher: Publisher) -> Findings:
