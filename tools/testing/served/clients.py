@@ -88,14 +88,24 @@ def client(port: int, room: int | None = None) -> Iterator[Connection]:
 
 
 @contextlib.contextmanager
-def back_again(port: int, subscriber: Subscriber, position: int) -> Iterator[Connection]:
+def back_again(
+        port: int, subscriber: Subscriber, position: int, answers: tuple[bytes, ...] = (b"E",),
+) -> Iterator[Connection]:
     """A client that has started, as one does that was lost. Where it is refused it tries again, since its slot may be
-    in use for a moment, or its position ahead of a log that grows."""
+    in use for a moment, or its position ahead of a log that grows. Its answer begins with one of some bytes then."""
     until = time.monotonic() + SECONDS
     for tries in itertools.count(1):
         with client(port) as made:
             made.start(subscriber, position)
-            if made.opened.recv(1, socket.MSG_PEEK) != b"E" or time.monotonic() > until:
+            if first_byte(made) not in answers or time.monotonic() > until:
                 yield made
                 return
         time.sleep(0.02 * tries)
+
+
+def first_byte(made: Connection) -> bytes:
+    """The first byte that comes, which is still there to be received; none where the connection ends."""
+    try:
+        return made.opened.recv(1, socket.MSG_PEEK)
+    except ConnectionError:
+        return b""

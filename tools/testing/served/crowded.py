@@ -27,6 +27,9 @@ FILES = JUNK + 500
 PATIENCE = 3 * SECONDS
 # When all have their streams: so long a rest, the processor time that it may take, and the memory, in bytes.
 REST, MOST_BUSY, MOST_MEMORY = 3.0, 0.5, 100_000_000
+# How the answer begins where a client tries again: while many wait, also the end of the connection. The system may hand
+# on a client's start only some time after its connection, and who says nothing for 0.2 seconds makes room for others.
+LATE_ANSWERS = b"E", b""
 # What junk sends: nothing, a part of a frame, a frame of which the rest never comes, and what is no frame.
 BEGINS = [b"", b"Q\0", struct.pack("!cI", b"Q", 1_000) + b"START", random.Random(1).randbytes(40)]
 
@@ -53,7 +56,7 @@ def check_crowded(tally: Tally) -> None:
                 answers.append(program.ask(f"COMMIT {', '.join(map(command_text, commands))};"))
                 publisher.commit(commands)
                 for subscriber in made.subscribers[number:number + 1]:
-                    opened[subscriber.slot] = clients.enter_context(back_again(port, subscriber, 0))
+                    opened[subscriber.slot] = clients.enter_context(back_again(port, subscriber, 0, LATE_ANSWERS))
             tally.check("answers beside junk", answers, [f"commit {at}\n" for at in range(1, len(COMMITS) + 1)])
             check_streams(tally, publisher, made.subscribers, opened)
             tally.check("how soon beside junk", time.monotonic() - began < PATIENCE, True)

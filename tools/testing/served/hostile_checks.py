@@ -29,7 +29,7 @@ SLOW = [
 # How many seconds of a processor the front may take meanwhile, for which the others wait.
 MOST_BUSY = 2
 
-# How many seconds a client has that does not start, how many one that is silent, and how many a publisher for its answer.
+# How many seconds a client has to start, how many one in a stream may be silent, and how many a publisher has to answer.
 # A front that is not run for so long gives up those that are well, too.
 TO_START, TO_SPEAK, TO_ANSWER = 3, 6, 3
 
