@@ -17,7 +17,8 @@ share = $(DESTDIR)$(PREFIX)/share
 completions = $(share)/bash-completion/completions
 
 commands = judge front explain
-modules = installation judging fronting pointing
+package = tools/pgshard_tools
+modules = . fronting installation judging pointing
 pages = pgshard pgshard-judge pgshard-serve pgshard-publish pgshard-front
 
 all:
@@ -34,7 +35,7 @@ install: $(PROGRAM)
 	$(INSTALL) -m 755 $(addprefix tools/,$(commands)) $(lib)/tools
 	$(INSTALL) -m 644 tools/catalog.sql $(lib)/tools
 	for module in $(modules); do \
-		$(INSTALL) -d $(lib)/tools/$$module && $(INSTALL) -m 644 $$(find tools/$$module -maxdepth 1 -type f ! -name '*.pyc') $(lib)/tools/$$module || exit 1; \
+		$(INSTALL) -d $(lib)/$(package)/$$module && $(INSTALL) -m 644 $$(find $(package)/$$module -maxdepth 1 -type f ! -name '*.pyc') $(lib)/$(package)/$$module || exit 1; \
 	done
 	ln -sf ../lib/pgshard/pgshard $(bin)/pgshard
 	tools/manual $(lib)/pgshard $(share)/man/man1 $(PREFIX)

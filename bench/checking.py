@@ -5,7 +5,8 @@ or no value is left, it splits by further bounds that tell nothing new and only 
 tree that is as flat as can be.
 
 In the other catalogs the last subscriber has the whole table, and all others have a large filter that no row passes,
-since it also asks for a remainder by 1 that is 1. Their certificates split by that atom, and then by those of the filter.
+since it also asks for a remainder by 1 that is 1. Their certificates split by that atom, and then by those of the
+filter.
 """
 
 import counting
@@ -84,7 +85,8 @@ def filled(count, atoms, leaf):
 
 
 def tree_of(count, spot, leaf):
-    """The tree whose further nodes are put where a subscriber takes the rows, or for a leaf `e` where no value is left."""
+    """The tree whose further nodes are put where a subscriber takes the rows, or for a leaf `e` where no value is
+    left."""
     further = sorted(set(range(2 * SUBSCRIBERS - 2)) - bounds_on_path(spot))
     tree = filled(count, further, leaf)
     return told_apart(0, SUBSCRIBERS, spot, f"o {spot}", tree) if leaf == "e 0" else told_apart(0, SUBSCRIBERS, spot, tree, "e 0")
@@ -125,7 +127,8 @@ def beside_whole(size, owner, atoms, remainder_term):
 
 
 def by_lists(size):
-    """The certificate of so many nodes where each subscriber but the last has a list of keys. No key is in two lists, and
+    """The certificate of so many nodes where each subscriber but the last has a list of keys. No key is in two lists,
+    and
     the further nodes are where one would be in the first two."""
     def tree_with(further):
         tree = f"o {LAST}"
@@ -161,7 +164,8 @@ def below_lists(size):
 
 
 def in_two_lists(size):
-    """59 lists of 100 texts of 2,005 bytes: leaves where a text of the first is in neither of two that have its halves."""
+    """59 lists of 100 texts of 2,005 bytes: leaves where a text of the first is in neither of two that have its
+    halves."""
     rows = [[100 * at + more for more in range(100)] for at in range(59)]
     rows[1][:50], rows[2][:50] = rows[0][:50], rows[0][50:]
     lists = [", ".join(f"'{'x' * 2_000}{text:05}'" for text in row) for row in rows]

@@ -14,7 +14,8 @@ from measuring import processor_time
 COUNTING = ["--tool=cachegrind", "--cache-sim=no", "--cachegrind-out-file=/dev/null"]
 PIPE = 4_096
 LINE = re.compile(r"I\s+refs:\s+([\d,]+)")
-# Copies of long texts by vectors: valgrind would count an instruction for each byte of those that a processor makes itself.
+# Copies of long texts by vectors: valgrind would count an instruction for each byte of those that a processor makes
+# itself.
 BY_VECTORS = {**os.environ, "GLIBC_TUNABLES": "glibc.cpu.x86_rep_movsb_threshold=1000000000"}
 HEAP = re.compile(r"mem_heap_B=(\d+)\nmem_heap_extra_B=(\d+)")
 
@@ -54,7 +55,8 @@ def is_waiting(process):
 
 
 def instructions_until(line, words, path):
-    """How many instructions a run takes up to about this line of its output, which it has to wait to write: it is stopped
+    """How many instructions a run takes up to about this line of its output, which it has to wait to write: it is
+    stopped
     there, so that nothing counts that it would give back at its end. None without valgrind.
 
     It is read by whole pages of a pipe that has one, so that it waits at the same place each time."""

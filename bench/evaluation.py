@@ -1,4 +1,5 @@
-"""`eval` on a million rows, beside PostgreSQL, which reads the same rows by COPY and writes what each filter says of each,
+"""`eval` on a million rows, beside PostgreSQL, which reads the same rows by COPY and writes what each filter says of
+each,
 and beside a plain program."""
 
 import os

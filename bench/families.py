@@ -1,8 +1,8 @@
 """Families of shardings that operators write, each as a catalog and as the same question for an SMT solver.
 
 A condition is a tuple: ("cmp", term, operator, literal), ("in", term, literals), ("between", term, low, high), ("null",
-column), ("and", ..), ("or", ..), ("not", condition) or ("is true", condition). A term is a column's name, or a pair of a
-column's name and a divisor for a remainder.
+column), ("and", ..), ("or", ..), ("not", condition) or ("is true", condition). A term is a column's name, or a pair of
+a column's name and a divisor for a remainder.
 """
 
 from dataclasses import dataclass
@@ -123,7 +123,8 @@ def key_lists(count, entries):
 
 
 def remainder_lists(count, entries):
-    """A list of remainders of an integer key for each subscriber but the last, which has the others and the negative ones."""
+    """A list of remainders of an integer key for each subscriber but the last, which has the others and the negative
+    ones."""
     term = ("id", count * entries)
     lists = [("in", term, [count * more + at for more in range(entries)]) for at in range(count - 1)]
     return Sharding([Column("id", "bigint", True)], lists + [("not", one_of(lists))])

@@ -21,7 +21,8 @@ def written(setup, load):
 
 
 def delivered(setup, load, path, count):
-    """The words of a run in which so many bytes of the messages come to the subscriber, its last line, and how many bytes
+    """The words of a run in which so many bytes of the messages come to the subscriber, its last line, and how many
+    bytes
     came."""
     steps = simulating.blocks(load)
     parts = [simulating.opened(load), steps["changes"], steps["takes"], [f"DELIVER 0 {count};\n"]]

@@ -1,4 +1,5 @@
-"""What it costs to tell slots of commits, up to the bytes that wait to be written, beside a plain program and PostgreSQL
+"""What it costs to tell slots of commits, up to the bytes that wait to be written, beside a plain program and
+PostgreSQL
 15's walsenders, which read the log of their server and write to sockets besides."""
 
 from dataclasses import replace

@@ -1,4 +1,5 @@
-"""`serve` with clients that throw away what they read, beside as many of PostgreSQL 15's walsenders with the same filters."""
+"""`serve` with clients that throw away what they read, beside as many of PostgreSQL 15's walsenders with the same
+filters."""
 
 import contextlib
 import selectors

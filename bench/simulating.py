@@ -23,8 +23,8 @@ ORDERS = {
     "taken": ("delivers", "changes", "takes"),
     "delivered": ("changes", "takes", "delivers"),
 }
-# The answers fill the program's buffer of 8,192 bytes three times: what came before them is written, and the program waits
-# for room in the pipe before it comes to what follows.
+# The answers fill the program's buffer of 8,192 bytes three times: what came before them is written, and the program
+# waits for room in the pipe before it comes to what follows.
 MARKER = ["TAKE 99;\n"] * 1_800
 ALL = 1_000_000_000
 
@@ -50,7 +50,8 @@ def certificates(program, catalog):
 
 
 def write_input(setup, load, parts, path):
-    """Writes an input whose script has these lists of steps, and gives how many lines are answered up to each one's end."""
+    """Writes an input whose script has these lists of steps, and gives how many lines are answered up to each one's
+    end."""
     catalog = load.catalog()
     ends, lines = [], 0
     with open(path, "w") as file:

@@ -1,4 +1,5 @@
-"""Changes of the rows of a table, each of which a slot is told of: as a catalog and a script of `simulate`, as statements
+"""Changes of the rows of a table, each of which a slot is told of: as a catalog and a script of `simulate`, as
+statements
 of a PostgreSQL server, and as the words of the program in limits/stream.rs. All three change the same rows.
 
 A row is a number and a text. The numbers of rows that come one after the other are far apart. Each slot gets an equal

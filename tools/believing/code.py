@@ -6,7 +6,7 @@ from functools import cache
 from pathlib import Path
 
 from believing.definitions import Import, import_of
-from believing.words import WORD, bound_in, names_in
+from believing.words import bound_in, names_in
 
 ITEM = re.compile(r"^ *(?:pub(?:\(crate\))? )?(?:unsafe )?(struct|enum|trait|type) (\w+)")
 CALL = re.compile(r"^ *(?:pub(?:\(crate\))? )?fn (\w+)")

@@ -125,7 +125,8 @@ def find_names(definition: Definition) -> None:
             found.extend(names_of_clause(part, "◌" in definition.name))
             definition.patterns |= patterns_of(part)
     own = {definition.name, "abbrev", "unfoldable", "pub", "data", "where"}
-    definition.names = [word for word in dict.fromkeys(found) if word not in own and word.split(".")[0] not in parameters]
+    definition.names = [
+        word for word in dict.fromkeys(found) if word not in own and word.split(".")[0] not in parameters]
 
 
 def parts_of(text: str, depth: int) -> list[str]:

@@ -172,7 +172,8 @@ def is_of_kit(imports: list[Import], word: str) -> bool:
 
 
 def named_type(place: Place, crate: str, read: code.Code, name: str) -> Place | None:
-    """The type or the trait that a word of the code means, which another crate may hand on; none where it is the kit's."""
+    """The type or the trait that a word of the code means, which another crate may hand on; none where it is the
+    kit's."""
     first = read.uses.get(name, "crate")
     owner = crate if first in ("crate", "super", "self") else first
     if name in BUILT_IN or not (CRATES / owner).is_dir():

@@ -1,7 +1,6 @@
 """docs/READING.md: what is computed in it, between marks. The rest of it, and each file's sentence, is by hand."""
 
 import re
-from pathlib import Path
 
 from believing import definitions
 from believing.code import Item

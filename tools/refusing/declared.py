@@ -1,4 +1,5 @@
-"""What may hide that a refusal is created: other names for it, constants, defaults, macros, and numbers for statuses."""
+"""What may hide that a refusal is created: other names for it, constants, defaults, macros, and numbers for
+statuses."""
 
 import re
 from collections.abc import Iterator

@@ -175,4 +175,3 @@ def written_list(found: Found, entries: list[Entry]) -> str:
         call = f" [{entry.call}]" if entry.call else ""
         lines.append(f"    {entry.form}{call} {entry.text}\n")
     return "".join(lines)
-

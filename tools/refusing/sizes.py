@@ -1,7 +1,7 @@
 """Requests for memory whose size is chosen: a request of an absurd size is refused with memory at hand.
 
-Calls of the library's functions that take a size are such requests, and calls of the program's own functions that pass a
-number on to one.
+Calls of the library's functions that take a size are such requests, and calls of the program's own functions that pass
+a number on to one.
 """
 
 import re

@@ -86,7 +86,8 @@ def write_package(path: Path, program: Path) -> None:
     with tempfile.TemporaryDirectory() as folder:
         root = Path(folder) / "root"
         variables = {key: value for key, value in os.environ.items() if key not in ("MAKEFLAGS", "MAKELEVEL")}
-        install: list[str | Path] = ["make", "-s", "-C", ROOT, "install", f"DESTDIR={root}", "PREFIX=/usr", f"PROGRAM={program}"]
+        install: list[str | Path] = [
+            "make", "-s", "-C", ROOT, "install", f"DESTDIR={root}", "PREFIX=/usr", f"PROGRAM={program}"]
         subprocess.run(install, check=True, stdout=subprocess.DEVNULL, env=variables)
         add_debian_files(root, program)
         build: list[str | Path] = ["dpkg-deb", "--root-owner-group", "--build", root, path]

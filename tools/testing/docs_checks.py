@@ -55,7 +55,6 @@ def check_documents(tally: Tally) -> None:
         missing = sorted({word for word in QUOTED.findall(text) if is_missing(document, word, known)})
         tally.check(f"what {document.relative_to(ROOT)} names and is not there", missing, [])
 
-
     check_citations(tally)
     check_drawing(tally)
     figures = {figure for document in documents for figure in BUILD.findall(document.read_text(encoding="utf-8"))}

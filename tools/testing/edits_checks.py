@@ -1,4 +1,5 @@
-"""That each must-fail edit and each wrong body still applies: every old text occurs in its file exactly once. Whether the
+"""That each must-fail edit and each wrong body still applies: every old text occurs in its file exactly once. Whether
+the
 prover refuses it is what `rt ci` and tools/wrong_bodies say."""
 
 import pathlib

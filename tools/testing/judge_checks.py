@@ -1,4 +1,5 @@
-"""What judge says of keywords as names, of files and programs that are not there, and of tables that are not decided."""
+"""What judge says of keywords as names, of files and programs that are not there, and of tables that are not
+decided."""
 
 import pathlib
 import tempfile

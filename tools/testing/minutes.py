@@ -1,4 +1,5 @@
-"""What a run of the gate costs: the processor minutes of each crate's proofs, must-fail edits and tests, where a seed is
+"""What a run of the gate costs: the processor minutes of each crate's proofs, must-fail edits and tests, where a seed
+is
 the check of a crate that its edits begin with.
 
 They are added up from what /proc says of the prover's processes, twice a second. So what a process does in its last

@@ -125,7 +125,8 @@ def run_parts(tally: Tally, parts: Sequence[Part], shares: Shared) -> None:
 
 @contextlib.contextmanager
 def ended_within(seconds: int) -> Iterator[None]:
-    """What takes longer raises TimeoutError. Where this does not end it either, the program shows what each of its threads
+    """What takes longer raises TimeoutError. Where this does not end it either, the program shows what each of its
+    threads
     waits for, and exits."""
     def raise_late(number: int, frame: object) -> None:
         raise TimeoutError(f"no end within {seconds} seconds")

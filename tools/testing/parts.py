@@ -5,8 +5,21 @@ It takes the tally, and also the server where the part needs one.
 """
 
 from part_runner import (
-    CALL_DRIVER, C_COMPILER, DPKG, JSONSCHEMA, MAKE, MYPY, PGJDBC, PGLAST, POSTGRESQL, PROGRAM, PSYCOPG2, REFUSED_CALLS,
-    SERVER, SETUPTOOLS, Part
+    C_COMPILER,
+    CALL_DRIVER,
+    DPKG,
+    JSONSCHEMA,
+    MAKE,
+    MYPY,
+    PGJDBC,
+    PGLAST,
+    POSTGRESQL,
+    PROGRAM,
+    PSYCOPG2,
+    REFUSED_CALLS,
+    SERVER,
+    SETUPTOOLS,
+    Part,
 )
 
 PARTS = [

@@ -12,9 +12,9 @@ from tally import Tally
 
 sys.path.insert(0, str(TOOLS))
 
-from pointing.certificates import place_of_fault, place_of_node
-from pointing.lines import explained
-from pointing.source import Source
+from pgshard_tools.pointing.certificates import place_of_fault, place_of_node
+from pgshard_tools.pointing.lines import explained
+from pgshard_tools.pointing.source import Source
 
 CATALOG = """\
 CREATE TABLE t (

@@ -26,7 +26,8 @@ def each(function: Callable[[Given], Answer], given: Sequence[Given]) -> Iterato
 
 
 def end_by_signals() -> None:
-    """From here on a signal that asks this process to end ends it at once. An exit, as the program that started it makes of
+    """From here on a signal that asks this process to end ends it at once. An exit, as the program that started it
+    makes of
     such a signal, could come while the process holds a lock that the others wait for."""
     for ending in ENDINGS:
         signal.signal(ending, signal.SIG_DFL)

@@ -18,7 +18,7 @@ NEEDED = "ensurepip, setuptools, wheel"
 ROOT = TOOLS.parent
 CATALOG = ROOT / "examples" / "shop.sql"
 FILES = ["pyproject.toml", "README.md", "VERSION"]
-PACKAGES = ["installation", "judging", "fronting", "pointing"]
+PACKAGE = "pgshard_tools"
 
 Imports = dict[str, set[str]]
 
@@ -46,8 +46,7 @@ def installed(folder: pathlib.Path) -> pathlib.Path:
     (copy / "tools").mkdir(parents=True)
     for name in FILES:
         shutil.copy2(ROOT / name, copy / name)
-    for name in PACKAGES:
-        shutil.copytree(TOOLS / name, copy / "tools" / name, ignore=shutil.ignore_patterns("__pycache__"))
+    shutil.copytree(TOOLS / PACKAGE, copy / "tools" / PACKAGE, ignore=shutil.ignore_patterns("__pycache__"))
     python = python_with(NEEDED)
     assert python is not None
     subprocess.run([python, "-m", "venv", "--system-site-packages", environment], check=True)

@@ -9,8 +9,8 @@ has to find one there. Elsewhere a row has to be one that none or several take, 
 search over boundary values finds such a row.
 
 A filter is a tuple: ("!", f), ("&", f, g), ("|", f, g), ("true", f), ("false", f), ("unknown", f), or an atom: ("null",
-column), ("cmp", column, divisor, operator, literal), ("in", column, divisor, literals), ("between", column, divisor, low,
-high), ("distinct", column, divisor, literal). A divisor of 0 is for the column itself.
+column), ("cmp", column, divisor, operator, literal), ("in", column, divisor, literals), ("between", column, divisor,
+low, high), ("distinct", column, divisor, literal). A divisor of 0 is for the column itself.
 """
 
 import argparse

@@ -1,4 +1,5 @@
-"""That docs/READING.md names the definitions that give the main theorems their meaning, and that tools/reading finds them."""
+"""That docs/READING.md names the definitions that give the main theorems their meaning, and that tools/reading finds
+them."""
 
 import pathlib
 import shutil
@@ -94,8 +95,8 @@ pub fn build(tower: &mut Tower) -> bool
 """
 
 
-# Premises, and a name that is gone, each of which the page has to show or to miss: the file, a text of it, what is put in
-# its place, and what tools/reading says then.
+# Premises, and a name that is gone, each of which the page has to show or to miss: the file, a text of it, what is put
+# in its place, and what tools/reading says then.
 DIFFERS = "docs/READING.md differs from the definitions"
 PLANTS = {
     "a new requires": (

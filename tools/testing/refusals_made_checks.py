@@ -1,4 +1,5 @@
-"""That each refusal of memory or of a device is made of the error of a request, and that tools/refusals_made sees a body
+"""That each refusal of memory or of a device is made of the error of a request, and that tools/refusals_made sees a
+body
 that gives up without one."""
 
 import sys

@@ -93,7 +93,8 @@ def unconnected(text: str) -> str:
 
 
 def is_compared(tally: Tally, server: Server, number: int, text: Text) -> bool:
-    """Whether the server takes both texts of a catalog, and so has to have the same of both. It refuses what is shown only
+    """Whether the server takes both texts of a catalog, and so has to have the same of both. It refuses what is shown
+    only
     where it refuses the catalog's own text for the same reason, as for a key of over 32 columns."""
     status, shown = pgshard("show", text=text.text)
     tally.check(f"show of catalog {number}", status, 0)

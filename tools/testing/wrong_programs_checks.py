@@ -70,7 +70,8 @@ def failures(wrong: str, check: Callable[[Tally], object]) -> int:
 
 
 def check_ignored_byte(tally: Tally) -> None:
-    """What a program writes of a stream with each byte changed, if it is right, and if it ignores what a byte is changed
+    """What a program writes of a stream with each byte changed, if it is right, and if it ignores what a byte is
+    changed
     to: it answers one change of a byte as another."""
     stream = min(STREAMS.values(), key=len)
     right = list(Changes(stream).answers())

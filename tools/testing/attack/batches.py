@@ -91,7 +91,6 @@ def loop(place: Place, name: str) -> tuple[str, ...]:
         f"OPTIONS (user '{user}', password_required 'false')")
 
 
-
 def attack(
     place: Place, name: str, seed: int, draw: Callable[[random.Random], Draw], count: int, locale: str | None = None,
 ) -> Result:

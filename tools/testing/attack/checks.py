@@ -1,4 +1,5 @@
-"""The part of tools/test: 300 random tables and 30 trees of partitions, with a new seed each time unless one is given."""
+"""The part of tools/test: 300 random tables and 30 trees of partitions, with a new seed each time unless one is
+given."""
 
 import os
 import re

@@ -134,7 +134,8 @@ def of_regions(database: Database, table: Judged) -> Iterator[Finding]:
 
 
 def of_faults(database: Database, table: Judged) -> Iterator[Finding]:
-    """Each row that goes to nobody or to several is in one of the listed regions, with these takers; no other row is."""
+    """Each row that goes to nobody or to several is in one of the listed regions, with these takers; no other row
+    is."""
     regions = [(rows.replace("all rows", "true"), taking) for rows, taking in table.verdict.faults or ()]
     if not regions:
         return

@@ -22,7 +22,8 @@ class Verdict:
     row: dict[str, str] | None = None
     takers: list[str] = field(default_factory=list)
     regions: list[tuple[str, str]] = field(default_factory=list)
-    # All regions that go to nobody or to several, as conditions with the takers, if they are known and no more are left.
+    # All regions that go to nobody or to several, as conditions with the takers, if they are known and no more are
+    # left.
     faults: list[tuple[str, list[str]]] | None = None
     # Rows at which a filter fails, in words.
     failing: list[str] = field(default_factory=list)

@@ -13,7 +13,7 @@ import threading
 import time
 from collections.abc import Iterator
 
-from server import environment, server, stop_on_endings
+from server import server, stop_on_endings
 
 from . import batches
 from .batches import Place, Result

@@ -4,8 +4,17 @@ import pathlib
 from collections.abc import Iterator
 
 from . import (
-    book_limits, catalog_limits, connection_limits, frame_limits, memos, message_limits, orders, pieces, reading_limits,
-    sharding_limits)
+    book_limits,
+    catalog_limits,
+    connection_limits,
+    frame_limits,
+    memos,
+    message_limits,
+    orders,
+    pieces,
+    reading_limits,
+    sharding_limits,
+)
 from .table import Call, calls_of
 
 FOLDER = pathlib.Path(__file__).resolve().parent

@@ -1,8 +1,20 @@
 """Streams that a publisher may send, from the first byte on."""
 
 from served.messages import (
-    COPY_BOTH_RESPONSE, begin, commit, delete, error_response, frame, insert, keepalive, relation, truncate, tuple_of,
-    update, xlog_data)
+    COPY_BOTH_RESPONSE,
+    begin,
+    commit,
+    delete,
+    error_response,
+    frame,
+    insert,
+    keepalive,
+    relation,
+    truncate,
+    tuple_of,
+    update,
+    xlog_data,
+)
 
 OID = 16_384
 

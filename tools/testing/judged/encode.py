@@ -10,11 +10,11 @@ import sys
 sys.dont_write_bytecode = True
 sys.path.insert(0, str(pathlib.Path(__file__).resolve().parent.parent.parent))
 
-from judging import catalogs, database, facts, formulas, laws, printing
-from judging.faults import Unread
-from judging.rewriting import rewritten
-from judging.session import Session
-from judging.terms import Reader
+from pgshard_tools.judging import catalogs, database, facts, formulas, laws, printing
+from pgshard_tools.judging.faults import Unread
+from pgshard_tools.judging.rewriting import rewritten
+from pgshard_tools.judging.session import Session
+from pgshard_tools.judging.terms import Reader
 
 # Filters in one catalog: they have at most 64 conditions together.
 FILTERS = 4

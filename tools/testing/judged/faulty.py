@@ -20,7 +20,6 @@ class Faulty:
     without_row: int = 0
 
 
-
 def fields(column: str, first: int) -> str:
     """Each second interval of a column."""
     return " OR ".join(f"{column} BETWEEN {it * 5} AND {it * 5 + 3}" for it in range(first, 16, 2))

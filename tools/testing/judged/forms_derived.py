@@ -1,6 +1,6 @@
 """Filters whose functions are derived: a comparison of the result is one of the column itself. Rows at all edges."""
 
-from judged.forms import DATES, LARGE, MIDDLE, SMALL, TIMES, TEXTS, Group, pairs, values
+from judged.forms import DATES, LARGE, MIDDLE, SMALL, TEXTS, TIMES, Group, pairs, values
 
 MORE_DATES = [*DATES, "'4714-12-01 BC'", "'4713-01-01 BC'", "'0001-12-30 BC'", "'2023-12-24'", "'2024-01-07'", "'2024-01-08'",
               "'2024-03-31'", "'2024-04-01'", "'2024-12-31'", "'2025-01-01'", "'294276-12-31'", "'-infinity'"]
@@ -134,7 +134,7 @@ DERIVED = [
                 ["NULL", "0", "0.5", "1.5", "-2.5", "100"])], [
         "a <@ int4range(0, 100)", "int4range(1, 5) @> a", "a <@ '[1,5)'::int4range", "a <@ '(1,5]'::int4range", "n <@ '[0,100)'::numrange",
         "n <@ '(0.5,1.49]'::numrange", "n <@ '[0,NaN]'::numrange", "b <@ '[0,1000)'::int8range", "num_nulls(a, b) = 0", "num_nonnulls(a, b, c) > 1",
-        "num_nonnulls(a, b) = 1", "b::integer > 5", "b::smallint = 1", "a::boolean", "NOT a::boolean", "floor(n) = 1", "round(n, 1) = 0.5", 
+        "num_nonnulls(a, b) = 1", "b::integer > 5", "b::smallint = 1", "a::boolean", "NOT a::boolean", "floor(n) = 1", "round(n, 1) = 0.5",
         "f::integer = 2", "to_hex(a) = '1'", "floor(f) < 1", "gcd(c, 4) = 4", "div(n, 2) = 0", "mod(n, 5) = 0",
         "c::integer > 0",
     ]),

@@ -4,7 +4,6 @@ Rows have values at the edges of their types, and others by chance; the server i
 """
 
 import json
-import os
 import random
 import re
 import subprocess
@@ -33,8 +32,8 @@ NAMED = {
     "inet": ["'10.0.0.1'", "'10.1.0.1'", "'192.168.0.1'", "'128.0.0.0/1'"], "cidr": ["'10.0.0.0/9'"],
     "numeric": ["0", "1", "99.99", "100", "5.5", "4"], "_int4": ["'{}'", "'{1}'", "'{1,2}'", "'{5}'", "'{NULL}'", "'{1,2,3,4}'"],
 }
-# Functions that go on where the server fails: the value of a filter at a row, the rows at which not just one filter is TRUE,
-# and whether a statement is refused.
+# Functions that go on where the server fails: the value of a filter at a row, the rows at which not just one filter is
+# TRUE, and whether a statement is refused.
 PREPARED = """
     CREATE FUNCTION told(filter text, source text, number integer) RETURNS boolean LANGUAGE plpgsql AS $body$
     DECLARE found boolean;
@@ -92,7 +91,8 @@ def check_application(tally: Tally, server: Server, application: Application) ->
 
 
 def check_topic(tally: Tally, server: Server, topic: Topic) -> list[str]:
-    """Filters of one topic, each of which has a table with one publication of the rows that it lets pass, and one of the
+    """Filters of one topic, each of which has a table with one publication of the rows that it lets pass, and one of
+    the
     others. Where the table has no NULL, these are NOT of the filter."""
     database = f"forms_{topic.name}"
     server.create(database, f"ALTER DATABASE {database} SET client_min_messages = error; {PREPARED} CREATE TABLE source "
@@ -163,7 +163,8 @@ def value_of(column: list[str], chance: random.Random) -> str:
 
 
 def check_rows(tally: Tally, server: Server, database: str, asked: list[tuple[str, list[str], str]]) -> None:
-    """Where judge says sound, no row goes to nobody or to several: of each the rows, the filters, and what it is. A row at
+    """Where judge says sound, no row goes to nobody or to several: of each the rows, the filters, and what it is. A row
+    at
     which a filter fails ends the replication, and is none of these."""
     statements = []
     for source, filters, _ in asked:

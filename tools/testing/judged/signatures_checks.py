@@ -1,4 +1,5 @@
-"""Each row of judge's table of functions and operators, on a server: at the edges of its types, with nulls, and with empty
+"""Each row of judge's table of functions and operators, on a server: at the edges of its types, with nulls, and with
+empty
 and infinite values, it is NULL where the table says so, fails only where the table says so, and goes by no setting."""
 
 import itertools
@@ -17,7 +18,7 @@ from tally import Tally
 
 sys.path.insert(0, str(TOOLS))
 
-from judging.signatures import FUNCTIONS, NAMES, NEGATIONS, OPERATORS, PARTS, Row
+from pgshard_tools.judging.signatures import FUNCTIONS, NAMES, NEGATIONS, OPERATORS, PARTS, Row
 
 # So many calls of one function, by chance where there are more.
 MOST_CALLS = 300

@@ -140,18 +140,18 @@ def rest_of(letter: bytes, left: Bytes) -> Message:
     """What comes after a message's letter."""
     match letter:
         case b"B":
-            lsn, _time, _number = left.number(8), left.number(8), left.number(4)
+            lsn, _, _ = left.number(8), left.number(8), left.number(4)
             return Begin(lsn)
         case b"C":
             left.one_of(b"\0")
-            lsn, end, _time = left.number(8), left.number(8), left.number(8)
+            lsn, end, _ = left.number(8), left.number(8), left.number(8)
             return Commit(lsn, end)
         case b"R":
             return relation_of(left)
         case b"I" | b"U" | b"D":
             return change_of(letter, left)
         case b"T":
-            count, _options = left.count(4), left.take(1)
+            count, _ = left.count(4), left.take(1)
             return Truncate(tuple(left.number(4) for _ in range(count)))
     raise unknown(letter)
 

@@ -101,4 +101,3 @@ def counter_row(table: Table, shares: list[str | Filter | None]) -> Row | None |
     if rows is None:
         return False
     return next((row for row in rows if len(owners(shares, row)) != 1), None)
-

@@ -9,8 +9,17 @@ from collections import Counter
 from .catalogs import Catalog, Row
 from .connections import Connection, count_of, end_of
 from .messages import (
-    BEGIN, COMMIT, COPY_BOTH, KEEPALIVE, STATUS, change_length, position_text, relation_length, start_length,
-    truncate_length)
+    BEGIN,
+    COMMIT,
+    COPY_BOTH,
+    KEEPALIVE,
+    STATUS,
+    change_length,
+    position_text,
+    relation_length,
+    start_length,
+    truncate_length,
+)
 from .passing import shares_of, takes
 from .tables import Change, Database, Rows
 from .values import written_row

@@ -18,7 +18,6 @@ from .coverage import WANTED
 from .plan import CASES, case_of, kind_of
 from .running import Answer, compiled, program, run
 
-
 # Of so many cases that fail, what is wrong is shown.
 MOST_SHOWN = 20
 

@@ -150,5 +150,3 @@ def meet_line(met: Met, line: str) -> None:
         beginning = next((it for it in BEGINNINGS if line.startswith(it)), None)
         if beginning is not None:
             met[f"the answer {beginning}.."] += 1
-
-

@@ -15,7 +15,8 @@ from .meeting import meet_catalog
 
 
 def case(chance: random.Random) -> "ShownCase":
-    """A catalog of any kind, or one that is sound. Some publications also carry the schema of a table that they name."""
+    """A catalog of any kind, or one that is sound. Some publications also carry the schema of a table that they
+    name."""
     maker = CatalogMaker(chance)
     number = tables(chance)
     if chance.random() < 0.4:

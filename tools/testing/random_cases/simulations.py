@@ -16,6 +16,7 @@ from .catalogs import CatalogMaker, tables
 from .checks import MOST_ATOMS, certificates_of
 from .meeting import meet_catalog, meet_script
 from .scripts import ScriptMaker, ScriptText
+
 MOST_PUBLICATIONS = 64
 
 # No step is added to a script whose texts have more: an input has at most 16,777,216 bytes.

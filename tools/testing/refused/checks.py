@@ -8,7 +8,9 @@ from random_cases.running import compiled, program
 from tally import Tally
 
 from .cases import Case, cases
-from .publishes import Publishing, fault_of as fault_of_publish, is_whole, refused_publishes
+from .publishes import Publishing
+from .publishes import fault_of as fault_of_publish
+from .publishes import is_whole, refused_publishes
 from .publishes import refused_threads as threads_of_publish
 from .running import NO_MEMORY, Answer, Refusal, refused_runs, run
 from .serves import LONG_IDLE_SECONDS, SHOP, Serving, refused_serves, refused_threads

@@ -6,8 +6,27 @@ Each file has a topic, and its function `cases` gives the topic's runs.
 from tally import Tally
 
 from . import (
-    certificates, checks, command_lines, families, filters, forms, inputs, inserts, limits, loads, long, losses, makes,
-    memory, most, peaks, rows, serves, shows, simulations)
+    certificates,
+    checks,
+    command_lines,
+    families,
+    filters,
+    forms,
+    inputs,
+    inserts,
+    limits,
+    loads,
+    long,
+    losses,
+    makes,
+    memory,
+    most,
+    peaks,
+    rows,
+    serves,
+    shows,
+    simulations,
+)
 
 TOPICS = [
     checks, certificates, shows, forms, makes, families, simulations, losses, serves, loads, rows, inserts, filters,

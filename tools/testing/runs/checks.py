@@ -3,7 +3,7 @@
 from collections.abc import Iterator
 
 from .case import ACCEPTED, Case, two_parts
-from .catalogs import C, INDEXED, REGIONS, halves
+from .catalogs import INDEXED, REGIONS, C, halves
 
 # As C, where the second half is named by two conditions.
 THREE = "s 0 s 1 e 0 s 2 e 0 o 0 n 2 n 1 s 1 o 1 s 2 o 1 e 0 n 2 n 1 n 0\n"
@@ -91,7 +91,8 @@ def one_after_another(last: int) -> str:
     return f"{splits}o {last}{ends}\n"
 
 
-# As HALVES: atoms that are met again on a path, that are open again after their split, and that are in conditions often.
+# As HALVES: atoms that are met again on a path, that are open again after their split, and that are in conditions
+# often.
 PATHS: list[tuple[str, str, str, int, str]] = [
     (LOW, NOT_LOW, "s 0 o 0 o 1 n 0\n", 0, ACCEPTED),
     (LOW, NOT_LOW, "s 0 o 1 o 0 n 0\n", 1, "refused NotOwner public.t 1\n"),

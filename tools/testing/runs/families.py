@@ -186,7 +186,8 @@ def cases() -> Iterator[Case | Made | Sized]:
             yield Made(f"make of {name}", text)
         else:
             yield Case(f"make of {name}", ("make",), text, 1, Outline("counter public.t ("))
-    # A certificate for n pairs has at least 6 * 2^n - 5 nodes, for 12 so many that splits are no longer chosen with care.
+    # A certificate for n pairs has at least 6 * 2^n - 5 nodes, for 12 so many that splits are no longer chosen with
+    # care.
     for count, fewest in [(1, 7), (4, 91), (12, 24_571)]:
         yield Sized(f"nodes for {count} pairs", catalog(*pairs(count)), fewest, 2 * fewest + 2)
     yield Sized("nodes for 32 ranges", catalog(ID, ranges(32)), 1, 2_000)

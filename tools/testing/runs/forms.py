@@ -56,7 +56,8 @@ FORMS: list[tuple[str, list[str], list[tuple[str, str]]]] = [
         ("s 0 s 1 e 0 e 0 n 1 e 0 e 0", "NotEmpty public.t 2"),
         ("s 0 s 1 s 2 e 0 e 0 n 2 e 0 n 1 e 0 e 0", "NotEmpty public.t 4"),
     ]),
-    # What differs from each truth value is null, which a column may be, or is not by its declaration or by what was found.
+    # What differs from each truth value is null, which a column may be, or is not by its declaration or by what was
+    # found.
     (f"{ID}, ok boolean NOT NULL", EXACTLY, [(TRUE_OR_FALSE, "")]),
     (f"{ID}, ok boolean", EXACTLY, [(TRUE_OR_FALSE, "NotEmpty public.t 2")]),
     (f"{ID}, ok boolean", [*EXACTLY, "ok IS NULL"], [(AFTER_NULLS, "")]),

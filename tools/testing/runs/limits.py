@@ -236,7 +236,8 @@ def wide_row(key: int, texts: list[str]) -> str:
 
 
 def simulation_of_pieces() -> Case:
-    """A row of 98 longest texts comes, goes and comes. What tells a subscriber of that is 19 MB, and is delivered in one
+    """A row of 98 longest texts comes, goes and comes. What tells a subscriber of that is 19 MB, and is delivered in
+    one
     piece but for its last byte; then the connection is lost, and another one brings the last commit."""
     row = (1, *[f"{number}".ljust(MAX_TEXT, "y") for number in range(98)])
     columns = (Column("id", "integer", True), *(Column(f"c{number}", "text", False) for number in range(98)))

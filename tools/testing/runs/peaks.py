@@ -1,6 +1,6 @@
 """Runs at all limits of a catalog together, with inputs as long as they may be: 64 tables of 100 columns and 8 unique
-indexes, 64 publications, 32 subscriptions, 64 atoms and 1,000 nodes in the filters of each table. Each run takes no more
-memory than docs/OUTPUT.md says, and none is refused where it may take twice that."""
+indexes, 64 publications, 32 subscriptions, 64 atoms and 1,000 nodes in the filters of each table. Each run takes no
+more memory than docs/OUTPUT.md says, and none is refused where it may take twice that."""
 
 import re
 import subprocess

@@ -3,7 +3,7 @@
 from collections.abc import Iterator
 
 from .case import Case
-from .catalogs import C, INDEXED, halves
+from .catalogs import INDEXED, C, halves
 
 # Rows go to s0 where the number is below 100, and else to s1.
 B = halves(" WHERE (id < 100)", " WHERE (id >= 100)")

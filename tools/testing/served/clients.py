@@ -10,7 +10,6 @@ from . import messages
 from .program import SECONDS
 from .publisher import Subscriber
 
-
 # How little room a client may have for what it does not read, in bytes.
 LITTLE = 4096
 

@@ -1,4 +1,5 @@
-"""`pgshard publish` beside junk: a thousand connections that ask for nothing, and six subscribers that get their streams."""
+"""`pgshard publish` beside junk: a thousand connections that ask for nothing, and six subscribers that get their
+streams."""
 
 import contextlib
 import os

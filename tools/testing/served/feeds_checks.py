@@ -15,8 +15,8 @@ from tally import Tally
 
 from .feeds import Cuts, cutting_some, workload
 from .program import Started, fronting, serving
-from .secured_checks import PASSWORD, make_certificate
 from .publisher import Subscriber
+from .secured_checks import PASSWORD, make_certificate
 from .sharding import Sharding
 from .shop import FILTERS, SHOP
 from .subscribers_checks import SETTINGS, transaction_text

@@ -247,4 +247,3 @@ def silent() -> Iterator[int]:
     """A port where connections are made, and nothing is answered."""
     with socket.create_server(("127.0.0.1", 0), backlog=2 * VANISHED) as listener:
         yield listener.getsockname()[1]
-

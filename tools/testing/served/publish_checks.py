@@ -1,4 +1,5 @@
-"""`pgshard publish`: commits as they come, clients that come and go, and random workloads into PostgreSQL subscribers."""
+"""`pgshard publish`: commits as they come, clients that come and go, and random workloads into PostgreSQL
+subscribers."""
 
 import contextlib
 import dataclasses

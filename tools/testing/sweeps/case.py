@@ -4,7 +4,9 @@ import random
 from collections import Counter
 from collections.abc import Iterator
 
-from model.catalogs import Catalog, Column, Filter, Publication, Row as Values, Subscription, Table
+from model.catalogs import Catalog, Column, Filter, Publication
+from model.catalogs import Row as Values
+from model.catalogs import Subscription, Table
 from model.certificates import text_of
 from model.making import certificate
 from model.passing import eval_line, shares_of

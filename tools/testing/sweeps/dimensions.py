@@ -1,8 +1,8 @@
 """The dimensions of an input with all their values, and a set of cases that has each value of each dimension.
 
-A case has a value of each dimension. All pairs of values of two dimensions would be far too many cases: texts and numbers
-alone have 140,000. So the values of a dimension are divided into six bands, and the cases have each pair of bands of
-each two dimensions.
+A case has a value of each dimension. All pairs of values of two dimensions would be far too many cases: texts and
+numbers alone have 140,000. So the values of a dimension are divided into six bands, and the cases have each pair of
+bands of each two dimensions.
 """
 
 import itertools
@@ -16,7 +16,8 @@ Row = dict[str, int]
 
 
 def numbers() -> list[int]:
-    """Powers of two and of ten, their neighbours, and the same below zero, as far as numbers are read: the least of bigint
+    """Powers of two and of ten, their neighbours, and the same below zero, as far as numbers are read: the least of
+    bigint
     is not, as docs/OUTPUT.md says."""
     powers = [2**exponent for exponent in range(64)] + [10**exponent for exponent in range(19)]
     near = {sign * power + more for power in powers for sign in (1, -1) for more in (-1, 0, 1)}
@@ -40,7 +41,8 @@ DIMENSIONS: dict[str, Sequence[int]] = {
 
 
 def rows() -> list[Row]:
-    """The cases: each dimension goes through its values in an order by chance, and then again, to the longest one's end.
+    """The cases: each dimension goes through its values in an order by chance, and then again, to the longest one's
+    end.
     No subscription is without a publication of its own."""
     chance = random.Random(SEED)
     columns = {name: in_turn(chance, list(values), len(DIMENSIONS["number"])) for name, values in DIMENSIONS.items()}

@@ -1,13 +1,9 @@
 """Catalogs of servers for tests, in the form that reading.sql prints."""
 
-import pathlib
-import sys
 from typing import Any
 
-sys.path.insert(0, str(pathlib.Path(__file__).resolve().parent.parent.parent))
-
-import judging.meanings
-from judging.database import Database
+from pgshard_tools.judging import meanings
+from pgshard_tools.judging.database import Database
 
 ALL = ["insert", "update", "delete", "truncate"]
 
@@ -57,14 +53,14 @@ class Nothing(dict):
         return []
 
 
-class Meanings(judging.meanings.Meanings):
+class Meanings(meanings.Meanings):
     """What a server says of the comparisons of integers, by their OIDs there, and of nothing else."""
 
     def __init__(self) -> None:
         super().__init__(None, database([], []))
 
     def asked(self, query: str) -> Any:
-        if query == judging.meanings.TREES:
+        if query == meanings.TREES:
             return Nothing()
         return Nothing(operators=[
             {"oid": oid, "name": name, "is_own": True, "arguments": ["int4", "int4"], "result": "bool",

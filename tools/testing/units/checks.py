@@ -10,7 +10,7 @@ from tally import Tally
 FOLDER = pathlib.Path(__file__).resolve().parent
 
 # What is installed of tools/
-INSTALLED = ["installation", "judging", "fronting", "pointing", "judge"]
+INSTALLED = ["pgshard_tools", "judge"]
 
 
 def check_types(tally: Tally) -> None:
@@ -27,8 +27,9 @@ def check_units(tally: Tally) -> None:
     """Each file of tests is one check."""
     python = python_with("pglast")
     assert python is not None
+    environment = os.environ | {"PYTHONDONTWRITEBYTECODE": "1", "PYTHONPATH": str(FOLDER.parent.parent)}
     for path in sorted(FOLDER.glob("test_*.py")):
         answer = subprocess.run(
             [python, "-m", "unittest", "-q", f"units.{path.stem}"], cwd=FOLDER.parent, capture_output=True,
-            encoding="utf-8", env=os.environ | {"PYTHONDONTWRITEBYTECODE": "1"})
+            encoding="utf-8", env=environment)
         tally.check(f"units/{path.name}", "" if answer.returncode == 0 else answer.stderr, "")

@@ -6,7 +6,7 @@ import unittest
 
 sys.path.insert(0, str(pathlib.Path(__file__).resolve().parent.parent.parent))
 
-from judging.node_trees import has_conflict, tree_of
+from pgshard_tools.judging.node_trees import has_conflict, tree_of
 
 A = "{VAR :varno 1 :varattno 1 :vartype 25 :vartypmod -1 :varcollid 950 :location 1}"
 B = "{VAR :varno 1 :varattno 2 :vartype 25 :vartypmod -1 :varcollid 951 :location 2}"

@@ -3,11 +3,10 @@
 import itertools
 import unittest
 
-from units import catalogs  # Puts the folder of judge on the path.
-from judging import bounding, comparing
-from judging.formulas import And, Compare, Const, Formula, Is, IsNull, Not, Or, Subject
-from judging.operands import Choice, Extreme, Ref, Value
-from judging.points import finite
+from pgshard_tools.judging import bounding, comparing
+from pgshard_tools.judging.formulas import And, Compare, Const, Formula, Is, IsNull, Not, Or, Subject
+from pgshard_tools.judging.operands import Choice, Extreme, Ref, Value
+from pgshard_tools.judging.points import finite
 
 VALUES = [None, 0, 1, 2]
 SUBJECTS = {it: Subject(sql=it, type="int4", columns=(it,), is_column=True) for it in "abc"}

@@ -7,10 +7,10 @@ from types import SimpleNamespace
 from typing import Any
 
 import units.catalogs  # noqa: F401 (puts tools on the path)
-from judging import divisions, picking, ranges
-from judging.codings import Coding, Integers, Remainders
-from judging.divisions import Division
-from judging.formulas import And, Const, Formula, Is, IsNull, Not, Or, Subject, Within, both
+from pgshard_tools.judging import divisions, picking, ranges
+from pgshard_tools.judging.codings import Coding, Integers, Remainders
+from pgshard_tools.judging.divisions import Division
+from pgshard_tools.judging.formulas import And, Const, Formula, Is, IsNull, Not, Or, Subject, Within, both
 
 TABLES = 150
 HIGHEST = 6

@@ -5,11 +5,11 @@ import random
 import re
 import unittest
 
+from pgshard_tools.judging import evaluating, trials
+from pgshard_tools.judging.database import Subscriber
+from pgshard_tools.judging.shares import shares_of_all
+from pgshard_tools.judging.values import constants_of, values_of
 from units.catalogs import Meanings, column, database, entry, publication, table
-from judging import evaluating, trials
-from judging.database import Subscriber
-from judging.shares import shares_of_all
-from judging.values import constants_of, values_of
 
 
 class Session:

@@ -6,13 +6,13 @@ import tempfile
 import unittest
 from unittest import mock
 
+from pgshard_tools.judging import intents, verdicts
+from pgshard_tools.judging.database import Subscriber
+from pgshard_tools.judging.faults import BAD_COMMAND, Fault
+from pgshard_tools.judging.refusals import allowing, refusals_of
+from pgshard_tools.judging.shares import shares_of_all
+from pgshard_tools.judging.verdicts import Verdict
 from units.catalogs import database, entry, publication, table
-from judging import intents, verdicts
-from judging.database import Subscriber
-from judging.faults import BAD_COMMAND, Fault
-from judging.refusals import allowing, refusals_of
-from judging.shares import shares_of_all
-from judging.verdicts import Verdict
 
 TEXT = """
 copied = ["settings"]

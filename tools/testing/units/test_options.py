@@ -2,9 +2,8 @@
 
 import unittest
 
-from units import catalogs
-from judging.faults import BAD_COMMAND, Fault
-from judging.options import options_of
+from pgshard_tools.judging.faults import BAD_COMMAND, Fault
+from pgshard_tools.judging.options import options_of
 
 
 class Connection(unittest.TestCase):

@@ -4,9 +4,8 @@ import random
 import unittest
 from fractions import Fraction
 
-from units import catalogs  # Puts the folder of judge on the path.
-from judging import ranges
-from judging.bits import bits_in, runs_of
+from pgshard_tools.judging import ranges
+from pgshard_tools.judging.bits import bits_in, runs_of
 
 CHANCE = random.Random(5)
 

@@ -2,10 +2,10 @@
 
 import unittest
 
+from pgshard_tools.judging.database import Subscriber
+from pgshard_tools.judging.refusals import refusals_of
+from pgshard_tools.judging.shares import shares_of_all
 from units.catalogs import column, database, entry, publication, table
-from judging.database import Subscriber
-from judging.refusals import refusals_of
-from judging.shares import shares_of_all
 
 
 def refused(tables, publications, *taken, version=150018, missing=()):

@@ -2,9 +2,9 @@
 
 import unittest
 
+from pgshard_tools.judging.database import OPERATIONS, Subscriber
+from pgshard_tools.judging.shares import shares_of_all
 from units.catalogs import database, entry, publication, table
-from judging.database import OPERATIONS, Subscriber
-from judging.shares import shares_of_all
 
 ROOT = table(1, "log", kind="p", identity_numbers=None)
 LOW = table(2, "log_low", ancestors=[1], partition="(id < 0)")

@@ -3,11 +3,10 @@
 import itertools
 import unittest
 
-from units import catalogs  # Puts the folder of judge on the path.
-from judging import members, steps
-from judging.formulas import And, Compare, Const, Formula, Is, Masked, Not, Or, Remainder, Subject
-from judging.ranges import numbers_of, of_numbers
-from judging.steps import Absolute, Add, Mask, Modulo, Quotient, Shift, Times
+from pgshard_tools.judging import members, steps
+from pgshard_tools.judging.formulas import And, Compare, Const, Formula, Is, Masked, Not, Or, Remainder, Subject
+from pgshard_tools.judging.ranges import numbers_of, of_numbers
+from pgshard_tools.judging.steps import Absolute, Add, Mask, Modulo, Quotient, Shift, Times
 
 # A column of numbers that are gone through; judge thinks of all that a smallint has.
 NUMBERS = range(-70, 71)

@@ -3,9 +3,9 @@
 import unittest
 from unittest import mock
 
+from pgshard_tools.judging import subscribers
+from pgshard_tools.judging.faults import BAD_COMMAND, NOT_READ, Fault
 from units.catalogs import database, publication
-from judging import subscribers
-from judging.faults import BAD_COMMAND, NOT_READ, Fault
 
 PUBLICATIONS = [publication("europe"), publication("elsewhere"), publication("a b,c")]
 START = "START_REPLICATION SLOT \"{0}\" LOGICAL 0/0 (proto_version '3', publication_names '{1}')"

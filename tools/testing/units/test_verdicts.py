@@ -5,17 +5,17 @@ import time
 import unittest
 from unittest import mock
 
+from pgshard_tools.judging import evaluating, program, verdicts
+from pgshard_tools.judging.command import status_of
+from pgshard_tools.judging.database import Subscriber
+from pgshard_tools.judging.evaluating import Outcome
+from pgshard_tools.judging.faults import Undecided
+from pgshard_tools.judging.report import lines_of
+from pgshard_tools.judging.rows import Confirmed
+from pgshard_tools.judging.shares import shares_of_all
+from pgshard_tools.judging.timing import TimeIsUp, counted, time_limit
+from pgshard_tools.judging.verdicts import Verdict
 from units.catalogs import Meanings, database, entry, publication, table
-from judging import evaluating, program, verdicts
-from judging.command import status_of
-from judging.database import Subscriber
-from judging.evaluating import Outcome
-from judging.faults import Undecided
-from judging.report import lines_of
-from judging.rows import Confirmed
-from judging.shares import shares_of_all
-from judging.timing import TimeIsUp, counted, time_limit
-from judging.verdicts import Verdict
 
 TABLE = table(1, "t")
 TWO = [publication("low", entry(1, "(id < 5)")), publication("high", entry(1, "(id > 5)"))]
@@ -110,7 +110,7 @@ class Answers(unittest.TestCase):
         self.assertEqual(found.answer, verdicts.NOT_READ)
 
     def test_texts_that_the_server_does_not_sort(self) -> None:
-        with mock.patch("judging.trials.trial_of", side_effect=Undecided("no order")):
+        with mock.patch("pgshard_tools.judging.trials.trial_of", side_effect=Undecided("no order")):
             found = verdict_of("o 0\n")
         self.assertEqual((found.answer, found.because), (verdicts.NOT_DECIDED, ["no order"]))
 
@@ -153,7 +153,7 @@ class Witnesses(unittest.TestCase):
     def search(self, outcome, made="unknown public.t\n"):
         """The verdict of a table where pgshard knows nothing, and the server says this of each row."""
         everything = mock.patch.object(evaluating, "outcomes", side_effect=lambda s, q, listed: [outcome] * len(listed))
-        values = mock.patch("judging.witnesses.taken_values", side_effect=lambda session, column, listed: listed)
+        values = mock.patch("pgshard_tools.judging.witnesses.taken_values", side_effect=lambda session, column, listed: listed)
         with everything, values:
             return verdict_of(made, confirmed=Confirmed(True, []))
 

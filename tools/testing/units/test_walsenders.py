@@ -2,8 +2,7 @@
 
 import unittest
 
-from units import catalogs
-from judging.walsenders import names_in, publication_names
+from pgshard_tools.judging.walsenders import names_in, publication_names
 
 COMMANDS = {
     "libpqwalreceiver":

@@ -2,9 +2,8 @@
 
 import unittest
 
-from units import catalogs  # Puts the folder of judge on the path.
-from judging import moments, prefixes, wholes
-from judging.points import DAY
+from pgshard_tools.judging import moments, prefixes, wholes
+from pgshard_tools.judging.points import DAY
 
 # In the order that a PostgreSQL 15 server has them, each once.
 ADDRESSES = [

@@ -1,0 +1,166 @@
+"""What a slot's clients were sent, kept in a temporary file, so that it can be sent again from its beginning."""
+
+import asyncio
+import os
+import struct
+import tempfile
+from array import array
+from bisect import bisect_left
+from collections.abc import Iterator, Sequence
+
+from pgshard_tools.fronting import frames
+from pgshard_tools.fronting.frames import Frame
+
+# Where the log begins: the first commit has this position.
+BEGIN_OF_LOG = 64
+
+# Where an XLogData has its message, and that its letter; where a Begin has the position of its commit, a Commit the end
+# of its transaction, and a Relation its OID.
+MESSAGE = 25
+LETTER = slice(25, 26)
+BEGIN_POSITION = slice(26, 34)
+COMMIT_END = slice(35, 43)
+RELATION_OID = slice(26, 30)
+# Where a keepalive has its position.
+KEPT_POSITION = slice(1, 9)
+
+# So many bytes of a transaction are kept in memory before they are written.
+PIECE = 1 << 20
+
+
+class Spool:
+    """A temporary file that all recordings write to, and that is gone with the program."""
+
+    def __init__(self) -> None:
+        self.file = tempfile.TemporaryFile(buffering=0)
+        self.end = 0
+
+    def append(self, kept: bytes | bytearray) -> int:
+        """Writes some bytes. The answer is where they begin."""
+        begin, at = self.end, 0
+        while at < len(kept):
+            at += os.pwrite(self.file.fileno(), kept[at:], begin + at)
+        self.end = begin + len(kept)
+        return begin
+
+    def read(self, begin: int, length: int) -> bytes:
+        """The bytes that were written at a place."""
+        return os.pread(self.file.fileno(), length, begin)
+
+
+class Recording:
+    """The transactions of a slot, from a position on and without a gap."""
+
+    def __init__(self, spool: Spool) -> None:
+        self.spool = spool
+        # From where on nothing is missing, None where that is not known; and up to where clients were told of the log,
+        # 0 before they were told anything.
+        self.begin: int | None = None
+        self.reach = 0
+        # The pieces of transactions: of each its transaction's position, where it is in the file, and how long it is.
+        self.positions, self.places, self.lengths = array("Q"), array("Q"), array("Q")
+        self.recorded = 0
+        self.relations: dict[bytes, bytes] = {}
+        # The transaction that is being told: its position, None between transactions and in one that is recorded
+        # already, and what of it is not written.
+        self.position: int | None = None
+        self.open = bytearray()
+        self.fault: str | None = None
+        # Set when more is recorded, or nothing more will be; the next event is a new one.
+        self.grown = asyncio.Event()
+
+    def covers(self, position: int) -> bool:
+        """Whether all is here from a position on."""
+        return self.begin is not None and self.begin <= max(position, BEGIN_OF_LOG) and self.fault is None
+
+    def fits(self, position: int) -> bool:
+        """Whether there is no gap where a stream comes from a position on."""
+        return (self.begin is None or self.begin <= max(position, BEGIN_OF_LOG)) and position <= self.reach
+
+    def take(self, told: Sequence[Frame]) -> None:
+        """Records what a client is sent. A file that cannot be written ends the recording, not the stream."""
+        for kind, body in told:
+            if kind == frames.COPY_DATA and body[:1] == frames.KEEPALIVE:
+                self.take_keepalive(number(body[KEPT_POSITION]))
+            elif kind == frames.COPY_DATA and body[:1] == frames.XLOG_DATA:
+                if body[LETTER] == b"C":
+                    self.reach = max(self.reach, number(body[COMMIT_END]))
+                if self.fault is None:
+                    self.try_message(body)
+        self.announce()
+
+    def announce(self) -> None:
+        """Wakes those that wait for more."""
+        self.grown.set()
+        self.grown = asyncio.Event()
+
+    def end(self, why: str) -> None:
+        """Ends the recording; readers get the reason."""
+        self.fault = self.fault or why
+        self.announce()
+
+    def try_message(self, body: bytes) -> None:
+        """Records a message, unless the file cannot be written."""
+        try:
+            self.take_message(body)
+        except OSError as fault:
+            self.fault = f"the temporary file cannot be written: {fault.strerror}"
+            self.open.clear()
+
+    def take_keepalive(self, position: int) -> None:
+        """Remembers how far the client is. Before anything else it says from where the stream comes."""
+        if self.reach == 0:
+            self.begin = position
+        self.reach = max(self.reach, position)
+
+    def take_message(self, body: bytes) -> None:
+        """Records a message, if its transaction is not recorded already."""
+        letter = body[LETTER]
+        if letter == b"B":
+            self.forget_unfinished()
+            position = number(body[BEGIN_POSITION])
+            self.position = position if position >= self.recorded else None
+        elif letter == b"R":
+            self.relations[body[RELATION_OID]] = body[MESSAGE:]
+        if self.position is not None:
+            self.open += frames.frame(frames.COPY_DATA, body)
+            if letter == b"C" or len(self.open) >= PIECE:
+                self.keep(self.position)
+        if letter == b"C":
+            self.recorded = max(self.recorded, number(body[COMMIT_END]))
+            self.position = None
+
+    def forget_unfinished(self) -> None:
+        """Forgets what was recorded of a transaction whose end did not come."""
+        self.open.clear()
+        while self.positions and self.positions[-1] >= self.recorded:
+            for column in self.positions, self.places, self.lengths:
+                column.pop()
+
+    def keep(self, position: int) -> None:
+        """Writes what there is of a transaction."""
+        place = self.spool.append(self.open)
+        self.positions.append(position)
+        self.places.append(place)
+        self.lengths.append(len(self.open))
+        self.open.clear()
+
+    def from_position(self, position: int) -> Iterator[bytes]:
+        """What was recorded of the transactions from a position on, with the Relations of all tables in the first, as
+        at the begin of each stream. What is recorded in the meantime comes too."""
+        first = at = bisect_left(self.positions, position)
+        while at < len(self.positions) and self.positions[at] < self.recorded:
+            piece = self.spool.read(self.places[at], self.lengths[at])
+            yield self.with_relations(piece, self.positions[at]) if at == first else piece
+            at += 1
+
+    def with_relations(self, piece: bytes, position: int) -> bytes:
+        """The first piece of a transaction with all Relations after its Begin."""
+        begin = 1 + struct.unpack_from("!I", piece, 1)[0]
+        told = [frames.xlog_data(position, relation) for relation in self.relations.values()]
+        return b"".join([piece[:begin], *told, piece[begin:]])
+
+
+def number(body: bytes) -> int:
+    """A number of the protocol."""
+    return int.from_bytes(body, "big")

@@ -1,0 +1,149 @@
+"""The slots of pgshard serve, as clients see them: made, started from, confirmed, dropped and made again.
+
+The slots themselves are fixed by the catalog, and what is confirmed of one stays confirmed. So a slot that a client
+drops starts from the beginning, out of what was recorded of its streams.
+"""
+
+import asyncio
+import re
+from dataclasses import dataclass, field
+
+from pgshard_tools.fronting import frames
+from pgshard_tools.fronting.frames import position_text
+from pgshard_tools.fronting.recording import BEGIN_OF_LOG, Recording, Spool
+from pgshard_tools.fronting.starting import Start
+
+# The slot by which a subscriber copies a table.
+COPIES = re.compile(r"pg_[0-9]{1,10}_sync_[0-9]{1,10}_[0-9]{1,20}", re.ASCII)
+# How many of those there may be; the oldest goes where there are more. And how many others, where no catalog names
+# them.
+MOST_COPIES = 1_000
+MOST_UNNAMED = 1_000
+
+ANEW = "Restart pgshard serve and tools/front together to start all slots from the beginning."
+
+
+class Refused(Exception):
+    """What a client asks of a slot is refused, by the ErrorResponse that it carries."""
+
+    def __init__(self, code: str, words: str, hint: str = "") -> None:
+        super().__init__(words)
+        self.response = frames.error(code, words, hint)
+
+
+@dataclass
+class Slot:
+    """A slot of the catalog that was asked for."""
+
+    name: str
+    recording: Recording
+    publications: frozenset[str] = frozenset()
+    # How far clients have confirmed since it was made.
+    confirmed: int = 0
+    # Up to where streams come from the recording, since the slot was dropped and pgshard serve continues from there.
+    before: int = 0
+    # Whether a client was promised that it starts from the beginning, before that was known.
+    is_promised: bool = False
+    # Set while no client uses it.
+    is_free: asyncio.Event = field(default_factory=asyncio.Event)
+
+    def __post_init__(self) -> None:
+        self.is_free.set()
+
+    def begin_of(self, start: Start) -> int:
+        """From where a stream comes that is wanted from a position on."""
+        return max(start.position, self.confirmed)
+
+    def why_not_afresh(self) -> str | None:
+        """Why it cannot be started from the log's begin, if that is known."""
+        if self.recording.fault is not None:
+            return self.recording.fault
+        if self.recording.reach == 0 or self.recording.covers(BEGIN_OF_LOG):
+            return None
+        if self.recording.begin is None:
+            return "pgshard serve did not say from where its stream came"
+        return f"its stream is known only from {position_text(self.recording.begin)} on"
+
+
+@dataclass
+class Slots:
+    """The slots that clients asked for, by their names."""
+
+    # The names that the catalog has, where it is known.
+    names: list[str] | None
+    spool: Spool = field(default_factory=Spool)
+    known: dict[str, Slot] = field(default_factory=dict)
+    # The slots of copies, and whether each is there. One that was dropped may be started again: a subscriber that loses
+    # its connection before it hears that its slot is dropped starts from that slot until it succeeds.
+    copies: dict[str, bool] = field(default_factory=dict)
+
+    def slot(self, name: str) -> Slot:
+        """A slot of the catalog, or one of which pgshard serve will say that it is not there."""
+        if self.names is not None and name not in self.names:
+            raise Refused(
+                "42704", f'replication slot "{name[:63]}" does not exist',
+                f"pgshard serve has a slot for each subscription of its catalog: {', '.join(self.names)}.")
+        return self.known.get(name) or Slot(name, Recording(self.spool))
+
+    def keep(self, slot: Slot) -> None:
+        """Keeps a slot that is there."""
+        self.known[slot.name] = slot
+
+    def make(self, name: str) -> None:
+        """Creates the slot of a subscriber's copy, or promises that one of the catalog starts from the beginning."""
+        if COPIES.fullmatch(name):
+            self.copies[name] = True
+            while len(self.copies) > MOST_COPIES:
+                del self.copies[next(iter(self.copies))]
+            return
+        slot = self.slot(name)
+        if not slot.is_free.is_set() or slot.confirmed > BEGIN_OF_LOG:
+            raise Refused(
+                "42710", f'replication slot "{name}" already exists',
+                f"It is confirmed up to {position_text(slot.confirmed)}. Drop it to start from the beginning, or use "
+                "create_slot = false to continue from there.")
+        self.promise(slot, "made")
+
+    def drop(self, name: str) -> None:
+        """Drops the slot of a subscriber's copy, or lets one of the catalog start from the beginning."""
+        if COPIES.fullmatch(name):
+            if not self.copies.get(name):
+                raise Refused("42704", f'replication slot "{name}" does not exist')
+            self.copies[name] = False
+            return
+        slot = self.slot(name)
+        if not slot.is_free.is_set():
+            raise Refused("55006", f'replication slot "{name}" is active', "Stop the client that uses it.")
+        self.promise(slot, "dropped")
+        slot.confirmed, slot.before = 0, slot.recording.reach
+
+    def promise(self, slot: Slot, done: str) -> None:
+        """Promises that a slot starts from the beginning. If that is not known yet, its next start decides it."""
+        why = slot.why_not_afresh()
+        if why is not None:
+            raise Refused(
+                "55000",
+                f'replication slot "{slot.name}" cannot be {done}, since it would not start from the beginning: {why}',
+                "To drop a subscription without its slot, use ALTER SUBSCRIPTION .. SET (slot_name = NONE) first. "
+                f"{ANEW}")
+        if self.names is None and len(self.known) >= MOST_UNNAMED and slot.name not in self.known:
+            raise Refused("53400", "too many replication slots", "Start tools/front with --catalog FILE.")
+        slot.is_promised = True
+        self.keep(slot)
+
+    def copied(self, start: Start) -> Slot:
+        """The slot whose stream a subscriber needs that copies a table."""
+        if start.slot not in self.copies:
+            raise Refused("42704", f'replication slot "{start.slot}" does not exist')
+        for slot in self.known.values():
+            if slot.publications == start.publications:
+                if slot.recording.covers(start.position):
+                    self.copies[start.slot] = True
+                    return slot
+                raise Refused(
+                    "55000", f'the rows that "{slot.name}" was sent before {position_text(slot.recording.reach)} '
+                    f"cannot be copied: {slot.why_not_afresh()}",
+                    f"Write copy_data = false if they are not needed. {ANEW}")
+        raise Refused(
+            "55000", "no slot with these publications has a stream yet, so that nothing can be copied",
+            "The subscriber tries again by itself.")

@@ -1,0 +1,34 @@
+"""Where pgshard is, and which version: in a repository, in an installed copy, or in an environment of Python."""
+
+import os
+import pathlib
+import shutil
+
+ROOT = str(pathlib.Path(__file__).resolve().parents[3])
+
+# The name of the tools as a package of Python (pyproject.toml).
+PACKAGE = "pgshard-tools"
+
+
+def version() -> str:
+    """The version, from the file VERSION, or from Python's record of the package."""
+    try:
+        with open(os.path.join(ROOT, "VERSION"), encoding="utf-8") as file:
+            return file.read().strip()
+    except OSError:
+        return version_of_package()
+
+
+def version_of_package() -> str:
+    """The version of the installed package, if there is one."""
+    from importlib import metadata
+    try:
+        return metadata.version(PACKAGE)
+    except metadata.PackageNotFoundError:
+        return "of no known version"
+
+
+def script() -> str:
+    """The script pgshard: the one beside the tools, or otherwise the one on the path."""
+    own = os.path.join(ROOT, "pgshard")
+    return own if os.path.exists(own) else shutil.which("pgshard") or "pgshard"

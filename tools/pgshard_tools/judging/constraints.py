@@ -1,0 +1,66 @@
+"""What the server enforces of each row of a table: validated CHECKs, and the bounds of a partition, or of one of
+several.
+
+Each is a text of SQL that refuses a row where it is FALSE.
+"""
+
+from collections.abc import Iterator
+
+from pgshard_tools.judging.database import Table
+from pgshard_tools.judging.parser import is_built_in
+from pgshard_tools.judging.shares import Shares
+
+BOUNDS, BOUNDS_OF_ALL = "the bounds of the partition", "the bounds of the partitions"
+
+
+def constraint_texts(shares: Shares) -> Iterator[tuple[str, str]]:
+    """The constraints by their names. The server does not enforce those of a foreign table, and its bounds only
+    where a row comes by a table above it."""
+    table = shares.table
+    for name, text in checks_of(table).items() if table["kind"] != "f" else ():
+        yield f"CHECK {name}", text
+    if shares.leaves[0] is table:
+        if table["partition"]:
+            yield BOUNDS, table["partition"]
+    elif not any(is_open(shares, it) for it in shares.leaves):
+        yield BOUNDS_OF_ALL, " OR ".join(leaf_text(shares, it) for it in shares.leaves)
+
+
+def is_open(shares: Shares, leaf: Table) -> bool:
+    """Whether a partition takes each row of its table, as a DEFAULT one without others does."""
+    return not (leaf["partition"] or leaf_checks(shares, leaf) or leaf_columns(shares, leaf))
+
+
+def bounds_of(leaf: Table) -> str:
+    """The bounds of a partition."""
+    return leaf["partition"] or "true"
+
+
+def leaf_text(shares: Shares, leaf: Table) -> str:
+    """That a row may be in a partition. Its CHECKs with functions of the database's own are not asked of."""
+    parts = [f"({bounds_of(leaf)})", *(f"(({it}) IS NOT FALSE)" for it in leaf_checks(shares, leaf) if is_built_in(it)),
+             *(f"({it} IS NOT NULL)" for it in leaf_columns(shares, leaf))]
+    return f"({' AND '.join(parts)})"
+
+
+def leaf_checks(shares: Shares, leaf: Table) -> list[str]:
+    """The CHECKs that a partition has beside those of its table."""
+    own = set(checks_of(shares.table).values())
+    return [it for it in checks_of(leaf).values() if it not in own]
+
+
+def leaf_columns(shares: Shares, leaf: Table) -> list[str]:
+    """The columns that are NOT NULL in a partition alone, as they are written."""
+    own = {it["name"] for it in shares.table["columns"] if it["not_null"]}
+    return [it["quoted"] for it in leaf["columns"] if it["not_null"] and it["name"] not in own]
+
+
+def unvalidated_checks(shares: Shares) -> dict[str, str]:
+    """The CHECKs that are NOT VALID by their names: older rows need not meet them, and the server refuses new rows."""
+    tables = [it for it in (shares.table, *shares.leaves) if it["kind"] != "f"]
+    return {check["name"]: check["text"] for it in tables for check in it["checks"] if not check["is_valid"]}
+
+
+def checks_of(table: Table) -> dict[str, str]:
+    """The validated CHECKs of a table by their names."""
+    return {it["name"]: it["text"] for it in table["checks"] if it["is_valid"]}

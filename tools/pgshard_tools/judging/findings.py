@@ -1,0 +1,22 @@
+"""What is amiss with subscriptions and slots, beside the tables."""
+
+from collections.abc import Sequence
+
+from pgshard_tools.judging.database import Database, Subscriber
+from pgshard_tools.judging.faults import NOT_SOUND
+from pgshard_tools.judging.subscribers import COPYING
+
+
+def findings_of(db: Database, listed: Sequence[Subscriber]) -> list[str]:
+    """Subscriptions that take nothing, and slots that nobody uses. A slot is told with its subscription, if there is
+    something amiss with that."""
+    told = {it.slot for it in listed if it.remarks}
+    waiting = [it for it, is_active in db.slots.items()
+               if not is_active and it not in told and not COPYING.fullmatch(it)]
+    return [*(remark for it in listed for remark in it.remarks),
+            *(f"nobody is connected to slot {it}, so the server keeps what it has not sent to it" for it in waiting)]
+
+
+def status_with(status: int, findings: Sequence[str]) -> int:
+    """The exit status of tables, and of what is amiss beside them."""
+    return NOT_SOUND if findings else status

@@ -1,0 +1,260 @@
+"""Filters as trees: what is compared, and the logic of three values above it."""
+
+from dataclasses import dataclass, field
+from typing import Any, Callable, Iterator, TypeAlias
+
+from pgshard_tools.judging.ranges import Ranges
+
+
+@dataclass(frozen=True)
+class Subject:
+    """What is compared: a column, or an expression of the server that gets a column of its own.
+
+    It is null where one of its columns is, if `is_strict`, and there alone, if `is_total` too. A subject that is not
+    a column is opaque: nothing is known of it but that.
+    """
+
+    sql: str
+    type: str
+    columns: tuple[str, ...]
+    modifier: int = -1
+    is_column: bool = False
+    is_strict: bool = True
+    is_total: bool = True
+    # Whether it is NULL nowhere, though a column is.
+    is_never_null: bool = False
+    # For the order of texts, the collation.
+    collation: str | None = None
+    # The collation that the text has by itself; by another one SQL says COLLATE.
+    own_collation: str | None = None
+    # Of an enum all that it has, in order.
+    labels: tuple[str, ...] = field(default=(), compare=False)
+    # Of whole numbers that a function has, the least and the greatest.
+    bounds: tuple[int, int] | None = None
+    # Of the type `sign`, which is that of a comparison of two subjects, their texts, and the COLLATE that it needs.
+    sides: tuple[str, ...] = ()
+    order: str = ""
+    # Of the type `bits`, which are those of a column between two places, how many there are below.
+    bits_below: int = 0
+
+
+@dataclass(frozen=True)
+class Const:
+    """True, False, or None for NULL."""
+
+    value: bool | None
+
+
+@dataclass(frozen=True)
+class Not:
+    part: "Formula"
+
+
+@dataclass(frozen=True)
+class And:
+    parts: "tuple[Formula, ...]"
+
+
+@dataclass(frozen=True)
+class Or:
+    parts: "tuple[Formula, ...]"
+
+
+@dataclass(frozen=True)
+class Is:
+    """Whether a part is TRUE, FALSE or UNKNOWN."""
+
+    test: str
+    part: "Formula"
+
+
+@dataclass(frozen=True)
+class Compare:
+    """A subject with a value: `op` is one of = < <=."""
+
+    subject: Subject
+    op: str
+    value: Any
+
+
+@dataclass(frozen=True)
+class Remainder:
+    """Whether a subject's remainder by a modulus is in some ranges of numbers, both ends included."""
+
+    subject: Subject
+    modulus: int
+    ranges: Ranges
+
+
+@dataclass(frozen=True)
+class Masked:
+    """Whether the bits of a subject that are in a mask, as a number that is not negative, are in some ranges."""
+
+    subject: Subject
+    mask: int
+    ranges: Ranges
+
+
+@dataclass(frozen=True)
+class IsNull:
+    subject: Any
+
+
+@dataclass(frozen=True)
+class Within:
+    """Whether the code of a subject is in some ranges, both ends included. Codings make it of what is above."""
+
+    coded: Any
+    ranges: Ranges
+
+
+Leaf: TypeAlias = Compare | Remainder | Masked | IsNull | Within
+Formula: TypeAlias = Const | Not | And | Or | Is | Compare | Remainder | Masked | IsNull | Within
+LEAVES = (Compare, Remainder, Masked, IsNull, Within)
+
+
+def both(*parts: Formula) -> Formula:
+    return joined(And, False, parts)
+
+
+def either(*parts: Formula) -> Formula:
+    return joined(Or, True, parts)
+
+
+def joined(kind: type[And] | type[Or], strong: bool, parts: tuple[Formula, ...]) -> Formula:
+    """AND or OR of parts, without constants that say nothing."""
+    kept: list[Formula] = []
+    for part in parts:
+        if isinstance(part, (And, Or)) and isinstance(part, kind):
+            kept.extend(part.parts)
+        elif part == Const(strong):
+            return part
+        elif part != Const(not strong):
+            kept.append(part)
+    if len(kept) > 1:
+        return kind(tuple(kept))
+    return kept[0] if kept else Const(not strong)
+
+
+def negation(part: Formula) -> Formula:
+    if isinstance(part, Const):
+        return Const(None if part.value is None else not part.value)
+    return part.part if isinstance(part, Not) else Not(part)
+
+
+def tested(test: str, part: Formula) -> Formula:
+    if isinstance(part, Const):
+        return Const(part.value is {"TRUE": True, "FALSE": False, "UNKNOWN": None}[test])
+    if isinstance(part, (Is, IsNull)):
+        return {"TRUE": part, "FALSE": negation(part), "UNKNOWN": Const(False)}[test]
+    return Is(test, part)
+
+
+def compared(subject: Subject, op: str, value: Any) -> Formula:
+    """A comparison by any of the six operators, by three of them."""
+    match op:
+        case "<>":
+            return Not(Compare(subject, "=", value))
+        case ">":
+            return Not(Compare(subject, "<=", value))
+        case ">=":
+            return Not(Compare(subject, "<", value))
+    return Compare(subject, op, value)
+
+
+def chosen(condition: Formula, part: Formula, other: Formula) -> Formula:
+    """CASE WHEN condition THEN part ELSE other END. One of the two sides is FALSE, so the other one decides."""
+    return either(
+        both(tested("TRUE", condition), part),
+        both(negation(tested("TRUE", condition)), other))
+
+
+def same_truth(one: Formula, other: Formula) -> Formula:
+    """`=` between two conditions: NULL where one of them is, since neither AND is TRUE then, nor are both FALSE."""
+    return either(both(one, other), both(negation(one), negation(other)))
+
+
+def unlike_truth(one: Formula, other: Formula) -> Formula:
+    """IS DISTINCT FROM between two conditions."""
+    return negation(either(*(both(tested(test, one), tested(test, other)) for test in ("TRUE", "FALSE", "UNKNOWN"))))
+
+
+def leaves_of(part: Formula) -> Iterator[Leaf]:
+    """The leaves of a formula, from the left."""
+    if isinstance(part, LEAVES):
+        yield part
+    elif isinstance(part, (Not, Is)):
+        yield from leaves_of(part.part)
+    elif isinstance(part, (And, Or)):
+        for it in part.parts:
+            yield from leaves_of(it)
+
+
+def replaced(part: Formula, change: Callable[[Any], Formula]) -> Formula:
+    """The formula with each leaf changed."""
+    if isinstance(part, LEAVES):
+        return change(part)
+    match part:
+        case Not():
+            return negation(replaced(part.part, change))
+        case Is():
+            return tested(part.test, replaced(part.part, change))
+        case And():
+            return both(*(replaced(it, change) for it in part.parts))
+        case Or():
+            return either(*(replaced(it, change) for it in part.parts))
+    return part
+
+
+def has_null(part: Formula) -> bool:
+    """Whether NULL is written somewhere in it."""
+    match part:
+        case Const():
+            return part.value is None
+        case Not() | Is():
+            return has_null(part.part)
+        case And() | Or():
+            return any(has_null(it) for it in part.parts)
+    return False
+
+
+def is_true(part: Formula) -> Formula:
+    """A formula without NULL that is TRUE where the part is, and else FALSE or NULL.
+
+    Exact, since AND is TRUE where all parts are, and OR where one is; and a filter counts only where it is TRUE.
+    """
+    if not has_null(part):
+        return part
+    match part:
+        case Const():
+            return Const(False)
+        case Not():
+            return is_false(part.part)
+        case And():
+            return both(*(is_true(it) for it in part.parts))
+        case Or():
+            return either(*(is_true(it) for it in part.parts))
+    return is_tested(part) if isinstance(part, Is) else part
+
+
+def is_false(part: Formula) -> Formula:
+    """A formula without NULL that is TRUE where the part is FALSE, and else FALSE or NULL."""
+    if not has_null(part):
+        return negation(part)
+    match part:
+        case Const():
+            return Const(False)
+        case Not():
+            return is_true(part.part)
+        case And():
+            return either(*(is_false(it) for it in part.parts))
+        case Or():
+            return both(*(is_false(it) for it in part.parts))
+    return negation(is_tested(part) if isinstance(part, Is) else part)
+
+
+def is_tested(part: Is) -> Formula:
+    """An IS test of a part with NULL in it. It is never NULL itself."""
+    true = tested("TRUE", is_true(part.part))
+    false = tested("TRUE", is_false(part.part))
+    return {"TRUE": true, "FALSE": false, "UNKNOWN": both(negation(true), negation(false))}[part.test]

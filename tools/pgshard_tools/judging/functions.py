@@ -1,0 +1,239 @@
+"""Functions and operators of the server that are immutable: each use gets a column of its own.
+
+Of such a column nothing is known but its type, where it is NULL, and that equal texts of SQL are equal values. So only
+a proof counts where it is named. The server says which function is called, its result, and whether it is strict; the
+tables of signatures.py add what it does not say. Where a function may fail, that is noted, since a filter that fails
+ends the replication.
+"""
+
+from dataclasses import replace
+from typing import Callable, Protocol, Sequence, TypeAlias
+
+from pgshard_tools.judging.calls import Call
+from pgshard_tools.judging.faults import Unread
+from pgshard_tools.judging.formulas import Formula, IsNull, Not, Subject, Within, leaves_of
+from pgshard_tools.judging.operands import Array, Choice, DayOf, Derived, Operand, Ref, Value, Whole
+from pgshard_tools.judging.signatures import ELEMENTS, FUNCTIONS, NAMES, OPERATORS, PARTS, Row
+
+
+class Evaluating(Protocol):
+    """The server, which evaluates an expression without columns, or fails."""
+
+    def is_evaluated(self, sql: str) -> bool: ...
+
+
+class Noting(Protocol):
+    """Notes where the server fails: where a formula is TRUE, or None where that is not known."""
+
+    def note(self, form: str, where: Formula | None, columns: Sequence[str]) -> None: ...
+
+
+def call(found: Call, form: str, arguments: Sequence[Operand], server: Evaluating, failing: Noting) -> Operand:
+    """A function of the server, by the table."""
+    row = FUNCTIONS.get(found.signature)
+    if row is None:
+        raise Unread(form, advice_of(found))
+    return checked(found, row, form, arguments, server, failing)
+
+
+def operator(found: Call, name: str, form: str, arguments: Sequence[Operand], server: Evaluating,
+             failing: Noting) -> Operand:
+    """An operator of the server, by the table; `name` is that of the operator that it is NOT of, if it is one."""
+    row = OPERATORS.get(f"{name}({','.join(found.arguments)})")
+    if row is None:
+        raise Unread(form, advice_of(found))
+    return checked(found, row, form, arguments, server, failing)
+
+
+def checked(found: Call, row: Row, form: str, arguments: Sequence[Operand], server: Evaluating,
+            failing: Noting) -> Operand:
+    """The column of its own, if the server agrees with the table. Where it may fail is noted."""
+    if not found.is_immutable or not (found.is_strict or row.null_at):
+        raise Unread(form, "the server does not say that it is immutable and NULL where an argument is")
+    others = [it for place, it in enumerate(arguments) if place not in row.null_at] if row.null_at else []
+    if not all(isinstance(it, Value) and it.value is not None for it in others):
+        raise Unread(form, "an argument that is no constant")
+    result = opaque(form, found.result, row.is_total, arguments)
+    if (row.fails or not is_within(found, row, form, arguments, server)) and isinstance(result, Ref):
+        failing.note(form, None, result.subject.columns)
+    return result
+
+
+def is_within(found: Call, row: Row, form: str, arguments: Sequence[Operand], server: Evaluating) -> bool:
+    """Whether the arguments are what they have to be. A constant that is not makes each row fail, and is not read."""
+    is_so = True
+    for (place, limit), argument in ((it, arguments[it[0]]) for it in row.limits if it[0] < len(arguments)):
+        if not LIMITS[limit](argument, found, server):
+            is_so = False
+            if not row.fails_past_limits or isinstance(argument, Value) and limit != "short":
+                raise Unread(form, ADVICE[limit])
+    return is_so
+
+
+def is_number(operand: Operand, found: Call, server: Evaluating) -> bool:
+    return isinstance(operand, Value) and operand.type == "int4"
+
+
+def is_length(operand: Operand, found: Call, server: Evaluating) -> bool:
+    return is_number(operand, found, server) and (whole(operand) is None or (whole(operand) or 0) >= 0)
+
+
+def is_field(operand: Operand, found: Call, server: Evaluating) -> bool:
+    return is_number(operand, found, server) and whole(operand) != 0
+
+
+def whole(operand: Operand) -> int | None:
+    """A constant's number, None for NULL."""
+    value = operand.value if isinstance(operand, Value) else None
+    return None if value is None else int(value.value)
+
+
+def is_part(operand: Operand, found: Call, server: Evaluating) -> bool:
+    """Whether each value of the type has the part of this name."""
+    name = operand.value if isinstance(operand, Value) else None
+    return name in PARTS.get(found.arguments[1], ())
+
+
+def is_like(operand: Operand, found: Call, server: Evaluating) -> bool:
+    """A constant whose last backslash has something to escape; the server sees that only where it comes so far."""
+    if not isinstance(operand, Value):
+        return False
+    text = operand.value or ""
+    return (len(text) - len(text.rstrip("\\"))) % 2 == 0
+
+
+def is_regex(operand: Operand, found: Call, server: Evaluating) -> bool:
+    """A constant that the server reads as a regular expression."""
+    if not isinstance(operand, Value):
+        return False
+    sql = (operand.value or "").replace("'", "''")
+    name = "~*" if found.name.endswith("*") else "~"
+    return server.is_evaluated(f"''::text {name} '{sql}'::text")
+
+
+def is_array(operand: Operand, found: Call, server: Evaluating) -> bool:
+    """A constant list, or a column of a type whose elements are compared without a failure."""
+    if isinstance(operand, Array):
+        return operand.parts is not None and all(
+            isinstance(it, Value) and it.type in ELEMENTS for it in operand.parts)
+    return isinstance(operand, Ref) and operand.type.removeprefix("_") in ELEMENTS and operand.type.startswith("_")
+
+
+def is_short(operand: Operand, found: Call, server: Evaluating) -> bool:
+    """A length that a text may have many times over."""
+    return is_number(operand, found, server) and (whole(operand) is None or (whole(operand) or 0) <= 10_000)
+
+
+def is_zone(operand: Operand, found: Call, server: Evaluating) -> bool:
+    """The name of a time zone that the server has."""
+    if not isinstance(operand, Value) or not isinstance(operand.value, str):
+        return False
+    sql = operand.value.replace("'", "''")
+    return server.is_evaluated(f"timezone('{sql}'::text, '2000-01-01 00:00:00+00'::timestamptz)")
+
+
+def is_name(listed: set[str]) -> "Limit":
+    """One of some constants."""
+    return lambda operand, found, server: isinstance(operand, Value) and operand.value in listed
+
+
+def is_constant(operand: Operand, found: Call, server: Evaluating) -> bool:
+    return isinstance(operand, Value)
+
+
+Limit: TypeAlias = Callable[[Operand, Call, Evaluating], bool]
+LIMITS: dict[str, Limit] = {
+    "number": is_number, "length": is_length, "field": is_field, "part": is_part, "part_or_null": is_part, "like": is_like,
+    "regex": is_regex, "array": is_array, "short": is_short, "zone": is_zone, "size": is_constant, "explicit": is_constant,
+    **{name: is_name(listed) for name, listed in NAMES.items()}}
+ADVICE = {
+    "number": "its numbers are no constants", "length": "a length that is negative, or no constant",
+    "field": "a field that is 0, or no constant", "part": "this part of that type",
+    "part_or_null": "this part of that type", "like": "a pattern that has a backslash at its end",
+    "regex": "a pattern that is no constant, or that the server refuses", "array": "the elements of these lists",
+    "zone": "a time zone that is no constant, or that the server does not have", "short": "a length that is no constant",
+    "code": "another code of bytes", "form": "another form of Unicode", "unit": "another unit of time",
+    "size": "a length that is no constant", "explicit": "a length that is no constant"}
+
+
+def member(form: str, arguments: Sequence[Operand]) -> Operand:
+    """`x = ANY (column)` is NULL where the column is, and maybe elsewhere. Where x is NULL and the list is empty it is
+    not
+    NULL; so of an x that may be NULL nothing is said."""
+    if any(isinstance(it, Value) and it.value is None for it in arguments):
+        raise Unread(form, "NULL in a list that is a column")
+    found = opaque(form, "bool", False, arguments)
+    is_constant = any(isinstance(it, Value) for it in arguments)
+    return found if is_constant or not isinstance(found, Ref) else Ref(replace(found.subject, is_strict=False), "bool")
+
+
+def advice_of(found: Call) -> str:
+    return f"{found.signature} is not in judge's table of functions"
+
+
+def opaque(form: str, type: str, is_total: bool, arguments: Sequence[Operand]) -> Operand:
+    """A column of its own. NULL as an argument makes it NULL, since each function here is strict."""
+    if any(isinstance(it, Value) and it.value is None for it in arguments):
+        return Value(type, None)
+    subjects = [subject for it in arguments for subject in subjects_of(form, it)]
+    if not subjects:
+        raise Unread(form, "it is a function of constants")
+    columns = dict.fromkeys(name for it in subjects for name in it.columns)
+    collation = collation_of(arguments) if type == "text" else None
+    is_strict = all(it.is_strict for it in subjects)
+    subject = Subject(
+        sql=form, type=type, columns=tuple(columns), is_strict=is_strict,
+        is_total=is_total and is_strict and all(it.is_total for it in subjects),
+        is_never_null=is_total and all(it.is_never_null for it in subjects),
+        collation=collation, own_collation=collation)
+    return Ref(subject, type)
+
+
+def subjects_of(form: str, argument: Operand) -> list[Subject]:
+    """What an argument is computed of. Of what comes of a CASE it is only known whether it is never NULL."""
+    match argument:
+        case Value():
+            return []
+        case Array():
+            if argument.parts is None or not all(isinstance(it, Value) for it in argument.parts):
+                raise Unread(form, "a list of what is not constant")
+            return []
+        case Derived():
+            return [argument.ref.subject]
+        case Ref() | Whole() | DayOf():
+            if not (argument.subject.is_strict or argument.subject.is_never_null):
+                raise Unread(form)
+            return [argument.subject]
+        case Choice():
+            return [replace(it, is_strict=False, is_total=False, is_never_null=is_never_null(argument))
+                    for it in subjects_in(form, argument)]
+    raise Unread(form, "its argument is a condition")
+
+
+def subjects_in(form: str, argument: Operand) -> list[Subject]:
+    """The subjects of a CASE, those of its conditions, too."""
+    if not isinstance(argument, Choice):
+        return subjects_of(form, argument)
+    named = [leaf.subject for leaf in leaves_of(argument.condition) if not isinstance(leaf, Within)]
+    return [*named, *subjects_in(form, argument.one), *subjects_in(form, argument.other)]
+
+
+def is_never_null(argument: Operand) -> bool:
+    """Whether an operand has a value at each row: in each branch a constant, or what the branch is taken for not being
+    NULL, as in coalesce."""
+    match argument:
+        case Choice(condition=Not(part=IsNull(subject=subject)), one=Ref(subject=own), other=other) if own == subject:
+            return is_never_null(other)
+        case Choice(one=one, other=other):
+            return is_never_null(one) and is_never_null(other)
+        case Value():
+            return argument.value is not None
+    return isinstance(argument, (Ref, Whole, DayOf)) and argument.subject.is_never_null
+
+
+def collation_of(arguments: Sequence[Operand]) -> str | None:
+    """The collation of a text result: that of the texts that it is of, or None where these differ."""
+    refs = [it.ref if isinstance(it, Derived) else it for it in arguments]
+    subjects = [it.subject for it in refs if isinstance(it, Ref)]
+    found = {it.collation for it in subjects if it.collation}
+    return found.pop() if len(found) == 1 else None if found else "default"

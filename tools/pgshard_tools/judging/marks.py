@@ -1,0 +1,40 @@
+"""Where in a file a fault or a table is, as `file:line:column: sentence`, for a person at a terminal. An editor or a
+terminal opens the file there."""
+
+import sys
+from collections.abc import Sequence
+
+from pgshard_tools.judging import report, verdicts
+from pgshard_tools.judging.kinds import KINDS
+from pgshard_tools.judging.program import Unreadable
+from pgshard_tools.judging.verdicts import Verdict
+from pgshard_tools.pointing.catalogs import made_in
+from pgshard_tools.pointing.source import Source
+
+
+def mark_fault(path: str, catalog: str, fault: Unreadable) -> None:
+    """A catalog that is not read."""
+    if fault.part == "catalog":
+        source = source_of(path, catalog)
+        mark(f"{source.at(fault.place)}: {KINDS.get(fault.kind, fault.kind)}: {source.there(fault.place)}")
+
+
+def mark_tables(path: str, catalog: str, found: Sequence[Verdict]) -> None:
+    """The tables that are not sound, each where it is made."""
+    source = source_of(path, catalog)
+    places = {table.name: place for place, table in made_in(catalog)[0]}
+    for verdict in found:
+        if verdict.answer != verdicts.SOUND:
+            place = len(catalog[:places[verdict.table]].encode("utf-8", "surrogateescape"))
+            mark(f"{source.at(place)}: {report.lines_of(verdict)[0]}")
+
+
+def source_of(path: str, catalog: str) -> Source:
+    """The file, for places in it."""
+    return Source(path, catalog.encode("utf-8", "surrogateescape"))
+
+
+def mark(line: str) -> None:
+    """Nothing is said where nobody looks: the judgement itself is on standard output."""
+    if sys.stderr.isatty():
+        print(line.encode("utf-8", "replace").decode(), file=sys.stderr)

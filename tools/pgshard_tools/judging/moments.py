@@ -1,0 +1,218 @@
+"""Functions of dates and timestamps that keep their order: a comparison with a constant is one of the argument
+itself."""
+
+import math
+from dataclasses import replace
+from fractions import Fraction
+from typing import Callable, Sequence
+
+from pgshard_tools.judging import comparing, points, wholes
+from pgshard_tools.judging.arithmetic import Failing
+from pgshard_tools.judging.formulas import Formula, Subject, both, either, negation, tested
+from pgshard_tools.judging.operands import DayOf, Derived, Operand, Ref, Value
+from pgshard_tools.judging.points import DAY, GREATEST, LEAST, Point, finite
+from pgshard_tools.judging.signatures import INFINITE_PARTS
+
+TYPES = ("date", "timestamp")
+# The least and the greatest number that a part has.
+BOUNDS = {"month": (1, 12), "day": (1, 31), "dow": (0, 6), "isodow": (1, 7), "doy": (1, 366), "quarter": (1, 4),
+          "week": (1, 53), "hour": (0, 23), "minute": (0, 59)}
+BOUNDS_OF_TIME = {"hour": (0, 24), "minute": (0, 59)}
+UNITS = {"second": 1_000_000, "minute": 60_000_000, "hour": 3_600_000_000, "day": DAY}
+MONTHS = {"month": 1, "quarter": 3, "year": 12}
+# 2000-01-03 was a Monday.
+MONDAY = 2
+
+
+def subject_of(operand: Operand) -> Subject | None:
+    """The subject of what is a date or a timestamp."""
+    match operand:
+        case Ref(subject=subject, type=type) if type in TYPES:
+            return subject
+        case Derived(ref=ref) if ref.type in TYPES:
+            return ref.subject
+        case DayOf(subject=subject):
+            return subject
+    return None
+
+
+def type_of(operand: Operand) -> str:
+    return "date" if isinstance(operand, DayOf) else operand.type if isinstance(operand, Ref) else (
+        operand.ref.type if isinstance(operand, Derived) else "")
+
+
+def compared(form: str, op: str, operand: Operand, point: Point) -> Formula:
+    """A comparison of the argument with a point of its type."""
+    return comparing.with_constant(form, op, operand, Value(type_of(operand), point))
+
+
+def never(form: str, operand: Operand) -> Formula:
+    """FALSE, but NULL where the argument is: nothing is below -infinity."""
+    return compared(form, "<", operand, LEAST)
+
+
+def is_last(form: str, operand: Operand) -> Formula:
+    """Whether it is the last timestamp, at which arithmetic fails."""
+    return compared(form, "=", operand, finite(points.LAST_TIME))
+
+
+def is_infinite(form: str, operand: Operand) -> Formula:
+    return either(compared(form, "=", operand, LEAST), compared(form, "=", operand, GREATEST))
+
+
+def derived(form: str, operand: Operand, ref: Ref, below: Callable[[Fraction], Point | None],
+            up_to: Callable[[Fraction], Point | None]) -> Derived:
+    """A function that keeps the order, infinity too. `below` says from which argument on it is not below a number, and
+    `up_to` from which on it is above it."""
+
+    def means(_: Ref, op: str, constant: Value) -> Formula | None:
+        point = constant.value
+        if not isinstance(point, Point):
+            return None
+        if not point.is_finite:
+            return compared(form, op, operand, point)
+        first, last = below(point.value), up_to(point.value)
+        if first is None or last is None:
+            return None
+        if op == "=":
+            if first >= last:
+                return never(form, operand)
+            return both(negation(compared(form, "<", operand, first)), compared(form, "<", operand, last))
+        return compared(form, "<", operand, first if op == "<" else last)
+
+    return Derived(ref, means)
+
+
+def part(form: str, name: str, operand: Operand, ref: Ref) -> Operand:
+    """A part of a date, a timestamp or a time. Its column is NULL where the argument is. At infinity the parts that go
+    in
+    a circle are NULL; the others are infinity."""
+    subject = subject_of(operand)
+    if subject is None:
+        found = BOUNDS_OF_TIME.get(name) if isinstance(operand, Ref) and operand.type == "time" else None
+        return ref if found is None else bounded(ref, found)
+    if name == "year":
+        return year(form, operand, ref)
+    if name in INFINITE_PARTS:
+        return ref
+    known = ref if name not in BOUNDS else bounded(ref, BOUNDS[name])
+    return Ref(replace(known.subject, is_total=False), known.type)
+
+
+def where_null(form: str, operand: Operand, null_of: comparing.NullOf) -> Formula:
+    """Where a part is NULL that goes in a circle: where the argument is NULL, and at infinity."""
+    subject = subject_of(operand)
+    assert subject is not None
+    return tested("TRUE", either(null_of(subject), is_infinite(form, operand)))
+
+
+def bounded(ref: Ref, bounds: tuple[int, int]) -> Ref:
+    return Ref(replace(ref.subject, bounds=bounds), ref.type)
+
+
+def year(form: str, operand: Operand, ref: Ref) -> Derived:
+    """The year, which is -1 before it is 1."""
+    unit = 1 if type_of(operand) == "date" else DAY
+
+    def begin(number: int) -> Point:
+        # The year before 1 is 0 for days_of, and -1 for the server.
+        return finite(unit * points.days_of(number if number > 0 else 1 if number == 0 else number + 1, 1, 1))
+
+    found = derived(form, operand, ref, lambda it: begin(math.ceil(it)), lambda it: begin(math.floor(it) + 1))
+    return replace(found, too_large=is_infinite(form, operand))
+
+
+def truncated(form: str, unit: str, operand: Operand, ref: Ref, failing: Failing) -> Operand:
+    """date_trunc of a timestamp. It fails where the unit begins before the first timestamp, and at the last one."""
+    if unit not in UNITS and unit not in MONTHS and unit != "week":
+        failing.note(form, None, ref.subject.columns)
+        return ref
+    first = last_begin(unit, Fraction(points.FIRST_TIME))
+    if first < points.FIRST_TIME:
+        early = compared(form, "<", operand, finite(next_begin(unit, first)))
+        failing.note(form, both(negation(compared(form, "<=", operand, LEAST)), early), ref.subject.columns)
+    failing.note(form, is_last(form, operand), ref.subject.columns)
+
+    def below(number: Fraction) -> Point:
+        begin = last_begin(unit, number)
+        return finite(begin if begin == number else next_begin(unit, begin))
+
+    return derived(form, operand, ref, below, lambda it: finite(next_begin(unit, last_begin(unit, it))))
+
+
+def last_begin(unit: str, number: Fraction) -> int:
+    """When the unit began that a moment is in."""
+    if unit in UNITS:
+        return math.floor(number / UNITS[unit]) * UNITS[unit]
+    days = math.floor(number / DAY)
+    if unit == "week":
+        return ((days - MONDAY) // 7 * 7 + MONDAY) * DAY
+    year_of, month, _ = points.date_of(days)
+    months = (year_of * 12 + month - 1) // MONTHS[unit] * MONTHS[unit]
+    return points.days_of(months // 12, months % 12 + 1, 1) * DAY
+
+
+def next_begin(unit: str, begin: int) -> int:
+    """When the next unit begins after one that begins then."""
+    if unit in UNITS:
+        return begin + UNITS[unit]
+    if unit == "week":
+        return begin + 7 * DAY
+    year_of, month, _ = points.date_of(begin // DAY)
+    months = year_of * 12 + month - 1 + MONTHS[unit]
+    return points.days_of(months // 12, months % 12 + 1, 1) * DAY
+
+
+def as_timestamp(form: str, operand: Operand, ref: Ref, failing: Failing) -> Operand:
+    """A date as its midnight. It fails at dates that no timestamp has."""
+    end = points.LAST_READ // DAY + 1
+    late = both(negation(compared(form, "<", operand, finite(end))), compared(form, "<", operand, GREATEST))
+    failing.note(form, late, ref.subject.columns)
+
+    def days(number: Fraction) -> Point:
+        return finite(-(-number // DAY))
+
+    return derived(form, operand, ref, days, lambda it: finite(it // DAY + 1))
+
+
+def as_date(form: str, operand: Derived, ref: Ref) -> Operand:
+    """The date of a function of a timestamp."""
+    return derived(
+        form, operand, ref, lambda it: finite(math.ceil(it) * DAY), lambda it: finite((math.floor(it) + 1) * DAY))
+
+
+def moved(form: str, operand: Operand, steps: Sequence[int], ref: Ref, failing: Failing) -> Operand:
+    """A date so many days later, or a timestamp so many microseconds, in one or two steps. It fails where a step leads
+    past the ends of the type."""
+    is_date = type_of(operand) == "date"
+    low, high = (points.FIRST_DAY, points.LAST_DAY) if is_date else (points.FIRST_TIME, points.LAST_READ)
+    by = 0
+    for step in steps:
+        by += step
+        past = either(
+            both(negation(compared(form, "<=", operand, LEAST)), compared(form, "<", operand, finite(low - by))),
+            both(negation(compared(form, "<=", operand, finite(high - by))), compared(form, "<", operand, GREATEST)))
+        failing.note(form, past, ref.subject.columns)
+    return derived(form, operand, ref, lambda it: finite(it - by), lambda it: after(operand, it - by))
+
+
+def after(operand: Operand, number: Fraction) -> Point:
+    """The first day, or microsecond, after a number."""
+    return finite(math.floor(number) + 1)
+
+
+def days_since(form: str, operand: Operand, begin: Point, ref: Ref, failing: Failing) -> Operand:
+    """The days of a date since another, which fails where one of them is infinite."""
+    failing.note(form, is_infinite(form, operand), ref.subject.columns)
+    return derived(form, operand, ref, lambda it: finite(it + begin.value), lambda it: after(operand, it + begin.value))
+
+
+def steps_of(text: str | None) -> tuple[int, ...] | None:
+    """The microseconds that an interval adds: first those of its days, if it has any, then those of its clock. None of
+    one
+    with months, since these are not always as long."""
+    try:
+        months, days, clock = wholes.parts(text or "")
+    except ValueError:
+        return None
+    return None if months else tuple(it for it in (days, clock) if it) or (0,)

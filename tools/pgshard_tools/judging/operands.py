@@ -1,0 +1,87 @@
+"""What may be on a side of a comparison."""
+
+from dataclasses import dataclass, field
+from typing import Any, Callable, TypeAlias
+
+from pgshard_tools.judging.formulas import Formula, Subject
+from pgshard_tools.judging.steps import Step
+
+
+@dataclass(frozen=True)
+class Value:
+    """A constant of a type, None for NULL."""
+
+    type: str
+    value: Any
+
+
+@dataclass(frozen=True)
+class Array:
+    """A list of operands, None for NULL."""
+
+    parts: "tuple[Operand, ...] | None"
+
+
+@dataclass(frozen=True)
+class Ref:
+    """A column, or another subject, as a value of a type that it is cast to without a change."""
+
+    subject: Subject
+    type: str
+
+
+@dataclass(frozen=True)
+class Whole:
+    """What some steps make of a column of whole numbers, as a value of an integer type. It is NULL just where the
+    column
+    is. Where the result of a step does not fit its type the server fails, and here the number just goes on."""
+
+    subject: Subject
+    steps: tuple[Step, ...]
+    type: str
+    sql: str = field(default="", compare=False)
+
+
+@dataclass(frozen=True)
+class DayOf:
+    """The date of a timestamp."""
+
+    subject: Subject
+
+
+@dataclass(frozen=True)
+class Derived:
+    """A function of an operand. Some comparisons with constants (= < <=) are such of that operand; of others it answers
+    None, and of these the function is a column of its own. They may go by the collation of that column. The result may
+    be a whole number of another type, which has no room for it where a formula is TRUE."""
+
+    ref: Ref
+    means: "Callable[[Ref, str, Value], Formula | None]" = field(compare=False)
+    too_large: Formula | None = field(default=None, compare=False)
+
+
+@dataclass(frozen=True)
+class Choice:
+    """One operand where a condition is TRUE, else the other."""
+
+    condition: Formula
+    one: "Operand"
+    other: "Operand"
+
+
+@dataclass(frozen=True)
+class Extreme:
+    """The greatest or the least of some operands that are not NULL; NULL where all of them are."""
+
+    is_greatest: bool
+    parts: "tuple[Operand, ...]"
+
+
+@dataclass(frozen=True)
+class Truth:
+    """A condition."""
+
+    formula: Formula
+
+
+Operand: TypeAlias = Value | Array | Ref | Whole | DayOf | Derived | Choice | Extreme | Truth

@@ -1,0 +1,101 @@
+"""Runs pgshard, hands its output on as it comes, and then says what it points at, on standard error."""
+
+import os
+import stat
+import subprocess
+import sys
+import threading
+from typing import IO
+
+from pgshard_tools.pointing.lines import explained
+from pgshard_tools.pointing.sentences import MAX_BYTES
+from pgshard_tools.pointing.source import Source, files_of_input, name_of_input
+
+USAGE = """\
+Runs pgshard, and explains its answer on standard error in sentences, with positions in the input.
+
+    explain PROGRAM [ARGUMENTS]    runs the program with these arguments on standard input"""
+
+PIECE = 65_536
+
+# Of an output only so much is looked at.
+MOST_LOOKED_AT = 1 << 26
+
+
+class Input:
+    """The input of a run, of which what the program reads is kept. A file is handed to the program as it is; of a pipe
+    or a terminal nothing is read before the program could read it."""
+
+    def __init__(self) -> None:
+        self.is_pipe = not (stat.S_ISREG(os.fstat(0).st_mode) or stat.S_ISDIR(os.fstat(0).st_mode))
+        self.pieces: list[bytes] = []
+
+    def handle(self) -> int | None:
+        """What the program gets as its standard input: a pipe, or this process's own."""
+        return subprocess.PIPE if self.is_pipe else None
+
+    def begin(self, running: "subprocess.Popen[bytes]") -> None:
+        """Hands on what comes, beside the run."""
+        if self.is_pipe:
+            threading.Thread(target=self.hand_on, args=[running.stdin], daemon=True).start()
+        elif stat.S_ISREG(os.fstat(0).st_mode):
+            self.pieces.append(os.pread(0, MAX_BYTES + 1, 0))
+
+    def hand_on(self, pipe: IO[bytes]) -> None:
+        """Until the input ends, or the program reads no more."""
+        try:
+            while piece := os.read(0, PIECE):
+                self.pieces.append(piece)
+                pipe.write(piece)
+                pipe.flush()
+            pipe.close()
+        except OSError:
+            pass
+
+    def data(self) -> bytes:
+        """What was read so far."""
+        return b"".join(self.pieces)
+
+
+def main() -> int:
+    """Runs the command with the arguments of this process."""
+    if len(sys.argv) < 2:
+        print(USAGE, file=sys.stderr)
+        return 2
+    return run(sys.argv[1], sys.argv[2:])
+
+
+def run(program: str, words: list[str]) -> int:
+    """The exit status of the run."""
+    given = Input()
+    status, output = handed_on(program, words, given)
+    source = Source(name_of_input(), given.data(), files_of_input())
+    for line in explained(words, source, status, output.decode("utf-8", "surrogateescape")):
+        print(line.encode("utf-8", "replace").decode(), file=sys.stderr)
+    return status
+
+
+def handed_on(program: str, words: list[str], given: Input) -> tuple[int, bytes]:
+    """The status and the output of a run, whose output is written as it comes. Where that fails, the program is not
+    read from any more, so that it finds the same failure."""
+    kept = bytearray()
+    running = subprocess.Popen([program, *words], stdin=given.handle(), stdout=subprocess.PIPE)
+    printed = running.stdout
+    assert printed is not None
+    given.begin(running)
+    try:
+        while piece := os.read(printed.fileno(), PIECE):
+            write(piece)
+            kept.extend(piece[:MOST_LOOKED_AT - len(kept)])
+    except OSError:
+        printed.close()
+    except KeyboardInterrupt:
+        pass
+    status = running.wait()
+    return (128 - status if status < 0 else status), bytes(kept)
+
+
+def write(piece: bytes) -> None:
+    """Writes a whole piece to standard output."""
+    while piece:
+        piece = piece[os.write(1, piece):]

@@ -1,0 +1,59 @@
+"""What the kinds of faults say, in sentences."""
+
+from pgshard_tools.judging.kinds import KINDS
+
+CERTIFICATES = {
+    "BadToken": "this is not part of a certificate, which consists of letters s, o, e, n with a number after each",
+    "Ended": "the certificate is incomplete",
+    "Trailing": "there is text after the end of the certificate",
+    "TooLarge": "the certificate has more than 1,000,000 nodes",
+    "TooDeep": "the certificate has more than 64 splits on a path",
+}
+
+ROWS = {
+    "Width": "the row does not have as many values as the table has columns",
+    "NullInNotNull": "the value is null, and the column is NOT NULL",
+    "WrongType": "the value does not have the type of the column",
+    "OutOfRange": "the number is out of range for the column's type",
+}
+
+NODES = {
+    "BadIndex": "there is no such atom, term or subscriber",
+    "NotEmpty": "the certificate says that there is no row here, but the term may have a value",
+    "MayBeNull": "the certificate says that there is no row here, but the atom may be null",
+    "NotOwner": "the certificate names a subscriber that may not take the row",
+    "SecondOwner": "the certificate names a subscriber, but another one may also take the row",
+}
+
+CLOSINGS = {
+    "CountDiffers": "the number of commits in the log is not the number that was answered",
+    "ReceiptMissing": "a commit in the log is not one that was answered",
+    "ReadingWrong": "a row was read that no commit left",
+    "TakenDiffers": "a connection took commits other than those of the log",
+}
+
+PARTS = {"eval": 2, "show": 1, "check": 2, "make": 1, "simulate": 3, "serve": 3}
+MAX_BYTES = 16_777_216
+
+
+def of_text(kind: str, there: str) -> str:
+    """Of a fault of a catalog, a script or a row, at a token."""
+    return f"{KINDS.get(kind, kind)}: {there}"
+
+
+def of_input(subcommand: str, data: bytes, parts: int) -> str:
+    """Why an input is not read, as far as the input says so."""
+    if len(data) > MAX_BYTES:
+        return "the input is longer than 16,777,216 bytes"
+    try:
+        data.decode()
+    except UnicodeDecodeError as fault:
+        return f"the input is not valid UTF-8, at byte {fault.start}"
+    wanted = PARTS.get(subcommand, parts)
+    if parts != wanted:
+        return f"pgshard {subcommand} needs {counted(wanted)}, separated by lines %%; the input has {parts}"
+    return "the input cannot be read"
+
+
+def counted(parts: int) -> str:
+    return "one part" if parts == 1 else f"{parts} parts"
