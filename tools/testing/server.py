@@ -110,7 +110,8 @@ def server(settings=""):
 
 def start(data, folder, settings=""):
     run_as_user(PROGRAMS / "initdb", "-D", data, "-U", USER, "-A", "trust", "-E", "UTF8", "--locale=C", "--no-sync")
-    options = f"-k {folder} -c listen_addresses='' -c wal_level=logical -c fsync=off {settings}"
+    # Nothing of the server's own changes tables, or locks them, while they are looked at.
+    options = f"-k {folder} -c listen_addresses='' -c wal_level=logical -c fsync=off -c autovacuum=off {settings}"
     run_as_user(PROGRAMS / "pg_ctl", "-D", data, "-o", options, "-l", folder / "log", "-w", "start")
 
 

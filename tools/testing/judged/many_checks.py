@@ -59,6 +59,12 @@ TIME public.more: not published -> sound
 """),
     ("DROP TABLE more", "TIME public.more: sound -> not published\n"),
 ]
+# What may be said in place of the last line: judge may look while the table is being dropped.
+LOCKED = """\
+TIME public.more: sound -> not decided
+    public.more: not decided: another session holds or awaits an ACCESS EXCLUSIVE lock on it
+TIME public.more: not decided -> not published
+"""
 
 
 def check_many(tally: Tally) -> None:
@@ -115,8 +121,7 @@ def check_watch(tally: Tally, started: Server) -> None:
     tally.check("--watch at first", lines_of(process, 3), f"public.orders: sound\n{EACH}\ntables: 1 judged, 1 sound\n")
     for statement, said in CHANGES:
         started.psql("shop", statement)
-        found = re.sub(r"(?m)^\d{4}-\d\d-\d\dT\d\d:\d\d:\d\dZ", "TIME", lines_of(process, said.count("\n")))
-        tally.check(f"--watch after {statement}", found, said)
+        tally.check(f"--watch after {statement}", change_of(process, said), said)
     process.send_signal(signal.SIGINT)
     tally.check("the end of --watch", (process.wait(60), process.communicate()[0]), (0, ""))
     process = watching(started, "--watch", "0.2", "--json")
@@ -138,6 +143,20 @@ def watching(started: Server, *words: str) -> "subprocess.Popen[str]":
     return subprocess.Popen(
         [str(it) for it in (TOOLS / "judge", *started.words("shop"), "--seconds", "300", *words)],
         stdout=subprocess.PIPE, encoding="utf-8", env=environment() | {"PGSHARD": PGSHARD}, start_new_session=True)
+
+
+def change_of(process: "subprocess.Popen[str]", said: str) -> str:
+    """The next lines that it prints, with no times, as many as are to be said. Those of a table that is locked are left
+    out."""
+    found = timeless(lines_of(process, said.count("\n")))
+    if LOCKED.startswith(found):
+        found += timeless(lines_of(process, LOCKED.count("\n") - found.count("\n")))
+    return said if found == LOCKED else found
+
+
+def timeless(lines: str) -> str:
+    """Lines with no times."""
+    return re.sub(r"(?m)^\d{4}-\d\d-\d\dT\d\d:\d\d:\d\dZ", "TIME", lines)
 
 
 def lines_of(process: "subprocess.Popen[str]", count: int) -> str:
