@@ -34,7 +34,7 @@ public class ConsumerTest {
     static final List<String> EXPECTED =
         List.of("0/80 insert (1, 20, 500)", "0/C0 delete (1, 20, 500)", "0/100 insert (4, 30, 1200)");
 
-    static final int PATIENCE = 20_000;
+    static final int PATIENCE = 60_000;
 
     /** What is under test here: it keeps transactions, and confirms what it has kept. */
     static class Consumer {

@@ -37,7 +37,7 @@ EXPECTED = [
     (0x100, [("insert", ("4", "30", "1200"))]),
 ]
 # How long anything may take, in seconds.
-PATIENCE = 20
+PATIENCE = 60
 
 Row = tuple[str | None, ...]
 Transaction = tuple[int, list[tuple[str, Row]]]

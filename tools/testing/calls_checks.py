@@ -17,7 +17,7 @@ BUILT = TESTING.parent.parent / "crates" / "call_driver" / "out" / "call_driver"
 NAMED = os.environ.get("CALL_DRIVER")
 
 # How long the calls of one topic may take.
-SECONDS = 120
+SECONDS = 600
 
 # How much of a line is shown where an answer is wrong.
 SHOWN = 200

@@ -22,7 +22,7 @@ CALLS = [
     "serve"]
 
 # How long the program may take.
-SECONDS = 120
+SECONDS = 600
 
 
 def why_not_built() -> str | None:

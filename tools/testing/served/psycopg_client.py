@@ -14,7 +14,7 @@ import psycopg2
 from psycopg2.extras import LogicalReplicationConnection
 
 # How long it waits for a message.
-SECONDS = 10
+SECONDS = 60
 
 
 def main(port: str, slot: str, publications: str, count: str, confirmed: str) -> int:
