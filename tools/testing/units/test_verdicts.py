@@ -203,8 +203,8 @@ class Times(unittest.TestCase):
                 pass
 
     def test_processor_time_counts(self) -> None:
-        with time_limit(0.2):
-            time.sleep(0.5)
+        with time_limit(1):
+            time.sleep(1.5)
 
     def test_the_time_of_a_process_that_is_waited_for(self) -> None:
         process = subprocess.Popen(["sh", "-c", "while :; do :; done"])
