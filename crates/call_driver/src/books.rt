@@ -12,12 +12,12 @@ use std::fmt::Debug;
 use table_changes::Command;
 use tables_log::{Book, Commit, CommitError, StartError, StatusAhead};
 
-/// What is answered, as it is shown for debugging.
+/// The answer, as shown for debugging.
 pub fn shown<T: Debug>(alloc: Global, value: &T) -> Result<String> {
     Ok(format!(in alloc; "{value:?}")?)
 }
 
-/// Begins a book of the sharding.
+/// Creates a book of the sharding.
 fn begin(desk: &mut Desk, given: &str) -> Result<String> {
     let limit = small(given)?;
     if limit == 0 || limit > 1_000_000_000 {
@@ -41,7 +41,7 @@ fn committed(desk: &mut Desk, given: &str) -> Result<String> {
     shown(desk.alloc, &answer)
 }
 
-/// Commits the commands at a time, with a TRUNCATE of no table, which no script has, before the one at a place.
+/// Commits the commands at a time, with a TRUNCATE of no table, which no script can contain, before the one at a place.
 fn committed_around(desk: &mut Desk, given: &str) -> Result<String> {
     let (time, given) = first(given);
     let (place, script) = first(given);
@@ -91,7 +91,7 @@ fn none(alloc: Global) -> Result<String> {
     Ok(String::from_str(alloc, "none")?)
 }
 
-/// The log's entry of a number.
+/// The log's entry with a number.
 fn entry(desk: &Desk, given: &str) -> Result<String> {
     match desk.book()?.entry(small(given)?) {
         Some(commit) => shown_commit(desk.alloc, commit),
@@ -99,7 +99,7 @@ fn entry(desk: &Desk, given: &str) -> Result<String> {
     }
 }
 
-/// A copy of the log's entry of a number.
+/// A copy of the log's entry with a number.
 fn copy(desk: &Desk, given: &str) -> Result<String> {
     match desk.book()?.entry(small(given)?) {
         Some(commit) => shown_commit(desk.alloc, &commit.copy(desk.alloc)?),
@@ -107,7 +107,7 @@ fn copy(desk: &Desk, given: &str) -> Result<String> {
     }
 }
 
-/// The entry of a number that the book shares.
+/// Another reference to the log's entry with a number.
 fn shared(desk: &Desk, given: &str) -> Result<String> {
     match desk.book()?.shared(small(given)?)? {
         Some(commit) => shown_commit(desk.alloc, &commit),
@@ -115,7 +115,7 @@ fn shared(desk: &Desk, given: &str) -> Result<String> {
     }
 }
 
-/// What the call on rows and entries answers.
+/// The answer to a call on rows and entries.
 fn answer_of_log(desk: &Desk, call: &str, rest: &str) -> Result<Option<String>> {
     Ok(Some(match call {
         "rows" => rows(desk, rest)?,
@@ -153,7 +153,7 @@ fn confirm(
     Ok(book.confirm(slot, position, sent))
 }
 
-/// Confirms a slot up to a position, where so much was sent.
+/// Confirms a slot up to a position, when the log was sent up to another.
 fn confirmed(desk: &mut Desk, given: &str) -> Result<String> {
     let (slot, given) = first(given);
     let (position, sent) = first(given);
@@ -162,14 +162,14 @@ fn confirmed(desk: &mut Desk, given: &str) -> Result<String> {
     shown(desk.alloc, &answer)
 }
 
-/// Gives a slot back.
+/// Releases a slot.
 fn released(desk: &mut Desk, given: &str) -> Result<String> {
     let book = desk.book.as_mut().context("there is no book")?;
     book.release(count(given)?);
     Ok(String::from_str(desk.alloc, "ok")?)
 }
 
-/// What the call answers.
+/// The answer to the call.
 pub fn answer(desk: &mut Desk, call: &str, rest: &str) -> Result<Option<String>> {
     Ok(Some(match call {
         "new" => begin(desk, rest)?,

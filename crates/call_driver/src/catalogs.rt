@@ -1,4 +1,4 @@
-//! Calls of `read_catalog`, and what catalogs have.
+//! Calls of `read_catalog`, and the contents of catalogs.
 
 use crate::cells::{count, first};
 use crate::desk::Desk;
@@ -15,7 +15,7 @@ pub fn catalog_of(alloc: Global, text: &str) -> Result<Catalog, ReadError> {
     read_catalog(alloc, text)
 }
 
-/// Reads a catalog, which is put on the desk.
+/// Reads a catalog, and puts it on the desk.
 fn read(desk: &mut Desk, text: String) -> Result<String> {
     match catalog_of(desk.alloc, text.as_str()) {
         Ok(catalog) => {
@@ -82,7 +82,7 @@ fn shown(alloc: Global, catalog: &Catalog) -> Result<String> {
     Ok(String::from_str(alloc, answer.as_str().trim_end())?)
 }
 
-/// The filter of an entry, by the number of its publication, and its own.
+/// The filter of an entry, by the number of its publication and its own number.
 fn filter_at(catalog: &Catalog, publication: usize, entry: usize) -> Result<&Filter> {
     let publication = catalog
         .publications
@@ -101,7 +101,7 @@ fn take_filter(desk: &mut Desk, given: &str) -> Result<String> {
     Ok(String::from_str(desk.alloc, "ok")?)
 }
 
-/// What the call answers.
+/// The answer to the call.
 pub fn answer(desk: &mut Desk, call: &str, rest: &str) -> Result<Option<String>> {
     Ok(Some(match call {
         "read" => {

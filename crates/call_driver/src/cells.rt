@@ -1,4 +1,4 @@
-//! Rows, values and numbers that calls are given.
+//! Rows, values and numbers that are given to calls.
 
 use crate::escapes::unescaped;
 use anyhow::{Result, bail};
@@ -6,7 +6,7 @@ use filter_tree::{Literal, Row, Text, Value};
 use sql_reader::{read_row, write_row};
 use std::alloc::Global;
 
-/// The first word of what is given, and what follows it.
+/// The first word of the argument, and what follows it.
 pub fn first(given: &str) -> (&str, &str) {
     given.split_once(" ").unwrap_or((given, ""))
 }
@@ -48,7 +48,7 @@ pub fn value(alloc: Global, cell: &str) -> Result<Value> {
     })
 }
 
-/// A constant, which is given as a value is.
+/// A constant, written as a value is.
 pub fn literal(alloc: Global, cell: &str) -> Result<Literal> {
     match value(alloc, cell)? {
         Value::Null => bail!("a constant is expected"),
@@ -58,7 +58,7 @@ pub fn literal(alloc: Global, cell: &str) -> Result<Literal> {
     }
 }
 
-/// The row of these values, which have spaces between them.
+/// The row of these values, which are separated by spaces.
 fn row_of_values(alloc: Global, cells: &str) -> Result<Row> {
     let mut values = Vec::new(alloc);
     for cell in cells.split(" ") {
@@ -69,7 +69,7 @@ fn row_of_values(alloc: Global, cells: &str) -> Result<Row> {
     Ok(Row::from_values(values))
 }
 
-/// The row that is given: a text that begins with a parenthesis, as in a script, or else its values.
+/// The given row: a text that begins with a parenthesis, as in a script, or its values.
 pub fn row(alloc: Global, given: &str) -> Result<Row> {
     if given.starts_with("(") {
         return Ok(read_row(alloc, unescaped(alloc, given)?.as_str())?);
@@ -77,13 +77,13 @@ pub fn row(alloc: Global, given: &str) -> Result<Row> {
     row_of_values(alloc, given)
 }
 
-/// Appends the row as it is written in a script.
+/// Appends the row, as written in a script.
 pub fn push_row(alloc: Global, row: &Row, text: &mut String) -> Result<()> {
     text.push_str(write_row(alloc, row)?.as_str())?;
     Ok(())
 }
 
-/// The rows as they are written in a script, with spaces between them.
+/// The rows, as written in a script, separated by spaces.
 pub fn written_rows(alloc: Global, rows: &[Row]) -> Result<String> {
     let mut text = String::new(alloc);
     for row in rows {

@@ -6,12 +6,12 @@ use bumpalo::Bump;
 use split_cert::{Cert, CertError, Node, NodeReader, is_within_limits, read_in, write};
 use std::alloc::Global;
 
-/// A fault, as it is shown for debugging.
+/// A fault, as shown for debugging.
 fn fault(alloc: Global, error: CertError) -> Result<String> {
     Ok(format!(in alloc; "{error:?}")?)
 }
 
-/// What is written of the certificate that the text spells, or the text's fault.
+/// The certificate that the text spells, written again, or the text's fault.
 fn again(alloc: Global, text: &str) -> Result<String> {
     match read_in(alloc, text) {
         Ok(cert) => Ok(write(alloc, &cert)?),
@@ -41,7 +41,7 @@ fn within(alloc: Global, cert: &Cert) -> Result<String> {
     Ok(format!(in alloc; "{is_within}")?)
 }
 
-/// The tree of the certificate, as it is shown for debugging.
+/// The tree of the certificate, as shown for debugging.
 fn tree(alloc: Global, text: &str) -> Result<String> {
     match read_in(alloc, text) {
         Ok(cert) => Ok(format!(in alloc; "{cert:?}")?),
@@ -54,7 +54,7 @@ fn next(reader: &mut NodeReader<'_>) -> Result<Option<Node>, CertError> {
     reader.next()
 }
 
-/// The nodes of the text, and `end` or its fault, which comes again.
+/// The nodes of the text, and `end` or its fault, which is returned again.
 fn nodes(alloc: Global, text: &str) -> Result<String> {
     let mut answer = String::new(alloc);
     let mut reader = NodeReader::new(text);
@@ -76,7 +76,7 @@ fn nodes(alloc: Global, text: &str) -> Result<String> {
     Ok(answer)
 }
 
-/// What a reader of nodes says of the whole text, and of what comes next.
+/// What a reader of nodes returns for the whole text, and next.
 fn finish(alloc: Global, text: &str) -> Result<String> {
     let mut reader = NodeReader::new(text);
     let end = reader.finish();
@@ -84,7 +84,7 @@ fn finish(alloc: Global, text: &str) -> Result<String> {
     Ok(format!(in alloc; "{end:?}, {after:?}")?)
 }
 
-/// What the call answers.
+/// The answer to the call.
 pub fn answer(alloc: Global, call: &str, rest: &str) -> Result<Option<String>> {
     let text = unescaped(alloc, rest)?;
     let text = text.as_str();

@@ -7,7 +7,7 @@ use filter_tree::{Row, copy_row};
 use replica_identity::{Change, OldPart, Out, SharedRow, old_part, transform};
 use std::alloc::Global;
 
-/// The row that the next changes begin with.
+/// The row with which the next changes begin.
 fn begin(desk: &mut Desk, given: &str) -> Result<String> {
     let row = row(desk.alloc, given)?;
     desk.old = Some(row);
@@ -105,7 +105,7 @@ fn put(desk: &mut Desk, change: Change) -> Result<String> {
     Ok(answer)
 }
 
-/// What comes of a change for a subscriber.
+/// The outcome of a change for a subscriber.
 fn shown(alloc: Global, out: Option<Out<'_>>) -> Result<String> {
     let mut answer = String::new(alloc);
     match out {
@@ -135,7 +135,7 @@ fn transformed(desk: &Desk, given: &str) -> Result<String> {
     shown(desk.alloc, transform(desk.plan()?, count(given)?, change))
 }
 
-/// What the call answers.
+/// The answer to the call.
 pub fn answer(desk: &mut Desk, call: &str, rest: &str) -> Result<Option<String>> {
     let change = match call {
         "old" => return Ok(Some(begin(desk, rest)?)),

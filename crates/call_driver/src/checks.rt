@@ -16,7 +16,7 @@ use std::alloc::Global;
 use std::fmt::Debug;
 use std::sync::Arc;
 
-/// The texts of certificates, which have semicolons between them.
+/// The texts of certificates, which are separated by semicolons.
 fn texts(alloc: Global, given: &str) -> Result<Vec<&str>> {
     let mut texts = Vec::new(alloc);
     if !given.is_empty() {
@@ -127,7 +127,7 @@ fn range(alloc: Global, given: &str) -> Result<String> {
     Ok(format!(in alloc; "{} {}", range.least, range.greatest)?)
 }
 
-/// The terms of a table's filters, as they are numbered, with the term of each atom, and the number of shares.
+/// The terms of a table's filters, in the order of their numbers, with the term of each atom, and the number of shares.
 fn numbered(desk: &Desk, given: &str) -> Result<String> {
     let alloc = desk.alloc;
     let shares = shares(alloc, desk.catalog()?, desk.plan()?, count(given)?)?;
@@ -148,7 +148,8 @@ fn kind(desk: &Desk, given: &str) -> Result<String> {
     Ok(format!(in desk.alloc; "{kind:?}")?)
 }
 
-/// What is in the sharding: how many tables, the plan's share of a subscriber in a table, and how many shares it has.
+/// The contents of the sharding: how many tables, the plan's share of a subscriber in a table, and how many shares it
+/// has.
 fn accepted(desk: &Desk, given: &str) -> Result<String> {
     let (subscriber, table) = first(given);
     let table = count(table)?;
@@ -163,7 +164,7 @@ fn accepted(desk: &Desk, given: &str) -> Result<String> {
     Ok(format!(in desk.alloc; "{} {share} {}", catalog.tables.len(), shares.len())?)
 }
 
-/// What the call answers.
+/// The answer to the call.
 pub fn answer(desk: &mut Desk, call: &str, rest: &str) -> Result<Option<String>> {
     Ok(Some(match call {
         "texts" => check_texts(desk, rest)?,

@@ -17,7 +17,7 @@ fn operator(word: &str) -> Result<Op> {
     })
 }
 
-/// What the operator says of a value and a constant.
+/// The result of the operator for a value and a constant.
 fn compared(alloc: Global, given: &str) -> Result<String> {
     let (word, values) = first(given);
     let (left, right) = first(values);
@@ -27,7 +27,7 @@ fn compared(alloc: Global, given: &str) -> Result<String> {
     Ok(format!(in alloc; "{found:?}")?)
 }
 
-/// What the operator says of two constants.
+/// The result of the operator for two constants.
 fn compared_constants(alloc: Global, given: &str) -> Result<String> {
     let (word, values) = first(given);
     let (left, right) = first(values);
@@ -37,13 +37,13 @@ fn compared_constants(alloc: Global, given: &str) -> Result<String> {
     Ok(format!(in alloc; "{found}")?)
 }
 
-/// The two rows that are given, with a bar between them.
+/// The two given rows, separated by a bar.
 fn two_rows(alloc: Global, given: &str) -> Result<(Row, Row)> {
     let (one, other) = given.split_once("|").unwrap_or((given, ""));
     Ok((row(alloc, one)?, row(alloc, other)?))
 }
 
-/// How the one row is ordered beside the other, and whether they are the same.
+/// How one row is ordered relative to the other, and whether they are the same.
 fn ordered(alloc: Global, given: &str) -> Result<String> {
     let (one, other) = two_rows(alloc, given)?;
     let order = one.cmp(&other);
@@ -51,7 +51,7 @@ fn ordered(alloc: Global, given: &str) -> Result<String> {
     Ok(format!(in alloc; "{order:?} {is_same}")?)
 }
 
-/// What the call answers.
+/// The answer to the call.
 pub fn answer(alloc: Global, call: &str, rest: &str) -> Result<Option<String>> {
     Ok(Some(match call {
         "compare" => compared(alloc, rest)?,

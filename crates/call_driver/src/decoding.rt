@@ -22,7 +22,7 @@ fn spelled(alloc: Global, message: &Msg) -> Result<Vec<u8>> {
     Ok(out)
 }
 
-/// What spells the message of the bytes, or their fault.
+/// The bytes that spell the message of the bytes, or their fault.
 fn again(alloc: Global, bytes: &[u8]) -> Result<String> {
     match decoded(alloc, bytes) {
         Ok(message) => hexadecimal(alloc, spelled(alloc, &message)?.as_slice()),
@@ -30,7 +30,7 @@ fn again(alloc: Global, bytes: &[u8]) -> Result<String> {
     }
 }
 
-/// Whether the bytes are decoded, if what spells their message is the same.
+/// Whether the bytes are decoded, if the same bytes spell their message.
 fn is_decoded(alloc: Global, bytes: &[u8]) -> Result<Option<bool>> {
     match decoded(alloc, bytes) {
         Ok(message) if spelled(alloc, &message)?.as_slice() == bytes => Ok(Some(true)),
@@ -39,7 +39,7 @@ fn is_decoded(alloc: Global, bytes: &[u8]) -> Result<Option<bool>> {
     }
 }
 
-/// How many of the bytes that may be at a place make a message, if what spells each of these is the same.
+/// How many of the bytes that may be at a place make a message, if the same bytes spell each of these.
 fn decoded_at(alloc: Global, bytes: &[u8], place: usize) -> Result<Option<usize>> {
     let mut count: usize = 0;
     let mut changed = bytes.to_vec(alloc)?;
@@ -56,8 +56,8 @@ fn decoded_at(alloc: Global, bytes: &[u8], place: usize) -> Result<Option<usize>
     Ok(Some(count))
 }
 
-/// Whether what is decoded is spelled again, where each byte is replaced by each other value in turn, and is decoded at
-/// least where a byte is replaced by itself.
+/// Whether what is decoded is spelled again when each byte is replaced by each other value in turn, and is decoded at
+/// least when a byte is replaced by itself.
 fn changed(alloc: Global, bytes: &[u8]) -> Result<&'static str> {
     for place in 0..bytes.len() {
         match decoded_at(alloc, bytes, place)? {
@@ -69,19 +69,19 @@ fn changed(alloc: Global, bytes: &[u8]) -> Result<&'static str> {
     Ok("the same is spelled")
 }
 
-/// The value that a column of a type reads of a cell, as it is shown for debugging.
+/// The value that a column of a type reads from a cell, as shown for debugging.
 fn value(alloc: Global, kind: &str, cell: Cell) -> Result<String> {
     let found = value_of(alloc, column_type(kind)?, cell)?;
     Ok(format!(in alloc; "{found:?}")?)
 }
 
-/// The value that a column reads of a text.
+/// The value that a column reads from a text.
 fn value_of_text(alloc: Global, given: &str) -> Result<String> {
     let (kind, text) = first(given);
     value(alloc, kind, Cell::Text(Text::new(unescaped(alloc, text)?)))
 }
 
-/// What the call answers.
+/// The answer to the call.
 pub fn answer(alloc: Global, call: &str, rest: &str) -> Result<Option<String>> {
     Ok(Some(match call {
         "again" => again(alloc, bytes_of(alloc, rest)?.as_slice())?,

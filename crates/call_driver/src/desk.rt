@@ -1,4 +1,4 @@
-//! What earlier calls have made.
+//! The values that earlier calls have made.
 
 use anyhow::{Context, Result};
 use bytes::BytesMut;
@@ -15,7 +15,7 @@ use std::sync::Arc;
 use tables_log::Book;
 use test_subscriber::Subscriber;
 
-/// The values that calls have made, each the last of its kind.
+/// The values that calls have made: the last of each kind.
 #[derive(Drop)]
 pub struct Desk {
     pub alloc: Global,
@@ -28,12 +28,12 @@ pub struct Desk {
     pub path: Option<Filter>,
     pub memo: Option<Memo>,
     pub places: Vec<Places>,
-    /// The row that changes begin with.
+    /// The row with which changes begin.
     pub old: Option<Row>,
     pub change: Option<Change>,
     pub checked: Option<Arc<Checked, Global>>,
     pub book: Option<Book>,
-    /// Of which tables a subscriber was told.
+    /// Which tables were announced to a subscriber.
     pub told: Vec<bool>,
     pub deframer: Option<Deframer>,
     /// The responses to starts.
@@ -46,7 +46,7 @@ pub struct Desk {
 }
 
 impl Desk {
-    /// A desk with nothing on it.
+    /// An empty desk.
     pub fn new(alloc: Global) -> Desk {
         Desk {
             alloc,

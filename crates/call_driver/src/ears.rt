@@ -20,7 +20,7 @@ fn hear(ear: &mut Ear, piece: &[u8], book: &mut Book, sent: u64) -> Result<Heard
     ear.hear(piece, book, sent)
 }
 
-/// Hears a piece, where so much was sent.
+/// Hears a piece, when the log was sent up to a given position.
 fn heard(desk: &mut Desk, given: &str) -> Result<String> {
     let (ear, given) = first(given);
     let (sent, digits) = first(given);
@@ -34,7 +34,7 @@ fn heard(desk: &mut Desk, given: &str) -> Result<String> {
     shown(desk.alloc, &answer)
 }
 
-/// The connection is lost.
+/// Loses the connection.
 fn lose(desk: &mut Desk, given: &str) -> Result<String> {
     let ear = desk
         .ears
@@ -48,7 +48,7 @@ fn ear<'a>(desk: &'a Desk, given: &str) -> Result<&'a Ear> {
     desk.ears.get(count(given)?).context("there is no such ear")
 }
 
-/// What the call answers.
+/// The answer to the call.
 pub fn answer(desk: &mut Desk, call: &str, rest: &str) -> Result<Option<String>> {
     Ok(Some(match call {
         "new" => begin(desk)?,

@@ -8,7 +8,7 @@ use filter_tree::{Row, Table};
 use pgoutput_msgs::{Msg, encode, encode_insert, fits, relation_of, tuple_of};
 use std::alloc::Global;
 
-/// Appends the bytes that spell a message that there is room for.
+/// Appends the bytes that spell a message for which the layout has room.
 pub fn spell(message: &Msg, out: &mut Vec<u8>) -> Result<()> {
     if !fits(message) {
         bail!("the message does not fit");
@@ -23,7 +23,7 @@ fn insert(alloc: Global, relation: u32, row: &Row) -> Result<Msg> {
     Ok(Msg::Insert { relation, new })
 }
 
-/// The Insert messages of rows, which have bars between them, one after another.
+/// The Insert messages of rows, which are separated by bars, one after another.
 fn inserts(alloc: Global, given: &str) -> Result<String> {
     let (relation, rows) = first(given);
     let relation = small(relation)?;
@@ -45,7 +45,7 @@ fn spell_row(alloc: Global, relation: u32, row: &Row, out: &mut Vec<u8>) -> Resu
     Ok(())
 }
 
-/// The same messages as of `inserts`, without tuples.
+/// The same messages as those of `inserts`, without tuples.
 fn rows(alloc: Global, given: &str) -> Result<String> {
     let (relation, rows) = first(given);
     let relation = small(relation)?;
@@ -56,7 +56,7 @@ fn rows(alloc: Global, given: &str) -> Result<String> {
     hexadecimal(alloc, out.as_slice())
 }
 
-/// The Relation message of a table, which has so many before it.
+/// The Relation message of a table with this number of others before it.
 fn relation(alloc: Global, number: usize, table: &Table) -> Result<Msg> {
     if number > 1_000_000 {
         bail!("a table's number is up to 1,000,000");
@@ -64,7 +64,7 @@ fn relation(alloc: Global, number: usize, table: &Table) -> Result<Msg> {
     Ok(Msg::Relation(relation_of(alloc, number, table)?))
 }
 
-/// The Relation message of the catalog's first table, if it had so many before it.
+/// The Relation message of the catalog's first table, as if it had a number of others before it.
 fn relation_bytes(desk: &Desk, given: &str) -> Result<String> {
     let message = relation(desk.alloc, count(given)?, desk.table(0)?)?;
     let mut out = Vec::new(desk.alloc);
@@ -72,7 +72,7 @@ fn relation_bytes(desk: &Desk, given: &str) -> Result<String> {
     hexadecimal(desk.alloc, out.as_slice())
 }
 
-/// What the call answers.
+/// The answer to the call.
 pub fn answer(desk: &mut Desk, call: &str, rest: &str) -> Result<Option<String>> {
     Ok(Some(match call {
         "inserts" => inserts(desk.alloc, rest)?,

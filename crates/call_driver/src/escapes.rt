@@ -1,4 +1,5 @@
-//! Texts that fit on a line: `\n` is a newline, `\\` a backslash, and `\xHH` the byte of two hexadecimal digits below 128.
+//! Texts that fit on one line: `\n` is a newline, `\\` a backslash, and `\xHH` the byte of two hexadecimal digits below
+//! 128.
 
 use anyhow::{Context, Result, bail};
 use std::alloc::Global;
@@ -21,7 +22,7 @@ fn digit(character: char) -> Result<u32> {
         .context("an escape has no two hexadecimal digits")
 }
 
-/// What is before the next character, once this one, which comes after a backslash, is read.
+/// What comes before the next character after this one, which follows a backslash, is read.
 fn after_backslash(character: char, text: &mut String) -> Result<Before> {
     match character {
         'n' => text.push('\n')?,
@@ -43,7 +44,7 @@ fn push_byte(high: u32, low: u32, text: &mut String) -> Result<Before> {
     Ok(Before::Nothing)
 }
 
-/// What is before the next character, once this one is read.
+/// What comes before the next character after this one is read.
 fn after(before: Before, character: char, text: &mut String) -> Result<Before> {
     match before {
         Before::Nothing if character == '\\' => Ok(Before::Backslash),
@@ -70,7 +71,7 @@ pub fn unescaped(alloc: Global, written: &str) -> Result<String> {
     }
 }
 
-/// Appends the character, with an escape where it needs one.
+/// Appends the character, with an escape if it needs one.
 fn push_escaped(character: char, written: &mut String) -> Result<()> {
     match character {
         '\n' => written.push_str("\\n")?,

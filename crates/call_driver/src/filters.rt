@@ -1,4 +1,4 @@
-//! Calls on filters: what they say, what they may say, and what is in them.
+//! Calls on filters: their values, their possible values, and their contents.
 
 use crate::cells::{count, row};
 use crate::desk::Desk;
@@ -11,7 +11,7 @@ use filter_tree::{
 use sql_reader::{Item, ReadError, Reader, read_filter};
 use std::alloc::Global;
 
-/// The filter at the start of a text that ends it by `);`.
+/// The filter at the start of a text that ends it with `);`.
 fn ended_filter(alloc: Global, text: &str, columns: &[Column]) -> Result<Filter, ReadError> {
     let mut reader = Reader::new(text);
     let filter = read_filter(&mut reader, alloc, columns)?;
@@ -20,7 +20,7 @@ fn ended_filter(alloc: Global, text: &str, columns: &[Column]) -> Result<Filter,
     Ok(filter)
 }
 
-/// Reads a filter of the first table, which is put on the desk.
+/// Reads a filter of the first table, and puts it on the desk.
 fn read(desk: &mut Desk, text: &str) -> Result<String> {
     let alloc = desk.alloc;
     let columns = desk.table(0)?.columns.as_slice();
@@ -33,12 +33,12 @@ fn read(desk: &mut Desk, text: &str) -> Result<String> {
     }
 }
 
-/// What the filter says of the row.
+/// The value of the filter for the row.
 fn says(filter: &Filter, row: &Row) -> Tri {
     eval(filter, row)
 }
 
-/// What the filter says of the row, and what a copy of it says if that is something else.
+/// The value of the filter for the row, and that of a copy of the filter if it is different.
 fn evaluated(desk: &Desk, given: &str) -> Result<String> {
     let row = row(desk.alloc, given)?;
     let filter = desk.filter()?;
@@ -50,14 +50,14 @@ fn evaluated(desk: &Desk, given: &str) -> Result<String> {
     Ok(format!(in desk.alloc; "{said:?}")?)
 }
 
-/// A copy of the filter is put in its place.
+/// Replaces the filter with a copy.
 fn copy(desk: &mut Desk) -> Result<String> {
     let copy = copy_in(desk.alloc, desk.filter()?)?;
     desk.filter = Some(copy);
     Ok(String::from_str(desk.alloc, "ok")?)
 }
 
-/// The filter's atoms are those of paths from now on.
+/// Makes the filter's atoms those of paths from now on.
 fn keep(desk: &mut Desk) -> Result<String> {
     desk.path = desk.filter.take();
     Ok(String::from_str(desk.alloc, "ok")?)
@@ -84,7 +84,7 @@ fn path<'a>(alloc: Global, atoms: &[&'a Atom], given: &str) -> Result<Vec<(&'a A
     Ok(path)
 }
 
-/// What the filter may say on a path.
+/// The possible values of the filter on a path.
 fn possibilities(desk: &Desk, given: &str) -> Result<String> {
     let alloc = desk.alloc;
     let filter = desk.path.as_ref().context("there is no filter of paths")?;
@@ -122,7 +122,7 @@ fn atoms(desk: &Desk) -> Result<String> {
     Ok(format!(in desk.alloc; "{:?}", atoms.as_slice())?)
 }
 
-/// What the call on the parts of the filter answers.
+/// The answer to a call on the parts of the filter.
 fn answer_of_parts(desk: &Desk, call: &str) -> Result<Option<String>> {
     Ok(Some(match call {
         "tree" => format!(in desk.alloc; "{:?}", desk.filter()?)?,
@@ -133,7 +133,7 @@ fn answer_of_parts(desk: &Desk, call: &str) -> Result<Option<String>> {
     }))
 }
 
-/// What the call answers.
+/// The answer to the call.
 pub fn answer(desk: &mut Desk, call: &str, rest: &str) -> Result<Option<String>> {
     let alloc = desk.alloc;
     Ok(Some(match call {

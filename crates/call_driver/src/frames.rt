@@ -1,4 +1,4 @@
-//! Calls of `Deframer`, and of what CopyData carries.
+//! Calls of `Deframer`, and calls on what CopyData carries.
 
 use crate::books::shown;
 use crate::cells::{count, first, number, small, truth};
@@ -13,7 +13,7 @@ use copy_frames::{
 };
 use std::alloc::{AllocError, Global};
 
-/// Begins a stream whose frames have at most so long a length.
+/// Begins a stream whose frames have at most a given length.
 fn begin(desk: &mut Desk, given: &str) -> Result<String> {
     desk.deframer = Some(Deframer::new(desk.alloc, small(given)?));
     Ok(String::from_str(desk.alloc, "ok")?)
@@ -23,7 +23,7 @@ fn feed(deframer: &mut Deframer, piece: &[u8]) -> Result<(), FrameFault> {
     deframer.feed(piece)
 }
 
-/// Gives the deframer the bytes in pieces of a length, up to a fault.
+/// Feeds the deframer the bytes in pieces of a given length, up to a fault.
 fn feed_pieces(deframer: &mut Deframer, bytes: &[u8], length: usize) -> Result<(), FrameFault> {
     if bytes.is_empty() {
         return feed(deframer, bytes);
@@ -34,7 +34,7 @@ fn feed_pieces(deframer: &mut Deframer, bytes: &[u8], length: usize) -> Result<(
     Ok(())
 }
 
-/// Feeds the deframer in pieces of a length.
+/// Feeds the deframer in pieces of a given length.
 fn fed(desk: &mut Desk, given: &str) -> Result<String> {
     let (length, digits) = first(given);
     let bytes = bytes_of(desk.alloc, digits)?;
@@ -69,7 +69,7 @@ fn next_frame(desk: &mut Desk) -> Result<String> {
     }
 }
 
-/// What the call on a stream answers.
+/// The answer to a call on a stream.
 fn answer_of_stream(desk: &mut Desk, call: &str, rest: &str) -> Result<Option<String>> {
     Ok(Some(match call {
         "new" => begin(desk, rest)?,
@@ -123,7 +123,7 @@ fn carry(alloc: Global, given: &str, out: &mut BytesMut) -> Result<()> {
     Ok(())
 }
 
-/// What the call that writes a frame answers.
+/// The answer to a call that writes a frame.
 fn answer_of_writing(alloc: Global, call: &str, rest: &str) -> Result<Option<String>> {
     let mut out = BytesMut::new(alloc);
     match call {
@@ -148,7 +148,7 @@ fn carried(alloc: Global, body: &[u8]) -> Result<String> {
     }
 }
 
-/// What the call that reads a body answers.
+/// The answer to a call that reads a body.
 fn answer_of_reading(alloc: Global, call: &str, rest: &str) -> Result<Option<String>> {
     let body = bytes_of(alloc, rest)?;
     Ok(Some(match call {
@@ -159,7 +159,7 @@ fn answer_of_reading(alloc: Global, call: &str, rest: &str) -> Result<Option<Str
     }))
 }
 
-/// What the call answers.
+/// The answer to the call.
 pub fn answer(desk: &mut Desk, call: &str, rest: &str) -> Result<Option<String>> {
     let answer = answer_of_stream(desk, call, rest)?;
     if answer.is_some() {

@@ -20,7 +20,7 @@ fn hear(link: &mut Link, piece: &[u8], book: &mut Book, now: u64) -> Result<Hear
     link.hear(piece, book, now)
 }
 
-/// Hears a piece at a time.
+/// Hears a piece at a given time.
 fn heard(desk: &mut Desk, given: &str) -> Result<String> {
     let (link, given) = first(given);
     let (now, digits) = first(given);
@@ -38,7 +38,7 @@ fn take(link: &mut Link, book: &Book, now: u64) -> Result<Taken, LinkFault> {
     link.take(book, now)
 }
 
-/// Takes the next commit up at a time.
+/// Takes the next commit at a given time.
 fn taken(desk: &mut Desk, given: &str) -> Result<String> {
     let (link, now) = first(given);
     let link = desk
@@ -50,7 +50,7 @@ fn taken(desk: &mut Desk, given: &str) -> Result<String> {
     shown(desk.alloc, &answer)
 }
 
-/// Says a keepalive at a time.
+/// Sends a keepalive at a given time.
 fn kept(desk: &mut Desk, given: &str) -> Result<String> {
     let (link, given) = first(given);
     let (now, want) = first(given);
@@ -62,7 +62,7 @@ fn kept(desk: &mut Desk, given: &str) -> Result<String> {
     shown(desk.alloc, &answer)
 }
 
-/// So many of the bytes that wait are gone.
+/// Drops a number of the bytes that wait.
 fn pass(desk: &mut Desk, given: &str) -> Result<String> {
     let (link, number) = first(given);
     let link = desk
@@ -73,7 +73,7 @@ fn pass(desk: &mut Desk, given: &str) -> Result<String> {
     Ok(String::from_str(desk.alloc, "ok")?)
 }
 
-/// The connection is lost.
+/// Loses the connection.
 fn lose(desk: &mut Desk, given: &str) -> Result<String> {
     let link = desk
         .links
@@ -83,7 +83,7 @@ fn lose(desk: &mut Desk, given: &str) -> Result<String> {
     Ok(String::from_str(desk.alloc, "ok")?)
 }
 
-/// What the call on what a link shows answers.
+/// The answer to a call on what a link shows.
 fn answer_of_state(desk: &Desk, call: &str, given: &str) -> Result<Option<String>> {
     let link = desk
         .links
@@ -98,7 +98,7 @@ fn answer_of_state(desk: &Desk, call: &str, given: &str) -> Result<Option<String
     }))
 }
 
-/// What the call answers.
+/// The answer to the call.
 pub fn answer(desk: &mut Desk, call: &str, rest: &str) -> Result<Option<String>> {
     Ok(Some(match call {
         "new" => begin(desk)?,

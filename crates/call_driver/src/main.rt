@@ -1,7 +1,8 @@
-//! The program `call_driver`: makes the calls that its standard input names, one a line, and prints what each answered.
+//! The program `call_driver`: makes the calls that its standard input names, one per line, and prints the answer to
+//! each.
 //!
-//! A line is the name of a call, such as `book.commit`, and then what it is given. Calls leave their values on a desk,
-//! where later ones find them, and `new` clears it. `tools/testing/calls` has tables of calls and of their answers.
+//! A line is the name of a call, such as `book.commit`, and then its arguments. Calls leave their values on a desk,
+//! where later ones find them, and `new` clears it. `tools/testing/calls` has tables of calls and their answers.
 #![tactic(auto)]
 
 mod books;
@@ -40,7 +41,7 @@ use escapes::escaped;
 use std::alloc::Global;
 use std::io::Read;
 
-/// What a call on texts, filters and catalogs answers, or `None` if there is no such call.
+/// The answer to a call on texts, filters and catalogs, or `None` if there is no such call.
 fn answer_of_text(desk: &mut Desk, topic: &str, call: &str, rest: &str) -> Result<Option<String>> {
     match topic {
         "tokens" => tokens::answer(desk.alloc, call, rest),
@@ -56,7 +57,7 @@ fn answer_of_text(desk: &mut Desk, topic: &str, call: &str, rest: &str) -> Resul
     }
 }
 
-/// What a call on shardings and changes answers, or `None` if there is no such call.
+/// The answer to a call on shardings and changes, or `None` if there is no such call.
 fn answer_of_sharding(
     desk: &mut Desk,
     topic: &str,
@@ -73,7 +74,7 @@ fn answer_of_sharding(
     }
 }
 
-/// What a call on commits, messages and connections answers, or `None` if there is no such call.
+/// The answer to a call on commits, messages and connections, or `None` if there is no such call.
 fn answer_of_stream(
     desk: &mut Desk,
     topic: &str,
@@ -96,7 +97,7 @@ fn answer_of_stream(
     }
 }
 
-/// What the call answers, or `None` if there is no such call.
+/// The answer to the call, or `None` if there is no such call.
 fn answer_of(desk: &mut Desk, name: &str, rest: &str) -> Result<Option<String>> {
     let (topic, call) = name.split_once(".").unwrap_or((name, ""));
     let answer = answer_of_text(desk, topic, call, rest)?;
@@ -110,7 +111,7 @@ fn answer_of(desk: &mut Desk, name: &str, rest: &str) -> Result<Option<String>> 
     answer_of_stream(desk, topic, call, rest)
 }
 
-/// What the line answers. A line that can't be read is answered too, and does not end the run.
+/// The answer to the line. A line that can't be read has an answer too, and does not end the run.
 fn answer_of_line(desk: &mut Desk, line: &str) -> Result<String> {
     let alloc = desk.alloc;
     let (name, rest) = line.split_once(" ").unwrap_or((line, ""));
@@ -126,7 +127,7 @@ fn answer_of_line(desk: &mut Desk, line: &str) -> Result<String> {
     escaped(alloc, answer.as_str())
 }
 
-/// The answers to all lines, each on a line.
+/// The answers to all lines, one per line.
 fn answers_of(alloc: Global, lines: &str) -> Result<String> {
     let mut desk = Desk::new(alloc);
     let mut answers = String::new(alloc);

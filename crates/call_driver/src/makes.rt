@@ -11,7 +11,7 @@ use replica_identity::Plan;
 use split_cert::Cert;
 use std::alloc::Global;
 
-/// What is made for a table.
+/// The result of `make` for a table.
 fn made<'b>(
     alloc: Global,
     arena: &'b Bump,
@@ -109,7 +109,7 @@ fn value_and_owners(desk: &Desk, row: &Row, owners: &[usize]) -> Result<String> 
     Ok(format!(in desk.alloc; "{said:?} {owners:?}")?)
 }
 
-/// What the call answers of a certificate.
+/// The answer to a call on a certificate.
 fn of_certificate(alloc: Global, cert: &Cert<&Bump>, call: &str) -> Result<Option<String>> {
     Ok(Some(match call {
         "nodes" => node_count(alloc, cert)?,
@@ -119,7 +119,7 @@ fn of_certificate(alloc: Global, cert: &Cert<&Bump>, call: &str) -> Result<Optio
     }))
 }
 
-/// What the call answers of a counterexample.
+/// The answer to a call on a counterexample.
 fn of_counterexample(
     desk: &Desk,
     row: &Row,
@@ -133,7 +133,7 @@ fn of_counterexample(
     }))
 }
 
-/// What the call answers.
+/// The answer to the call.
 pub fn answer(desk: &mut Desk, call: &str, rest: &str) -> Result<Option<String>> {
     let arena = Bump::new(desk.alloc);
     let made = made(

@@ -28,7 +28,7 @@ fn memo_of(alloc: Global, catalog: &Catalog) -> Result<Memo> {
     Ok(Memo::new(alloc, filters.as_slice())?)
 }
 
-/// Begins a memo of what the catalog's filters say.
+/// Creates a memo of the values of the catalog's filters.
 fn begin(desk: &mut Desk) -> Result<String> {
     let memo = memo_of(desk.alloc, desk.catalog()?)?;
     desk.memo = Some(memo);
@@ -53,7 +53,7 @@ fn located(desk: &mut Desk, given: &str) -> Result<String> {
     Ok(format!(in desk.alloc; "{number}")?)
 }
 
-/// The text that the memo has of the places.
+/// The text that the memo has for the places.
 fn found<'a>(memo: &'a Memo, places: &Places) -> Option<&'a str> {
     memo.text(places)
 }
@@ -69,7 +69,7 @@ fn text(desk: &Desk, given: &str) -> Result<String> {
     Ok(String::from_str(desk.alloc, text)?)
 }
 
-/// Whether the memo has this text of the places, and whether it has another one.
+/// Whether the memo has this text for the places, and whether it has another one.
 fn compared(desk: &Desk, given: &str) -> Result<(bool, bool)> {
     let (place, text) = first(given);
     let text = unescaped(desk.alloc, text)?;
@@ -88,7 +88,7 @@ fn keep(memo: &mut Memo, places: &Places, text: &str) -> Result<(), AllocError> 
     memo.keep(places, text)
 }
 
-/// The memo keeps the text of the places.
+/// Keeps the text of the places in the memo.
 fn kept(desk: &mut Desk, given: &str) -> Result<String> {
     let (place, text) = first(given);
     let text = unescaped(desk.alloc, text)?;
@@ -104,7 +104,7 @@ fn kept(desk: &mut Desk, given: &str) -> Result<String> {
     Ok(String::from_str(desk.alloc, "ok")?)
 }
 
-/// What the call answers.
+/// The answer to the call.
 pub fn answer(desk: &mut Desk, call: &str, rest: &str) -> Result<Option<String>> {
     Ok(Some(match call {
         "new" => begin(desk)?,

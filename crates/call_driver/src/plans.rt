@@ -1,4 +1,4 @@
-//! Calls of `plan`, and who takes which rows.
+//! Calls of `plan`, and which subscribers take which rows.
 
 use crate::cells::{count, first, row};
 use crate::desk::Desk;
@@ -19,7 +19,7 @@ fn takes(plan: &Plan, subscriber: usize, table: usize, row: &Row) -> bool {
     plan.share(subscriber, table).takes(row)
 }
 
-/// Who takes the row of a table: of so many subscribers, the numbers of those that do.
+/// The numbers of those of the first subscribers, up to a given count, that take the row of a table.
 fn takers(desk: &Desk, given: &str) -> Result<String> {
     let (number, given) = first(given);
     let (table, given) = first(given);
@@ -35,7 +35,7 @@ fn takers(desk: &Desk, given: &str) -> Result<String> {
     Ok(answer)
 }
 
-/// Of so many tables, the numbers of those that the subscriber takes anything of.
+/// The numbers of those of the first tables, up to a given count, that the subscriber takes anything of.
 fn carried(desk: &Desk, given: &str) -> Result<String> {
     let (number, subscriber) = first(given);
     let subscriber = count(subscriber)?;
@@ -49,7 +49,7 @@ fn carried(desk: &Desk, given: &str) -> Result<String> {
     Ok(answer)
 }
 
-/// A share, as it is shown for debugging.
+/// A share, as shown for debugging.
 fn shown(alloc: Global, share: &Share) -> Result<String> {
     Ok(format!(in alloc; "{share:?}")?)
 }
@@ -61,7 +61,7 @@ fn share(desk: &Desk, given: &str) -> Result<String> {
     shown(desk.alloc, share)
 }
 
-/// What the call answers.
+/// The answer to the call.
 pub fn answer(desk: &mut Desk, call: &str, rest: &str) -> Result<Option<String>> {
     Ok(Some(match call {
         "new" => begin(desk)?,

@@ -27,7 +27,7 @@ fn push_value(value: &Value, answer: &mut String) -> Result<()> {
     Ok(())
 }
 
-/// The values of a row, with spaces between them, and texts as they are.
+/// The values of a row, separated by spaces, with texts as they are.
 fn shown(alloc: Global, row: &Row) -> Result<String> {
     let mut answer = String::new(alloc);
     for value in row.values() {
@@ -47,7 +47,7 @@ fn read(alloc: Global, text: &str) -> Result<String> {
     }
 }
 
-/// The text of the row of the text.
+/// The text of the row that the text is read as.
 fn again(alloc: Global, text: &str) -> Result<String> {
     match read_row(alloc, text) {
         Ok(row) => Ok(write_row(alloc, &row)?),
@@ -55,7 +55,7 @@ fn again(alloc: Global, text: &str) -> Result<String> {
     }
 }
 
-/// Why the text is no row, in words.
+/// Why the text is not a row, in words.
 fn message(alloc: Global, text: &str) -> Result<String> {
     match read_row(alloc, text) {
         Ok(_row) => Ok(String::new(alloc)),
@@ -63,7 +63,7 @@ fn message(alloc: Global, text: &str) -> Result<String> {
     }
 }
 
-/// What the call answers.
+/// The answer to the call.
 pub fn answer(alloc: Global, call: &str, rest: &str) -> Result<Option<String>> {
     Ok(Some(match call {
         "read" => read(alloc, unescaped(alloc, rest)?.as_str())?,

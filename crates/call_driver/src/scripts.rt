@@ -10,12 +10,12 @@ use pub_reader::{Line, ReadError, Step, read_script};
 use std::alloc::Global;
 use table_changes::Command;
 
-/// The lines of a script on a catalog.
+/// The lines of a script for a catalog.
 pub fn lines_of(alloc: Global, catalog: &Catalog, text: &str) -> Result<Vec<Line>, ReadError> {
     read_script(alloc, catalog, text)
 }
 
-/// The one step that is given.
+/// The one given step.
 pub fn step_of(desk: &Desk, given: &str) -> Result<Step> {
     let text = unescaped(desk.alloc, given)?;
     let mut lines = lines_of(desk.alloc, desk.catalog()?, text.as_str())?;
@@ -25,7 +25,7 @@ pub fn step_of(desk: &Desk, given: &str) -> Result<Step> {
     }
 }
 
-/// The commands of the one commit that is given.
+/// The commands of the one given commit.
 pub fn commands_of(desk: &Desk, given: &str) -> Result<Vec<Command>> {
     match step_of(desk, given)? {
         Step::Commit(commands) => Ok(commands),
@@ -33,7 +33,7 @@ pub fn commands_of(desk: &Desk, given: &str) -> Result<Vec<Command>> {
     }
 }
 
-/// Appends a command as it is written, but for the numbers of its tables.
+/// Appends a command as it is written, except for the numbers of its tables.
 fn push_command(alloc: Global, command: &Command, answer: &mut String) -> Result<()> {
     match command {
         Command::Insert { table, row } => {
@@ -70,7 +70,7 @@ fn in_capitals(truth: bool) -> &'static str {
     if truth { "TRUE" } else { "FALSE" }
 }
 
-/// Appends a step that has no more than numbers and truth values.
+/// Appends a step that has only numbers and truth values.
 fn push_short(step: &Step, answer: &mut String) -> Result<()> {
     match step {
         Step::Commit(_) | Step::View => answer.push_str("VIEW")?,
@@ -118,7 +118,7 @@ fn read(desk: &Desk, text: &str) -> Result<String> {
     }
 }
 
-/// Why the text is no script, in words.
+/// Why the text is not a script, in words.
 fn message(desk: &Desk, text: &str) -> Result<String> {
     match lines_of(desk.alloc, desk.catalog()?, text) {
         Ok(_lines) => Ok(String::new(desk.alloc)),
@@ -126,7 +126,7 @@ fn message(desk: &Desk, text: &str) -> Result<String> {
     }
 }
 
-/// What the call answers.
+/// The answer to the call.
 pub fn answer(desk: &mut Desk, call: &str, rest: &str) -> Result<Option<String>> {
     let text = unescaped(desk.alloc, rest)?;
     match call {

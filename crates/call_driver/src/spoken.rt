@@ -1,4 +1,4 @@
-//! Calls of `messages_of`: what a subscriber is told of a commit.
+//! Calls of `messages_of`: what is sent to a subscriber for a commit.
 
 use crate::cells::{count, first, small, truth};
 use crate::desk::Desk;
@@ -10,7 +10,7 @@ use shard_checker::Checked;
 use std::alloc::{AllocError, Global};
 use tables_log::Commit;
 
-/// Begins a connection, on which the subscriber was told of these tables.
+/// Begins a connection on which these tables were announced to the subscriber.
 fn begin(desk: &mut Desk, given: &str) -> Result<String> {
     desk.told = Vec::new(desk.alloc);
     for word in given.split(" ") {
@@ -29,7 +29,7 @@ fn messages(
     messages_of(alloc, checked, subscriber, commit, told)
 }
 
-/// The bytes of the messages, with spaces between them.
+/// The bytes of the messages, separated by spaces.
 fn shown(alloc: Global, messages: &[Msg]) -> Result<String> {
     let mut answer = String::new(alloc);
     for message in messages {
@@ -60,13 +60,13 @@ fn messages_for(desk: &mut Desk, given: &str) -> Result<Vec<Msg>> {
     )?)
 }
 
-/// What a subscriber is told of a commit.
+/// What is sent to a subscriber for a commit.
 fn told(desk: &mut Desk, given: &str) -> Result<String> {
     let messages = messages_for(desk, given)?;
     shown(desk.alloc, messages.as_slice())
 }
 
-/// How many bytes each message has that a subscriber is told of a commit.
+/// The number of bytes of each message that is sent to a subscriber for a commit.
 fn lengths(desk: &mut Desk, given: &str) -> Result<String> {
     let messages = messages_for(desk, given)?;
     let mut answer = format!(in desk.alloc; "{}:", messages.len())?;
@@ -78,7 +78,7 @@ fn lengths(desk: &mut Desk, given: &str) -> Result<String> {
     Ok(answer)
 }
 
-/// What the call answers.
+/// The answer to the call.
 pub fn answer(desk: &mut Desk, call: &str, rest: &str) -> Result<Option<String>> {
     Ok(Some(match call {
         "new" => begin(desk, rest)?,

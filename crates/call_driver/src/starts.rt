@@ -1,4 +1,4 @@
-//! Calls of `answer_start`: what the first frame of a client is answered.
+//! Calls of `answer_start`: the answer to the first frame of a client.
 
 use crate::cells::{first, number};
 use crate::desk::Desk;
@@ -26,7 +26,7 @@ fn slots(alloc: Global, letters: &str) -> Result<Vec<bool>> {
     Ok(slots)
 }
 
-/// What a frame is answered; a response is appended.
+/// The answer to a frame; a response is appended.
 fn asked(
     alloc: Global,
     catalog: &Catalog,
@@ -52,7 +52,7 @@ fn message(response: &[u8]) -> &str {
     str::from_utf8(&response[27..response.len() - 2]).unwrap_or("no text")
 }
 
-/// What a frame is answered. A response is put on the desk, after those that are there.
+/// The answer to a frame. A response is put on the desk, after the existing ones.
 fn answered(desk: &mut Desk, given: &Given<'_>, kind: u8, body: &[u8]) -> Result<String> {
     let alloc = desk.alloc;
     let mut response = BytesMut::new(alloc);
@@ -67,7 +67,7 @@ fn answered(desk: &mut Desk, given: &Given<'_>, kind: u8, body: &[u8]) -> Result
     }
 }
 
-/// What a Query of a text is answered.
+/// The answer to a Query of a text.
 fn query(desk: &mut Desk, rest: &str) -> Result<String> {
     let (log_end, rest) = first(rest);
     let (letters, text) = first(rest);
@@ -81,7 +81,7 @@ fn query(desk: &mut Desk, rest: &str) -> Result<String> {
     answered(desk, &given, b'Q', body.as_slice())
 }
 
-/// What a frame of a kind is answered.
+/// The answer to a frame of a given kind.
 fn frame(desk: &mut Desk, rest: &str) -> Result<String> {
     let (log_end, rest) = first(rest);
     let (letters, rest) = first(rest);
@@ -102,7 +102,7 @@ fn append(desk: &mut Desk, digits: &str) -> Result<String> {
     Ok(String::from_str(desk.alloc, "ok")?)
 }
 
-/// What the call answers.
+/// The answer to the call.
 pub fn answer(desk: &mut Desk, call: &str, rest: &str) -> Result<Option<String>> {
     Ok(Some(match call {
         "query" => query(desk, rest)?,

@@ -33,14 +33,14 @@ fn feed(subscriber: &mut Subscriber, piece: &[u8]) -> Result<(), SubFault> {
     subscriber.feed(piece)
 }
 
-/// Gives the subscriber a piece of the stream.
+/// Feeds the subscriber a piece of the stream.
 fn fed(desk: &mut Desk, digits: &str) -> Result<String> {
     let piece = bytes_of(desk.alloc, digits)?;
     let answer = feed(subscriber(desk)?, piece.as_slice());
     shown(desk.alloc, &answer)
 }
 
-/// The subscriber says how far it is.
+/// The subscriber reports its position.
 fn reported(desk: &mut Desk, given: &str) -> Result<String> {
     let (now, want) = first(given);
     let (now, want) = (number(now)?, truth(want)?);
@@ -48,20 +48,20 @@ fn reported(desk: &mut Desk, given: &str) -> Result<String> {
     shown(desk.alloc, &answer)
 }
 
-/// The connection is lost.
+/// Loses the connection.
 fn lose(desk: &mut Desk) -> Result<String> {
     subscriber(desk)?.lose();
     Ok(String::from_str(desk.alloc, "ok")?)
 }
 
-/// So many of the bytes that wait are gone.
+/// Drops a number of the bytes that wait.
 fn pass(desk: &mut Desk, given: &str) -> Result<String> {
     let count = count(given)?;
     subscriber(desk)?.passed(count);
     Ok(String::from_str(desk.alloc, "ok")?)
 }
 
-/// What the call on what a subscriber shows answers.
+/// The answer to a call on what a subscriber shows.
 fn answer_of_state(desk: &Desk, call: &str, rest: &str) -> Result<Option<String>> {
     let subscriber = desk.subscriber.as_ref().context("there is no subscriber")?;
     Ok(Some(match call {
@@ -73,7 +73,7 @@ fn answer_of_state(desk: &Desk, call: &str, rest: &str) -> Result<Option<String>
     }))
 }
 
-/// What the call answers.
+/// The answer to the call.
 pub fn answer(desk: &mut Desk, call: &str, rest: &str) -> Result<Option<String>> {
     Ok(Some(match call {
         "new" => begin(desk, rest)?,

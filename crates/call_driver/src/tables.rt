@@ -1,4 +1,4 @@
-//! Calls on the tables of a catalog: their parts, their rows, and the identities of these.
+//! Calls on the tables of a catalog: their parts, their rows, and the identities of the rows.
 
 use crate::cells::{count, first, row};
 use crate::desk::Desk;
@@ -55,8 +55,8 @@ fn key(alloc: Global, table: &Table, given: &str) -> Result<String> {
     Ok(write_row(alloc, &key)?)
 }
 
-/// The columns of the replica identity, whether it tells rows apart, and which columns it covers: those of the table,
-/// and one more.
+/// The columns of the replica identity, whether it distinguishes rows, and which columns it covers, of those of the
+/// table and one more.
 fn identity(alloc: Global, table: &Table) -> Result<String> {
     let columns = identity_columns(alloc, table)?;
     let is_apart = tells_rows_apart(table);
@@ -69,7 +69,7 @@ fn identity(alloc: Global, table: &Table) -> Result<String> {
     Ok(answer)
 }
 
-/// What the call answers.
+/// The answer to the call.
 pub fn answer(desk: &mut Desk, call: &str, rest: &str) -> Result<Option<String>> {
     let alloc = desk.alloc;
     let (number, given) = first(rest);

@@ -47,7 +47,7 @@ fn name(alloc: Global, text: &str) -> Result<String> {
     }
 }
 
-/// What the call answers.
+/// The answer to the call.
 pub fn answer(alloc: Global, call: &str, rest: &str) -> Result<Option<String>> {
     let text = unescaped(alloc, rest)?;
     match call {

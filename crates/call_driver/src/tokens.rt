@@ -24,7 +24,7 @@ fn push_fault(fault: &TokenFault, answer: &mut String) -> Result<()> {
     Ok(())
 }
 
-/// Appends what comes after the last token, which has to come again.
+/// Appends what comes after the last token, which must come again.
 fn push_end(
     end: Result<Option<Token>, TokenFault>,
     tokens: &mut Tokens<'_>,
@@ -56,7 +56,7 @@ fn tokens_in(alloc: Global, text: &str) -> Result<String> {
     Ok(answer)
 }
 
-/// What the call answers.
+/// The answer to the call.
 pub fn answer(alloc: Global, call: &str, rest: &str) -> Result<Option<String>> {
     match call {
         "next" => Ok(Some(tokens_in(alloc, unescaped(alloc, rest)?.as_str())?)),

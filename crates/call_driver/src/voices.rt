@@ -27,7 +27,7 @@ fn started(desk: &mut Desk, given: &str) -> Result<String> {
     shown(desk.alloc, &answer)
 }
 
-/// Takes a commit up, if it is the one that comes next.
+/// Takes a commit, if it is the next one.
 fn take(voice: &mut Voice, commit: &Commit, now: u64) -> Result<Result<Taken, LinkFault>> {
     match voice.next() {
         None => Ok(voice.take_entry(commit, now)),
@@ -36,7 +36,7 @@ fn take(voice: &mut Voice, commit: &Commit, now: u64) -> Result<Result<Taken, Li
     }
 }
 
-/// Takes the book's commit of a number up.
+/// Takes the book's commit with a number.
 fn taken(desk: &mut Desk, given: &str) -> Result<String> {
     let (commit, now) = first(given);
     let book = desk.book.as_ref().context("there is no book")?;
@@ -48,7 +48,7 @@ fn taken(desk: &mut Desk, given: &str) -> Result<String> {
     shown(desk.alloc, &answer)
 }
 
-/// Says a keepalive.
+/// Sends a keepalive.
 fn kept(desk: &mut Desk, given: &str) -> Result<String> {
     let (now, want) = first(given);
     let (now, want) = (number(now)?, truth(want)?);
@@ -62,14 +62,14 @@ fn done(desk: &mut Desk) -> Result<String> {
     shown(desk.alloc, &answer)
 }
 
-/// So many of the bytes that wait are gone.
+/// Drops a number of the bytes that wait.
 fn pass(desk: &mut Desk, given: &str) -> Result<String> {
     let count = count(given)?;
     voice(desk)?.passed(count);
     Ok(String::from_str(desk.alloc, "ok")?)
 }
 
-/// What the call on what a voice shows answers.
+/// The answer to a call on what a voice shows.
 fn answer_of_state(desk: &Desk, call: &str) -> Result<Option<String>> {
     let voice = desk.voice.as_ref().context("there is no voice")?;
     Ok(Some(match call {
@@ -81,7 +81,7 @@ fn answer_of_state(desk: &Desk, call: &str) -> Result<Option<String>> {
     }))
 }
 
-/// What the call answers.
+/// The answer to the call.
 pub fn answer(desk: &mut Desk, call: &str, rest: &str) -> Result<Option<String>> {
     Ok(Some(match call {
         "new" => begin(desk)?,

@@ -11,7 +11,7 @@ use pub_reader::Step;
 use shard_world::{Answer, Event, PeerEvent, SubscriberView, View, World};
 use std::alloc::Global;
 
-/// A world of the sharding, without rows, whose log takes so many commits.
+/// A world of the sharding, without rows, whose log may have a given number of commits.
 fn begin(desk: &mut Desk, given: &str) -> Result<String> {
     let limit = small(given)?;
     if limit == 0 || limit > 1_000_000_000 {
@@ -45,7 +45,7 @@ fn step(world: &mut World, now: u64, event: &Event) -> Answer {
     world.step(now, event)
 }
 
-/// What is answered of a step at a time.
+/// The answer to a step at a given time.
 fn stepped(desk: &mut Desk, given: &str) -> Result<String> {
     let (now, given) = first(given);
     let now = number(now)?;
@@ -67,7 +67,7 @@ fn events(desk: &Desk, now: u64, given: &str) -> Result<Vec<(u64, Event)>> {
     Ok(events)
 }
 
-/// What is answered of a script's steps from a time on.
+/// The answers to a script's steps from a given time on.
 fn ran(desk: &mut Desk, given: &str) -> Result<String> {
     let (now, given) = first(given);
     let events = events(desk, number(now)?, given)?;
@@ -76,7 +76,7 @@ fn ran(desk: &mut Desk, given: &str) -> Result<String> {
     Ok(format!(in desk.alloc; "{:?}", answers.as_slice())?)
 }
 
-/// What is answered of a pump of a subscriber at a time.
+/// The answer to a pump of a subscriber at a given time.
 fn pumped(desk: &mut Desk, given: &str) -> Result<String> {
     let (now, subscriber) = first(given);
     let world = desk.world.as_mut().context("there is no world")?;
@@ -121,7 +121,7 @@ fn viewed(desk: &Desk) -> Result<String> {
     view_shown(desk.alloc, &world.view()?)
 }
 
-/// What the call answers.
+/// The answer to the call.
 pub fn answer(desk: &mut Desk, call: &str, rest: &str) -> Result<Option<String>> {
     Ok(Some(match call {
         "new" => begin(desk, rest)?,

@@ -1,4 +1,4 @@
-//! Filters that no text is read as: long chains, and how many different atoms and nodes several have together.
+//! Filters that no text can be parsed to: long chains, and how many different atoms and nodes several have together.
 
 use crate::checks::same;
 use filter_tree::{Atom, Filter};
@@ -6,7 +6,7 @@ use sql_reader::{Limit, exceeded_limit};
 use std::alloc::{AllocError, Global};
 use std::test::Fail;
 
-/// The limit that these filters pass.
+/// The limit that these filters exceed.
 fn exceeded(alloc: Global, filters: &[&Filter]) -> Result<Option<Limit>, AllocError> {
     exceeded_limit(alloc, filters)
 }
@@ -15,7 +15,7 @@ fn missing(column: usize) -> Filter {
     Filter::Atom(Atom::IsNull(column))
 }
 
-/// A chain of ANDs that leans to the left, of so many atoms: `IS NULL` of the columns `first` to `last` in turn.
+/// A left-leaning chain of ANDs of this number of atoms: `IS NULL` of the columns `first` to `last` in turn.
 fn chain(alloc: Global, atoms: usize, first: usize, last: usize) -> Result<Filter, AllocError> {
     let mut filter = missing(first);
     let mut column = first;
@@ -27,7 +27,7 @@ fn chain(alloc: Global, atoms: usize, first: usize, last: usize) -> Result<Filte
     Ok(filter)
 }
 
-/// Chains from column 0: how many atoms, the last column, and the limit that is passed.
+/// Chains from column 0: how many atoms, the last column, and the limit that is exceeded.
 const CHAINS: &[(usize, usize, Option<Limit>)] = &[
     (1, 0, None),
     (64, 63, None),
@@ -63,7 +63,7 @@ fn a_not_is_a_node(rt: HostRuntime) -> Result<(), Fail> {
     Ok(())
 }
 
-/// Chains of so many atoms, each from one column to another.
+/// Chains of a number of atoms, each from one column to another.
 const LONG: (usize, usize, usize) = (461, 0, 39);
 
 const ONE: (usize, usize, usize) = (40, 0, 39);
@@ -72,7 +72,7 @@ const SHARED: (usize, usize, usize) = (40, 24, 63);
 
 const NEW: (usize, usize, usize) = (40, 25, 64);
 
-/// Two chains, and the limit that they pass together.
+/// Two chains, and the limit that they exceed together.
 const PAIRS: &[((usize, usize, usize), (usize, usize, usize), Option<Limit>)] = &[
     (ONE, ONE, None),
     (ONE, SHARED, None),
@@ -95,7 +95,7 @@ fn filters_count_together(rt: HostRuntime) -> Result<(), Fail> {
     Ok(())
 }
 
-/// The limit that so many filters of one atom pass, where so many of the atoms differ.
+/// The limit that `count` filters of one atom exceed, if `different` of the atoms differ.
 fn limit_of(alloc: Global, count: usize, different: usize) -> Result<Option<Limit>, AllocError> {
     let mut filters: Vec<Filter> = Vec::new(alloc);
     for number in 0..count {

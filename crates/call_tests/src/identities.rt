@@ -1,4 +1,4 @@
-//! Replica identities and keys that no catalog has: of an index or a column that is not there.
+//! Replica identities and keys that no catalog has: of an index or a column that doesn't exist.
 
 use crate::checks::{holds, same};
 use filter_tree::{
@@ -36,7 +36,7 @@ fn columns(alloc: Global) -> Result<Items<Column>, AllocError> {
 }
 
 /// A table of those columns, with this key and this replica identity. The indexes are of `a` and `c`, of `c` and `b`,
-/// and of `a` and a column that isn't there.
+/// and of `a` and a column that doesn't exist.
 fn table(alloc: Global, key: &[usize], identity: Identity) -> Result<Table, AllocError> {
     let indexes = vec![in alloc;
         index(alloc, &[0, 2])?,
@@ -53,12 +53,12 @@ fn table(alloc: Global, key: &[usize], identity: Identity) -> Result<Table, Allo
     })
 }
 
-/// Whether this replica identity of the table tells its rows apart.
+/// Whether this replica identity of the table distinguishes its rows.
 fn tells(alloc: Global, identity: Identity) -> Result<bool, AllocError> {
     Ok(tells_rows_apart(&table(alloc, &[0], identity)?))
 }
 
-/// Identities, and whether they tell rows apart.
+/// Identities, and whether they distinguish rows.
 const IDENTITIES: &[(Identity, bool)] = &[
     (Identity::Default, true),
     (Identity::Full, true),
@@ -85,7 +85,7 @@ fn an_index_that_is_not_there_has_no_columns(rt: HostRuntime) -> Result<(), Fail
     Ok(())
 }
 
-/// A number, or null where there is none.
+/// A number, or null if there is none.
 fn value(number: Option<i64>) -> Value {
     match number {
         None => Value::Null,

@@ -1,5 +1,5 @@
-//! Tests of what `call_driver` cannot make: trees that no text is read as, tables that no catalog has, generic code at
-//! a second allocator and at a type, and what values show.
+//! Tests of what `call_driver` cannot make: trees that no text can be parsed to, tables that no catalog has, generic
+//! code for a second allocator and for a type, and what values show.
 #![tactic(auto)]
 
 #[cfg(test)]

@@ -6,7 +6,7 @@ use std::alloc::{AllocError, Global};
 use std::collections::BTreeMap;
 use std::test::Fail;
 
-/// A value of a row, written without memory.
+/// A value of a row that needs no memory.
 #[derive(Clone, Copy)]
 enum Cell {
     Null,
@@ -32,7 +32,7 @@ fn row(alloc: Global, cells: &[Cell]) -> Result<Row, AllocError> {
     Ok(Row::from_values(values))
 }
 
-/// Rows in ascending order, as in `tools/testing/calls/orders.py`, which compares each with each other.
+/// Rows in ascending order, as in `tools/testing/calls/orders.py`, which compares each of them with every other.
 const ASCENDING: &[&[Cell]] = &[
     &[],
     &[Cell::Null],
@@ -65,7 +65,7 @@ const ASCENDING: &[&[Cell]] = &[
     &[Cell::Text("😀")],
 ];
 
-/// The places of the rows, by the rows as keys, which come in from the last.
+/// The places of the rows, with the rows as keys, inserted from the last.
 fn map(alloc: Global) -> Result<BTreeMap<Row, usize>, AllocError> {
     let mut places = BTreeMap::new(alloc);
     for (place, cells) in ASCENDING.iter().enumerate().rev() {

@@ -88,7 +88,7 @@ fn lists_have_each_atom_once(rt: HostRuntime) -> Result<(), Fail> {
     Ok(())
 }
 
-/// No filter that is read divides by zero. Its remainder is the number.
+/// No filter that is parsed divides by zero. Here the remainder is the number itself.
 #[test]
 fn a_number_is_left_by_zero(rt: HostRuntime) -> Result<(), Fail> {
     let filter: Filter = Filter::Atom(Atom::Cmp(Term::Mod(0, 0), Op::Eq, Literal::Int(7)));

@@ -20,12 +20,12 @@ fn expect_expected<T: Drop>(rt: &impl Abort, found: Result<T, ReadError>, place:
     }
 }
 
-/// Whether the reader may go on.
+/// Whether the reader may continue.
 fn is_more_ahead(r: &Reader) -> Result<bool, ReadError> {
     r.more_ahead()
 }
 
-/// Takes this token, whose place is given.
+/// Takes this token, and returns its place.
 fn taken(r: &mut Reader, item: Item, what: &'static str) -> Result<usize, ReadError> {
     r.expect(item, what)
 }
@@ -35,7 +35,7 @@ fn look(r: &Reader) -> Result<(), ReadError> {
     r.look()
 }
 
-/// At `Table One ; $`: a word, which no name is.
+/// At `Table One ; $`: a word, which is not a name.
 fn takes_a_keyword(rt: &impl Abort, r: &mut Reader) -> Result<(), Fail> {
     holds(rt, is_more_ahead(r)?);
     holds(rt, r.item().is_some());
@@ -65,7 +65,7 @@ fn takes_no_comma(rt: &impl Abort, r: &mut Reader) -> Result<(), Fail> {
     Ok(())
 }
 
-/// At `$`, which is no token.
+/// At `$`, which is not a token.
 fn sees_no_token(rt: &impl Abort, r: &Reader) -> Result<(), Fail> {
     holds(rt, r.item().is_none());
     holds(rt, look(r).is_err());

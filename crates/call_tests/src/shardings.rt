@@ -1,5 +1,5 @@
-//! What needs a function with a contract, a second allocator or a type: who takes a row of a sharding that was accepted,
-//! filters in an arena, and a law at a type.
+//! What needs a function with a contract, a second allocator or a type: who takes a row of a sharding that was
+//! accepted, filters in an arena, and a law for a type.
 
 use crate::checks::{holds, same};
 use crate::takers::{both_take, takes_one_alone};
@@ -33,7 +33,7 @@ fn row(alloc: Global, id: i64) -> Result<Row, AllocError> {
     Ok(Row::from_values(vec![in alloc; Value::Int(id), Value::Null]?))
 }
 
-/// Whether subscriber 0 takes the row of one number alone.
+/// Whether subscriber 0 takes only the row of one number.
 fn takes_alone(alloc: Global, checked: &Checked, one: i64, other: i64) -> Result<bool, AllocError> {
     let (one, other) = (row(alloc, one)?, row(alloc, other)?);
     Ok(takes_one_alone(checked, 0, 0, &one, &other))
@@ -51,7 +51,7 @@ fn rows_of_a_checked_catalog_have_one_subscriber(rt: HostRuntime) -> Result<(), 
     Ok(())
 }
 
-/// Fails the test where a copy of the share's filter in an arena has another value for one of these rows.
+/// Fails the test if a copy of the share's filter in an arena has another value for one of these rows.
 fn expect_values(
     rt: &impl Abort,
     alloc: Global,
@@ -80,7 +80,7 @@ fn filters_in_an_arena_say_the_same(rt: HostRuntime) -> Result<(), Fail> {
     expect_values(&rt, alloc, plan.share(1, 0), &of_high)
 }
 
-/// The law at a type.
+/// The law for a type.
 #[test]
 fn streams_grow_at_a_type() -> Result<(), Fail> {
     streams_grow::<u8>();

@@ -7,7 +7,8 @@ ghost use Rattle.shard_checker.specs.CheckedView.{checked_view, setting_in};
 use filter_tree::Row;
 use shard_checker::Checked;
 
-/// Whether a subscriber takes one of two rows alone, as it does of no two rows of a table with one replica identity.
+/// Whether a subscriber takes only one of two rows, as it never does for two rows of a table with the same replica
+/// identity.
 pub fn takes_one_alone(
     checked: &Checked,
     subscriber: usize,
@@ -24,7 +25,7 @@ pub fn takes_one_alone(
     share.takes(one) != share.takes(other)
 }
 
-/// Whether two subscribers take the row. Of a row that fits its table they are one subscriber.
+/// Whether two subscribers take the row. For a row that fits its table they are the same subscriber.
 pub fn both_take(checked: &Checked, table: usize, row: &Row, one: usize, other: usize) -> bool
     ensures { fits (setting_in (checked_view checked.now)) table row.now ≡ true → IsTrue result → one ≡ other }
 {

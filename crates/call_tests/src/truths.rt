@@ -4,7 +4,7 @@ use crate::checks::{holds, same};
 use filter_tree::{Mask, Test, Tri};
 use std::process::Abort;
 
-/// Two truth values, what AND makes of them, and what OR does.
+/// Two truth values, the result of AND, and the result of OR.
 const TRUTHS: &[[Tri; 4]] = &[
     [Tri::True, Tri::True, Tri::True, Tri::True],
     [Tri::True, Tri::False, Tri::False, Tri::True],
@@ -14,7 +14,7 @@ const TRUTHS: &[[Tri; 4]] = &[
     [Tri::Null, Tri::Null, Tri::Null, Tri::Null],
 ];
 
-/// That AND and OR give these of two truth values, on either side.
+/// Checks that AND and OR give these results for two truth values, in either order.
 fn expect_joined(rt: &impl Abort, left: Tri, right: Tri, both: Tri, either: Tri) {
     same(rt, [left.and(right), right.and(left)], [both, both]);
     same(rt, [left.or(right), right.or(left)], [either, either]);
@@ -47,7 +47,7 @@ fn set(letters: &str) -> Mask {
     }
 }
 
-/// Two sets, what AND makes of them, and what OR does.
+/// Two sets, the result of AND, and the result of OR.
 const CONNECTED: &[[&str; 4]] = &[
     ["n", "f", "f", "n"],
     ["n", "tf", "nf", "tn"],
@@ -57,7 +57,7 @@ const CONNECTED: &[[&str; 4]] = &[
     ["t", "", "", ""],
 ];
 
-/// That two sets are connected so, on either side.
+/// Checks that connecting two sets gives these results, in either order.
 fn expect_connected(rt: &impl Abort, left: Mask, right: Mask, both: Mask, either: Mask) {
     same(rt, [left.and(right), right.and(left)], [both, both]);
     same(rt, [left.or(right), right.or(left)], [either, either]);

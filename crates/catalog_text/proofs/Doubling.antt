@@ -1,11 +1,11 @@
--- A text put between quotes, a character at a time. The quote is ASCII.
+-- A text put between quotes, one character at a time. The quote is ASCII.
 use Rattle.std.proofs.Common.{◌≡◌, ℕ, suc, ◌<◌, ◌≤◌, ◌==◌, if◌then◌else◌, List, [], ◌∷◌, ◌++◌, length, get_or, encode_utf8, inl, inr, refl, sym, arith, append-nil, append_assoc, false}
 use Rattle.std.proofs.lemmas.Bool.{cases_lt}
 use Rattle.std.proofs.lemmas.Bool.Decides.{nat_tests}
 use Rattle.std.proofs.lemmas.Str.{encode_ascii, inside_one}
 use Rattle.sql_tokens.specs.Doubled.{doubled}
 
--- bytes past ASCII stay
+-- bytes that are not ASCII stay as they are
 kept : (quote : ℕ) → quote < 128 → (xs rest : List ℕ) → ((k : ℕ) → k < length xs → 128 ≤ get_or xs k 0)
     → doubled quote (xs ++ rest) ≡ xs ++ doubled quote rest
 kept quote ascii [] rest high = refl

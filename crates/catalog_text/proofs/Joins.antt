@@ -1,4 +1,4 @@
--- Texts that are written one after another. `s` and its numbers are what was written at each step.
+-- Texts that are written one after another. `s`, `s1` and so on are what was written at each step.
 use Rattle.std.proofs.Common.{◌≡◌, ℕ, List, ◌++◌, ap, append_assoc, ◌∙◌}
 
 onto : {s1 s2 : List ℕ} (s a b : List ℕ) → s1 ≡ s ++ a → s2 ≡ s1 ++ b → s2 ≡ (s ++ a) ++ b

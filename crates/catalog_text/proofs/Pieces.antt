@@ -1,4 +1,4 @@
--- A piece that is put at the end of those that wait is written first; and what is before and after a part.
+-- A piece that is put at the end of the waiting pieces is written first; and what comes before and after a part.
 use Rattle.std.proofs.Common.{◌≡◌, ℕ, ◌+◌, List, [], ◌∷◌, ◌++◌, refl, ap, arith, append-nil, append_assoc, ◌∙◌}
 use Rattle.std.specs.Prelude.{Bool, true, false}
 use Rattle.filter_tree.specs.declared.table.Column.{Column}
@@ -48,7 +48,7 @@ pub first_steps : (old new : List Piece) (piece : Piece) → new ≡ old ++ piec
     → waiting_steps new ≡ waiting_steps old + piece_steps piece
 first_steps old new piece is = ap waiting_steps is ∙ steps_more old piece
 
--- ---- what is written, and what waits, where `w` and its numbers are what waited at each step
+-- ---- what is written, and what waits; `w`, `w1` and so on are what waited at each step
 
 pub pair_written : (wanted : Level) (negated : Bool) (own : Level) (old l words r text w w1 w2 w3 w4 : List ℕ)
     → text ≡ old ++ head wanted negated own → w1 ≡ tail wanted negated own ++ w → w2 ≡ r ++ w1 → w3 ≡ words ++ w2

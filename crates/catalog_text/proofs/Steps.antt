@@ -1,4 +1,4 @@
--- What is left of a text is that of the next table, or the next entry, and that of those after it.
+-- What is left of a text is the text of the next table or entry, followed by that of the later ones.
 use Rattle.std.proofs.Common.{◌≡◌, ℕ, ◌+◌, ◌<◌, List, ◌∷◌, ◌++◌, length, get_or, take, drop, map, ap, sym, ◌∙◌}
 use Rattle.std.proofs.lemmas.List.{at_drop_more, take-map}
 use Rattle.filter_tree.specs.declared.table.Table.{Table}

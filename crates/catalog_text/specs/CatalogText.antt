@@ -1,6 +1,6 @@
 -- A catalog as SQL, in one canonical way: PostgreSQL 15, SQL Commands, CREATE SCHEMA, CREATE TABLE, CREATE INDEX, ALTER
--- TABLE (REPLICA IDENTITY), CREATE PUBLICATION and CREATE SUBSCRIPTION. Each statement is a line. A number of nothing
--- that the catalog has gives no text.
+-- TABLE (REPLICA IDENTITY), CREATE PUBLICATION and CREATE SUBSCRIPTION. Each statement is a line. A number of something
+-- that the catalog does not have gives no text.
 use Rattle.std.specs.Prelude.{ℕ, suc, ◌+◌, Bool, true, false, not, ◌||◌, ◌&&◌, ◌==◌, nat_lt, if◌then◌else◌, List, [], ◌∷◌, ◌++◌, length, take, drop, Option, slice_get, codes}
 use Rattle.std.specs.List.{flat_map, join_by, list_all, list_any}
 use Rattle.std.specs.Option.{is_some}
@@ -63,11 +63,11 @@ alter_text table =
     codes "ALTER TABLE " ++ (table_name table ++ (codes " REPLICA IDENTITY "
     ++ (identity_text table.indexes table.identity ++ codes ";\n")))
 
--- each table is followed at once by its indexes and its identity
+-- each table is followed directly by its indexes and its identity
 unfoldable pub table_text : Table → List ℕ
 table_text table = create_text table ++ (flat_map (index_text table) table.indexes ++ alter_text table)
 
--- the schema "public" is there from the start, and others from their first table on
+-- the schema "public" exists from the start, and any other schema from its first table on
 abbrev pub is_made : List Table → List ℕ → Bool
 is_made earlier schema = bytes_eq schema (codes "public") || list_any (λ table. bytes_eq schema table.schema) earlier
 
@@ -75,7 +75,7 @@ abbrev pub made_text : List Table → List ℕ → List ℕ
 made_text earlier schema =
     text_if (not (is_made earlier schema)) (codes "CREATE SCHEMA " ++ (name_text schema ++ codes ";\n"))
 
--- of all tables the last ones, the first of which has this number
+-- the last tables of all tables; the first of them has this number
 abbrev pub tables_from : List Table → ℕ → List Table → List ℕ
 tables_from all number [] = []
 tables_from all number (table ∷ tables) =
@@ -93,8 +93,8 @@ named_text filter table = codes "TABLE " ++ (table_name table ++ where_text tabl
 unfoldable pub object_text : List Table → EntryOf Expr → List ℕ
 object_text tables entry = text_by (named_text entry.filter) (slice_get tables entry.table)
 
--- A publication carries a table twice only where it names the table and carries it with its whole schema too. Then
--- tables are named until what is left is every table of some schemas: each whole, in the order of the tables, and all
+-- A publication carries a table twice only if it names the table and also carries it with its whole schema. Then tables
+-- are named until what is left is exactly the tables of some schemas: each whole, in the order of the tables, and all
 -- tables of these schemas. What is left is written by its schemas.
 
 abbrev pub has_entry : ℕ → List (EntryOf Expr) → Bool
@@ -121,11 +121,11 @@ are_ascending (entry ∷ entries) = is_before entry.table entries && are_ascendi
 abbrev pub are_whole : List (EntryOf Expr) → Bool
 are_whole entries = list_all (λ entry. not (is_some entry.filter)) entries
 
--- the table of this number and schema has an entry, or none of the schema has
+-- the table of this number and schema has an entry, or no table of the schema has one
 abbrev pub is_listed : List Table → List (EntryOf Expr) → ℕ → List ℕ → Bool
 is_listed tables entries number schema = not (has_schema tables entries schema) || has_entry number entries
 
--- whether each of these tables, the first of which has this number, has an entry if one of its schema has
+-- whether each of these tables has an entry if a table of its schema has one; the first of these tables has this number
 abbrev pub have_entries : List Table → List (EntryOf Expr) → ℕ → List Table → Bool
 have_entries all entries number [] = true
 have_entries all entries number (table ∷ tables) =
@@ -135,7 +135,7 @@ abbrev pub are_schemas : List Table → List (EntryOf Expr) → Bool
 are_schemas tables entries =
     are_whole entries && (are_ascending entries && have_entries tables entries 0 tables)
 
--- how many entries come before those that are every table of some schemas
+-- how many entries come before those that are exactly the tables of some schemas
 abbrev pub named_before : List Table → List (EntryOf Expr) → ℕ
 named_before tables [] = 0
 named_before tables (entry ∷ entries) =
@@ -155,7 +155,7 @@ schemas_from tables all number [] = []
 schemas_from tables all number (entry ∷ entries) =
     whole_text tables (take number all) (schema_of tables entry.table) ++ schemas_from tables all (number + 1) entries
 
--- so many entries are named, and the others written by their schemas
+-- the first `count` entries are named, and the others are written by their schemas
 abbrev pub objects_by : List Table → List (EntryOf Expr) → ℕ → List ℕ
 objects_by tables entries count =
     join_by (object_text tables) (codes ", ") (take count entries)
@@ -186,7 +186,7 @@ abbrev pub publication_name : List (PublicationOf Expr) → ℕ → List ℕ
 publication_name publications number =
     text_by (λ publication. name_text publication.name) (slice_get publications number)
 
--- how it connects is not known
+-- how it connects is unknown
 unfoldable pub subscription_text : List (PublicationOf Expr) → Subscription → List ℕ
 subscription_text publications subscription =
     codes "CREATE SUBSCRIPTION " ++ (name_text subscription.name ++ (codes " CONNECTION '' PUBLICATION "

@@ -23,7 +23,7 @@ abbrev pub text_if : Bool → List ℕ → List ℕ
 text_if true text = text
 text_if false text = []
 
--- the text of what is there
+-- the text of the value, if there is one
 abbrev pub text_by : {A : Type 0} → (A → List ℕ) → Option A → List ℕ
 text_by text None = []
 text_by text (Some a) = text a
@@ -67,7 +67,8 @@ test_text Unknown = codes " UNKNOWN"
 
 -- ---- parentheses
 
--- how tightly a part binds: OR least, then AND, NOT, the IS tests, and comparisons and constants most
+-- how tightly a part binds: OR binds least tightly, then AND, NOT and the IS tests; comparisons and constants bind most
+-- tightly
 abbrev pub rank_of : Level → ℕ
 rank_of level.Or = 0
 rank_of level.And = 1
@@ -78,7 +79,7 @@ rank_of level.Operand = 4
 abbrev pub is_below : Level → Level → Bool
 is_below one other = nat_lt (rank_of one) (rank_of other)
 
--- a part of a level where another level is wanted: in parentheses, if it binds less tightly
+-- a part of one level where another level is required: in parentheses, if it binds less tightly
 abbrev pub at_level : Level → Level → List ℕ → List ℕ
 at_level wanted own text =
     text_if (is_below own wanted) (codes "(") ++ (text ++ text_if (is_below own wanted) (codes ")"))
@@ -90,7 +91,7 @@ signed wanted false own text = at_level wanted own text
 
 -- ---- filters
 
--- an atom where a part of this level is wanted, or NOT of it; IN, BETWEEN and the IS tests have NOT among their words
+-- an atom where a part of this level is required, or NOT of it; IN, BETWEEN and the IS tests have NOT among their words
 abbrev pub atom_text : List Column → Level → Bool → AtomOf → List ℕ
 atom_text columns wanted negated (Cmp term op constant) =
     signed wanted negated level.Operand (term_text columns term ++ (op_text op ++ constant_text constant))
@@ -106,7 +107,7 @@ atom_text columns wanted negated (Distinct term constant) =
     at_level wanted level.Test (term_text columns term ++ (codes " IS" ++ (not_text negated
     ++ (codes " DISTINCT FROM " ++ constant_text constant))))
 
--- a filter where a part of this level is wanted, or NOT of it; AND and OR build to the left
+-- a filter where a part of this level is required, or NOT of it; AND and OR build to the left
 abbrev pub expr_text : List Column → Level → Bool → Expr → List ℕ
 expr_text columns wanted negated (Const known) = signed wanted negated level.Operand (truth_text known)
 expr_text columns wanted negated (Atom atom) = atom_text columns wanted negated atom

@@ -1,5 +1,5 @@
--- What is still to be written of a filter, as a list whose last piece comes first: the text of the pieces, and how
--- many steps writing them takes. This is the project's own.
+-- What is still to be written of a filter, as a list whose last piece comes first: the text of the pieces, and how many
+-- steps writing them takes. This is specific to this project.
 use Rattle.std.specs.Prelude.{ℕ, ◌+◌, Bool, true, false, List, [], ◌∷◌, ◌++◌, codes}
 use Rattle.filter_tree.specs.Expr.{Expr, Const, Atom, Not, And, Or, Is}
 use Rattle.filter_tree.specs.Shape.{expr_view}
@@ -10,13 +10,13 @@ use Rattle.catalog_text.specs.declared.filter.Piece.TheVariants.{Words, Part, Ta
 use Rattle.catalog_text.specs.declared.level.Level.{Level}
 use Rattle.catalog_text.specs.declared.level.Level.TheVariants as level
 
--- what is before the words of a part, or of NOT of it
+-- what comes before the words of a part, or of NOT of it
 abbrev pub head : Level → Bool → Level → List ℕ
 head wanted true own =
     text_if (is_below level.Not wanted) (codes "(") ++ (codes "NOT " ++ text_if (is_below own level.Not) (codes "("))
 head wanted false own = text_if (is_below own wanted) (codes "(")
 
--- and after them
+-- and what comes after them
 abbrev pub tail : Level → Bool → Level → List ℕ
 tail wanted true own = text_if (is_below own level.Not) (codes ")") ++ text_if (is_below level.Not wanted) (codes ")")
 tail wanted false own = text_if (is_below own wanted) (codes ")")
@@ -30,7 +30,7 @@ unfoldable pub waiting_text : List Column → List Piece → List ℕ
 waiting_text columns [] = []
 waiting_text columns (piece ∷ pieces) = waiting_text columns pieces ++ piece_text columns piece
 
--- each piece is a step; a part is one, and those of the pieces that it makes
+-- each piece is one step; a part takes one step, and those of the pieces that it makes
 abbrev pub expr_steps : Expr → ℕ
 expr_steps (Const known) = 1
 expr_steps (Atom atom) = 1

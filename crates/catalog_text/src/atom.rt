@@ -13,7 +13,7 @@ use crate::words::{not_text, op_text, write_column_name, write_constant, write_t
 use filter_tree::{Atom, Column, Literal, Op, Term};
 use std::alloc::AllocError;
 
-/// Writes constants with a comma and a space between each two.
+/// Writes constants separated by a comma and a space.
 fn write_constants(constants: &[Literal], text: &mut String) -> Result<(), AllocError>
     ensures { OnOk result (string_bytes text.new ≡ string_bytes text.old
         ++ join_by spec.constant_text (codes ", ") (map constant_view constants.now)) }
@@ -28,7 +28,7 @@ fn write_constants(constants: &[Literal], text: &mut String) -> Result<(), Alloc
     Ok(())
 }
 
-/// Writes `IS NULL` of a column, with the word NOT in it or none.
+/// Writes `IS NULL` of a column, with or without the word NOT in it.
 fn write_null_test(
     columns: &[Column],
     column: usize,
@@ -44,7 +44,7 @@ fn write_null_test(
     text.push_str(" NULL")
 }
 
-/// Writes `IS DISTINCT FROM`, with the word NOT in it or none.
+/// Writes `IS DISTINCT FROM`, with or without the word NOT in it.
 fn write_distinct(
     columns: &[Column],
     term: Term,

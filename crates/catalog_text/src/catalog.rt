@@ -13,7 +13,7 @@ use filter_tree::Table;
 use pub_catalog::{Catalog, Operations, Publication, Subscription};
 use std::alloc::{AllocError, Global};
 
-/// The words with one more, if it is wanted.
+/// The words with one more added, if `is` says so.
 fn with_word(
     mut words: Vec<&'static str>,
     is: bool,
@@ -39,7 +39,7 @@ fn operation_words(alloc: Global, publishes: Operations) -> Result<Vec<&'static 
     with_word(words, publishes.truncate, "truncate")
 }
 
-/// Writes words with a comma and a space between each two.
+/// Writes words separated by a comma and a space.
 fn write_words(words: &[&'static str], text: &mut String) -> Result<(), AllocError>
     ensures { OnOk result (string_bytes text.new ≡ string_bytes text.old
         ++ join_by (λ word. word) (codes ", ") (map (λ word. word.now) words.now)) }
@@ -104,7 +104,7 @@ fn write_publication_name(
     }
 }
 
-/// Writes the names of the publications of these numbers, with a comma and a space between each two.
+/// Writes the names of the publications of these numbers, separated by a comma and a space.
 fn write_publication_names(
     publications: &[Publication],
     numbers: &[usize],
@@ -154,8 +154,8 @@ fn write_subscriptions(
     Ok(())
 }
 
-/// The text of a catalog: its statements as SQL, one a line. Numbers are resolved to names, every name is quoted, and
-/// filters have exactly the parentheses that they need. The only error is want of memory.
+/// The text of a catalog: its statements as SQL, one per line. Numbers are resolved to names, every name is quoted, and
+/// filters have exactly the parentheses that they need. The only error is out of memory.
 #[tactic(auto, unfolding(crate::specs::CatalogText::catalog_text))]
 pub fn write_catalog(alloc: Global, catalog: &Catalog) -> Result<String, AllocError>
     ensures { IfOk result (λ text. string_bytes text ≡ spec.catalog_text (catalog_view catalog.now)) }

@@ -1,4 +1,4 @@
-//! Where a part of a filter is, and the parentheses that it gets there.
+//! Where a part of a filter is, and which parentheses it gets there.
 
 ghost use Rattle.std.specs.Prelude.{◌≡◌, ◌++◌, false, true, OnOk};
 ghost use Rattle.std.specs.String.{string_bytes};
@@ -8,8 +8,8 @@ use crate::level::Level;
 use crate::words::text_if;
 use std::alloc::AllocError;
 
-/// Where a part of a filter is: what binds less tightly than `wanted` gets parentheses, and if it is `negated`, NOT of
-/// the part is written.
+/// Where a part of a filter is. A part that binds less tightly than `wanted` gets parentheses, and if it is `negated`,
+/// NOT of the part is written.
 #[derive(Clone, Copy)]
 pub(crate) struct Context {
     pub(crate) wanted: Level,
@@ -37,7 +37,7 @@ impl Context {
         }
     }
 
-    /// Writes what is before a part of this level.
+    /// Writes what comes before a part of this level.
     pub(crate) fn write_head(self, own: Level, text: &mut String) -> Result<(), AllocError>
         ensures { OnOk result (string_bytes text.new ≡ string_bytes text.old
             ++ spec.head self.wanted self.negated own) }
@@ -50,7 +50,7 @@ impl Context {
         text.push_str(text_if(own.is_below(Level::Not), "("))
     }
 
-    /// Writes what is after a part of this level.
+    /// Writes what comes after a part of this level.
     pub(crate) fn write_tail(self, own: Level, text: &mut String) -> Result<(), AllocError>
         ensures { OnOk result (string_bytes text.new ≡ string_bytes text.old
             ++ spec.tail self.wanted self.negated own) }

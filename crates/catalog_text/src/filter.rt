@@ -1,5 +1,5 @@
-//! Filters. A chain of ANDs or ORs may be as long as the text that it was read from, so what is still to be written
-//! waits in a list, and nothing here calls itself.
+//! Filters. A chain of ANDs or ORs may be as long as the text from which it was read. So what is still to be written
+//! waits in a list, and no function here is recursive.
 
 ghost use Rattle.std.specs.Prelude.{◌≡◌, ◌++◌, ◌+◌, ◌<◌, ◌≤◌, List, false, true, OnOk};
 ghost use Rattle.std.specs.String.{string_bytes};
@@ -22,11 +22,11 @@ use std::alloc::{AllocError, Global};
 pub(crate) enum Piece<'a> {
     Words(&'static str),
     Part(Context, &'a Filter),
-    /// What is after a part of this level.
+    /// What comes after a part of this level.
     Tail(Context, Level),
 }
 
-/// Two parts with a word between them, each of which gets parentheses if it binds less tightly than is wanted there.
+/// Two parts with a word between them, each of which gets parentheses if it binds less tightly than is required there.
 #[derive(Clone, Copy)]
 struct Pair<'a> {
     own: Level,
@@ -36,7 +36,7 @@ struct Pair<'a> {
     wanted: Level,
 }
 
-/// Writes what begins two parts, and lets the rest wait.
+/// Writes the beginning of two parts, and lets the rest wait.
 fn write_pair<'a>(
     context: Context,
     pair: Pair<'a>,
@@ -60,7 +60,7 @@ fn write_pair<'a>(
     Ok(())
 }
 
-/// Writes what begins NOT of NOT of a part, and lets the rest wait.
+/// Writes the beginning of NOT of NOT of a part, and lets the rest wait.
 fn write_negation<'a>(
     wanted: Level,
     part: &'a Filter,
@@ -83,7 +83,7 @@ fn write_negation<'a>(
     Ok(())
 }
 
-/// Lets NOT of a part wait, or writes what begins NOT of that, and lets the rest wait.
+/// Lets NOT of a part wait, or writes the beginning of NOT of that, and lets the rest wait.
 #[tactic(auto, using(crate::proofs::Pieces::waiting))]
 fn write_not<'a>(
     context: Context,
@@ -109,7 +109,7 @@ fn write_not<'a>(
     Ok(())
 }
 
-/// Writes what begins an IS test of a part, and lets the rest wait.
+/// Writes the beginning of an IS test of a part, and lets the rest wait.
 fn write_test<'a>(
     context: Context,
     test: Test,
@@ -143,7 +143,7 @@ fn write_truth(context: Context, known: bool, text: &mut String) -> Result<(), A
     context.write_tail(Level::Operand, text)
 }
 
-/// Writes what begins a part, and lets the rest wait.
+/// Writes the beginning of a part, and lets the rest wait.
 #[tactic(auto, using(crate::proofs::Pieces::waiting))]
 fn write_part<'a>(
     columns: &[Column],
@@ -186,7 +186,7 @@ fn write_part<'a>(
     }
 }
 
-/// Writes a piece, or what begins it, and lets the rest wait.
+/// Writes a piece or its beginning, and lets the rest wait.
 #[tactic(auto, using(crate::proofs::Pieces::waiting))]
 fn write_piece<'a>(
     columns: &[Column],
@@ -222,7 +222,7 @@ fn write_waiting(
     Ok(())
 }
 
-/// Writes a filter on a table of these columns. The only error is want of memory.
+/// Writes a filter on a table with these columns. The only error is out of memory.
 pub(crate) fn write_filter(
     alloc: Global,
     columns: &[Column],

@@ -3,7 +3,7 @@
 ghost use Rattle.std.specs.Prelude.{◌≡◌};
 ghost use Rattle.catalog_text.specs.FilterText as spec;
 
-/// What a part of a filter is, from what binds least to what binds most.
+/// The kinds of parts of a filter, from the one that binds least tightly to the one that binds most tightly.
 ///
 /// PostgreSQL 15, "SQL Syntax", 4.1.6 Operator Precedence.
 #[derive(Clone, Copy)]
@@ -30,8 +30,8 @@ impl Level {
         }
     }
 
-    /// Whether a part of this level binds less tightly than one of another, and so gets parentheses where the other is
-    /// wanted.
+    /// Whether a part of this level binds less tightly than one of another level, and so gets parentheses where the
+    /// other level is required.
     pub(crate) fn is_below(self, wanted: Level) -> bool
         ensures { result ≡ spec.is_below self wanted }
     {

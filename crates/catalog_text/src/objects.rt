@@ -1,4 +1,4 @@
-//! What a publication is made for: the tables that it carries.
+//! What a publication is for: the tables that it carries.
 
 ghost use Rattle.std.specs.Prelude.{◌≡◌, ◌≤◌, ◌++◌, OnOk, codes, length, map};
 ghost use Rattle.std.specs.List.{join_by};
@@ -63,7 +63,7 @@ fn has_schema(tables: &[Table], entries: &[Entry], schema: &str) -> bool
     false
 }
 
-/// Whether the table of this number is before those of all the entries.
+/// Whether the table of this number is before the tables of all the entries.
 fn is_before(number: usize, entries: &[Entry]) -> bool
     ensures { result ≡ spec.is_before number (map entry_view entries.now) }
 {
@@ -75,7 +75,7 @@ fn is_before(number: usize, entries: &[Entry]) -> bool
     true
 }
 
-/// Whether the entries are in the order of the tables, none twice.
+/// Whether the entries are in the order of the tables, and none is for a table twice.
 fn are_ascending(entries: &[Entry]) -> bool
     ensures { result ≡ spec.are_ascending (map entry_view entries.now) }
 {
@@ -89,7 +89,7 @@ fn are_ascending(entries: &[Entry]) -> bool
     true
 }
 
-/// Whether the table of this number and schema has an entry, or no table of the schema has.
+/// Whether the table of this number and schema has an entry, or no table of the schema has one.
 fn is_listed(tables: &[Table], entries: &[Entry], number: usize, schema: &str) -> bool
     ensures { result ≡ spec.is_listed tables.now (map entry_view entries.now) number schema.now }
 {
@@ -124,14 +124,14 @@ fn are_whole(entries: &[Entry]) -> bool
     true
 }
 
-/// Whether the entries are every table of some schemas.
+/// Whether the entries are exactly the tables of some schemas.
 fn are_schemas(tables: &[Table], entries: &[Entry]) -> bool
     ensures { result ≡ spec.are_schemas tables.now (map entry_view entries.now) }
 {
     are_whole(entries) && are_ascending(entries) && have_entries(tables, entries)
 }
 
-/// How many entries come before those that are every table of some schemas.
+/// How many entries come before those that are exactly the tables of some schemas.
 fn named_before(tables: &[Table], entries: &[Entry]) -> usize
     ensures count { result ≡ spec.named_before tables.now (map entry_view entries.now) }
     ensures within { result ≤ length entries.now }
@@ -208,7 +208,7 @@ fn write_object(
     }
 }
 
-/// Writes tables with their filters, with a comma and a space between each two.
+/// Writes tables with their filters, separated by a comma and a space.
 fn write_named(
     alloc: Global,
     tables: &[Table],
@@ -258,7 +258,7 @@ fn write_schemas(tables: &[Table], entries: &[Entry], text: &mut String) -> Resu
     Ok(())
 }
 
-/// Writes what a publication is made for, so many of whose entries are named.
+/// Writes what a publication is for. The first `count` of its entries are named.
 fn write_scope(
     alloc: Global,
     tables: &[Table],
@@ -276,7 +276,7 @@ fn write_scope(
     Ok(())
 }
 
-/// Writes what a publication is made for; nothing if it carries no table.
+/// Writes what a publication is for; nothing if it carries no table.
 pub(crate) fn write_objects(
     alloc: Global,
     tables: &[Table],

@@ -41,7 +41,7 @@ fn write_columns(columns: &[Column], text: &mut String) -> Result<(), AllocError
     Ok(())
 }
 
-/// Writes the names of the columns of these numbers, with a comma and a space between each two.
+/// Writes the names of the columns of these numbers, separated by a comma and a space.
 fn write_column_names(
     columns: &[Column],
     numbers: &[usize],
@@ -189,7 +189,7 @@ fn write_table(table: &Table, text: &mut String) -> Result<(), AllocError>
     write_alter(table, text)
 }
 
-/// Whether the schema is there once these tables are made.
+/// Whether the schema exists once these tables are created.
 fn is_made(earlier: &[Table], schema: &str) -> bool
     ensures { result ≡ spec.is_made earlier.now schema.now }
 {
@@ -204,7 +204,7 @@ fn is_made(earlier: &[Table], schema: &str) -> bool
     false
 }
 
-/// Writes the statement that makes a schema, unless it is there.
+/// Writes the statement that creates a schema, unless it exists.
 fn write_schema(earlier: &[Table], schema: &str, text: &mut String) -> Result<(), AllocError>
     ensures { OnOk result (string_bytes text.new
         ≡ string_bytes text.old ++ spec.made_text earlier.now schema.now) }
@@ -217,7 +217,7 @@ fn write_schema(earlier: &[Table], schema: &str, text: &mut String) -> Result<()
     text.push_str(";\n")
 }
 
-/// Writes tables, each after its schema, if that is not there yet.
+/// Writes tables, each after its schema if that does not exist yet.
 pub(crate) fn write_tables(tables: &[Table], text: &mut String) -> Result<(), AllocError>
     ensures { OnOk result (string_bytes text.new
         ≡ string_bytes text.old ++ spec.tables_from tables.now 0 tables.now) }

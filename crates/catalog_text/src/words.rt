@@ -9,14 +9,14 @@ ghost use Rattle.catalog_text.specs.FilterText as spec;
 use filter_tree::{Column, Literal, Op, Term, Test};
 use std::alloc::AllocError;
 
-/// The words, or none.
+/// The words, or an empty text.
 pub(crate) fn text_if(is: bool, words: &'static str) -> &'static str
     ensures { result.now ≡ spec.text_if is words.now }
 {
     if is { words } else { "" }
 }
 
-/// Writes a text between quotes, with each quote in it twice.
+/// Writes a text between quotes, with each quote in it doubled.
 #[tactic(auto, using(crate::proofs::Doubling::doubling))]
 fn write_quoted(quote: char, inner: &str, text: &mut String) -> Result<(), AllocError>
     requires { quote < 128 }

@@ -1,4 +1,4 @@
--- An answer that is right of a table and its shares is right of the catalog's table of its number.
+-- A result that is right for a table and its shares is right for the catalog's table of its number.
 use Rattle.std.proofs.Common.{◌≡◌, ℕ, ◌<◌, ◌+◌, List, [], ◌∷◌, length, refl, ◌∙◌}
 use Rattle.std.specs.Prelude.{Some, slice_get, filter}
 use Rattle.std.proofs.lemmas.Option.{slice_get_within}

@@ -1,4 +1,4 @@
--- A certificate that is accepted is accepted by whatever number of the table: the number is in refusals alone.
+-- A certificate that is accepted is accepted whatever the number of the table: the number is only in refusals.
 use Rattle.std.proofs.Common.{◌≡◌, ℕ, Bool, true, false, List, [], ◌∷◌, ◌++◌, refl}
 use Rattle.std.specs.Prelude.{Option, Some, None, if◌then◌else◌, slice_get}
 use Rattle.filter_tree.specs.Expr.{AtomOf}
@@ -26,7 +26,7 @@ both_none : (one next : Option CheckError) → one ≡ None → next ≡ None �
 both_none None next e h = h
 both_none (Some error) next e h = absurd cc
 
--- the subject whose table has another number
+-- the subject, with another number for its table
 abbrev renumbered : ℕ → Subject → Subject
 renumbered number subject = numbered_subject number subject.columns subject.shares subject.atoms subject.terms
 

@@ -1,5 +1,5 @@
 //! Looks for the reason why a table is sharded well, a certificate that the check accepts, or for a row that shows that
-//! it isn't. What is found is tested before it is answered, so nobody has to trust the search.
+//! it is not. What is found is tested before it is returned, so nobody has to trust the search.
 #![tactic(auto)]
 
 mod made;

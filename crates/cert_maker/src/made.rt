@@ -1,10 +1,10 @@
-//! What the maker answers.
+//! What the maker returns.
 
 use bumpalo::Bump;
 use filter_tree::Row;
 use split_cert::Cert;
 
-/// What is made for a table.
+/// The result for a table.
 #[derive(Drop)]
 pub enum Made<'b> {
     /// A certificate that the check accepts. Its nodes are in the arena.
@@ -14,7 +14,7 @@ pub enum Made<'b> {
     /// Neither was found.
     Unknown,
     /// The certificate that was looked for has more than 1,000,000 nodes, or more than 64 splits on a path, and no row
-    /// was found that shows that there is none.
+    /// was found that shows that no certificate exists.
     TooLarge,
     OutOfMemory,
 }

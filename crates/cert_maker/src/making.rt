@@ -1,4 +1,4 @@
-//! `make`: what the search finds is tested, and only that is answered.
+//! `make`: what the search finds is tested, and only what passes is returned.
 
 ghost use Rattle.std.specs.Prelude.{◌≡◌, ◌≤◌, IfOk, length};
 ghost use Rattle.pub_catalog.specs.CatalogView.{catalog_view};
@@ -19,10 +19,10 @@ use shard_checker::{CheckError, check_one, shares_in};
 use split_cert::{Cert, is_within_limits};
 use std::alloc::{AllocError, Global};
 
-/// The most steps of all searches of a catalog, which its tables share alike.
+/// The most steps of all searches of a catalog, which its tables share equally.
 const RUN_STEPS: u64 = 1_000_000_000;
 
-/// The answer with a certificate, if the check accepts it and it is no larger than those that are read.
+/// The result with a certificate, if the check accepts it and it is within the limits on certificates that are read.
 fn tested_cert<'b>(
     alloc: Global,
     table: &Table,
@@ -39,7 +39,7 @@ fn tested_cert<'b>(
     }
 }
 
-/// The answer with a row, if it fits the table and not exactly one share takes it.
+/// The result with a row, if it fits the table and the number of shares that take it is not one.
 fn tested_row<'b>(
     alloc: Global,
     table: &Table,
@@ -55,7 +55,7 @@ fn tested_row<'b>(
     }
 }
 
-/// How many steps are left to the search for each of so many tables.
+/// How many steps the search may take for each of this number of tables.
 fn steps_of(tables: usize) -> u64 {
     match u64::try_from(tables) {
         Ok(tables) if tables > 0 => MAX_STEPS.min(RUN_STEPS / tables),
@@ -63,7 +63,7 @@ fn steps_of(tables: usize) -> u64 {
     }
 }
 
-/// The answer for a table with these shares, after so many steps at most.
+/// The result for a table with these shares, after at most `steps` steps.
 fn tested<'b>(
     alloc: Global,
     arena: &'b Bump,
@@ -81,7 +81,7 @@ fn tested<'b>(
     }
 }
 
-/// The answer for a table, with its number.
+/// The result for a table, with its number.
 fn answer<'b>(
     alloc: Global,
     arena: &'b Bump,
@@ -98,15 +98,15 @@ fn answer<'b>(
     Ok(tested(alloc, arena, table, &shares, steps)?)
 }
 
-/// A certificate of the catalog's table of this number, from 0, or a row that shows that there is none. The plan is the
-/// catalog's own.
+/// A certificate of the catalog's table of this number, from 0, or a row that shows that no certificate exists. The
+/// plan is the catalog's own.
 ///
-/// A certificate is answered only if `check_one` accepts it with the table and its shares, and if it has at most
+/// A certificate is returned only if `check_one` accepts it with the table and its shares, and if it has at most
 /// 1,000,000 nodes and at most 64 splits on a path, so that `read_in` reads what `write` gives for it. A row is
-/// answered only if it fits the table and no subscriber takes it, or several do. `Unknown` is answered where neither
-/// was found, and for a table that isn't there. The search goes on to no further node after `MAX_STEPS` steps,
-/// or after this table's part of those that all tables share.
-/// `OutOfMemory` may come in place of any answer for a table that is there.
+/// returned only if it fits the table and no subscriber gets it, or several do. `Unknown` is returned if neither was
+/// found, and for a table that does not exist. The search visits no further node after `MAX_STEPS` steps, or after this
+/// table's part of the steps that all tables share. `OutOfMemory` may come in place of any result for a table that
+/// exists.
 pub fn make<'b>(
     alloc: Global,
     arena: &'b Bump,

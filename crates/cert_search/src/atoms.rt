@@ -1,10 +1,10 @@
-//! What atoms ask, in numbers: of truth values and texts too.
+//! What atoms test, in numbers; truth values and texts are numbers too.
 
 use crate::texts::Texts;
 use filter_tree::{Atom, Literal, Op, Term, Tri, compare_literals};
 use std::alloc::{AllocError, Allocator, Global};
 
-/// What an atom asks.
+/// What an atom tests.
 #[derive(Drop)]
 pub enum AtomKind {
     IsNull,
@@ -15,8 +15,8 @@ pub enum AtomKind {
     Distinct(i64),
 }
 
-/// An atom: what it asks of which term, and its bit in a number that is a set of atoms. `IS NULL` has no bit, and
-/// neither has an atom past the 64th.
+/// An atom: what it tests of which term, and its bit in a number that is a set of atoms. `IS NULL` has no bit, and
+/// neither has any atom after the 64th.
 #[derive(Drop)]
 pub struct PlainAtom {
     pub column: usize,
@@ -25,7 +25,7 @@ pub struct PlainAtom {
     pub bit: u64,
 }
 
-/// What the comparison says of a number.
+/// The result of the comparison for a number.
 fn compares(op: Op, number: i64, constant: i64) -> bool {
     compare_literals(
         op,
@@ -35,7 +35,7 @@ fn compares(op: Op, number: i64, constant: i64) -> bool {
 }
 
 impl AtomKind {
-    /// Whether the atom is true where its term has this number.
+    /// Whether the atom is true if its term has this number.
     pub fn holds(&self, number: i64) -> bool {
         match self {
             AtomKind::IsNull => false,
@@ -46,7 +46,7 @@ impl AtomKind {
         }
     }
 
-    /// The value of the atom where its column is null.
+    /// The value of the atom if its column is null.
     pub fn value_of_null(&self) -> Tri {
         if self.is_never_null() {
             Tri::True
@@ -55,7 +55,7 @@ impl AtomKind {
         }
     }
 
-    /// Whether the atom is true or false of null too.
+    /// Whether the atom is true or false for null as well.
     pub fn is_never_null(&self) -> bool {
         match self {
             AtomKind::IsNull | AtomKind::Distinct(_) => true,
@@ -64,7 +64,7 @@ impl AtomKind {
     }
 }
 
-/// A constant's number: a number is its own, a truth value has 0 or 1, and a text has its place among the texts.
+/// A constant's number: a number is its own, a truth value is 0 or 1, and a text has its place among the texts.
 fn number_of<'a, A: Allocator>(texts: &Texts<'a>, literal: &'a Literal<A>) -> i64 {
     match literal {
         Literal::Int(number) => *number,
@@ -119,7 +119,7 @@ fn bit_of(kind: &AtomKind, number: usize) -> u64 {
     }
 }
 
-/// The atoms, whose terms are among these.
+/// The atoms; their terms are among these.
 pub fn plain_atoms<'a, A: Allocator>(
     alloc: Global,
     texts: &Texts<'a>,

@@ -1,11 +1,11 @@
-//! The numbers of a term, cut where its atoms tell them apart.
+//! The numbers of a term, cut where its atoms distinguish them.
 
 use crate::atoms::{AtomKind, PlainAtom};
 use filter_tree::Op;
 use shard_checker::Range;
 use std::alloc::{AllocError, Global};
 
-/// Numbers one after another that each atom of the term says the same of, and the bits of the atoms that are true of
+/// Consecutive numbers for which each atom of the term has the same value, and the bits of the atoms that are true for
 /// them.
 #[derive(Clone, Copy)]
 pub struct Cell {
@@ -13,19 +13,19 @@ pub struct Cell {
     pub holding: u64,
 }
 
-/// The cells that each atom of the term says the same of, and the number in them that is nearest to zero.
+/// The cells for which each atom of the term has the same value, and the number in them that is nearest to zero.
 #[derive(Clone, Copy)]
 pub struct Class {
     pub holding: u64,
     pub nearest: i64,
 }
 
-/// Adds the number, where a cell begins.
+/// Adds the number, at which a cell begins.
 fn begin_at(starts: &mut Vec<i64>, number: i64) -> Result<(), AllocError> {
     Ok(starts.push(number)?)
 }
 
-/// Adds the number after this one, where a cell begins.
+/// Adds the number after this one, at which a cell begins.
 fn begin_after(starts: &mut Vec<i64>, number: i64) -> Result<(), AllocError> {
     match number.checked_add(1) {
         None => Ok(()),
@@ -75,7 +75,7 @@ fn starts_of(alloc: Global, atoms: &[PlainAtom], term: usize) -> Result<Vec<i64>
     Ok(starts)
 }
 
-/// The bits of the atoms of the term that are true of the number.
+/// The bits of the atoms of the term that are true for the number.
 fn holding_at(atoms: &[PlainAtom], term: usize, number: i64) -> u64 {
     let mut holding = 0;
     for plain in atoms {
@@ -130,7 +130,7 @@ pub fn nearest(range: Range) -> i64 {
     0i64.max(range.least).min(range.greatest)
 }
 
-/// The bits of each cell, how far it is from zero, and its number that is nearest, in ascending order.
+/// The bits of each cell, how far it is from zero, and its number that is nearest to zero, in ascending order.
 fn by_holding(alloc: Global, cells: &[Cell]) -> Result<Vec<(u64, u64, i64)>, AllocError> {
     let mut sorted = Vec::new(alloc);
     for cell in cells {
@@ -157,7 +157,7 @@ pub fn classes_of(alloc: Global, cells: &[Cell]) -> Result<Vec<Class>, AllocErro
     Ok(classes)
 }
 
-/// How often a list of cells is halved at most.
+/// How often a list of cells is halved, at most.
 const MAX_HALVINGS: u64 = 64;
 
 /// The cell that has the number, if one has it. The cells are in ascending order.

@@ -1,4 +1,4 @@
-//! Values for the columns of a row that agrees with what is known of atoms.
+//! Values for the columns of a row that agrees with what is known about atoms.
 
 use crate::facts::Nullness;
 use crate::numbers::{meets, number_for};
@@ -17,7 +17,7 @@ pub fn empty_text(problem: &Problem<'_>) -> i64 {
     problem.texts.number_of("")
 }
 
-/// A text that meets what is known: the empty one, one that no atom names, or one that an atom names.
+/// A text that agrees with what is known: the empty one, one that no atom names, or one that an atom names.
 fn text_for(problem: &Problem<'_>, state: &mut SearchState, column: usize) -> Option<i64> {
     let empty = empty_text(problem);
     if meets(problem, state, column, empty) {
@@ -53,7 +53,7 @@ fn whole_range(kind: ColType) -> Range {
     }
 }
 
-/// A value of the column that meets what is known.
+/// A value of the column that agrees with what is known.
 fn choice(
     problem: &Problem<'_>,
     state: &mut SearchState,

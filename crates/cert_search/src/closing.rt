@@ -1,4 +1,4 @@
-//! By which atoms the path would tell what the facts tell already.
+//! The atoms by which the path would establish what the facts already imply.
 
 use crate::conditions::{Condition, Outcome, is_at, outcome_at};
 use crate::masks::put;
@@ -6,15 +6,15 @@ use crate::problem::{Problem, ShareFormula};
 use crate::state::{SearchState, Standing};
 use std::alloc::{AllocError, Global};
 
-/// Sets of atoms, as numbers with a bit for each of the first 64: those of which the value that is left is enough for
-/// what is wanted of a condition, and a few that are enough together.
+/// Sets of atoms, as numbers with a bit for each of the first 64: the atoms each of whose one remaining value is enough
+/// for the wanted outcome of a condition, and a few atoms that are enough together.
 #[derive(Clone, Copy)]
 struct Deciders {
     alone: u64,
     few: u64,
 }
 
-/// The path tells it already.
+/// The path establishes it already.
 const DECIDED: Deciders = Deciders {
     alone: u64::MAX,
     few: 0,
@@ -27,7 +27,7 @@ const NEVER: Deciders = Deciders {
 };
 
 impl Deciders {
-    /// Where one of two parts is enough.
+    /// The atoms if one of two parts is enough.
     fn or(self, other: Deciders) -> Deciders {
         Deciders {
             alone: self.alone | other.alone,
@@ -39,7 +39,7 @@ impl Deciders {
         }
     }
 
-    /// Where two parts are needed.
+    /// The atoms if two parts are needed.
     fn and(self, other: Deciders) -> Deciders {
         Deciders {
             alone: self.alone & other.alone,
@@ -57,7 +57,7 @@ fn deciders_at(deciders: &[Deciders], place: usize) -> Deciders {
 }
 
 impl SearchState {
-    /// Those of an atom's value.
+    /// The atoms for an atom's value.
     fn of_value(&self, atom: usize) -> Deciders {
         let bit = bit_of(atom);
         Deciders {
@@ -66,7 +66,7 @@ impl SearchState {
         }
     }
 
-    /// Those for which the condition at this place has this outcome, where those of its parts are found.
+    /// The atoms for which the condition at this place has this outcome, after the atoms for its parts were found.
     fn deciders_of(
         &self,
         condition: Condition,
@@ -97,7 +97,7 @@ impl SearchState {
         }
     }
 
-    /// Those for which the share has this outcome.
+    /// The atoms for which the share has this outcome.
     fn deciders(
         &self,
         problem: &Problem<'_>,
@@ -123,7 +123,7 @@ impl SearchState {
         }
     }
 
-    /// An atom of the set; one with a single value left, if there is one.
+    /// An atom of the set; one with only one value left, if there is one.
     fn one_of(&self, problem: &Problem<'_>, atoms: u64) -> Option<usize> {
         let mut found = None;
         for (atom, _) in problem.atoms.iter().enumerate() {
@@ -137,7 +137,7 @@ impl SearchState {
         found
     }
 
-    /// An atom of the share that isn't known, for what is decided by an atom that has no bit.
+    /// An atom of the share that isn't known, for an outcome that depends on an atom without a bit.
     fn any_of(&self, problem: &Problem<'_>, share: ShareFormula) -> Option<usize> {
         for place in share.start..share.end {
             if let (true, Some(Condition::Value(atom, _))) = (
@@ -150,8 +150,8 @@ impl SearchState {
         None
     }
 
-    /// An atom by which the path would tell that shares take nothing, where the facts already tell so. Of the first
-    /// one it tells more.
+    /// An atom by which the path would establish that shares take nothing, if the facts already imply it, or would at
+    /// least say more about the first of these shares.
     pub fn closing(
         &mut self,
         alloc: Global,
@@ -177,7 +177,7 @@ impl SearchState {
         }
     }
 
-    /// An atom of a few that are enough for a share.
+    /// One of a few atoms that are enough for a share.
     fn needed(&self, problem: &Problem<'_>, share: ShareFormula, few: u64) -> Option<usize> {
         if few == u64::MAX {
             return self.any_of(problem, share);
@@ -185,7 +185,7 @@ impl SearchState {
         self.one_of(problem, few)
     }
 
-    /// An atom by which the path would tell that the share takes all rows, where the facts already tell so.
+    /// An atom by which the path would establish that the share takes all rows, if the facts already imply it.
     pub fn settling(
         &mut self,
         alloc: Global,

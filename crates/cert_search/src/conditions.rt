@@ -6,7 +6,7 @@ use filter_tree::{Atom, Filter, Mask, Test, same_atom};
 use replica_identity::Share;
 use std::alloc::{AllocError, Allocator, Global};
 
-/// A condition. It is named by its place in a list, where its parts come before it.
+/// A condition. It is identified by its place in a list, in which its parts come before it.
 #[derive(Clone, Copy)]
 pub enum Condition {
     Const(bool),
@@ -16,7 +16,7 @@ pub enum Condition {
     Either(usize, usize),
 }
 
-/// What is known of a condition.
+/// What is known about a condition.
 #[derive(Clone, Copy, PartialEq, Eq)]
 pub enum Outcome {
     Met,
@@ -36,7 +36,7 @@ struct Views {
 }
 
 impl Views {
-    /// Those of NOT.
+    /// The conditions for NOT.
     fn negated(self) -> Views {
         Views {
             truth: self.falsity,
@@ -49,14 +49,14 @@ impl Views {
     }
 }
 
-/// Adds the condition, and gives its place.
+/// Adds the condition, and returns its place.
 fn add(list: &mut Vec<Condition>, condition: Condition) -> Result<usize, AllocError> {
     let place = list.len();
     list.push(condition)?;
     Ok(place)
 }
 
-/// Those of a filter that is true where one condition is met and false where the other is, and never null.
+/// The conditions for a filter that is never null: it is true if one condition is met and false if the other is.
 fn never_null(
     list: &mut Vec<Condition>,
     truth: usize,
@@ -142,7 +142,7 @@ fn of_and(list: &mut Vec<Condition>, left: Views, right: Views) -> Result<Views,
     })
 }
 
-/// The place of the atom among the atoms; if it isn't there, their number.
+/// The place of the atom among the atoms; the number of atoms if it is not among them.
 fn number_of<A: Allocator>(atoms: &[&Atom<A>], atom: &Atom<A>) -> usize {
     for (number, held) in atoms.iter().enumerate() {
         if same_atom(atom, *held) {
@@ -152,7 +152,7 @@ fn number_of<A: Allocator>(atoms: &[&Atom<A>], atom: &Atom<A>) -> usize {
     atoms.len()
 }
 
-/// Adds what a filter asks for.
+/// Adds the conditions of a filter.
 fn add_filter<A: Allocator>(
     list: &mut Vec<Condition>,
     atoms: &[&Atom<A>],
@@ -180,7 +180,7 @@ fn add_filter<A: Allocator>(
     }
 }
 
-/// Adds what a share asks for, and gives the place of the condition that it takes a row.
+/// Adds the conditions of a share, and returns the place of the condition that it takes a row.
 fn add_share<A: Allocator>(
     list: &mut Vec<Condition>,
     atoms: &[&Atom<A>],
@@ -204,7 +204,7 @@ fn use_parts(used: &mut [bool], condition: Condition) {
     }
 }
 
-/// Which conditions this one is made of.
+/// The conditions of which this one is made.
 fn used_by(alloc: Global, list: &[Condition], root: usize) -> Result<Vec<bool>, AllocError> {
     let mut used = vec![in alloc; false; list.len()]?;
     put(&mut used, root, true);
@@ -225,7 +225,7 @@ fn place_at(places: &[usize], place: usize) -> usize {
     places.get(place).copied().unwrap_or(0)
 }
 
-/// The condition where its parts have these places.
+/// The condition, if its parts have these places.
 fn moved(condition: Condition, places: &[usize]) -> Condition {
     match condition {
         Condition::Const(_) | Condition::Value(..) => condition,
@@ -238,7 +238,7 @@ fn moved(condition: Condition, places: &[usize]) -> Condition {
     }
 }
 
-/// Adds to a list the condition that the share takes a row, and all that it is made of. It comes last.
+/// Adds to a list the condition that the share takes a row, and all conditions of which it is made. It comes last.
 pub fn add_taking<A: Allocator>(
     alloc: Global,
     conditions: &mut Vec<Condition>,
@@ -258,7 +258,7 @@ pub fn add_taking<A: Allocator>(
     Ok(())
 }
 
-/// What is known of a condition at a place.
+/// What is known about a condition at a place.
 pub fn outcome_at(outcomes: &[Outcome], place: usize) -> Outcome {
     outcomes.get(place).copied().unwrap_or(Outcome::Open)
 }
@@ -290,7 +290,7 @@ fn of_value(mask: Mask, wanted: Mask) -> Outcome {
     }
 }
 
-/// What is known of a condition where its atoms have values in these sets and this is known of its parts.
+/// What is known about a condition if its atoms have values in these sets and this is known about its parts.
 pub fn outcome_of(condition: Condition, masks: &[Mask], outcomes: &[Outcome]) -> Outcome {
     match condition {
         Condition::Const(true) => Outcome::Met,
@@ -305,7 +305,7 @@ pub fn outcome_of(condition: Condition, masks: &[Mask], outcomes: &[Outcome]) ->
     }
 }
 
-/// Finds what is known of each condition of a share where atoms have values in these sets.
+/// Finds what is known about each condition of a share if atoms have values in these sets.
 pub fn evaluate(
     conditions: &[Condition],
     share: ShareFormula,

@@ -1,4 +1,4 @@
-//! What the atoms that are settled tell of columns and terms.
+//! What the atoms that are settled say about columns and terms.
 
 use crate::atoms::{AtomKind, PlainAtom};
 use crate::masks::{ANY, NOT_NULL, put, value_at};
@@ -14,20 +14,20 @@ pub enum Nullness {
     Open,
 }
 
-/// What is known of a column.
+/// What is known about a column.
 #[derive(Clone, Copy)]
 pub struct ColumnFacts {
     pub nullness: Nullness,
-    /// A term to which no number is left, if there is one.
+    /// A term for which no number is left, if there is one.
     pub emptied: Option<usize>,
     /// The bits of the column's atoms that are true.
     held: u64,
-    /// The bits of those that are false.
+    /// The bits of the column's atoms that are false.
     refused: u64,
 }
 
-/// What is known of a term, where its column isn't null: whether a number is left to it, and the bits of the atoms that
-/// are true of some number that is left, and of all.
+/// What is known about a term if its column isn't null: whether a number is left for it, and the bits of the atoms that
+/// are true for some number that is left, and for all of them.
 #[derive(Clone, Copy)]
 pub struct Left {
     pub has_number: bool,
@@ -42,7 +42,7 @@ const NONE: Left = Left {
     all: u64::MAX,
 };
 
-/// Nothing is known of a column.
+/// Nothing is known about a column.
 const UNKNOWN: ColumnFacts = ColumnFacts {
     nullness: Nullness::Open,
     emptied: None,
@@ -50,19 +50,19 @@ const UNKNOWN: ColumnFacts = ColumnFacts {
     refused: 0,
 };
 
-/// What is known of each column and of each term.
+/// What is known about each column and about each term.
 #[derive(Drop)]
 pub struct Facts {
     columns: Vec<ColumnFacts>,
     left: Vec<Left>,
 }
 
-/// Whether all of the atoms that are true of numbers, and none that is false, have their bits in this set.
+/// Whether this set has the bits of all atoms that are true, and of none that are false.
 fn agrees(holding: u64, held: u64, refused: u64) -> bool {
     holding & held == held && holding & refused == 0
 }
 
-/// What the values of its atoms leave to the term.
+/// What the values of its atoms leave for the term.
 fn left_to(domain: &Domain, held: u64, refused: u64) -> Left {
     let held = held & domain.bits;
     let mut left = NONE;
@@ -78,7 +78,7 @@ fn left_to(domain: &Domain, held: u64, refused: u64) -> Left {
     left
 }
 
-/// Which of true and false an atom may be of the numbers that are left.
+/// Whether an atom may be true and may be false for the numbers that are left.
 fn by_left(left: Left, bit: u64) -> Mask {
     if bit == 0 {
         return NOT_NULL;
@@ -90,7 +90,7 @@ fn by_left(left: Left, bit: u64) -> Mask {
     }
 }
 
-/// The values of a set, or the one of null.
+/// The values of a set, or the value for null.
 fn or_of_null(mask: Mask, kind: &AtomKind) -> Mask {
     let of_null = Mask::single(kind.value_of_null());
     Mask {
@@ -100,7 +100,7 @@ fn or_of_null(mask: Mask, kind: &AtomKind) -> Mask {
     }
 }
 
-/// What an atom with this value says of its column.
+/// What an atom with this value says about its column.
 fn said_by(kind: &AtomKind, value: Tri) -> Nullness {
     match (kind, value) {
         (AtomKind::IsNull, Tri::True) => Nullness::Null,
@@ -116,7 +116,7 @@ fn said_by(kind: &AtomKind, value: Tri) -> Nullness {
 }
 
 impl ColumnFacts {
-    /// Adds what the atom tells by this value.
+    /// Adds what the atom says by this value.
     fn take(&mut self, plain: &PlainAtom, value: Tri) {
         match value {
             Tri::True => self.held |= plain.bit,
@@ -129,7 +129,7 @@ impl ColumnFacts {
         }
     }
 
-    /// Takes the column for null, unless it surely isn't, since no number is left to this term of it.
+    /// Marks the column as null, unless it is certainly not null, since no number is left for this term of it.
     fn empty(&mut self, term: usize) {
         self.emptied = Some(term);
         if self.nullness == Nullness::Open {
@@ -139,7 +139,7 @@ impl ColumnFacts {
 }
 
 impl Facts {
-    /// Facts of a problem, with room for what will be found.
+    /// Facts about a problem, with room for what will be found.
     pub fn new(alloc: Global, problem: &Problem<'_>) -> Result<Facts, AllocError> {
         Ok(Facts {
             columns: vec![in alloc; UNKNOWN; problem.columns.len()]?,
@@ -147,7 +147,7 @@ impl Facts {
         })
     }
 
-    /// Finds what the atoms of the column of this number, with these values, tell of it.
+    /// Finds what the atoms of the column of this number, with these values, say about it.
     pub fn find(&mut self, problem: &Problem<'_>, known: &[Mask], number: usize) {
         let mut facts = told(problem, known, number);
         for term in problem.terms_of(number) {
@@ -166,7 +166,7 @@ impl Facts {
         self.columns.get(number).copied().unwrap_or(UNKNOWN)
     }
 
-    /// Whether the values of the atoms leave the term a number that these atoms are true of.
+    /// Whether the values of the atoms leave the term a number for which these atoms are true.
     pub fn leaves(&self, domain: &Domain, holding: u64) -> bool {
         let column = self.column(domain.column);
         agrees(holding, column.held & domain.bits, column.refused)
@@ -181,13 +181,13 @@ impl Facts {
         self.column(column).nullness
     }
 
-    /// The term that has no value left where the atom has one that the facts don't leave to it: a term to which no
-    /// number is left unless the column is null, or else the atom's own.
+    /// The term that has no value left if the atom has a value that the facts do not allow: a term for which no number
+    /// is left unless the column is null, or otherwise the atom's own term.
     pub fn empty_term(&self, plain: &PlainAtom) -> usize {
         self.column(plain.column).emptied.unwrap_or(plain.term)
     }
 
-    /// Which values the atom may have, where these are known.
+    /// Which values the atom may have, if these are known.
     pub fn expected(&self, known: &[Mask], atom: usize, plain: &PlainAtom) -> Mask {
         if let Some(value) = value_at(known, atom) {
             return Mask::single(value);
@@ -203,7 +203,7 @@ impl Facts {
     }
 }
 
-/// What the declaration of the column of this number and its atoms with these values tell.
+/// What the declaration of the column of this number and its atoms with these values say.
 fn told(problem: &Problem<'_>, known: &[Mask], number: usize) -> ColumnFacts {
     let mut facts = UNKNOWN;
     if problem.is_declared(number) {
@@ -217,7 +217,7 @@ fn told(problem: &Problem<'_>, known: &[Mask], number: usize) -> ColumnFacts {
     facts
 }
 
-/// Which values an atom may have while nothing is known of it.
+/// Which values an atom may have while nothing is known about it.
 pub fn open(kind: &AtomKind) -> Mask {
     if kind.is_never_null() { NOT_NULL } else { ANY }
 }

@@ -1,4 +1,4 @@
-//! Keys by which nodes of the tree are told to have the same parts below them.
+//! Keys that show that nodes of the tree have the same parts below them.
 
 use crate::conditions::{Condition, Outcome, is_at, outcome_at};
 use crate::masks::{put, value_at};
@@ -22,7 +22,7 @@ fn code_of(value: Tri) -> usize {
 }
 
 impl SearchState {
-    /// Which columns a condition that is live is on.
+    /// The columns that live conditions are on.
     fn live_columns(&self, alloc: Global, problem: &Problem<'_>) -> Result<Vec<bool>, AllocError> {
         let mut columns = vec![in alloc; false; problem.columns.len()]?;
         for (place, condition) in problem.conditions.iter().enumerate() {
@@ -35,7 +35,7 @@ impl SearchState {
         Ok(columns)
     }
 
-    /// Sets the bits of the conditions that are live.
+    /// Sets the bits of the live conditions.
     fn add_live_bits(&self, words: &mut [u64]) {
         for (place, is_live) in self.live.iter().enumerate() {
             if *is_live {
@@ -53,7 +53,7 @@ impl SearchState {
         }
     }
 
-    /// Sets the bits of the values on the path of the atoms of these columns, from this place on.
+    /// Sets the bits of the values that the atoms of these columns have on the path, from this place on.
     fn add_value_bits(
         &self,
         problem: &Problem<'_>,
@@ -72,8 +72,8 @@ impl SearchState {
         }
     }
 
-    /// A key of what is left to tell here: nodes with equal keys may have equal trees. It has a bit for each condition
-    /// that is live, for each share that takes all rows, and for each value of an atom whose column is still asked for.
+    /// A key of what is left to decide here: nodes with equal keys may have equal trees. It has a bit for each live
+    /// condition, for each share that takes all rows, and for each value of an atom whose column is still needed.
     pub fn key(&self, alloc: Global, problem: &Problem<'_>) -> Result<Vec<u64>, AllocError> {
         let shares = problem.conditions.len();
         let values = shares.saturating_add(problem.shares.len());

@@ -16,7 +16,7 @@ pub const NOT_NULL: Mask = Mask {
     null: false,
 };
 
-/// The truth value of a set that has just one.
+/// The truth value of a set that has only one.
 pub fn settled(mask: Mask) -> Option<Tri> {
     match (mask.truth, mask.falsity, mask.null) {
         (true, false, false) => Some(Tri::True),
@@ -26,7 +26,7 @@ pub fn settled(mask: Mask) -> Option<Tri> {
     }
 }
 
-/// Whether the set has just one truth value.
+/// Whether the set has only one truth value.
 pub fn is_settled(mask: Mask) -> bool {
     (mask.truth ^ mask.falsity ^ mask.null) & !(mask.truth & mask.falsity & mask.null)
 }
@@ -41,17 +41,17 @@ pub fn is_within(one: Mask, other: Mask) -> bool {
     !((one.truth & !other.truth) | (one.falsity & !other.falsity) | (one.null & !other.null))
 }
 
-/// The set at a number; past the end any value.
+/// The set at a number; past the end all values.
 pub fn mask_at(masks: &[Mask], number: usize) -> Mask {
     masks.get(number).copied().unwrap_or(ANY)
 }
 
-/// The truth value of the atom of this number, where it is settled.
+/// The truth value of the atom of this number, if it is settled.
 pub fn value_at(masks: &[Mask], number: usize) -> Option<Tri> {
     settled(mask_at(masks, number))
 }
 
-/// Puts a value in the place of this number, if there is one.
+/// Puts a value in the place of this number, if there is such a place.
 pub fn put<T: Copy>(items: &mut [T], number: usize, item: T) {
     if let Some(place) = items.get_mut(number) {
         *place = item;

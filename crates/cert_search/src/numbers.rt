@@ -1,4 +1,4 @@
-//! Numbers of a column that agree with what is known of its atoms.
+//! Numbers of a column that agree with what is known about its atoms.
 
 use crate::atoms::PlainAtom;
 use crate::cells::{Cell, cell_with, nearest};
@@ -7,19 +7,19 @@ use crate::state::SearchState;
 use filter_tree::Tri;
 use shard_checker::Range;
 
-/// How far from the number of a range that is nearest to zero others are tried.
+/// How far from the number of a range that is nearest to zero other numbers are tried.
 const MAX_FAR: i64 = 10_000;
 
-/// How many numbers are tried at most for the remainder by one divisor.
+/// How many numbers are tried, at most, for the remainder by one divisor.
 const MAX_REMAINDERS: i64 = 20_000;
 
 /// How many numbers with the remainders that were found are tried.
 const MAX_ROUNDS: u64 = 100;
 
-/// After so many steps no number is looked for in a further cell.
+/// After this number of steps no number is looked for in a further cell.
 const MAX_STEPS_IN_CELLS: u64 = 100_000;
 
-/// The number of a term where its column has this one.
+/// The number of a term if its column has this number.
 fn term_number(domain: &Domain, number: i64) -> i64 {
     match domain.divisor {
         Some(divisor) if divisor != 0 => number.wrapping_rem(divisor),
@@ -27,7 +27,7 @@ fn term_number(domain: &Domain, number: i64) -> i64 {
     }
 }
 
-/// The value of an atom where its column has this number.
+/// The value of an atom if its column has this number.
 pub fn value_of(problem: &Problem<'_>, plain: &PlainAtom, number: i64) -> Tri {
     match problem.terms.get(plain.term) {
         None => Tri::Null,
@@ -35,7 +35,7 @@ pub fn value_of(problem: &Problem<'_>, plain: &PlainAtom, number: i64) -> Tri {
     }
 }
 
-/// Whether what is known leaves the term the number that it has where its column has this one.
+/// Whether what is known leaves the term the number that it has if its column has this number.
 fn term_meets(state: &mut SearchState, domain: &Domain, number: i64) -> bool {
     state.add_steps(1);
     match cell_with(&domain.cells, term_number(domain, number)) {
@@ -59,7 +59,8 @@ fn is_in(range: Range, number: i64) -> bool {
     range.least <= number && number <= range.greatest
 }
 
-/// A number of the range that meets what is known, at most so far from the one of the range that is nearest to zero.
+/// A number of the range that agrees with what is known, less than `most` away from the number of the range that is
+/// nearest to zero.
 fn near_number(
     problem: &Problem<'_>,
     state: &mut SearchState,
@@ -84,7 +85,8 @@ fn near_number(
     None
 }
 
-/// The first of the numbers from this one, a step apart, whose remainder by a divisor of this size the term may have.
+/// The first of the numbers from this one on, a step apart, whose remainder by a divisor of this size the term may
+/// have.
 fn with_remainder(
     state: &mut SearchState,
     domain: &Domain,
@@ -102,7 +104,7 @@ fn with_remainder(
     None
 }
 
-/// The greatest common divisor of a number and another that isn't 0.
+/// The greatest common divisor of a number and another number that isn't 0.
 fn common_divisor(one: i64, other: i64) -> i64 {
     let (mut left, mut right) = (one, other);
     for _ in 0..MAX_ROUNDS {
@@ -114,7 +116,7 @@ fn common_divisor(one: i64, other: i64) -> i64 {
     1
 }
 
-/// The least step by which the remainders by both numbers stay.
+/// The least step that keeps the remainders by both numbers.
 fn common_step(step: i64, divisor: i64) -> Option<i64> {
     let common = common_divisor(step, divisor);
     if common == 0 {
@@ -123,7 +125,7 @@ fn common_step(step: i64, divisor: i64) -> Option<i64> {
     step.checked_mul(divisor.wrapping_div(common))
 }
 
-/// The least step by which all remainders of the column stay, if it is a number.
+/// The least step that keeps all remainders of the column, if it fits an `i64`.
 fn period(problem: &Problem<'_>, column: usize) -> Option<i64> {
     let mut step = 1i64;
     for domain in &problem.terms {
@@ -134,8 +136,8 @@ fn period(problem: &Problem<'_>, column: usize) -> Option<i64> {
     Some(step)
 }
 
-/// A number from this one on, a step away or more, all of whose remainders the column may have, and the step by which
-/// they stay.
+/// A number from this one on, in multiples of the step, all of whose remainders the column may have, and the step that
+/// keeps them.
 fn with_remainders(
     problem: &Problem<'_>,
     state: &mut SearchState,
@@ -154,7 +156,7 @@ fn with_remainders(
     Some((number, step))
 }
 
-/// A number of the range from this one on, in the direction of the step, that meets what is known.
+/// A number of the range from this one on, in the direction of the step, that agrees with what is known.
 fn stepwise(
     problem: &Problem<'_>,
     state: &mut SearchState,
@@ -173,7 +175,7 @@ fn stepwise(
     None
 }
 
-/// A number of the range that meets what is known, where the column's remainders stay by this step.
+/// A number of the range that agrees with what is known, if this step keeps the column's remainders.
 fn number_in(
     problem: &Problem<'_>,
     state: &mut SearchState,
@@ -214,7 +216,7 @@ fn may_be_nearer(found: Option<i64>, cell: Cell) -> bool {
     }
 }
 
-/// A number of the cells of the column itself that meets what is known.
+/// A number of the cells of the column itself that agrees with what is known.
 fn number_in_cells(
     problem: &Problem<'_>,
     state: &mut SearchState,
@@ -247,7 +249,7 @@ fn itself<'q>(problem: &'q Problem<'_>, column: usize) -> Option<&'q Domain> {
     None
 }
 
-/// A number of the column that meets what is known, of these numbers of its type.
+/// A number of the column that agrees with what is known, from these numbers of its type.
 pub fn number_for(
     problem: &Problem<'_>,
     state: &mut SearchState,

@@ -32,7 +32,7 @@ fn count_owners(shares: &[&Share], row: &Row) -> usize {
     count
 }
 
-/// Whether the row fits the table, and not exactly one share takes it.
+/// Whether the row fits the table, and the number of shares that take it is not one.
 pub fn is_counter(table: &Table, shares: &[&Share], row: &Row) -> bool {
     valid(table, row).is_ok() && count_owners(shares, row) != 1
 }

@@ -1,4 +1,4 @@
-//! The tree that is looked for, of which equal parts are there once.
+//! The tree that is looked for, in which equal parts are stored once.
 
 use crate::stop::Stop;
 use bumpalo::Bump;
@@ -6,15 +6,15 @@ use split_cert::{Cert, MAX_NODES, MAX_SPLITS};
 use std::alloc::{AllocError, Global};
 use std::collections::BTreeMap;
 
-/// A part of the tree, from a node down. Others are named by their places, and come before it.
+/// A part of the tree, from a node down. Other parts are identified by their places, and come before it.
 #[derive(Clone, Copy)]
 pub enum Shape {
-    /// A split by an atom, and the parts where it is true, false and null.
+    /// A split by an atom, and the parts for it being true, false and null.
     Split(usize, usize, usize, usize),
     Owner(usize),
     Empty(usize),
     NeverNull(usize),
-    /// A leaf with rows that not exactly one share takes.
+    /// A leaf with rows that no share takes, or that several take.
     Broken,
 }
 
@@ -26,14 +26,14 @@ struct Part {
     is_broken: bool,
 }
 
-/// A part that is not there.
+/// A part that does not exist.
 const BROKEN: Part = Part {
     shape: Shape::Broken,
     nodes: 1,
     is_broken: true,
 };
 
-/// The parts that were made, and those of them that have a key.
+/// The parts that were made, and which of them have a key.
 #[derive(Drop)]
 pub struct Parts {
     list: Vec<Part>,
@@ -90,7 +90,7 @@ impl Parts {
         }
     }
 
-    /// Adds a part, and gives its place.
+    /// Adds a part, and returns its place.
     pub fn add(&mut self, shape: Shape) -> Result<usize, AllocError> {
         let place = self.list.len();
         let part = Part {
@@ -107,7 +107,7 @@ impl Parts {
         self.keyed.get(key).copied()
     }
 
-    /// Keeps the part under this key, unless it is broken: then a row is looked for each time.
+    /// Keeps the part under this key, unless it is broken: for a broken part a row is looked for each time.
     pub fn keep(&mut self, key: Vec<u64>, place: usize) -> Result<(), AllocError> {
         if !self.is_broken(place) {
             let _ = self.keyed.insert(key, place)?;

@@ -1,5 +1,5 @@
-//! What a certificate of a table has to decide, in numbers: of truth values and texts too, so that the values that a
-//! term may have are whole numbers from a least to a greatest one.
+//! What a certificate of a table has to decide, in numbers; truth values and texts are numbers too, so that the values
+//! that a term may have are whole numbers from a least to a greatest one.
 
 use crate::atoms::{PlainAtom, plain_atoms};
 use crate::cells::{Cell, Class, bits_of, cells_of, classes_of};
@@ -10,8 +10,8 @@ use replica_identity::Share;
 use shard_checker::{Range, kind_at, range_of};
 use std::alloc::{AllocError, Allocator, Global};
 
-/// The numbers that a term has: of a boolean column 0 and 1, of a text column the numbers of the texts that atoms name,
-/// and one number more for every other text.
+/// The numbers that a term has: for a boolean column 0 and 1, for a text column the numbers of the texts that atoms
+/// name, and one more number for every other text.
 #[derive(Drop)]
 pub struct Domain {
     pub column: usize,
@@ -23,7 +23,7 @@ pub struct Domain {
     pub classes: Vec<Class>,
 }
 
-/// The numbers of the atoms and of the terms of a column, and how many classes of numbers these and those are.
+/// The numbers of the atoms and of the terms of a column, and how many atoms and classes of numbers there are.
 #[derive(Drop)]
 struct Subjects {
     atoms: Vec<usize>,
@@ -31,7 +31,7 @@ struct Subjects {
     breadth: u64,
 }
 
-/// What a subscriber takes: the conditions from this place up to its end, of which the last one is that it takes a row.
+/// What a subscriber takes: the conditions from `start` up to `end`, the last of which is that it takes a row.
 #[derive(Clone, Copy)]
 pub struct ShareFormula {
     pub start: usize,
@@ -44,13 +44,13 @@ impl ShareFormula {
         self.end.saturating_sub(1)
     }
 
-    /// How many conditions these are.
+    /// How many conditions there are.
     pub fn size(self) -> u64 {
         count(self.end.saturating_sub(self.start))
     }
 }
 
-/// Which share takes the rows of a table.
+/// The question which share takes the rows of a table.
 #[derive(Drop)]
 pub struct Problem<'a> {
     pub columns: &'a [Column],
@@ -62,11 +62,11 @@ pub struct Problem<'a> {
     pub texts: Texts<'a>,
     /// How many columns, terms, classes of numbers and atoms there are.
     pub breadth: u64,
-    /// Whether there are atoms of several columns.
+    /// Whether there are atoms on several columns.
     pub has_several_columns: bool,
 }
 
-/// A count with 64 bits.
+/// A count as 64 bits.
 fn count(items: usize) -> u64 {
     u64::try_from(items).unwrap_or(u64::MAX)
 }
@@ -128,7 +128,7 @@ fn domains_of(
     Ok(domains)
 }
 
-/// Adds the conditions of the shares, and gives where those of each are.
+/// Adds the conditions of the shares, and returns where the conditions of each are.
 fn formulas_of<A: Allocator>(
     alloc: Global,
     conditions: &mut Vec<Condition>,
@@ -197,7 +197,7 @@ fn subjects_of(
     Ok(subjects)
 }
 
-/// Whether the atoms are of several columns.
+/// Whether the atoms are on several columns.
 fn are_of_several_columns(atoms: &[PlainAtom]) -> bool {
     let Some(first) = atoms.first() else {
         return false;
@@ -227,7 +227,7 @@ fn breadth_of(columns: &[Column], terms: &[Domain], atoms: &[PlainAtom]) -> u64 
 }
 
 impl<'a> Problem<'a> {
-    /// Which of the shares takes the rows of these columns, where the atoms and the terms are those of the shares.
+    /// Which of the shares takes the rows of these columns; the atoms and the terms are those of the shares.
     pub fn new<A: Allocator>(
         alloc: Global,
         columns: &'a [Column],

@@ -1,4 +1,4 @@
-//! Rows, and the simple ones that are tried first.
+//! Rows, and the simple rows that are tried first.
 
 use crate::atoms::{AtomKind, PlainAtom};
 use crate::cells::Class;
@@ -15,10 +15,10 @@ use std::alloc::{AllocError, Global};
 /// How many simple rows are tried.
 const MAX_SIMPLE_ROWS: u64 = 4_096;
 
-/// How many simple values a column has at most.
+/// How many simple values a column has, at most.
 const MAX_SIMPLE_VALUES: usize = 4_096;
 
-/// A text that no atom names: the empty one, or one of letters a.
+/// A text that no atom names: the empty text, or a text of letters a.
 fn unnamed_text(alloc: Global, problem: &Problem<'_>) -> Result<Text, AllocError> {
     let mut text = String::new(alloc);
     for _ in &problem.texts.list {
@@ -53,7 +53,7 @@ fn cell_of(
     }
 }
 
-/// The row of the values that were chosen.
+/// The row with the values that were chosen.
 fn row_of(alloc: Global, problem: &Problem<'_>, choices: &[Choice]) -> Result<Row, AllocError> {
     let mut values = Vec::new(alloc);
     for (place, column) in problem.columns.iter().enumerate() {
@@ -63,7 +63,7 @@ fn row_of(alloc: Global, problem: &Problem<'_>, choices: &[Choice]) -> Result<Ro
     Ok(Row::from_values(values))
 }
 
-/// Adds a number to those of a list, if it isn't there.
+/// Adds a number to a list, if the list does not have it.
 fn add(numbers: &mut Vec<Choice>, chosen: i64) -> Result<(), AllocError> {
     let choice = Some(chosen);
     if numbers.len() < MAX_SIMPLE_VALUES && !numbers.contains(&choice) {
@@ -72,7 +72,7 @@ fn add(numbers: &mut Vec<Choice>, chosen: i64) -> Result<(), AllocError> {
     Ok(())
 }
 
-/// Adds the numbers at a boundary and beside it.
+/// Adds the numbers at a boundary and next to it.
 fn add_around(numbers: &mut Vec<Choice>, boundary: i64) -> Result<(), AllocError> {
     add(numbers, boundary)?;
     add(numbers, boundary.saturating_sub(1))?;
@@ -80,7 +80,7 @@ fn add_around(numbers: &mut Vec<Choice>, boundary: i64) -> Result<(), AllocError
     add(numbers, boundary.saturating_neg())
 }
 
-/// Adds the numbers that an atom names, but for those of a list.
+/// Adds the numbers that an atom names, except those of a list.
 fn add_boundaries(numbers: &mut Vec<Choice>, kind: &AtomKind) -> Result<(), AllocError> {
     match kind {
         AtomKind::IsNull | AtomKind::In(_) => Ok(()),
@@ -114,7 +114,7 @@ fn add_classes(numbers: &mut Vec<Choice>, classes: &[Class]) -> Result<(), Alloc
     Ok(())
 }
 
-/// Whether a list of constants is asked of the term.
+/// Whether an atom on the term has a list of constants.
 fn has_list(problem: &Problem<'_>, term: usize) -> bool {
     for plain in &problem.atoms {
         if plain.term == term && matches!(plain.kind, AtomKind::In(_)) {
@@ -138,7 +138,7 @@ fn add_listed(
     Ok(())
 }
 
-/// Adds the empty text, one that no atom names, and those that an atom names alone.
+/// Adds the empty text, a text that no atom names, and the texts that an atom names outside a list.
 fn add_texts(numbers: &mut Vec<Choice>, problem: &Problem<'_>) -> Result<(), AllocError> {
     add(numbers, empty_text(problem))?;
     add(numbers, problem.texts.unnamed())?;
@@ -204,7 +204,7 @@ fn all_simple_values(alloc: Global, problem: &Problem<'_>) -> Result<Vec<Vec<Cho
     Ok(values)
 }
 
-/// The choice of this number from the values, and how often it went through them.
+/// The value that this number picks, and how often the number goes through all values.
 fn picked(values: &[Choice], number: u64) -> (Choice, u64) {
     let count = u64::try_from(values.len()).unwrap_or(u64::MAX);
     if count == 0 {
@@ -214,7 +214,7 @@ fn picked(values: &[Choice], number: u64) -> (Choice, u64) {
     (values.get(place).copied().unwrap_or(None), number / count)
 }
 
-/// The row of this number, of the rows of simple values; where there are fewer rows, nothing.
+/// The row of this number, among the rows of simple values; `None` if there are fewer rows.
 fn simple_choices(
     alloc: Global,
     values: &[Vec<Choice>],
@@ -233,7 +233,7 @@ fn simple_choices(
     Ok(Some(choices))
 }
 
-/// The value of an atom in the row of these values.
+/// The value of an atom in the row with these values.
 fn value_with(problem: &Problem<'_>, plain: &PlainAtom, choices: &[Choice]) -> Tri {
     let choice = choices.get(plain.column).copied().unwrap_or(None);
     match choice {
@@ -242,7 +242,7 @@ fn value_with(problem: &Problem<'_>, plain: &PlainAtom, choices: &[Choice]) -> T
     }
 }
 
-/// The values of the atoms in the row of these values.
+/// The values of the atoms in the row with these values.
 fn masks_with(
     alloc: Global,
     problem: &Problem<'_>,
@@ -268,8 +268,8 @@ fn count_takers(alloc: Global, problem: &Problem<'_>, masks: &[Mask]) -> Result<
     Ok(count)
 }
 
-/// The row of these values, if it fits the table and not exactly one share takes it. The row is made only where the
-/// values of its atoms tell that.
+/// The row with these values, if it fits the table and no share takes it, or several do. The row is made only if the
+/// values of its atoms show this.
 pub fn counter_of(
     alloc: Global,
     problem: &Problem<'_>,
@@ -288,7 +288,7 @@ pub fn counter_of(
     Ok(None)
 }
 
-/// A simple row that not exactly one share takes, if there is one among those that are tried.
+/// A simple row that no share takes, or that several take, if there is one among those that are tried.
 pub fn simple_counter(
     alloc: Global,
     problem: &Problem<'_>,

@@ -1,4 +1,4 @@
-//! Which atom the rows at a node are split by.
+//! By which atom the rows at a node are split.
 
 use crate::conditions::{Condition, Outcome, is_at, outcome_at, outcome_of};
 use crate::masks::{is_settled, mask_at, put};
@@ -14,13 +14,13 @@ struct Score {
     sum: u64,
 }
 
-/// A score that is worse than any.
+/// A score that is worse than any other.
 const WORST: Score = Score {
     worst: u64::MAX,
     sum: u64::MAX,
 };
 
-/// The conditions that are live of shares that are undecided, and how many atoms make a difference to each.
+/// The live conditions of undecided shares, and how many atoms make a difference to each.
 #[derive(Drop)]
 struct Pending {
     places: Vec<usize>,
@@ -32,7 +32,7 @@ fn weight_at(weights: &[u32], place: usize) -> u32 {
     weights.get(place).copied().unwrap_or(0)
 }
 
-/// How many atoms make a difference to a condition of which this is known.
+/// How many atoms make a difference to a condition about which this is known.
 fn weight_of(condition: Condition, outcome: Outcome, weights: &[u32]) -> u32 {
     if outcome != Outcome::Open {
         return 0;
@@ -47,7 +47,7 @@ fn weight_of(condition: Condition, outcome: Outcome, weights: &[u32]) -> u32 {
 }
 
 impl SearchState {
-    /// The conditions to weigh, where the path leaves these shares undecided.
+    /// The conditions to weigh, if the path leaves these shares undecided.
     fn pending(&self, alloc: Global, problem: &Problem<'_>) -> Result<Pending, AllocError> {
         let mut places = Vec::new(alloc);
         for (number, share) in problem.shares.iter().enumerate() {
@@ -70,7 +70,7 @@ impl SearchState {
         Ok(())
     }
 
-    /// Gives each atom a vote for each condition on it that is open.
+    /// Gives each atom one vote for each open condition on it.
     fn vote_for_open(&mut self, problem: &Problem<'_>, places: &[usize]) {
         self.votes.fill(0);
         for place in places {
@@ -101,7 +101,7 @@ impl SearchState {
         found
     }
 
-    /// How much is left to decide, by the values that the facts leave.
+    /// How much is left to decide, by the values that the facts allow.
     fn weight(&mut self, problem: &Problem<'_>, pending: &mut Pending) -> u64 {
         for place in &pending.places {
             if let Some(condition) = problem.conditions.get(*place) {
@@ -124,7 +124,7 @@ impl SearchState {
         total
     }
 
-    /// The score of a split by this atom, to which the facts leave these values, or a worse one than the best.
+    /// The score of a split by this atom, for which the facts allow these values, or a score worse than the best.
     fn score(
         &mut self,
         problem: &Problem<'_>,
@@ -168,8 +168,8 @@ impl SearchState {
         found
     }
 
-    /// An atom that leaves the least to decide, or, without care, one that the most conditions are on. What the facts
-    /// tell of conditions is lost.
+    /// An atom that leaves the least to decide, or, without care, an atom with the most conditions on it. What the
+    /// facts say about conditions is lost.
     pub fn halving(
         &mut self,
         alloc: Global,

@@ -1,4 +1,4 @@
-//! The search for a certificate, from the root, and for a row where there is none.
+//! The search for a certificate, from the root, and for a row if there is no certificate.
 
 use crate::choices::choices;
 use crate::conditions::{Outcome, outcome_at};
@@ -15,14 +15,14 @@ use shard_checker::{numbered_atoms, numbered_terms};
 use split_cert::{Cert, MAX_SPLITS};
 use std::alloc::{AllocError, Global};
 
-/// The most steps of a search. A step is a look at a condition of a share's filter, or at an atom, a term, a column or a
-/// class of numbers that the atoms of a term don't tell apart.
+/// The most steps of a search. A step is a look at a condition of a share's filter, or at an atom, a term, a column or
+/// a class of numbers that the atoms of a term don't distinguish.
 pub const MAX_STEPS: u64 = 200_000_000;
 
-/// What a node costs at least, in steps.
+/// The least cost of a node, in steps.
 const NODE_STEPS: u64 = 100;
 
-/// A split by an atom, and the values that the facts leave to it. Where it has another one, no number is left to the
+/// A split by an atom, and the values that the facts allow for it. If it has another value, no number is left for the
 /// term.
 #[derive(Clone, Copy)]
 struct Fork {
@@ -37,7 +37,7 @@ struct Fork {
 enum Step {
     Owner(usize),
     Split(Fork),
-    /// The facts leave rows that no share takes, or several.
+    /// The facts leave rows that no share takes, or that several take.
     Fault,
 }
 
@@ -48,11 +48,11 @@ struct Search<'a, 'q> {
     table: &'a Table,
     shares: &'a [&'a Share],
     problem: &'q Problem<'a>,
-    /// After so many steps the search goes on to no further node. Splits are chosen with care in the first half.
+    /// After this number of steps the search visits no further node. Splits are chosen with care in the first half.
     most_steps: u64,
     state: SearchState,
     parts: Parts,
-    /// A row that not exactly one share takes.
+    /// A row that no share takes, or that several take.
     counter: Option<Row>,
 }
 
@@ -86,7 +86,7 @@ impl<'a, 'q> Search<'a, 'q> {
         self.parts.certificate(arena, root)
     }
 
-    /// A tree for the rows at the end of the path, to which so many splits may still be added.
+    /// A tree for the rows at the end of the path, to which at most `may_split` splits may still be added.
     #[cycle(tree)]
     fn grow(&mut self, may_split: usize) -> Result<usize, Stop> {
         if self.state.steps > self.most_steps {
@@ -97,7 +97,7 @@ impl<'a, 'q> Search<'a, 'q> {
         let splits = MAX_SPLITS.saturating_sub(may_split);
         self.state.follow(self.problem, splits);
         if !self.problem.has_several_columns {
-            // Each path tells other values of the column, so no key would be found again.
+            // Each path says something different about the column, so no key would be found again.
             return self.made(may_split);
         }
         let key = self.state.key(self.alloc, self.problem)?;
@@ -109,7 +109,7 @@ impl<'a, 'q> Search<'a, 'q> {
         Ok(part)
     }
 
-    /// A tree for the rows at the end of the path, where what the path tells is found.
+    /// A tree for the rows at the end of the path, after what the path says was found.
     #[cycle(tree)]
     fn made(&mut self, may_split: usize) -> Result<usize, Stop> {
         match self.step()? {
@@ -126,7 +126,7 @@ impl<'a, 'q> Search<'a, 'q> {
 
     #[cycle(tree)]
     fn split(&mut self, may_split: usize, fork: Fork) -> Result<usize, Stop> {
-        // Rows with a null are forgotten most often, and this branch is the smallest.
+        // Rows with a null are overlooked most often, and this branch is the smallest.
         let if_null = self.branch(may_split, fork, Tri::Null)?;
         let if_true = self.branch(may_split, fork, Tri::True)?;
         let if_false = self.branch(may_split, fork, Tri::False)?;
@@ -136,7 +136,7 @@ impl<'a, 'q> Search<'a, 'q> {
         Ok(self.parts.add(split)?)
     }
 
-    /// The branch where the atom has this value.
+    /// The branch in which the atom has this value.
     #[cycle(tree)]
     fn branch(&mut self, may_split: usize, fork: Fork, value: Tri) -> Result<usize, Stop> {
         if !fork.left.has(value) {
@@ -165,7 +165,7 @@ impl<'a, 'q> Search<'a, 'q> {
         self.settle()
     }
 
-    /// A split by the atom, by what was found of it last.
+    /// A split by the atom, by what was found about it last.
     fn split_by(&self, atom: Option<usize>) -> Result<Step, Stop> {
         let atom = atom.ok_or(Stop::TooLong)?;
         let plain = self.problem.atom(atom).ok_or(Stop::TooLong)?;
@@ -183,7 +183,7 @@ impl<'a, 'q> Search<'a, 'q> {
         self.split_by(atom)
     }
 
-    /// One share takes all rows, and no other does: a leaf, once the path tells so.
+    /// One share takes all rows, and no other does: a leaf, once the path says so.
     fn settle(&mut self) -> Result<Step, Stop> {
         let number = self.state.first(Standing::Sure).ok_or(Stop::TooLong)?;
         let share = self
@@ -199,7 +199,7 @@ impl<'a, 'q> Search<'a, 'q> {
         self.split_by(atom)
     }
 
-    /// Looks for a row here that no share takes, or several.
+    /// Looks for a row here that no share takes, or that several take.
     fn fault(&mut self) -> Result<usize, Stop> {
         self.state.add_steps(self.problem.breadth);
         if let Some(chosen) = choices(self.alloc, self.problem, &mut self.state)? {
@@ -212,7 +212,7 @@ impl<'a, 'q> Search<'a, 'q> {
     }
 }
 
-/// A leaf without rows, since the facts don't leave the atom this value.
+/// A leaf without rows, since the facts don't allow this value for the atom.
 fn impossible(fork: Fork, value: Tri) -> Shape {
     if value == Tri::Null && fork.is_never_null {
         Shape::NeverNull(fork.atom)
@@ -221,7 +221,7 @@ fn impossible(fork: Fork, value: Tri) -> Shape {
     }
 }
 
-/// What a search ends with.
+/// The result of a search.
 #[derive(Drop)]
 pub enum Found<'b> {
     Cert(Cert<&'b Bump>),
@@ -230,7 +230,7 @@ pub enum Found<'b> {
     TooLarge,
 }
 
-/// A row instead of a certificate: a simple one, or else the one that the search came upon.
+/// A row instead of a certificate: a simple one, or else the one that the search found.
 fn row_instead<'b>(search: Search<'_, '_>, otherwise: Found<'b>) -> Result<Found<'b>, AllocError> {
     let simple = simple_counter(search.alloc, search.problem, search.table, search.shares)?;
     match (simple, search.counter) {
@@ -248,8 +248,8 @@ fn ended<'b>(mut search: Search<'_, '_>, arena: &'b Bump) -> Result<Found<'b>, A
     }
 }
 
-/// Looks for a certificate of the table with these shares, and for a row that shows that there is none, in about so many
-/// steps at most.
+/// Looks for a certificate of the table with these shares, and for a row that shows that there is none, in at most
+/// about `most_steps` steps.
 pub fn look<'a, 'b>(
     alloc: Global,
     arena: &'b Bump,

@@ -7,33 +7,33 @@ use crate::problem::{Problem, ShareFormula};
 use filter_tree::{Mask, Tri};
 use std::alloc::{AllocError, Global};
 
-/// What is known of a share for the rows at a node.
+/// What is known about a share for the rows at a node.
 #[derive(Clone, Copy, PartialEq, Eq)]
 pub enum Standing {
-    /// By the atoms on the path it takes none of them.
+    /// According to the atoms on the path it takes none of them.
     Closed,
-    /// By the facts it takes none of them.
+    /// According to the facts it takes none of them.
     Excluded,
-    /// By the facts it takes them all.
+    /// According to the facts it takes them all.
     Sure,
     Undecided,
 }
 
-/// The values of atoms, those on the path and those that the facts leave, and what they tell of shares.
+/// The values of atoms, those on the path and those that the facts allow, and what they say about shares.
 #[derive(Drop)]
 pub struct SearchState {
     pub known: Vec<Mask>,
     pub likely: Vec<Mask>,
     pub facts: Facts,
-    /// The columns whose facts have to be found again.
+    /// The columns whose facts must be found again.
     stale: Vec<bool>,
-    /// What the path tells of each condition.
+    /// What the path says about each condition.
     pub told: Vec<Outcome>,
     /// After how many splits on the path each share was closed.
     closed_after: Vec<usize>,
     /// The conditions that the path leaves open, and that may make a difference to a share.
     pub live: Vec<bool>,
-    /// What the facts tell of each condition.
+    /// What the facts say about each condition.
     pub expected: Vec<Outcome>,
     pub standings: Vec<Standing>,
     pub votes: Vec<u64>,
@@ -50,7 +50,7 @@ fn open_masks(alloc: Global, problem: &Problem<'_>) -> Result<Vec<Mask>, AllocEr
 }
 
 impl SearchState {
-    /// Nothing is known of any atom, and no facts are found yet.
+    /// Nothing is known about any atom, and no facts are found yet.
     pub fn new(alloc: Global, problem: &Problem<'_>) -> Result<SearchState, AllocError> {
         let conditions = problem.conditions.len();
         Ok(SearchState {
@@ -68,7 +68,7 @@ impl SearchState {
         })
     }
 
-    /// Finds the facts that have to be found again.
+    /// Finds the facts that must be found again.
     pub fn refresh(&mut self, problem: &Problem<'_>) {
         for (column, _) in problem.columns.iter().enumerate() {
             if is_at(&self.stale, column) {
@@ -78,7 +78,7 @@ impl SearchState {
         }
     }
 
-    /// Finds the facts of a column, and what they leave to each of its atoms.
+    /// Finds the facts of a column, and which values they allow for each of its atoms.
     fn infer(&mut self, problem: &Problem<'_>, column: usize) {
         self.add_steps(problem.breadth_of(column));
         self.facts.find(problem, &self.known, column);
@@ -90,7 +90,7 @@ impl SearchState {
         }
     }
 
-    /// Takes the atom's values to be these. The facts stay where they left it this value alone.
+    /// Sets the atom's values to these. The facts stay valid if they already allowed only this value.
     fn take(&mut self, problem: &Problem<'_>, atom: usize, mask: Mask, is_forced: bool) {
         put(&mut self.known, atom, mask);
         if let (false, Some(plain)) = (is_forced, problem.atom(atom)) {
@@ -98,7 +98,7 @@ impl SearchState {
         }
     }
 
-    /// Takes the atom's value to be this, which may be the only one that the facts leave it.
+    /// Sets the atom's value to this one, which may be the only value that the facts allow.
     pub fn decide(&mut self, problem: &Problem<'_>, atom: usize, value: Tri, is_forced: bool) {
         self.take(problem, atom, Mask::single(value), is_forced);
     }
@@ -110,12 +110,12 @@ impl SearchState {
         }
     }
 
-    /// Counts so many steps more.
+    /// Counts this number of additional steps.
     pub fn add_steps(&mut self, steps: u64) {
         self.steps = self.steps.saturating_add(steps);
     }
 
-    /// Whether the share was closed before the last of so many splits.
+    /// Whether the share was closed before the last of this number of splits.
     fn was_closed(&self, share: usize, splits: usize) -> bool {
         match self.closed_after.get(share) {
             None => true,
@@ -123,7 +123,7 @@ impl SearchState {
         }
     }
 
-    /// Finds what the path with so many splits tells of each condition, and which ones are live.
+    /// Finds what the path with this number of splits says about each condition, and which ones are live.
     pub fn follow(&mut self, problem: &Problem<'_>, splits: usize) {
         self.live.fill(false);
         for (number, share) in problem.shares.iter().enumerate() {
@@ -143,7 +143,7 @@ impl SearchState {
         mark_live(&problem.conditions, share, &self.told, &mut self.live);
     }
 
-    /// Finds what is known of each share, by what the path was found to tell.
+    /// Finds what is known about each share, from what was found about the path.
     pub fn classify(&mut self, problem: &Problem<'_>) {
         for (number, share) in problem.shares.iter().enumerate() {
             if outcome_at(&self.told, share.root()) != Outcome::Missed {
@@ -154,7 +154,7 @@ impl SearchState {
         }
     }
 
-    /// Finds what the facts tell of each condition of the share.
+    /// Finds what the facts say about each condition of the share.
     fn expect(&mut self, problem: &Problem<'_>, share: ShareFormula) {
         self.add_steps(share.size());
         for place in share.start..share.end {
@@ -183,7 +183,7 @@ impl SearchState {
         }
     }
 
-    /// What is known of the share of this number.
+    /// What is known about the share of this number.
     pub fn standing_of(&self, share: usize) -> Standing {
         self.standings
             .get(share)
@@ -191,7 +191,7 @@ impl SearchState {
             .unwrap_or(Standing::Closed)
     }
 
-    /// Of how many shares this is known.
+    /// About how many shares this is known.
     pub fn how_many(&self, standing: Standing) -> usize {
         let mut found = 0usize;
         for held in &self.standings {
@@ -202,7 +202,7 @@ impl SearchState {
         found
     }
 
-    /// The first share of which this is known.
+    /// The first share about which this is known.
     pub fn first(&self, standing: Standing) -> Option<usize> {
         for (share, held) in self.standings.iter().enumerate() {
             if *held == standing {
@@ -217,7 +217,7 @@ impl SearchState {
         is_settled(mask_at(&self.known, atom))
     }
 
-    /// Whether the facts leave the atom one value, which it doesn't have on the path.
+    /// Whether the facts allow the atom only one value, which it doesn't have on the path.
     pub fn is_forced(&self, atom: usize) -> bool {
         !self.is_known(atom) && is_settled(mask_at(&self.likely, atom))
     }

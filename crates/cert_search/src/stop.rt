@@ -5,7 +5,7 @@ use std::alloc::{AllocError, AllocFailed};
 /// Why the search for a certificate ends without one.
 #[derive(Clone, Copy, Debug)]
 pub enum Stop {
-    /// A row was found that shows that there is none.
+    /// A row was found that shows that there is no certificate.
     Counter,
     TooLarge,
     TooLong,

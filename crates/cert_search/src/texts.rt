@@ -4,13 +4,13 @@ use filter_tree::{Atom, Literal};
 use std::alloc::{AllocError, Allocator, Global};
 use std::collections::BTreeMap;
 
-/// The texts that atoms name, each once. Their numbers are their places in the list, and one more number is for every
-/// other text.
+/// The texts that atoms name, each once. Their numbers are their places in the list, and one more number stands for
+/// every other text.
 #[derive(Drop)]
 pub struct Texts<'a> {
-    /// Those that an atom names alone, and then those of lists, each in the order of first appearance.
+    /// The texts that an atom names outside a list, and then the texts of lists, each in the order of first appearance.
     pub list: Vec<&'a str>,
-    /// How many are named alone.
+    /// How many texts are named outside a list.
     pub alone: usize,
     places: BTreeMap<&'a str, usize>,
 }
@@ -63,7 +63,7 @@ impl<'a> Texts<'a> {
         Ok(())
     }
 
-    /// Adds a constant that is a text, if it isn't there.
+    /// Adds a constant that is a text, unless it was added before.
     fn add<A: Allocator>(&mut self, literal: &'a Literal<A>) -> Result<(), AllocError> {
         if let Literal::Text(text) = literal {
             let text = text.as_str();

@@ -1,4 +1,4 @@
--- A voice may go to another thread.
+-- A voice may be sent to another thread.
 use denote.Param.Send.{IsSend, sendable, struct_send, recorded_send}
 use denote.Struct.Declared.{shape}
 use Rattle.std.proofs.Crossing.{crosses, Arc-send}

@@ -48,7 +48,7 @@ chosen : {X : Type 0} (b : Bool) (x y : X) (P : X → Type 0) → (b ≡ true �
 chosen true x y P holds fails = holds refl
 chosen false x y P holds fails = fails refl
 
--- so many bytes end with the quote
+-- this number of bytes end with the quote
 record EndsAt (quote : ℕ) (bytes : List ℕ) (n : ℕ) : Type 0 where
   some : 0 < n
   within : n ≤ length bytes
@@ -125,7 +125,7 @@ no_slash : (rest : List ℕ) → length rest ≡ 0 → slice_index rest 0 == 47 
 no_slash [] none slash = cc
 no_slash (b ∷ rest) none slash = absurd (omega arith)
 
--- digits, a slash and digits, so many of each
+-- digits, a slash and digits, these numbers of each
 place_ends_ascii : (text : List ℕ) (n m k : ℕ) → k ≡ n + 1 + m → 0 < length (drop n text)
     → EndsAscii (drop 1 (drop n text)) m → EndsAscii text k
 place_ends_ascii text n m k k_is slash low =

@@ -1,4 +1,4 @@
--- The first frame, where it is a Query with a text.
+-- The first frame, if it is a Query with a text.
 use Rattle.std.proofs.Common.{◌≡◌, ℕ, List, Some, ap}
 use Rattle.copy_both.specs.CommandText.{command_of}
 use Rattle.copy_both.specs.StartAnswers.{text_in, asked_in, asked_by, asked_of}

@@ -1,4 +1,4 @@
--- What becomes of frames that are heard one after another: which one starts the stream, has a fault or ends it.
+-- What frames that are heard one after another do: which one starts the stream, has a fault or ends it.
 use Rattle.std.proofs.Common.{◌≡◌, ℕ, ◌<◌, ◌≤◌, ◌==◌, min, max, Bool, true, false, if◌then◌else◌, List, [], ◌∷◌, ◌++◌, refl, sym, ap, subst, ◌∙◌, append_assoc}
 use Rattle.std.specs.Prelude.{Option, Some, None, Result, Ok, Err, nat_lt, slice_get}
 use Rattle.std.proofs.Math.Nat.{le-max_left}
@@ -157,7 +157,7 @@ pub record EndAmong (frames : List Frame) (kind : ℕ) : Type 0 where
   pub kind_is : frame.kind ≡ kind
   pub ends : is_end kind ≡ true
 
--- what comes of frames while a stream runs
+-- the result of frames while a stream runs
 pub data Later (reach : ℕ) (frames : List Frame) (last : HearingOf) : Type 0 where
   GoesOn : is_over last ≡ false → Later reach frames last
   Faulty : (f : LinkFault) → FaultAmong frames f → last.fault ≡ Some f → Later reach frames last
@@ -252,7 +252,7 @@ later_runs served slot start (frame ∷ frames) h is going =
 
 -- ---- the first frame
 
--- a start asks for its slot
+-- a start requests its slot
 record Asks (served : Served) (kind : ℕ) (body : List ℕ) (slot start : ℕ) : Type 0 where
   query : kind ≡ 81
   position : ℕ
@@ -309,7 +309,7 @@ asks_of served slots kind body slot start is =
       reached = found.1.reached;
     }
 
--- what comes of all frames
+-- the result of all frames
 pub data Comes (checked : CheckedOf) (frames : List Frame) (reach : ℕ) (last : HearingOf) : Type 0 where
   Comes_on : is_over last ≡ false → IsStartedBy checked frames last.started → Comes checked frames reach last
   Comes_bad : (f : LinkFault) → HasBadFrame frames f → last.fault ≡ Some f → Comes checked frames reach last
@@ -487,7 +487,7 @@ runs_by served before frames h going (Some started) is asks =
     (later_more (min h.sent (end_after served.commits)) asks.first.others frames last
     (later_runs served started.0 started.1 frames h is going))
 
--- what comes of frames that are heard after others
+-- the result of frames that are heard after others
 pub runs_on : (served : Served) (before frames : List Frame) (h : HearingOf) → is_over h ≡ false
     → IsStartedBy served.checked before h.started
     → Ran served.checked (before ++ frames)

@@ -45,7 +45,7 @@ opened_with old opened written head message begins wrote =
     wrote ∙ ap (λ (x : List ℕ). x ++ message) begins ∙ append_assoc old (opening head) message
     ∙ ap (λ (x : List ℕ). old ++ 100 ∷ 0 ∷ 0 ∷ 0 ∷ 0 ∷ x) (body_with head message)
 
--- where the length is put in after the frame was opened
+-- where the length is filled in after the frame was opened
 pub closed_with : (front body length_bytes : List ℕ) (start : ℕ) → length front ≡ start
     → put_mid (start + 1) 4 (front ++ 100 ∷ 0 ∷ 0 ∷ 0 ∷ 0 ∷ body) length_bytes ≡ front ++ 100 ∷ (length_bytes ++ body)
 closed_with front body length_bytes start at =
@@ -58,7 +58,7 @@ closed_with front body length_bytes start at =
     ∙ ap (λ (x : List ℕ). first ++ (length_bytes ++ drop 4 x)) (drop_at first rest (start + 1) long)
     ∙ append_assoc front (100 ∷ []) (length_bytes ++ body)
 
--- so it is written back into the output
+-- this way it is written back into the output
 pub written_back : (items shown copied front body : List ℕ) (len start count : ℕ) → len ≡ length items → shown ≡ items
     → count ≡ 4 → length front ≡ start
     → items ≡ front ++ 100 ∷ 0 ∷ 0 ∷ 0 ∷ 0 ∷ body → copied ≡ to_be_bytes w32 (length body + 4)
@@ -134,7 +134,7 @@ added_in_room old roomy new message head bytes adds = record {
   texts = adds.texts;
 }
 
--- the Delete of what is recorded of a row, where something is
+-- the Delete of what is recorded of a row, if something is
 pub gone_added : (old new : Frames) (opened written : List ℕ) (start table : ℕ) (part : Option r.PartOf)
     → named_in (r.Delete table part) ≡ table ∷ [] → new.head ≡ old.head
     → start ≡ length old.bytes.items → opened ≡ old.bytes.items ++ opening old.head
@@ -196,7 +196,7 @@ some_bytes head message messages =
 
 -- ---- the frames of a commit
 
--- where nothing was added after Begin, the commit has no message
+-- if nothing was added after Begin, the commit has no message
 pub none_framed : (commit : CommitOf) (begin told : Frames) (said : List Msg) → Takes AddsFrame begin told said
     → length told.bytes.items ≡ length begin.bytes.items
     → enclosed commit said ≡ []
@@ -211,7 +211,7 @@ none_framed commit begin told (message ∷ messages) took same =
       some_bytes begin.head message messages,
     ))
 
--- else all its messages are in frames
+-- otherwise all its messages are in frames
 pub commit_framed : (commit : CommitOf) (new begin told ended : Frames) (said : List Msg)
     → AddsFrame new begin (begin_of commit)
     → Takes AddsFrame begin told said → (length told.bytes.items ≡ length begin.bytes.items → ⊥)
@@ -227,7 +227,7 @@ commit_framed commit new begin told ended (message ∷ messages) one took more l
           (ended, last, refl),
     )
 
--- ---- what becomes of a commit
+-- ---- the result of a commit
 
 pub skipped_if : (head : XLogData) (number : ℕ) (messages : List Msg) → length (frames_with head messages) ≡ 0
     → taken_of number messages ≡ Skipped number

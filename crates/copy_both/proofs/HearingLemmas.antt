@@ -45,7 +45,7 @@ drop_next zero (y ∷ xs) x ys e = cc
 drop_next (suc n) [] x ys e = absurd cc
 drop_next (suc n) (y ∷ xs) x ys e = drop_next n xs x ys e
 
--- the first frames, so many of them, were heard, and these are left
+-- the first frames, this number of them, were heard, and these remain
 pub record IsHeardTo (served : Served) (start now : HearingOf) (frames left : List Frame) (n : ℕ) : Type 0 where
   pub now_is : now ≡ frames_heard served start (take n frames)
   pub left_is : drop n frames ≡ left
@@ -74,7 +74,7 @@ split_at zero xs = refl
 split_at (suc n) [] = refl
 split_at (suc n) (x ∷ xs) = ap (λ t. x ∷ t) (split_at n xs)
 
--- what all frames do is what those that are left do
+-- what all frames do is what the remaining ones do
 pub all_heard : (served : Served) (start now : HearingOf) (frames left : List Frame)
     → HeardSome served start now frames left
     → frames_heard served start frames ≡ frames_heard served now left

@@ -1,5 +1,5 @@
--- Both halves of a link are equally far after what was heard is answered, and what was heard of all of a piece was
--- heard of some first frames.
+-- Both halves of a link are in the same state after what was heard is answered, and what was heard of all of a piece
+-- was heard of the first few frames.
 use Rattle.std.proofs.Common.{◌≡◌, ◌≢◌, ℕ, Bool, true, false, List, [], ◌∷◌, ◌++◌, length, refl, sym, ap, ◌∙◌, subst, inl, inr}
 use Rattle.std.specs.Prelude.{◌⊎◌, Option, Some, None, Result, Ok, Err, OnOk, OnErr, IsErrAnd, min, nat_lt}
 use Rattle.std.proofs.Math.Seq.{take-length}
@@ -105,7 +105,7 @@ not_closed stage None together closed = let over : Waits ≡ IsOver = together �
 not_closed stage (Some s) together closed = let over : Streams s.0 ≡ IsOver = together ∙ ap said_state closed in
     absurd cc
 
--- ---- all frames are some first ones
+-- ---- all frames are the first few
 
 leaves_over : (over : Bool) (fault : LinkFault) (old new : Session) (before after : Book) (h : HearingOf)
     → Leaves old new before after (unless_over over h (with_fault fault h)) → Leaves old new before after h
@@ -173,7 +173,7 @@ started_in phase.Open old new before after piece sent heard answer left = left.l
 started_in phase.Closed old new before after piece sent heard answer left = absurd cc
 started_in phase.Lost old new before after piece sent heard answer left = absurd cc
 
--- so what answers what was heard is said of all that was heard
+-- so the answers to what was heard are sent for all that was heard
 module _ (P : Option (ℕ × ℕ) → HeardOf → Type 0) (old new : Ear) (before after : Book) (piece : List ℕ)
     (heard : HeardOf) (started : Option (ℕ × ℕ)) where
   pub of_all_heard : (sent its : ℕ) → sent ≡ its
@@ -214,7 +214,7 @@ pub refused_closed : {E : Type 0} (result : Result (Unit {0}) E) (old new : Voic
 refused_closed (Ok done) old new bytes says closes = says.stage_is
 refused_closed (Err error) old new bytes says closes = closes.stage_is
 
--- an ear that answers anything else hears
+-- an ear that returns anything else hears
 pub hears_still : (p : Phase) (h : HearingOf) (result : Result Heard LinkFault) → answer_in p h ≡ result
     → result ≢ Err fault.Closed → p ≡ phase.Open
 hears_still phase.Open h result is other = refl

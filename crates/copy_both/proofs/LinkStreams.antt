@@ -1,4 +1,4 @@
--- What a link says is its stream.
+-- What a link sends is its stream.
 use Rattle.std.proofs.Common.{◌≡◌, ℕ, zero, suc, false, List, [], ◌∷◌, ◌++◌, take, drop, replicate, refl, sym, ap, subst, ◌∙◌, append_assoc}
 use Rattle.std.specs.Prelude.{slice_get, Option, Some, None}
 use Rattle.std.specs.List.{concat, flat_map}
@@ -43,7 +43,7 @@ speaks_more telling log start moves passed output place clock (suc n) speaks =
 concat_last : (xss : List (List ℕ)) (xs : List ℕ) → concat (xss ++ xs ∷ []) ≡ concat xss ++ xs
 concat_last xss xs = concat-append xss (xs ∷ []) ∙ ap (λ (x : List ℕ). concat xss ++ x) (append-nil xs)
 
--- what is said while it streams
+-- what is sent while it streams
 said_on : (checked : CheckedOf) (place : Place) (started : Option (ℕ × ℕ)) (heard : HeardOf) (clock : ℕ)
     → concat (frames_by checked (voices.Started place) started heard clock)
     ≡ concat (replicate heard.replies (keep_bytes place clock false)) ++ closing (voices.Started place) heard.ended
@@ -52,7 +52,7 @@ said_on checked place started heard clock =
 
 -- ---- what was heard is answered
 
--- with these bytes it would be at this place, and what is said comes after them
+-- with these bytes it would be at this place, and what is sent comes after them
 record IsOpened (old : Link) (h : HearingOf) (clock : ℕ) (run : Run) (place : Place) : Type 0 where
   output : List ℕ
   speaks : Speaks (telling_of run.checked) run.log run.start run.moves run.passed output place
@@ -131,7 +131,7 @@ hears old new run place h heard clock goes none says =
           (more_said old run place h clock o);
     }
 
--- all that was said, with what comes last
+-- all that was sent, with what comes last
 said_last : (old : Link) (run : Run) (place : Place) (h : HearingOf) (clock : ℕ) → IsOpened old h clock run place
     → run.passed ++ (link_output old ++ concat (frames_said (link_checked old) (link_stage old) h clock))
     ≡ stream_of (with_moves run (replied h clock)) ++ closing (voices.Started place) h.heard.ended

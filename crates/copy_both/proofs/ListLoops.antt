@@ -11,7 +11,7 @@ use Rattle.copy_both.specs.declared.token.Token.TheVariants.{Comma}
 use Rattle.copy_both.specs.CommandTokens.{is_comma, all_of}
 use Rattle.filter_tree.proofs.Tests.{by_test}
 
--- the parts of what is left
+-- the parts of the rest
 abbrev pub parts_left : Option (Bor (List Token)) → List (List Token)
 parts_left rest = option_map_or (λ after. slice_split is_comma after.now) rest []
 

@@ -158,7 +158,7 @@ heard_fault fault.StatusAhead served start now new first held next frame listens
 heard_fault fault.Closed served start now new first held next frame listens going gives is =
     failed_by served start now new first held next frame fault.Closed listens going gives is
 
--- ---- what next gives
+-- ---- what `next` returns
 
 pub no_more : (served : Served) (start now : HearingOf) (first held : Inbox) (found : Option Frame) (next : Inbox)
     → IsListening served start now first held

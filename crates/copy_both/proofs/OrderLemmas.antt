@@ -18,7 +18,7 @@ at_of_map f [] n = refl
 at_of_map f (x ∷ xs) zero = refl
 at_of_map f (x ∷ xs) (suc n) = at_of_map f xs n
 
--- what is left of a list begins with its element at the place
+-- the rest of a list begins with its element at the place
 from_here : {X : Type 0} (xs : List X) (i : ℕ) (x : X) → i < length xs → x ≡ get_or xs i x
     → drop i xs ≡ x ∷ drop (i + 1) xs
 from_here xs i x within is = drop_more xs i x within ∙ ap (λ y. y ∷ drop (i + 1) xs) (sym is)

@@ -1,4 +1,4 @@
--- What an ear has heard of all bytes since its first, after a further piece.
+-- What an ear has heard of all bytes since its first, after another piece.
 use Rattle.std.proofs.Common.{◌≡◌, ℕ, min, Bool, true, false, List, [], ◌∷◌, ◌++◌, length, take, drop, refl, sym, ap, subst, ◌∙◌, append_assoc, inl, inr}
 use Rattle.std.specs.Prelude.{Option, Some, None, Result, Ok, Err}
 use Rattle.std.proofs.lemmas.List.{take-append-drop}
@@ -69,7 +69,7 @@ length_fault : (f : FrameFault) (last : HearingOf) → is_over last ≡ false
     → (then_fault (Some f) last).fault ≡ Some (link_fault f)
 length_fault f last going = ap (λ (b : Bool). (unless_over b last (with_fault (link_fault f) last)).fault) going
 
--- what is answered where nothing went wrong
+-- the answer if nothing went wrong
 data Answered (checked : CheckedOf) (frames : List Frame) (f : Option FrameFault) (last : HearingOf)
     (ended : Option ℕ) : Type 0 where
   Answered_on : f ≡ None → IsStartedBy checked frames last.started → ended ≡ None → Answered checked frames f last ended
@@ -232,7 +232,7 @@ module _ (bytes piece : List ℕ) (old new : Ear) (before after : Book) (sent : 
     explains = explains;
   }
 
-  -- the start that is told
+  -- the start that is reported
   ok_tells : (heard : Heard) → ear_started new ≡ last.started → answer_of (ear_heard old before piece sent) ≡ Ok heard
       → heard.started ≡ start_told (ear_started old) (ear_started new)
   ok_tells heard is answer =
@@ -254,7 +254,7 @@ module _ (bytes piece : List ℕ) (old new : Ear) (before after : Book) (sent : 
       (subst (λ (n : ℕ). HasFault (ear_checked old) all n g) (reach_is same)
       (err_comes (ear_checked old) all (reached last.started) last (fault_of whole) g all_fault ran.comes some))
 
-  -- memory was refused after some first frames
+  -- memory was refused after the first few frames
   err_memory : (count : ℕ)
       × Leaves old.session new.session before after (part_heard count old.session before old.frames piece sent)
       → HasHeardOn (ear_checked old) all old new before sent (Err fault.OutOfMemory)

@@ -1,4 +1,4 @@
--- A response is written only of a start that is refused: where no frame had a fault, there is none.
+-- A response is written only for a start that is refused: if no frame had a fault, there is none.
 use Rattle.std.proofs.Common.{◌≡◌, ℕ, ◌==◌, Bool, true, false, if◌then◌else◌, List, [], ◌∷◌, refl, sym, ap, ◌∙◌}
 use Rattle.std.specs.Prelude.{Option, Some, None, Result, Ok, Err, min, nat_lt}
 use Rattle.tables_log.specs.Slots.{end_after}

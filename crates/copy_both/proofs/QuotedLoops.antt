@@ -4,7 +4,7 @@ use Rattle.std.proofs.lemmas.Bool.Decides.{nat_tests}
 use Rattle.copy_both.specs.declared.quoted.QuotedText.{QuotedText}
 use Rattle.copy_both.specs.CommandTokens.{longer, quoted}
 
--- what was read comes first, and took so many bytes
+-- what was read comes first, and has this number of bytes
 abbrev pub after_read : List ℕ → ℕ → Option QuotedText → Option QuotedText
 after_read read n None = None
 after_read read n (Some found) = Some (record { meant = read ++ found.meant; length = n + found.length })

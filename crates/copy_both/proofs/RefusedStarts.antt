@@ -1,4 +1,4 @@
--- A start that is refused is answered by one ErrorResponse.
+-- A start that is refused is answered with one ErrorResponse.
 use Rattle.std.proofs.Common.{◌≡◌, ℕ, ◌==◌, Bool, true, false, if◌then◌else◌, List, [], ◌∷◌, refl, sym, ap, subst, ◌∙◌}
 use Rattle.std.specs.Prelude.{Option, Some, None, Result, Ok, Err, IfErr, IsErrAnd, min, nat_lt}
 use Rattle.tables_log.specs.Slots.{end_after}

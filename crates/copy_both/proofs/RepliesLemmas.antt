@@ -1,4 +1,4 @@
--- What answers that which was heard is said frame by frame.
+-- The answers to what was heard are sent frame by frame.
 use Rattle.std.proofs.Common.{◌≡◌, ℕ, ◌+◌, ◌-◌, ◌≤◌, List, [], ◌∷◌, ◌++◌, replicate, refl, sym, ap, ◌∙◌, append_assoc, arith}
 use Rattle.std.specs.Prelude.{false, Option, Result, Ok, Err, OnErr}
 use Rattle.std.specs.List.{concat}

@@ -1,4 +1,4 @@
--- The stream of a log tells the transactions of the log.
+-- The stream of a log reports the transactions of the log.
 use Rattle.std.proofs.Common.{◌≡◌, ℕ, zero, suc, ◌+◌, Bool, false, Option, Some, None, List, [], ◌∷◌, ◌++◌, length, take, map, refl, ap, subst, ◌∙◌, arith}
 use Rattle.std.specs.Prelude.{fold, option_map, replicate, slice_get, slice_index_or}
 use Rattle.std.specs.List.{flat_map}
@@ -75,7 +75,7 @@ module _ (checked : CheckedOf) (covered : Covered (setting_in checked)) (transac
   entry done transaction =
       entry_of (setting_in checked) (after (setting_in checked) (take done transactions)) (done + 1) transaction
 
-  -- the same place, where these flags say which tables were told of
+  -- the same place, if these flags say which tables were announced
   abbrev place_by : Reached → List Bool → Place
   place_by at told = record { slot = subscriber; done = at.done; told = told; sent = at.sent }
 

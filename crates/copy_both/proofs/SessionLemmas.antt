@@ -1,4 +1,4 @@
--- What a frame does is what was to come of it, or memory was refused.
+-- What a frame does is the expected result, or memory was refused.
 use Rattle.std.proofs.Common.{◌≡◌, ℕ, List, refl}
 use Rattle.std.specs.Prelude.{Option, Some, None}
 use Rattle.tables_log.specs.declared.slots.Slot.{Slot}

@@ -24,7 +24,7 @@ chosen : {X : Type 0} (b : Bool) (x y : X) (P : X → Type 0) → P x → P y �
 chosen true x y P holds fails = holds
 chosen false x y P holds fails = fails
 
--- it holds of what there is
+-- it holds of what exists
 abbrev pub Holds : {X : Type 0} → (X → Type 0) → Option X → Type 0
 Holds P None = Unit {0}
 Holds P (Some x) = P x

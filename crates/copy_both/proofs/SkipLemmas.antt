@@ -1,4 +1,4 @@
--- A commit of which the subscriber gets nothing is taken up as one that is skipped.
+-- A commit of which the subscriber gets nothing is taken as one that is skipped.
 use Rattle.std.proofs.Common.{◌≡◌, ℕ, ◌+◌, ◌++◌, Bool, List, [], map, refl, sym, ap, ◌∙◌}
 use Rattle.std.specs.Prelude.{false}
 use Rattle.std.specs.List.{flat_map}
@@ -33,7 +33,7 @@ module _ (checked : CheckedOf) (place : Place) (commit : CommitOf)
   is_past : place_after (telling_of checked) place commit ≡ place_past place commit.number
   is_past = ap (past_with place commit.number) silent.after
 
--- where nothing is said and the place is past the commit
+-- if nothing is sent and the place is past the commit
 pub skips : (old new : Voice) (place : Place) (commit : CommitOf) (clock : ℕ)
     → voice_stage old ≡ voices.Started place
     → concerns (voice_checked old).plan commit.changes place.slot ≡ false

@@ -1,4 +1,4 @@
--- What an ear hears changes nothing of the book but its slots.
+-- What an ear hears changes only the slots of the book.
 use Rattle.std.proofs.Common.{ℕ, List, refl}
 use Rattle.std.specs.Prelude.{Result, Ok, Err}
 use Rattle.tables_log.specs.BookView.{book_slots}

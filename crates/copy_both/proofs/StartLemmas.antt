@@ -1,4 +1,4 @@
--- What the first frame asks for, of a catalog and a book.
+-- What the first frame requests of a catalog and a book.
 use Rattle.std.proofs.Common.{◌≡◌, ℕ, zero, suc, List, [], ◌∷◌, ◌++◌, refl, sym, ap, ◌∙◌, arith}
 use Rattle.std.specs.Prelude.{All, max, map, Option, Some, None}
 use Rattle.std.proofs.lemmas.List.Elements.{All-head, All-tail}
@@ -53,7 +53,7 @@ offer_is catalog served publications subscriptions end of_publications of_subscr
     ∙ ap (λ (x : ℕ). offer (map (λ (p : PublicationOf Expr). p.name) served.checked.catalog.publications)
     served.checked.catalog.subscriptions x) of_end
 
--- ---- a start by what was asked for
+-- ---- a start by what was requested
 
 refused_by : (served : Served) (slots : List Slot) (asked : StartAnswerOf) (state : SqlState) (old new : List ℕ)
     → code.Refused state ≡ told asked → new ≡ sent_after old asked
@@ -72,7 +72,7 @@ unfolding begin_of
 refused_begin served slots kind body state old new is sent =
     refused_by served slots (asked_of (offer_in served) kind body) state old new is sent
 
--- what was asked for is this stream
+-- what was requested is this stream
 stream_of : (asked : StartAnswerOf) (slot position : ℕ) → code.Stream slot position ≡ told asked
     → asked ≡ Stream slot position
 stream_of (Refused refusal) slot position is = absurd cc

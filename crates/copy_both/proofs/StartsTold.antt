@@ -1,4 +1,4 @@
--- The start that is told of a piece is that of the stream which it started.
+-- The start that is reported for a piece is that of the stream that it started.
 use Rattle.std.proofs.Common.{◌≡◌, ℕ, ◌==◌, Bool, true, false, if◌then◌else◌, List, [], ◌∷◌, refl, sym, ap, subst, ◌∙◌}
 use Rattle.std.specs.Prelude.{Option, Some, None, Result, Ok, Err, min, nat_lt}
 use Rattle.tables_log.specs.Slots.{end_after}
@@ -16,7 +16,7 @@ use Rattle.copy_both.proofs.HearingLemmas.{over_stays}
 use Rattle.copy_both.proofs.LinkLemmas.{frame_started, frames_started}
 use Rattle.filter_tree.proofs.Tests.{by_test}
 
--- ---- while a stream runs nothing is told
+-- ---- while a stream runs nothing is reported
 
 confirmed_told : (ahead : Bool) (slot : ℕ) (status : Status) (h : HearingOf)
     → (confirmed_by ahead slot status h).heard.started ≡ h.heard.started
@@ -55,7 +55,7 @@ frames_told served (frame ∷ frames) h s is =
 abbrev Told : HearingOf → Type 0
 Told last = last.heard.started ≡ start_told None last.started
 
--- where nothing was started nothing is told
+-- if nothing was started, nothing is reported
 none_told : (last : HearingOf) → last.started ≡ None → last.heard.started ≡ None → Told last
 none_told last none silent = silent ∙ sym (ap (start_told None) none)
 

@@ -31,7 +31,7 @@ there_append telling log place [] move there here = (here, tt)
 there_append telling log place (first ∷ moves) move there here =
     (there.0, there_append telling log (moved telling log place first) moves move there.1 here)
 
--- one move more, whatever it is
+-- one more move, whatever it is
 speaks_on : {C : Type 0} (telling : Telling C) (log : List C) (start : Start) (moves : List Move)
     (passed output : List ℕ) (place : Place) (move : Move)
     → Speaks telling log start moves passed output place → IsThere log place move

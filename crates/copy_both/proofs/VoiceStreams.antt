@@ -1,4 +1,4 @@
--- What a voice says is its stream.
+-- What a voice sends is its stream.
 use Rattle.std.proofs.Common.{◌≡◌, ℕ, suc, ◌+◌, Bool, List, [], ◌∷◌, ◌++◌, length, take, refl, sym, ap, subst, ◌∙◌, append_assoc, arith, length-append}
 use Rattle.std.specs.Prelude.{slice_get, Some}
 use Rattle.std.proofs.lemmas.List.{append-nil, take-append-drop}
@@ -14,7 +14,7 @@ use Rattle.copy_both.specs.Voices as voices
 use Rattle.copy_both.specs.Voices.{StageOf, voice_checked, voice_stage, voice_output, entry_bytes, entry_stage, kept_bytes, done_bytes}
 use Rattle.copy_both.proofs.StreamLemmas.{starts, takes, keeps, passes}
 
--- ---- one commit more
+-- ---- one more commit
 
 first_ones : (log : List CommitOf) (place : ℕ) (commits : List CommitOf) (commit : CommitOf)
     → AreAt log place (commits ++ commit ∷ []) → AreAt log place commits

@@ -15,13 +15,13 @@ use Rattle.copy_both.specs.declared.token.Token.TheVariants.{Word, QuotedName, V
 
 -- ---- between quotes
 
--- so many bytes more, which mean one
+-- this number of further bytes, which mean one
 abbrev pub longer : ℕ → ℕ → Option QuotedText → Option QuotedText
 longer n byte None = None
 longer n byte (Some found) = Some (record { meant = byte ∷ found.meant; length = n + found.length })
 
--- What is between quotes, after the first one: what it means, where each two quotes side by side are one, and how
--- many bytes it takes with the last quote.
+-- What is between quotes, after the first one: its meaning, in which two adjacent quotes are one, and the number of its
+-- bytes with the last quote.
 unfoldable pub quoted : ℕ → List ℕ → Option QuotedText
 quoted quote (b ∷ c ∷ bytes) =
     if b == quote then (if c == quote then
@@ -43,11 +43,11 @@ value_piece (Some found) = Whole (Value found.meant) (1 + found.length)
 abbrev pub is_letter : ℕ → Bool
 is_letter b = is_ascii_alphabetic b || b == 95
 
--- what a word goes on with
+-- what a word continues with
 abbrev pub is_word_byte : ℕ → Bool
 is_word_byte b = is_ascii_alphanumeric b || b == 95 || b == 36
 
--- the number that 1 to 8 hexadecimal digits write
+-- the number that 1 to 8 hexadecimal digits represent
 abbrev pub hexadecimal : List ℕ → Option ℕ
 hexadecimal digits =
     if length digits == 0 || nat_lt 8 (length digits) || not (list_all is_ascii_hexdigit digits) then
@@ -65,7 +65,7 @@ place high after =
     let low = take (prefix_len is_word_byte after) after in
     place_piece (length high + 1 + length low) (hexadecimal high) (hexadecimal low)
 
--- a word is meant in lower case
+-- a word means its lower case
 abbrev pub word : List ℕ → Piece
 word written = if is_letter (slice_index written 0) then
     Whole (Word (str_to_ascii_lowercase written)) (length written) else Bad
@@ -84,7 +84,7 @@ mark b = if b == 40 then
     Whole Open 1 else (if b == 41 then
     Whole Close 1 else (if b == 44 then Whole Comma 1 else (if b == 59 then Whole Semicolon 1 else Bad)))
 
--- what is at the front of a text: a blank, a token of so many bytes, or neither
+-- what is at the front of a text: a blank, a token of this number of bytes, or neither
 unfoldable pub front : List ℕ → Piece
 front bytes =
     let b = slice_index bytes 0 in
@@ -129,7 +129,7 @@ is_close Open = false
 is_close Comma = false
 is_close Semicolon = false
 
--- a quoted name is no keyword
+-- a quoted name is not a keyword
 abbrev pub is_keyword : List ℕ → Token → Bool
 is_keyword keyword (Word text) = bytes_eq text keyword
 is_keyword keyword (QuotedName text) = false

@@ -1,4 +1,4 @@
--- What an ear is, the half of a connection's end that hears, and what its calls answer and leave ("55.4. Streaming
+-- What an ear is, the half of a connection's end that hears, and what its calls return and leave ("55.4. Streaming
 -- Replication Protocol").
 use Rattle.std.specs.Prelude.{◌≡◌, ℕ, List, ◌++◌, Option, Some, None, Result, Err}
 use Rattle.shard_checker.specs.CheckedView.{CheckedOf}
@@ -40,7 +40,7 @@ ear_refusal ear = ear.session.response.items
 abbrev pub ear_held : Ear → List ℕ
 ear_held ear = ear.frames.bytes
 
--- what comes of all frames of a piece
+-- the result of all frames of a piece
 abbrev pub ear_heard : Ear → Book → List ℕ → ℕ → HearingOf
 ear_heard ear book piece sent = piece_heard ear.session book ear.frames piece sent
 
@@ -68,7 +68,7 @@ answer_in phase.Lost h = Err fault.Closed
 abbrev pub hear_answer : Ear → Book → List ℕ → ℕ → Result Heard LinkFault
 hear_answer ear book piece sent = answer_in (ear_phase ear) (ear_heard ear book piece sent)
 
--- what is held by an ear that goes on
+-- what is held by an ear that continues
 abbrev pub Holds : Phase → Ear → Ear → List ℕ → Type 0
 Holds phase.Open old new piece = new.frames ≡ resting (fed old.frames piece)
 Holds phase.Closed old new piece = Unit {0}
@@ -91,7 +91,7 @@ pub record IsResponse (state : SqlState) (before after : List ℕ) : Type 0 wher
   pub state_is : state_of refusal ≡ state
   pub response_is : after ≡ before ++ error_response refusal
 
--- a start that is refused is answered by it
+-- a start that is refused is answered with it
 abbrev pub IsAnsweredBy : LinkFault → List ℕ → List ℕ → Type 0
 IsAnsweredBy (fault.BadStart state) before after = IsResponse state before after
 IsAnsweredBy other before after = Unit {0}
@@ -110,7 +110,7 @@ abbrev pub slots_without : Option (ℕ × ℕ) → List Slot → List Slot
 slots_without None slots = slots
 slots_without (Some started) slots = released slots started.0
 
--- the first loss gives the slot back
+-- the first loss releases the slot
 abbrev pub slots_after_loss : Phase → Option (ℕ × ℕ) → List Slot → List Slot
 slots_after_loss phase.Open started slots = slots_without started slots
 slots_after_loss phase.Closed started slots = slots_without started slots
@@ -123,7 +123,7 @@ pub record Loses (old new : Ear) (before after : Book) : Type 0 where
   pub refusal : ear_refusal new ≡ ear_refusal old
   pub book : ChangesSlots before after (slots_after_loss (ear_phase old) (ear_started old) (book_slots before))
 
--- ---- laws: nothing of the book changes but its slots
+-- ---- laws: only the slots of the book change
 
 -- whatever was heard
 abbrev pub HearingChangesSlots : Type 0

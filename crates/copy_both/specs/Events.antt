@@ -1,4 +1,4 @@
--- What a client says while a stream runs: a status in CopyData, or the end by CopyDone, CopyFail or Terminate ("55.4.
+-- What a client sends while a stream runs: a status in CopyData, or the end by CopyDone, CopyFail or Terminate ("55.4.
 -- Streaming Replication Protocol", "55.7. Message Formats").
 use Rattle.std.specs.Prelude.{ℕ, Bool, ◌==◌, ◌||◌, if◌then◌else◌, List, slice_get, Option, Some, None, Result, Ok, Err}
 use Rattle.copy_frames.specs.Contents.{status_in}
@@ -16,7 +16,7 @@ read_event (Some status) = Ok (event.Status status)
 abbrev pub status_event : List ℕ → Result Event LinkFault
 status_event body = read_event (status_in body)
 
--- CopyData by its first byte, `r` for a status; one that is empty is known by its kind, `d`
+-- CopyData by its first byte, `r` for a status; an empty one by its kind, `d`
 abbrev pub headed_event : Option ℕ → List ℕ → Result Event LinkFault
 headed_event None body = Err (Unexpected 100)
 headed_event (Some byte) body = if byte == 114 then status_event body else Err (Unexpected byte)

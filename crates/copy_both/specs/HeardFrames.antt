@@ -48,8 +48,8 @@ pub record IsLater (frame : Frame) (frames : List Frame) : Type 0 where
 
 -- ---- the start
 
--- the first frame is a Query that asks for the stream of this slot, from a position that is not after where the
--- stream starts
+-- the first frame is a Query that requests the stream of this slot, from a position that is not after where the stream
+-- starts
 pub record AsksFor (checked : CheckedOf) (frames : List Frame) (slot start : ℕ) : Type 0 where
   pub frame : Frame
   pub first : IsFirst frame frames
@@ -69,7 +69,7 @@ abbrev pub IsStartedBy : CheckedOf → List Frame → Option (ℕ × ℕ) → Ty
 IsStartedBy checked frames None = frames ≡ []
 IsStartedBy checked frames (Some started) = AsksFor checked frames started.0 started.1
 
--- an ear that has heard these bytes, and hears on
+-- an ear that has heard these bytes, and still hears
 pub record HasHeard (checked : CheckedOf) (bytes : List ℕ) (ear : Ear) : Type 0 where
   pub checked_is : ear_checked ear ≡ checked
   pub phase_is : ear_phase ear ≡ phase.Open
@@ -92,8 +92,8 @@ pub record HasBadFrame (frames : List Frame) (f : LinkFault) : Type 0 where
   pub later : IsLater frame frames
   pub fails : event_of frame.kind frame.body ≡ Err f
 
--- the first frame is not Terminate, `X`, and its start is refused so, where the log had so many commits and the book
--- these slots
+-- the first frame is not Terminate, `X`, and its start is refused with this, when the log had this number of commits
+-- and the book these slots
 pub record IsRefusedStart (checked : CheckedOf) (frames : List Frame) (state : SqlState) : Type 0 where
   pub frame : Frame
   pub first : IsFirst frame frames
@@ -110,7 +110,7 @@ pub record IsStatus (frame : Frame) (status : Status) : Type 0 where
   pub head : slice_get frame.body 0 ≡ Some 114
   pub read : status_in frame.body ≡ Some status
 
--- a status has flushed more than this
+-- the flushed position of a status is after this
 pub record HasStatusAhead (frames : List Frame) (reach : ℕ) : Type 0 where
   pub frame : Frame
   pub later : IsLater frame frames
@@ -118,7 +118,7 @@ pub record HasStatusAhead (frames : List Frame) (reach : ℕ) : Type 0 where
   pub is_status : IsStatus frame status
   pub ahead : reach < status.flushed
 
--- what a fault says of the bytes, where statuses may confirm so much
+-- what a fault says about the bytes, if statuses may confirm up to here
 abbrev pub HasFault : CheckedOf → List ℕ → ℕ → LinkFault → Type 0
 HasFault checked bytes reach fault.FrameTooLong = fault_in 65536 bytes ≡ Some frame.FrameTooLong
 HasFault checked bytes reach fault.BadLength =
@@ -129,7 +129,7 @@ HasFault checked bytes reach fault.StatusAhead = HasStatusAhead (frames_in bytes
 HasFault checked bytes reach fault.Closed = ⊥
 HasFault checked bytes reach fault.OutOfMemory = Unit {0}
 
--- the sent position that statuses are held against, by what was started before and after a piece
+-- the sent position that statuses are checked against, by what was started before and after a piece
 abbrev pub sent_then : Option (ℕ × ℕ) → ℕ → Option (ℕ × ℕ) → ℕ
 sent_then (Some started) sent now = sent
 sent_then None sent None = sent
@@ -149,7 +149,7 @@ abbrev pub Explains : CheckedOf → List ℕ → Ear → ℕ → Result Heard Li
 Explains checked bytes ear reach (Ok heard) = GoesOnOrEnds checked bytes ear heard.ended
 Explains checked bytes ear reach (Err f) = HasFault checked bytes reach f
 
--- the start that is told of a piece: that of the stream which it started
+-- the start that is reported for a piece: that of the stream that it started
 abbrev pub start_told : Option (ℕ × ℕ) → Option (ℕ × ℕ) → Option ℕ
 start_told (Some started) now = None
 start_told None None = None
@@ -159,8 +159,8 @@ abbrev pub TellsStart : Option (ℕ × ℕ) → Option (ℕ × ℕ) → Result H
 TellsStart was now (Ok heard) = heard.started ≡ start_told was now
 TellsStart was now (Err f) = Unit {0}
 
--- with the piece the ear has heard these bytes: a stream that started stays so, one is started as its command asks
--- and told, and the answer is explained by the bytes
+-- with the piece the ear has heard these bytes: a stream that started stays so, one is started as its command requests
+-- and reported, and the answer is explained by the bytes
 pub record HasHeardOn (checked : CheckedOf) (bytes : List ℕ) (old new : Ear) (before : Book) (sent : ℕ)
     (result : Result Heard LinkFault) : Type 0 where
   pub stays : (started : ℕ × ℕ) → ear_started old ≡ Some started → ear_started new ≡ Some started

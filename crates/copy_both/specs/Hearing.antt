@@ -1,6 +1,5 @@
--- What becomes of the frames that a client sends, one after another: the first one starts a stream or ends the
--- connection; then statuses confirm the log, until another frame ends the stream ("55.4. Streaming Replication
--- Protocol").
+-- What the frames that a client sends do, one after another: the first one starts a stream or ends the connection; then
+-- statuses confirm the log, until another frame ends the stream ("55.4. Streaming Replication Protocol").
 use Rattle.std.specs.Prelude.{ℕ, ◌+◌, ◌^◌, ◌-◌, ◌==◌, min, max, nat_lt, Bool, true, false, if◌then◌else◌, List, [], ◌∷◌, ◌++◌, map, Option, Some, None, Result, Ok, Err}
 use Rattle.shard_checker.specs.CheckedView.{CheckedOf}
 use Rattle.tables_log.specs.Slots as slots
@@ -22,19 +21,19 @@ use Rattle.copy_both.specs.declared.heard.Heard.{Heard}
 use Rattle.copy_both.specs.declared.link_fault.LinkFault.{LinkFault}
 use Rattle.copy_both.specs.declared.link_fault.LinkFault.TheVariants as fault
 
--- what frames are held against: the catalog, and how many commits the log has
+-- what frames are checked against: the catalog, and how many commits the log has
 pub record Served : Type 0 where
   pub checked : CheckedOf
   pub commits : ℕ
 
--- what is to be answered: where the stream starts, if it does; how many statuses want a reply; and the kind of the
+-- what has to be answered: where the stream starts, if it does; how many statuses want a reply; and the kind of the
 -- frame that ended the connection
 pub record HeardOf : Type 0 where
   pub started : Option ℕ
   pub replies : ℕ
   pub ended : Option ℕ
 
--- what came of the frames so far: the slot that streams and where the stream starts, what is to be answered, the sent
+-- the result of the frames so far: the slot that streams and where the stream starts, what has to be answered, the sent
 -- position, the slots of the book, the response to a start that is refused, and the fault
 pub record HearingOf : Type 0 where
   pub started : Option (ℕ × ℕ)
@@ -52,7 +51,7 @@ ended_by kind h = record h { heard = record h.heard { ended = Some kind } }
 
 -- ---- the first frame
 
--- whether a slot is in use is asked of the book, as the last
+-- whether a slot is in use is checked in the book, last
 abbrev pub offer_in : Served → OfferOf
 offer_in served = record {
   publications = map (λ p. p.name) served.checked.catalog.publications;
@@ -80,7 +79,7 @@ begin_by served slots (Stream slot position) =
 unfoldable pub begin_of : Served → List Slot → ℕ → List ℕ → BeginOf
 begin_of served slots kind body = begin_by served slots (asked_of (offer_in served) kind body)
 
--- a stream that has sent nothing has sent up to where it starts, or to 64 where that is 0
+-- the sent position of a stream that has sent nothing is where it starts, or 64 if that is 0
 abbrev pub first_sent : ℕ → ℕ
 first_sent start = if start == 0 then 64 else start
 
@@ -105,7 +104,7 @@ abbrev pub one_more : Bool → ℕ → ℕ
 one_more true replies = replies + 1
 one_more false replies = replies
 
--- the flushed position is confirmed, if that much was sent and the log reaches there
+-- the flushed position is confirmed, if that much was sent and the log reaches it
 abbrev pub confirmed_by : Bool → ℕ → Status → HearingOf → HearingOf
 confirmed_by true slot status h = with_fault fault.StatusAhead h
 confirmed_by false slot status h = record h {
@@ -157,14 +156,14 @@ abbrev pub then_fault : Option FrameFault → HearingOf → HearingOf
 then_fault None h = h
 then_fault (Some fault) h = unless_over (is_over h) h (with_fault (link_fault fault) h)
 
--- all bytes that are there
+-- all available bytes
 abbrev pub bytes_heard : Served → ℕ → List ℕ → HearingOf → HearingOf
 bytes_heard served limit bytes h =
     then_fault (fault_in limit bytes) (frames_heard served h (frames_of (cut limit bytes)))
 
 -- ---- what is answered
 
--- as a caller is told of it: a count of 32 bits goes no further than 4,294,967,295
+-- as it is reported to a caller: a count of 32 bits is at most 4,294,967,295
 abbrev pub heard_told : HeardOf → Heard
 heard_told heard = record { started = heard.started; replies = min heard.replies (2 ^ 32 - 1); ended = heard.ended }
 

@@ -1,4 +1,4 @@
--- What a link says is its stream: what was passed on and what waits are together the stream of what it started, took
+-- What a link sends is its stream: what was passed on and what waits are together the stream of what it started, took
 -- and kept alive ("55.4. Streaming Replication Protocol").
 use Rattle.std.specs.Prelude.{◌≡◌, ℕ, Bool, false, List, [], ◌∷◌, ◌++◌, length, take, replicate, slice_get, Option, Some, None, Ok}
 use Rattle.shard_checker.specs.CheckedView.{CheckedOf}
@@ -13,7 +13,7 @@ use Rattle.copy_both.specs.Voices.{Closes, kept_bytes}
 use Rattle.copy_both.specs.declared.heard.Heard.{Heard}
 use Rattle.copy_both.specs.declared.link.Link.{Link}
 
--- what a connection made: it started here, over this log, made these moves, and passed these bytes on
+-- what a connection did: it started here, over this log, made these moves, and passed these bytes on
 pub record Run : Type 0 where
   pub checked : CheckedOf
   pub log : List CommitOf
@@ -38,7 +38,7 @@ pub record HasStreamed (link : Link) (run : Run) (last : List ℕ) : Type 0 wher
   pub stage_is : link_stage link ≡ voices.Closed
   pub bytes : run.passed ++ link_output link ≡ stream_of run ++ last
 
--- after memory was refused: some first part of that
+-- after memory was refused: a first part of that
 pub record HasBegun (link : Link) (run : Run) (last : List ℕ) : Type 0 where
   pub stage_is : link_stage link ≡ voices.Closed
   pub others : List ℕ
@@ -57,7 +57,7 @@ abbrev pub first_run : CheckedOf → List CommitOf → ℕ × ℕ → Run
 first_run checked log started =
     record { checked = checked; log = log; start = started_at checked started; moves = []; passed = [] }
 
--- the piece starts the stream of a link that has said nothing
+-- the piece starts the stream of a link that has sent nothing
 pub record IsStarting (link : Link) (h : HearingOf) (started : ℕ × ℕ) (run : Run) (place : Place) : Type 0 where
   pub waits : link_stage link ≡ voices.NotStarted
   pub silent : link_output link ≡ []
@@ -70,13 +70,13 @@ pub data Goes (link : Link) (h : HearingOf) (run : Run) (place : Place) : Type 0
   Goes_on : IsStreaming link run place → Goes link h run place
   Starts : (started : ℕ × ℕ) → IsStarting link h started run place → Goes link h run place
 
--- a piece is answered, and the stream goes on
+-- a piece is answered, and the stream continues
 abbrev pub LinkHears : Type 0
 LinkHears = (old new : Link) (run : Run) (place : Place) (h : HearingOf) (heard : Heard) (clock : ℕ)
     → Goes old h run place → h.heard.ended ≡ None → HearSays old new h clock (Ok heard)
     → IsStreaming new (with_moves run (replied h clock)) place
 
--- CopyDone is answered by CopyDone, which comes last
+-- CopyDone is answered with CopyDone, which comes last
 abbrev pub LinkEnds : Type 0
 LinkEnds = (old new : Link) (run : Run) (place : Place) (h : HearingOf) (heard : Heard) (clock kind : ℕ)
     → Goes old h run place → h.heard.ended ≡ Some kind → HearSays old new h clock (Ok heard)
@@ -88,12 +88,12 @@ LinkBreaks = (old new : Link) (run : Run) (place : Place) (h : HearingOf) (clock
     → SaysFirst (link_voice old) (link_voice new) (frames_said (link_checked old) (link_stage old) h clock)
     → HasBegun new (with_moves run (replied h clock)) (closing (voices.Started place) h.heard.ended)
 
--- a call that closes it says nothing
+-- a call that closes it sends nothing
 abbrev pub LinkStops : Type 0
 LinkStops = (old new : Link) (run : Run) (place : Place) → IsStreaming old run place
     → Closes (link_voice old) (link_voice new) → HasStreamed new run []
 
--- a take at the end of the log is no move
+-- a take at the end of the log is not a move
 abbrev pub took : Option CommitOf → ℕ → List Move
 took None clock = []
 took (Some commit) clock = Take clock ∷ []
@@ -121,13 +121,13 @@ LinkRestPassesOn = (old new : Link) (run : Run) (last : List ℕ) (count : ℕ) 
     → LinkPasses old new count
     → HasStreamed new (record run { passed = run.passed ++ take count (link_output old) }) last
 
--- and so it may where memory was refused
+-- and also if memory was refused
 abbrev pub LinkFrontPassesOn : Type 0
 LinkFrontPassesOn = (old new : Link) (run : Run) (last : List ℕ) (count : ℕ) → HasBegun old run last
     → LinkPasses old new count
     → HasBegun new (record run { passed = run.passed ++ take count (link_output old) }) last
 
--- a log that grows changes nothing of it
+-- a log that grows does not change it
 abbrev pub LogGrows : Type 0
 LogGrows = (link : Link) (run : Run) (place : Place) (more : List CommitOf) → IsStreaming link run place
     → IsStreaming link (record run { log = run.log ++ more }) place

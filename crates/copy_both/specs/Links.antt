@@ -1,5 +1,5 @@
--- What a link is, the publisher's end of a connection, and what its calls answer, say and leave: each is the halves'
--- calls, and what is heard is answered at once ("55.4. Streaming Replication Protocol").
+-- What a link is, the publisher's end of a connection, and what its calls return, send and leave: each consists of the
+-- halves' calls, and what is heard is answered at once ("55.4. Streaming Replication Protocol").
 use Rattle.std.specs.Prelude.{◌≡◌, ℕ, ◌==◌, if◌then◌else◌, unwrap_or, false, List, [], ◌∷◌, ◌++◌, replicate, slice_get, Option, Some, None, IsSome, Result, Ok, Err}
 use Rattle.std.specs.List.{concat, flat_map}
 use Rattle.shard_checker.specs.CheckedView.{CheckedOf}
@@ -39,11 +39,11 @@ link_checked link = voice_checked link.voice
 abbrev pub link_stage : Link → StageOf
 link_stage link = voice_stage link.voice
 
--- what was said and not passed on
+-- what was sent and not passed on
 abbrev pub link_output : Link → List ℕ
 link_output link = voice_output link.voice
 
--- how many bytes more the output takes without asking for memory
+-- how many more bytes the output holds without allocating memory
 abbrev pub link_room : Link → ℕ
 link_room link = voice_room link.voice
 
@@ -60,12 +60,12 @@ pub record IsNewLink (link : Link) (checked : CheckedOf) : Type 0 where
 
 -- ---- what a call leaves
 
--- these bytes are said, it is there then, and nothing is heard
+-- these bytes are sent, the link is then in this state, and nothing is heard
 pub record LinkSays (old new : Link) (bytes : List ℕ) (stage : StageOf) : Type 0 where
   pub ear : IsSameEar (link_ear old) (link_ear new)
   pub voice : Says (link_voice old) (link_voice new) bytes stage
 
--- nothing is said, and from now on nothing is heard or said
+-- nothing is sent, and from now on nothing is heard or sent
 pub record LinkCloses (old new : Link) : Type 0 where
   pub ear : EarCloses (link_ear old) (link_ear new)
   pub voice : Closes (link_voice old) (link_voice new)
@@ -75,14 +75,14 @@ pub record LinkPasses (old new : Link) (count : ℕ) : Type 0 where
   pub voice : Passes (link_voice old) (link_voice new) count
   pub room : link_output new ≡ [] → link_room new ≡ 0
 
--- nothing more is said, and the first loss gives the slot back
+-- nothing more is sent, and the first loss releases the slot
 pub record LinkLoses (old new : Link) (before after : Book) : Type 0 where
   pub ear : Loses (link_ear old) (link_ear new) before after
   pub voice : Closes (link_voice old) (link_voice new)
 
--- ---- hear: what answers what was heard
+-- ---- hear: the answers to what was heard
 
--- CopyBothResponse, where a stream starts
+-- CopyBothResponse, if a stream starts
 abbrev pub opening : StageOf → Option (ℕ × ℕ) → List ℕ
 opening voices.NotStarted None = []
 opening voices.NotStarted (Some started) = copy_both_response
@@ -99,7 +99,7 @@ begun_stage checked voices.Closed started = voices.Closed
 abbrev pub replies : StageOf → ℕ → ℕ → List (List ℕ)
 replies stage count clock = replicate count (kept_bytes stage clock false)
 
--- CopyDone, where the client ends the stream by CopyDone, `c`
+-- CopyDone, if the client ends the stream with CopyDone, `c`
 abbrev pub closing : StageOf → Option ℕ → List ℕ
 closing stage None = []
 closing stage (Some kind) = if kind == 99 then done_bytes stage else []
@@ -108,7 +108,7 @@ abbrev pub ended_stage : Option ℕ → StageOf → StageOf
 ended_stage None stage = stage
 ended_stage (Some kind) stage = voices.Closed
 
--- all of it, frame by frame, and where the link is then; what is not said is an empty frame
+-- all of it, frame by frame, and the state of the link then; what is not sent is an empty frame
 abbrev pub frames_after : StageOf → StageOf → Option (ℕ × ℕ) → HeardOf → ℕ → List (List ℕ)
 frames_after stage begun started heard clock =
     opening stage started ∷ (replies begun heard.replies clock ++ closing begun heard.ended ∷ [])
@@ -125,15 +125,15 @@ frames_said checked stage h clock = frames_by checked stage h.started h.heard cl
 abbrev pub stage_said : CheckedOf → StageOf → HearingOf → StageOf
 stage_said checked stage h = stage_by checked stage h.started h.heard
 
--- some first ones of the frames are said, and from now on nothing will be
+-- the first few of the frames are sent, and from now on nothing will be
 pub record SaysFirst (old new : Voice) (frames : List (List ℕ)) : Type 0 where
   pub said : List (List ℕ)
   pub others : List (List ℕ)
   pub all : said ++ others ≡ frames
   pub says : Says old new (concat said) voices.Closed
 
--- a start that is refused is answered by its response, and another fault by nothing; where memory is refused, some
--- first frames are said
+-- a start that is refused is answered with its response, and another fault with nothing; if memory is refused, the
+-- first few frames are sent
 abbrev pub HearSays : Link → Link → HearingOf → ℕ → Result Heard LinkFault → Type 0
 HearSays old new h clock (Ok heard) =
     Says (link_voice old) (link_voice new) (concat (frames_said (link_checked old) (link_stage old) h clock))
@@ -143,15 +143,15 @@ HearSays old new h clock (Err fault.OutOfMemory) =
     SaysFirst (link_voice old) (link_voice new) (frames_said (link_checked old) (link_stage old) h clock)
 HearSays old new h clock (Err other) = Closes (link_voice old) (link_voice new)
 
--- the sent position; 0 of a link that has not started
+-- the sent position; 0 for a link that has not started
 abbrev pub link_sent : Link → ℕ
 link_sent link = unwrap_or (sent_of (link_stage link)) 0
 
--- what comes of all frames of a piece
+-- the result of all frames of a piece
 abbrev pub link_heard : Link → Book → List ℕ → HearingOf
 link_heard link book piece = ear_heard (link_ear link) book piece (link_sent link)
 
--- ---- take: the next commit of the log, where there is one
+-- ---- take: the next commit of the log, if there is one
 
 abbrev pub found_answer : CheckedOf → streams.Place → Option CommitOf → Result Taken LinkFault
 found_answer checked place None = Ok taken.Idle

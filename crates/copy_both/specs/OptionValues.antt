@@ -1,5 +1,5 @@
--- What the value of an option says ("55.5.1. Logical Streaming Replication Parameters"). Only version 1 of the
--- protocol is there, and what is left out is accepted where it is off.
+-- What the value of an option means ("55.5.1. Logical Streaming Replication Parameters"). Only version 1 of the
+-- protocol is supported, and a feature that is not supported is accepted if it is off.
 use Rattle.std.specs.Prelude.{ℕ, ◌||◌, ◌==◌, Bool, nat_lt, not, if◌then◌else◌, List, length, drop, Option, Some, None, codes}
 use Rattle.std.specs.Char.{is_ascii_digit}
 use Rattle.std.specs.List.{list_all, prefix_len}
@@ -9,7 +9,7 @@ use Rattle.copy_both.specs.declared.start_command.OptionValue.TheVariants.{Wrong
 use Rattle.copy_both.specs.declared.token.Token.{Token}
 use Rattle.copy_both.specs.CommandTokens.{tokens_of, names_in}
 
--- the digits after the zeros at the front
+-- the digits after leading zeros
 abbrev pub without_zeros : List ℕ → List ℕ
 without_zeros digits = drop (prefix_len (λ b. b == 48) digits) digits
 
@@ -31,7 +31,7 @@ publications_in (Some tokens) = names_or_wrong (names_in tokens)
 abbrev pub publications : List ℕ → OptionValue
 publications text = publications_in (tokens_of text)
 
--- what is left out
+-- what is not supported
 abbrev pub is_left_out : List ℕ → Bool
 is_left_out name =
     bytes_eq name (codes "binary") || bytes_eq name (codes "messages") || bytes_eq name (codes "streaming")

@@ -1,4 +1,4 @@
--- How far an ear is, the half of a connection's end that hears, and what one that hears is like ("55.4. Streaming
+-- The state of an ear, the half of a connection's end that hears, and what holds of one that hears ("55.4. Streaming
 -- Replication Protocol").
 use Rattle.std.specs.Prelude.{◌≡◌, ℕ, List, [], Option, Some, None, Result, Ok, Err}
 use Rattle.copy_frames.specs.Inboxes.{Inbox}
@@ -7,7 +7,7 @@ use Rattle.copy_both.specs.declared.link_fault.LinkFault.{LinkFault}
 use Rattle.copy_both.specs.declared.phase.Phase.{Phase}
 use Rattle.copy_both.specs.declared.phase.Phase.TheVariants as phase
 
--- ---- what comes after a call
+-- ---- the state after a call
 
 -- a fault or an end closes it
 abbrev pub phase_by : Option ℕ → Phase

@@ -1,4 +1,4 @@
--- Why a stream is not started, and the ErrorResponse that says so ("55.7. Message Formats", "55.8. Error and Notice
+-- Why a stream is not started, and the ErrorResponse that reports it ("55.7. Message Formats", "55.8. Error and Notice
 -- Message Fields", "Appendix A. PostgreSQL Error Codes"). The texts are this project's own.
 use Rattle.std.specs.Prelude.{ℕ, ◌<◌, ◌+◌, ◌^◌, List, [], ◌∷◌, ◌++◌, length, codes}
 use Rattle.copy_both.specs.declared.refusal.Refusal.{Refusal}

@@ -1,8 +1,7 @@
--- What a connection sends, said of the transactions and of what the subscriber sees of them alone: CopyBothResponse,
--- and then by each move the messages of the next transaction, each in an XLogData at the transaction's LSN, or a
--- keepalive at the sent position: PostgreSQL 15, 55.4. Streaming Replication Protocol, 55.5.3. Logical Replication
--- Protocol Message Flow, and "Logical Replication", 31.3.3 UPDATE Transformations. Positions in the log are this
--- project's own.
+-- What a connection sends, by the transactions and what the subscriber sees of them alone: CopyBothResponse, and then
+-- for each move the messages of the next transaction, each in an XLogData at the transaction's LSN, or a keepalive at
+-- the sent position: PostgreSQL 15, 55.4. Streaming Replication Protocol, 55.5.3. Logical Replication Protocol Message
+-- Flow, and "Logical Replication", 31.3.3 UPDATE Transformations. Positions in the log are this project's own.
 use Rattle.std.specs.Prelude.{◌≡◌, ℕ, ◌+◌, ◌==◌, if◌then◌else◌, List, [], ◌∷◌, ◌++◌, length, map, slice_get, take, Option, Some, None}
 use Rattle.std.specs.List.{flat_map}
 use Rattle.table_changes.specs.Seen.{Seen, seen}
@@ -24,14 +23,14 @@ pub record Reached : Type 0 where
 abbrev pub reached_at : ℕ → Reached
 reached_at position = record { done = count_before position; named = []; sent = if position == 0 then 64 else position }
 
--- what the subscriber sees of a transaction that comes after so many others
+-- what the subscriber sees of the transaction that comes after this number of others
 abbrev pub seen_next : CheckedOf → List Transaction → ℕ → ℕ → Transaction → List Seen
 seen_next checked transactions subscriber done transaction =
     seen (setting_in checked) subscriber (after (setting_in checked) (take done transactions)) transaction.commands
 
 -- ---- moves
 
--- the next transaction is taken, where there is one
+-- the next transaction is taken, if there is one
 abbrev pub next_told : CheckedOf → List Transaction → ℕ → Reached → Option Transaction → ℕ → List Item
 next_told checked transactions subscriber at None clock = []
 next_told checked transactions subscriber at (Some transaction) clock =
@@ -72,7 +71,7 @@ stream_told checked transactions subscriber position moves =
 
 -- ---- the law
 
--- The stream of the log of transactions that were accepted tells the transactions.
+-- The stream of the log of transactions that were accepted reports the transactions.
 abbrev pub StreamsTellTransactions : Type 0
 StreamsTellTransactions = (checked : CheckedOf) → Covered (setting_in checked)
     → (transactions : List Transaction) → AreAccepted (setting_in checked) no_rows transactions

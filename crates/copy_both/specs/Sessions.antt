@@ -29,7 +29,7 @@ served_by session book = record { checked = session_checked session; commits = l
 abbrev pub heard_view : Hearing → HeardOf
 heard_view hearing = record { started = hearing.started; replies = hearing.replies; ended = hearing.ended }
 
--- as a caller is told of it
+-- as it is reported to a caller
 abbrev pub told_hearing : Hearing → Heard
 told_hearing hearing = heard_told (heard_view hearing)
 
@@ -64,7 +64,7 @@ pub record KeepsRest (old new : Session) (before after : Book) : Type 0 where
 
 -- ---- what a frame does
 
--- memory was refused, and nothing changed; or this fault is what was to come
+-- memory was refused, and nothing changed; or this fault is the expected result
 abbrev pub FailsBy : LinkFault → HearingOf → HearingOf → HearingOf → Type 0
 FailsBy fault.OutOfMemory expected old new = new ≡ old
 FailsBy other expected old new = expected ≡ with_fault other new
@@ -81,7 +81,7 @@ asked_in session book frame = asked_of (offer_in (served_by session book)) frame
 abbrev pub begin_in : Session → Book → Frame → BeginOf
 begin_in session book frame = begin_of (served_by session book) (book_slots book) frame.kind frame.body
 
--- why the book starts no stream from the slot
+-- why the book does not start a stream from the slot
 abbrev pub refused_by_book : Session → ℕ → StartError → RefusalOf
 refused_by_book session slot error = book_refusal (slot_name (session_checked session).catalog.subscriptions slot) error
 
@@ -93,13 +93,13 @@ abbrev pub response_after : List ℕ → BeginOf → List ℕ
 response_after before (h.Begins slot start) = before
 response_after before (h.Refuses refusal) = before ++ error_response refusal
 
--- the slot is taken
+-- the slot is acquired
 pub record TakesSlot (expected : BeginOf) (before after : List Slot) (old new : List ℕ) (begun : ℕ × ℕ) : Type 0 where
   pub begins : expected ≡ h.Begins begun.0 begun.1
   pub slots : after ≡ started before begun.0
   pub response : new ≡ old
 
--- the start is refused by this fault, and its response is added
+-- the start is refused with this fault, and its response is added
 pub record IsRefused (expected : BeginOf) (before after : List Slot) (old new : List ℕ) (fault : LinkFault) : Type 0
   where
     pub fault_is : refusal_fault expected ≡ Some fault

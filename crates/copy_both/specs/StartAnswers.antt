@@ -1,4 +1,4 @@
--- What the first frame of a client is answered: a stream is started from a slot, or the start is refused by an
+-- The answer to the first frame of a client: a stream is started from a slot, or the start is refused by an
 -- ErrorResponse ("55.4. Streaming Replication Protocol", "55.7. Message Formats").
 use Rattle.std.specs.Prelude.{ℕ, ◌+◌, ◌==◌, if◌then◌else◌, List, ◌++◌, length, take, position, Option, Some, None}
 use Rattle.std.specs.Str.{is_utf8}
@@ -9,7 +9,7 @@ use Rattle.copy_both.specs.CommandText.{command_of}
 use Rattle.copy_both.specs.Refusals.{RefusalOf, ExpectedQuery, Unreadable, NoSlot, state_of, error_response}
 use Rattle.copy_both.specs.StartOrder.{OfferOf, find_slot, publications_at, slot_refusal}
 
--- the stream of a slot is asked for from a position on, or a refusal
+-- the stream of a slot is requested from a position on, or a refusal
 pub data StartAnswerOf : Type 0 where
   Stream : ℕ → ℕ → StartAnswerOf
   Refused : RefusalOf → StartAnswerOf
@@ -18,12 +18,12 @@ pub data StartAnswerOf : Type 0 where
 abbrev pub utf8_text : List ℕ → Option (List ℕ)
 utf8_text bytes = if is_utf8 bytes then Some bytes else None
 
--- where the first zero byte is at this place, the bytes before it, if it is the last byte
+-- if the first zero byte is at this place, the bytes before it, provided that it is the last byte
 abbrev pub text_until : Option ℕ → List ℕ → Option (List ℕ)
 text_until None body = None
 text_until (Some n) body = if n + 1 == length body then utf8_text (take n body) else None
 
--- the text of a Query, which is UTF-8, and which a zero byte ends
+-- the text of a Query, which is UTF-8 and ends with a zero byte
 abbrev pub text_in : List ℕ → Option (List ℕ)
 text_in body = text_until (position (λ b. b == 0) body) body
 
@@ -44,11 +44,11 @@ abbrev pub asked_in : OfferOf → Option (List ℕ) → StartAnswerOf
 asked_in offer None = Refused ExpectedQuery
 asked_in offer (Some text) = asked_by offer (command_of text)
 
--- what a frame of this kind and body asks for; `Q` is a Query
+-- what a frame of this kind and body requests; `Q` is a Query
 unfoldable pub asked_of : OfferOf → ℕ → List ℕ → StartAnswerOf
 asked_of offer kind body = if kind == 81 then asked_in offer (text_in body) else Refused ExpectedQuery
 
--- what a caller is told of it
+-- what is reported of it to a caller
 abbrev pub told : StartAnswerOf → StartAnswer
 told (Stream slot position) = code.Stream slot position
 told (Refused refusal) = code.Refused (state_of refusal)

@@ -1,6 +1,5 @@
--- Whether a stream is started from a slot: the first refusal, in their order, of what a start command asks for
--- ("55.4. Streaming Replication Protocol", "55.5. Logical Streaming Replication Protocol"). The order is this
--- project's own.
+-- Whether a stream is started from a slot: the first refusal, in their order, of what a start command requests ("55.4.
+-- Streaming Replication Protocol", "55.5. Logical Streaming Replication Protocol"). The order is this project's own.
 use Rattle.std.specs.Prelude.{ℕ, Bool, true, false, not, ◌&&◌, ◌||◌, if◌then◌else◌, nat_lt, List, [], ◌∷◌, ◌++◌, map, position, Option, Some, None, codes, slice_get, unwrap_or}
 use Rattle.std.specs.List.{list_any, list_all}
 use Rattle.std.specs.Str.{bytes_eq}
@@ -14,7 +13,7 @@ use Rattle.tables_log.specs.declared.error.StartError.{StartError}
 use Rattle.tables_log.specs.declared.error.StartError.TheVariants as error
 use Rattle.copy_both.specs.Refusals.{RefusalOf, NoSlot, WrongOption, UnsupportedOption, MissingOption, NoPublication, OtherPublications, Ahead, InUse}
 
--- what a start is held against: the names of the publications, the subscriptions, each with the slot of its name,
+-- what a start is checked against: the names of the publications, the subscriptions, each with the slot of its name,
 -- where the log ends, and which slots are in use
 pub record OfferOf : Type 0 where
   pub publications : List (List ℕ)
@@ -75,7 +74,7 @@ has_publications Off = false
 abbrev pub is_named : List ℕ → StartOption → Bool
 is_named name option = bytes_eq option.name name
 
--- an option is unknown, given twice or has a bad value, or it asks for what is not supported
+-- an option is unknown, given twice or has a bad value, or it requests what is not supported
 abbrev pub option_refusal : List StartOption → StartOption → Option RefusalOf
 option_refusal earlier option =
     or_else (refused (is_wrong option.value || list_any (is_named option.name) earlier) (WrongOption option.name))
@@ -133,7 +132,7 @@ same_publications known names numbers =
 abbrev pub is_taken : List Bool → ℕ → Bool
 is_taken in_use slot = unwrap_or (slice_get in_use slot) false
 
--- the refusals of a command, where the slot is that of the subscription of this number
+-- the refusals of a command, if the slot is that of the subscription of this number
 abbrev pub slot_refusal : OfferOf → StartCommand → ℕ → List ℕ → Option RefusalOf
 slot_refusal offer command slot taken =
     or_else (options_refusal [] command.options)
@@ -173,7 +172,7 @@ name_of (Some subscription) = subscription.name
 abbrev pub slot_name : List Subscription → ℕ → List ℕ
 slot_name subscriptions slot = name_of (slice_get subscriptions slot)
 
--- why a book starts no stream from the slot of this name
+-- why a book does not start a stream from the slot of this name
 abbrev pub book_refusal : List ℕ → StartError → RefusalOf
 book_refusal name error.NoSlot = NoSlot name
 book_refusal name error.Ahead = Ahead

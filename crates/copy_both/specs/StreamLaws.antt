@@ -3,7 +3,7 @@ use Rattle.std.specs.Prelude.{◌≡◌, ℕ, ◌<◌, Bool, List, [], ◌∷◌
 use Rattle.copy_frames.specs.Contents.{copy_both_response}
 use Rattle.copy_both.specs.Streams.{Telling, Place, Move, Take, Keep, place_at, place_after, take_bytes, keep_bytes, moved, all_moved, stream}
 
--- each commit that is taken is there
+-- each commit that is taken exists
 abbrev pub IsThere : {C : Type 0} → List C → Place → Move → Type 0
 IsThere log place (Take clock) = place.done < length log
 IsThere log place (Keep clock want) = Unit {0}

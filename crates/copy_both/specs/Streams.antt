@@ -26,14 +26,15 @@ frame_in (Alive keepalive) = record { kind = 100; body = keepalive_body keepaliv
 abbrev pub spelled : Item → List ℕ
 spelled item = framed (frame_in item)
 
--- what a subscriber is told of commits: the number of a commit, from 1; the messages of it for the subscriber of a
--- slot, where these tables were told of; and which tables were told of after it
+-- what is reported of commits to a subscriber: the number of a commit, from 1; its messages for the subscriber of a
+-- slot, if these tables were announced; and which tables were announced after it
 pub record Telling (C : Type 0) : Type 0 where
   pub number : C → ℕ
   pub messages : ℕ → List Bool → C → List Msg
   pub told_after : ℕ → List Bool → C → List Bool
 
--- where a connection is: its slot, how many commits of the log are done, which tables it told of, and the sent position
+-- where a connection is: its slot, how many commits of the log are done, which tables it announced, and the sent
+-- position
 pub record Place : Type 0 where
   pub slot : ℕ
   pub done : ℕ
@@ -52,7 +53,7 @@ end_of number = 64 * number + 64
 abbrev pub count_before : ℕ → ℕ
 count_before position = (position - 1) / 64
 
--- where a connection is that starts at this position and has told of none of the tables
+-- where a connection is that starts at this position and has announced none of the tables
 abbrev pub place_at : ℕ → ℕ → ℕ → Place
 place_at slot tables position =
     record {
@@ -69,7 +70,7 @@ place_at slot tables position =
 abbrev pub head_of : ℕ → ℕ → XLogData
 head_of number clock = record { start = lsn_of number; end = lsn_of number; clock = clock }
 
--- where the log ends, nothing is taken
+-- at the end of the log, nothing is taken
 abbrev pub take_items : {C : Type 0} → Telling C → Place → Option C → ℕ → List Item
 take_items telling place None clock = []
 take_items telling place (Some commit) clock =
@@ -98,7 +99,7 @@ keep_bytes place clock want = spelled (keep_item place clock want)
 
 -- ---- moves
 
--- the next commit is taken by this clock, or a keepalive is sent by this clock, which may want a status
+-- the next commit is taken at this clock, or a keepalive is sent at this clock, which may want a status
 pub data Move : Type 0 where
   Take : ℕ → Move
   Keep : ℕ → Bool → Move

@@ -1,4 +1,4 @@
--- What tells a subscriber of the commits of a catalog ("55.5. Logical Streaming Replication Protocol").
+-- What reports the commits of a catalog to a subscriber ("55.5. Logical Streaming Replication Protocol").
 use Rattle.shard_checker.specs.CheckedView.{CheckedOf}
 use Rattle.tables_log.specs.Commits.{CommitOf}
 use Rattle.pgoutput_msgs.specs.Telling as msgs

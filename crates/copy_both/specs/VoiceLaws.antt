@@ -1,4 +1,4 @@
--- What a voice says is its stream: what was passed on and what waits are together the stream of what it took and kept
+-- What a voice sends is its stream: what was passed on and what waits are together the stream of what it took and kept
 -- alive, in each log that has the commits that it took ("55.4. Streaming Replication Protocol").
 use Rattle.std.specs.Prelude.{◌≡◌, ℕ, suc, ◌+◌, Bool, List, [], ◌∷◌, ◌++◌, length, take, slice_get, Some}
 use Rattle.shard_checker.specs.CheckedView.{CheckedOf}
@@ -14,12 +14,12 @@ use Rattle.copy_both.specs.declared.voice.Voice.{Voice}
 
 -- ---- commits of a log
 
--- after so many commits the log has these
+-- after this number of commits the log has these
 abbrev pub AreAt : List CommitOf → ℕ → List CommitOf → Type 0
 AreAt log place [] = Unit {0}
 AreAt log place (commit ∷ commits) = (slice_get log place ≡ Some commit) × AreAt log (suc place) commits
 
--- the first of them is the one after so many, and they follow one another
+-- the first of them is the one after this number of others, and they follow one another
 abbrev pub Follow : ℕ → List CommitOf → Type 0
 Follow count [] = Unit {0}
 Follow count (commit ∷ commits) = (commit.number ≡ suc count) × Follow (suc count) commits
@@ -32,7 +32,7 @@ takes_in (Keep clock want ∷ moves) = takes_in moves
 
 -- ---- a voice
 
--- the commits that a voice took since its start, the moves that it made, and what was passed on of what it said
+-- the commits that a voice took since its start, the moves that it made, and what was passed on of what it sent
 pub record Told : Type 0 where
   pub checked : CheckedOf
   pub start : Start
@@ -43,7 +43,7 @@ pub record Told : Type 0 where
 abbrev pub first_of : Told → ℕ
 first_of told = count_before told.start.position
 
--- it streams, and what it said is the stream of the moves
+-- it streams, and what it sent is the stream of the moves
 pub record IsTelling (voice : Voice) (told : Told) : Type 0 where
   pub checked_is : voice_checked voice ≡ told.checked
   pub place : Place
@@ -101,7 +101,7 @@ VoiceIsDone = (old new : Voice) (told : Told) → IsTelling old told
     → Says old new (done_bytes (voice_stage old)) voices.Closed
     → HasTold new told (done_bytes (voice_stage old))
 
--- a call that closes it says nothing
+-- a call that closes it sends nothing
 abbrev pub VoiceStops : Type 0
 VoiceStops = (old new : Voice) (told : Told) → IsTelling old told → Closes old new → HasTold new told []
 

@@ -1,5 +1,5 @@
--- What a voice is, the half of a connection's end that sends, and what its calls answer, send and leave ("55.4.
--- Streaming Replication Protocol"). A voice that is closed says no more.
+-- What a voice is, the half of a connection's end that sends, and what its calls return, send and leave ("55.4.
+-- Streaming Replication Protocol"). A voice that is closed sends no more.
 use Rattle.std.specs.Prelude.{◌≡◌, ℕ, ◌+◌, Bool, true, false, List, [], ◌∷◌, ◌++◌, All, length, drop, Option, Some, None, Result, Ok, Err}
 use Rattle.std.specs.Arc.{arc_value}
 use Rattle.row_owners.specs.Owners.{concerns}
@@ -42,11 +42,11 @@ voice_checked voice = checked_view (arc_value voice.checked)
 abbrev pub voice_stage : Voice → StageOf
 voice_stage voice = stage_view voice.stage
 
--- what was said and not passed on
+-- what was sent and not passed on
 abbrev pub voice_output : Voice → List ℕ
 voice_output voice = voice.out.items
 
--- how many bytes more the output takes without asking for memory
+-- how many more bytes the output holds without allocating memory
 abbrev pub voice_room : Voice → ℕ
 voice_room voice = voice.out.spare
 
@@ -58,25 +58,25 @@ IsStarted Closed = ⊥
 
 -- ---- what a call leaves
 
--- these bytes are said, and the voice is there then
+-- these bytes are sent, and the voice is then in this state
 pub record Says (old new : Voice) (bytes : List ℕ) (stage : StageOf) : Type 0 where
   pub checked : voice_checked new ≡ voice_checked old
   pub stage_is : voice_stage new ≡ stage
   pub output : voice_output new ≡ voice_output old ++ bytes
 
--- nothing is said, and from now on nothing will be
+-- nothing is sent, and from now on nothing will be
 pub record Closes (old new : Voice) : Type 0 where
   pub checked : voice_checked new ≡ voice_checked old
   pub stage_is : voice_stage new ≡ Closed
   pub output : voice_output new ≡ voice_output old
 
--- so many bytes are dropped of those that wait
+-- this number of waiting bytes is dropped
 pub record Passes (old new : Voice) (count : ℕ) : Type 0 where
   pub checked : voice_checked new ≡ voice_checked old
   pub stage_is : voice_stage new ≡ voice_stage old
   pub output : voice_output new ≡ drop count (voice_output old)
 
--- where memory is refused no fault is told
+-- if memory is refused, no fault is reported
 abbrev pub told_fault : LinkFault → Option LinkFault
 told_fault fault.OutOfMemory = None
 told_fault other = Some other
@@ -91,7 +91,7 @@ start_answer Closed = Err fault.Closed
 abbrev pub first_stage : CheckedOf → ℕ → ℕ → StageOf
 first_stage checked slot position = Started (place_at slot (length checked.catalog.tables) position)
 
--- ---- a commit is taken up, or nothing is said
+-- ---- a commit is taken, or nothing is sent
 
 -- a commit without a message for the subscriber is skipped
 abbrev pub taken_of : ℕ → List Msg → Taken
@@ -123,14 +123,14 @@ EntryIsReadBack checked NotStarted commit = Unit {0}
 EntryIsReadBack checked (Started place) commit = AreReadBack checked place commit
 EntryIsReadBack checked Closed commit = Unit {0}
 
--- ---- a commit is passed over, of which the subscriber of the stream gets nothing
+-- ---- a commit is passed over of which the subscriber of the stream gets nothing
 
 abbrev pub IsQuietFor : CheckedOf → StageOf → CommitOf → Type 0
 IsQuietFor checked NotStarted commit = Unit {0}
 IsQuietFor checked (Started place) commit = concerns checked.plan commit.changes place.slot ≡ false
 IsQuietFor checked Closed commit = Unit {0}
 
--- where a connection is then, which told nothing of the commit of this number
+-- where a connection is then that sent nothing of the commit of this number
 abbrev pub place_past : streams.Place → ℕ → streams.Place
 place_past place number =
     record { slot = place.slot; done = place.done + 1; told = place.told; sent = streams.end_of number }
@@ -147,7 +147,7 @@ kept_bytes NotStarted clock want = []
 kept_bytes (Started place) clock want = keep_bytes place clock want
 kept_bytes Closed clock want = []
 
--- ---- the end: what has started is ended by CopyDone
+-- ---- the end: what has started ends with CopyDone
 
 abbrev pub done_answer : StageOf → Result (Unit {0}) LinkFault
 done_answer NotStarted = Ok tt
@@ -159,7 +159,7 @@ done_bytes NotStarted = []
 done_bytes (Started place) = copy_done
 done_bytes Closed = []
 
--- ---- what is asked of a voice
+-- ---- queries
 
 -- the number of the commit that it takes next
 abbrev pub next_of : StageOf → Option ℕ

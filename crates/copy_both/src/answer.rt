@@ -1,4 +1,4 @@
-//! What the first frame of a client is answered.
+//! The answer to the first frame of a client.
 
 ghost use Rattle.std.specs.Prelude.{◌≡◌, ◌==◌, IfOk, OnOk, OnErr, position};
 ghost use Rattle.std.specs.Option.{option_copied};
@@ -18,12 +18,12 @@ use crate::start_order::{Offer, find_slot, publications_at, slot_refusal};
 use bytes::BytesMut;
 use std::alloc::{AllocError, Global};
 
-/// What a client asks for by its first frame.
+/// What a client requests by its first frame.
 #[derive(Clone, Copy, Debug, PartialEq, Eq)]
 pub enum StartAnswer {
     /// A stream from the slot of the subscription with this number, from this position on, in bytes.
     Stream { slot: usize, position: u64 },
-    /// A start that is refused by an error of this kind.
+    /// A start that is refused with an error of this kind.
     Refused(SqlState),
 }
 
@@ -43,7 +43,7 @@ fn first_zero(body: &[u8]) -> Option<usize>
     body.iter().position(|byte| *byte == 0)
 }
 
-/// The text of a Query, which is UTF-8, and which a zero byte ends.
+/// The text of a Query, which is UTF-8 and ends with a zero byte.
 fn text_in(body: &[u8]) -> Option<&str>
     ensures { option_copied result ≡ spec.text_in body.now }
 {
@@ -124,9 +124,9 @@ fn answer_text(
     Ok(answer_command(offer, &command, response)?)
 }
 
-/// Answers the first frame of a client, of this kind and body: it starts a stream, or the ErrorResponse that refuses it
-/// is appended to `response` ("55.4. Streaming Replication Protocol"). The only error is want of memory, which leaves
-/// `response` as it was.
+/// Answers the first frame of a client, of this kind and body: the frame starts a stream, or the ErrorResponse that
+/// refuses it is appended to `response` ("55.4. Streaming Replication Protocol"). The only error is out of memory,
+/// which leaves `response` as it was.
 #[tactic(auto, unfolding(crate::specs::StartAnswers::asked_of))]
 pub fn answer_start(
     alloc: Global,

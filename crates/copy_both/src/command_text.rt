@@ -59,7 +59,7 @@ fn options_between(
     Ok(Some(Items::from_vec(options)))
 }
 
-/// Whether nothing follows, or a semicolon alone.
+/// Whether nothing follows, or only a semicolon.
 fn ends(tokens: &[Token]) -> bool
     ensures { result ≡ spec.ends tokens.now }
 {
@@ -150,7 +150,7 @@ fn command_in(alloc: Global, tokens: &[Token]) -> Result<Option<StartCommand>, A
     Ok(command_with(alloc, name_in(name), position_in(place), options)?)
 }
 
-/// The command that a text is, or `None` where it is no command that starts a stream from a logical slot.
+/// The command that a text is, or `None` if it is not a command that starts a stream from a logical slot.
 pub fn command_of(alloc: Global, text: &str) -> Result<Option<StartCommand>, AllocError>
     ensures { IfOk result (λ command. command ≡ spec.command_of text.now) }
 {

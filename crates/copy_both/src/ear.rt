@@ -15,14 +15,14 @@ use std::alloc::Global;
 use std::sync::Arc;
 use tables_log::Book;
 
-/// How long a frame may be: the length that it says of itself.
+/// The greatest length of a frame, as the frame states it.
 const LIMIT: u32 = 65_536;
 
 /// The half of a connection's end that hears: it cuts what the client sends into frames, starts the stream of a slot,
-/// and confirms what the client's statuses say is flushed. It has no output, so that it may run in a thread of its own;
-/// a `Voice` says what is to be answered.
+/// and confirms what the client's statuses report as flushed. It has no output, so that it may run in a thread of its
+/// own; a `Voice` sends the answers.
 ///
-/// The first fault closes it, and so does the client's end; from then on `hear` answers `Closed`. The slot stays taken
+/// The first fault closes it, and so does the client's end; from then on `hear` returns `Closed`. The slot stays in use
 /// until `lose`.
 ///
 /// PostgreSQL 15, 55.4. Streaming Replication Protocol.
@@ -68,16 +68,16 @@ impl Ear {
     }
 
     /// Hears the next bytes that the client sends, in whatever pieces they come: each frame that is whole, in order, up
-    /// to a fault or an end. The first frame starts a stream, and takes its slot; then statuses confirm the log for the
-    /// slot. `sent` is the sent position of the connection's voice, in bytes; it is not looked at where the stream
-    /// starts in this piece.
+    /// to a fault or an end. The first frame starts a stream, and acquires its slot; then statuses confirm the log for
+    /// the slot. `sent` is the sent position of the connection's voice, in bytes; it is ignored if the stream starts in
+    /// this piece.
     ///
     /// # Errors
     ///
-    /// The first of: `BadStart`, and then `refusal` has the response; `BadLength` for a status that has another length
-    /// than 34 bytes; `Unexpected`; `StatusAhead` for a status that has flushed more than was sent; and after all
-    /// frames before it `BadLength` and `FrameTooLong` for a length below 4 or above 65,536. Or `OutOfMemory`; then
-    /// some first frames were heard. Each closes it. `Closed`, and no other answer, where it was closed before; then
+    /// The first of: `BadStart`, and then `refusal` has the response; `BadLength` for a status that is not 34 bytes
+    /// long; `Unexpected`; `StatusAhead` for a status whose flushed position is after what was sent; and after all
+    /// frames before it `BadLength` and `FrameTooLong` for a length below 4 or above 65,536. Or `OutOfMemory`; then the
+    /// first few frames were heard. Each closes it. `Closed`, and no other answer, if it was closed before; then
     /// nothing changes.
     ///
     /// PostgreSQL 15, 55.4. Streaming Replication Protocol, and 55.7. Message Formats.
@@ -94,7 +94,7 @@ impl Ear {
         }
     }
 
-    /// Hears the next bytes, as `hear`, and counts all replies that are wanted.
+    /// Hears the next bytes, as `hear` does, and counts all replies that are wanted.
     pub(crate) fn listen(
         &mut self,
         piece: &[u8],
@@ -127,15 +127,15 @@ impl Ear {
         self.session.started
     }
 
-    /// The ErrorResponse to a start that was refused; else nothing.
+    /// The ErrorResponse to a start that was refused; otherwise empty.
     pub fn refusal(&self) -> &[u8]
         ensures { result.now ≡ ear_refusal self.now }
     {
         self.session.response.as_slice()
     }
 
-    /// Loses the connection: closes it, and gives the slot back where its stream was started. Only the first loss
-    /// changes the book.
+    /// Loses the connection: closes it, and releases the slot if its stream was started. Only the first loss changes
+    /// the book.
     pub fn lose(&mut self, book: &mut Book)
         ensures { Loses self.old self.new book.old book.new }
     {

@@ -8,7 +8,7 @@ use bytes::BytesMut;
 use copy_frames::{put, put_int32, put_text};
 use std::alloc::AllocError;
 
-/// Appends the ErrorResponse of a refusal ("55.8. Error and Notice Message Fields"). The only error is want of memory,
+/// Appends the ErrorResponse of a refusal ("55.8. Error and Notice Message Fields"). The only error is out of memory,
 /// which leaves `out` as it was.
 pub fn append_error_response(out: &mut BytesMut, refusal: &Refusal<'_>) -> Result<(), AllocError>
     requires { CanBeSent (refusal_view refusal.now) }

@@ -1,4 +1,4 @@
-//! What a client says while a stream runs.
+//! What a client sends while a stream runs.
 
 ghost use Rattle.std.specs.Prelude.{◌≡◌};
 ghost use Rattle.copy_both.specs.Events as spec;
@@ -6,7 +6,7 @@ ghost use Rattle.copy_both.specs.Events as spec;
 use crate::link_fault::LinkFault;
 use copy_frames::{Status, read_status};
 
-/// What a client says while a stream runs.
+/// What a client sends while a stream runs.
 #[derive(Clone, Copy)]
 pub(crate) enum Event {
     Status(Status),
@@ -14,7 +14,7 @@ pub(crate) enum Event {
     End(u8),
 }
 
-/// What a frame of this kind and body says while a stream runs.
+/// What a frame of this kind and body means while a stream runs.
 pub(crate) fn event_of(kind: u8, body: &[u8]) -> Result<Event, LinkFault>
     ensures { result ≡ spec.event_of kind body.now }
 {

@@ -1,4 +1,4 @@
-//! The frames of messages, written from what the messages tell of.
+//! The frames of messages, written from what the messages report.
 
 ghost use Rattle.std.specs.Prelude.{◌≡◌, ◌+◌, ◌-◌, ◌<◌, ◌≤◌, ◌^◌, ◌∷◌, ◌++◌, [], ℕ, List, length, OnOk};
 ghost use Rattle.std.specs.Int.{to_be_bytes, w32};
@@ -22,12 +22,13 @@ pub(crate) struct Frames {
     pub(crate) bytes: Vec<u8>,
 }
 
-/// Room that most commits of so many changes take: for the first and the last frame, and for each change.
+/// Room that is enough for most commits of this number of changes: for the first and the last frame, and for each
+/// change.
 fn room_of(changes: usize) -> usize {
     changes.saturating_mul(96).saturating_add(160)
 }
 
-/// Appends what a frame begins with: its length is put in when it is closed. The only error is want of memory.
+/// Appends the beginning of a frame, whose length is filled in when it is closed. The only error is out of memory.
 fn open_frame(head: &XLogData, out: &mut Vec<u8>) -> Result<(), AllocError>
     ensures { OnOk result (out.new.items ≡ out.old.items ++ opening head.now) }
 {
@@ -41,7 +42,7 @@ fn open_frame(head: &XLogData, out: &mut Vec<u8>) -> Result<(), AllocError>
     Ok(())
 }
 
-/// Puts the length into the last frame, which begins at `start`.
+/// Fills in the length of the last frame, which begins at `start`.
 fn close_frame(start: usize, out: &mut Vec<u8>)
     requires opened { start + 5 ≤ length out.old.items }
     requires room { length out.old.items < start + 2 ^ 31 }
@@ -76,7 +77,7 @@ impl Frames {
         }
     }
 
-    /// Adds the frame of a message. The only error is want of memory.
+    /// Adds the frame of a message. The only error is out of memory.
     fn add(&mut self, message: &Msg) -> Result<(), AllocError>
         requires fits { IsWithinRange message.now }
         requires short { length (spelling_of message.now) + 30 < 2 ^ 31 }
@@ -90,7 +91,7 @@ impl Frames {
         Ok(())
     }
 
-    /// Adds the frame of the Delete of a row of which something is recorded. The only error is want of memory.
+    /// Adds the frame of the Delete of a row of which something is recorded. The only error is out of memory.
     fn add_gone(&mut self, table: usize, old: &OldPart) -> Result<(), AllocError>
         requires recorded { named_in (r.Delete table (part_view old.now)) ≡ table ∷ [] }
         requires sendable { IsSendableChange (r.Delete table (part_view old.now)) }
@@ -103,7 +104,7 @@ impl Frames {
         Ok(())
     }
 
-    /// Adds the frame of the Begin message of a commit, and makes room for the others once. The only error is want of
+    /// Adds the frame of the Begin message of a commit, and makes room for the others once. The only error is out of
     /// memory.
     pub(crate) fn begin(&mut self, commit: &Commit) -> Result<(), AllocError>
         ensures { OnOk result (AddsFrame self.old self.new (begin_of commit.now)) }
@@ -118,7 +119,7 @@ impl Frames {
         Ok(())
     }
 
-    /// Adds the frame of the Commit message of a commit. The only error is want of memory.
+    /// Adds the frame of the Commit message of a commit. The only error is out of memory.
     pub(crate) fn end(&mut self, commit: &Commit) -> Result<(), AllocError>
         ensures { OnOk result (AddsFrame self.old self.new (commit_of commit.now)) }
     {

@@ -14,9 +14,9 @@ use shard_checker::Checked;
 use std::alloc::{AllocError, Global};
 use tables_log::Commit;
 
-/// The frames of the messages that tell the subscriber of a commit, each an XLogData with this head: those of
-/// `messages_of`. None where no change is for it. `told` has by a table's number whether its Relation was sent. The only
-/// error is want of memory.
+/// The frames of the messages that report a commit to the subscriber, each an XLogData with this head: those of
+/// `messages_of`. None if no change is for it. `told` says by a table's number whether its Relation was sent. The only
+/// error is out of memory.
 pub(crate) fn commit_frames(
     alloc: Global,
     checked: &Checked,
@@ -42,7 +42,7 @@ pub(crate) fn commit_frames(
     Ok(bytes)
 }
 
-/// Adds frames to an output, without a copy where it is empty. The only error is want of memory.
+/// Adds frames to an output, without a copy if it is empty. The only error is out of memory.
 pub(crate) fn append_frames(frames: Vec<u8>, out: &mut BytesMut) -> Result<(), AllocError>
     ensures ok { OnOk result (out.new.items ≡ out.old.items ++ frames.items) }
     ensures err { OnErr result (out.new.items ≡ out.old.items) }

@@ -42,7 +42,7 @@ fn hexadecimal_value(digits: &str) -> u32
     }
 }
 
-/// The number that 1 to 8 hexadecimal digits write.
+/// The number that 1 to 8 hexadecimal digits represent.
 fn hexadecimal(digits: &str) -> Option<u32>
     ensures { result ≡ spec.hexadecimal digits.now }
 {

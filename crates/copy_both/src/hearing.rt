@@ -1,4 +1,4 @@
-//! What was heard of a client so far.
+//! What was heard from a client so far.
 
 use crate::heard::Heard;
 
@@ -15,7 +15,7 @@ impl Hearing {
     ghost use Rattle.std.specs.Prelude.{◌≡◌};
     ghost use Rattle.copy_both.specs.Sessions.{told_hearing};
 
-    /// What a caller is told of it.
+    /// What is reported of it to a caller.
     pub(crate) fn told(&self) -> Heard
         ensures { result ≡ told_hearing self.now }
     {

@@ -1,4 +1,4 @@
-//! Laws of streams.
+//! Laws about streams.
 
 ghost use Rattle.copy_both.specs.Ears.{HearingChangesSlots, LosingChangesSlots};
 ghost use Rattle.copy_both.specs.HeardFrames.{NothingIsHeard, PiecesAreHeard};
@@ -10,9 +10,9 @@ ghost use Rattle.copy_both.specs.VoiceLaws as voices;
 
 use crate::voice::Voice;
 
-/// A law, and no code, of what a connection sends, whatever it tells of a commit. After CopyBothResponse the stream
-/// grows by each commit that is taken and by each keepalive. What was passed on and what waits are together the stream,
-/// however much was passed on. A log that grows changes nothing of it.
+/// A law about what a connection sends, whatever it reports of a commit: a function without an effect whose contract
+/// states it. After CopyBothResponse the stream grows by each commit that is taken and by each keepalive. What was
+/// passed on and what waits are together the stream, however much was passed on. A log that grows does not change it.
 ///
 /// PostgreSQL 15, 55.4. Streaming Replication Protocol.
 pub fn streams_grow<C>()
@@ -23,10 +23,10 @@ pub fn streams_grow<C>()
     ensures grows { (telling : Telling C) → Grows telling }
 {}
 
-/// A law, and no code, of what a link says while its stream runs. What was passed on and what waits are together the
-/// stream of what it started, took and kept alive, whatever it heard. After the client's CopyDone, CopyDone follows the
-/// stream; after a call that closed the link nothing does. Where memory was refused, it is a first part of that. So it
-/// stays while the rest is passed on.
+/// A law about what a link sends while its stream runs. What was passed on and what waits are together the stream of
+/// what it started, took and kept alive, whatever it heard. After the client's CopyDone, CopyDone follows the stream;
+/// after a call that closed the link nothing does. If memory was refused, it is a first part of that. This stays so
+/// while the rest is passed on.
 ///
 /// PostgreSQL 15, 55.4. Streaming Replication Protocol.
 pub fn links_say_streams()
@@ -42,22 +42,22 @@ pub fn links_say_streams()
     ensures grows { links.LogGrows }
 {}
 
-/// A law, and no code: the stream of a log is said by the log's transactions and by what the subscriber sees of them
-/// alone. After CopyBothResponse a take adds nothing where nothing is seen of the next transaction; otherwise Begin and
-/// Commit with the transaction's number and time, and between them each change, directly after the Relations of those
-/// of its tables that no change of the connection named before. A keepalive carries the end of the last transaction
-/// that was taken; where none was, the start, which is 64 for a start at 0. It holds where a row's identity tells who
-/// gets the row, as in each catalog that was checked, of transactions that were accepted.
+/// A law about the stream of a log: it depends only on the log's transactions and on what the subscriber sees of them.
+/// After CopyBothResponse a take adds nothing if nothing is seen of the next transaction; otherwise Begin and Commit
+/// with the transaction's number and time, and between them each change, directly after the Relations of those of its
+/// tables that no change of the connection named before. A keepalive carries the end of the last transaction that was
+/// taken; if none was, the start, which is 64 for a start at 0. It holds if a row's identity determines who gets the
+/// row, as in each catalog that was checked, for transactions that were accepted.
 ///
 /// PostgreSQL 15, 55.4. Streaming Replication Protocol, and 55.5.3. Logical Replication Protocol Message Flow.
 pub fn streams_tell_transactions()
     ensures { StreamsTellTransactions }
 {}
 
-/// A law, and no code, of what a voice says since its start. What was passed on and what waits are together the stream
-/// of its moves: of the commits that it took, which follow one another, and of its keepalives, with their clocks. So it
-/// is of each log that has these commits from the start on. CopyDone follows the stream, and after a call that closed
-/// the voice nothing does.
+/// A law about what a voice has sent since its start. What was passed on and what waits are together the stream of its
+/// moves: of the commits that it took, which follow one another, and of its keepalives, with their clocks. This holds
+/// for each log that has these commits from the start on. CopyDone follows the stream, and after a call that closed the
+/// voice nothing does.
 ///
 /// PostgreSQL 15, 55.4. Streaming Replication Protocol.
 pub fn voices_say_streams()
@@ -70,17 +70,16 @@ pub fn voices_say_streams()
     ensures rest { voices.RestPassesOn }
 {}
 
-/// A law, and no code, of what an ear leaves of a book: whatever it hears, and where it is lost, nothing but slots
-/// changes.
+/// A law about what an ear leaves of a book: whatever it hears, and when it is lost, only slots change.
 pub fn ears_change_slots()
     ensures hear { HearingChangesSlots }
     ensures lose { LosingChangesSlots }
 {}
 
-/// A law, and no code, of what an ear has heard of all bytes since its first, in whatever pieces they came. It holds
-/// what comes after the last whole frame. Where a stream was started, the first frame is a Query that asks for it, from
-/// a position that is not after where it starts; what was started stays so, and is told once. A fault is that of a
-/// length, of the first frame's start, or of a later frame; and an end is that of a frame of this kind.
+/// A law about what an ear has heard of all bytes since its first, in whatever pieces they came. It holds what comes
+/// after the last whole frame. If a stream was started, the first frame is a Query that requests it, from a position
+/// that is not after where it starts; what was started stays so, and is reported once. A fault is that of a length, of
+/// the first frame's start, or of a later frame; and an end is that of a frame of this kind.
 ///
 /// PostgreSQL 15, 55.4. Streaming Replication Protocol, and 55.7. Message Formats.
 pub fn frames_are_heard()
@@ -88,10 +87,10 @@ pub fn frames_are_heard()
     ensures pieces { PiecesAreHeard }
 {}
 
-/// Takes what may go to another thread.
+/// Accepts what may be sent to another thread.
 fn goes_to_another_thread<T: Send>(_value: &T) {}
 
-/// A law, and no code: a voice may go to another thread.
+/// A law about threads: a voice may be sent to another thread.
 pub fn voices_go_to_other_threads(voice: &Voice) {
     goes_to_another_thread(voice);
 }

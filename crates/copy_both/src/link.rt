@@ -18,7 +18,7 @@ use std::alloc::{AllocError, Global};
 use std::sync::Arc;
 use tables_log::{Book, Commit};
 
-/// The commit of a log after so many others.
+/// The commit of a log after the first `done` ones.
 fn entry_after(book: &Book, done: u64) -> Option<&Commit>
     ensures shows { option_map (λ commit. commit.now) result ≡ slice_get (book_log book.now) done }
     ensures numbered { IfSome result (λ commit. commit.now.number ≡ done + 1) }
@@ -29,11 +29,12 @@ fn entry_after(book: &Book, done: u64) -> Option<&Commit>
     book.entry(done as u32 + 1)
 }
 
-/// The publisher's end of a connection, for use by one thread: a client's bytes are put in, and what is to be sent to
-/// it waits in the output. It is made of both halves, an `Ear` and a `Voice`: what is heard is answered at once.
+/// The publisher's end of a connection, for use by one thread: it is given a client's bytes, and what is to be sent to
+/// the client waits in the output. It consists of both halves, an `Ear` and a `Voice`: what is heard is answered at
+/// once.
 ///
-/// The first fault closes it, and so does the client's end; from then on each call that hears or speaks answers
-/// `Closed`. What waits stays as whole frames. The slot stays taken until `lose`.
+/// The first fault closes it, and so does the client's end; from then on each call that hears or sends returns
+/// `Closed`. What waits remains, as whole frames. The slot stays in use until `lose`.
 ///
 /// PostgreSQL 15, 55.4. Streaming Replication Protocol.
 #[derive(Drop)]
@@ -68,19 +69,19 @@ impl Link {
         })
     }
 
-    /// Hears the next bytes that the client sends, in whatever pieces they come, up to a fault or an end, and says what
-    /// answers them, in this order: CopyBothResponse where the stream starts, a keepalive that wants no status for each
-    /// status that wants a reply, and CopyDone where the client ended the stream by it. A start that is refused is
-    /// answered by its ErrorResponse; any other fault by nothing, also of what was heard before it in the piece. `now`
-    /// is the clock, in microseconds since 2000-01-01.
+    /// Hears the next bytes that the client sends, in whatever pieces they come, up to a fault or an end, and sends the
+    /// answers, in this order: CopyBothResponse if the stream starts, a keepalive that wants no status for each status
+    /// that wants a reply, and CopyDone if the client ended the stream with it. A start that is refused is answered
+    /// with its ErrorResponse. After any other fault there is no answer, not even to what was heard before it in the
+    /// piece. `now` is the clock, in microseconds since 2000-01-01.
     ///
     /// # Errors
     ///
-    /// The first of: `BadStart`; `BadLength` for a status that has another length than 34 bytes; `Unexpected`;
-    /// `StatusAhead` for a status that has flushed more than the sent position; and after all frames before it
-    /// `BadLength` and `FrameTooLong` for a length below 4 or above 65,536. Or `OutOfMemory`; then some first frames
-    /// were heard, and some first frames said. Each closes it. `Closed`, and no other answer, where it was closed
-    /// before; then nothing changes.
+    /// The first of: `BadStart`; `BadLength` for a status that is not 34 bytes long; `Unexpected`; `StatusAhead` for a
+    /// status whose flushed position is after the sent position; and after all frames before it `BadLength` and
+    /// `FrameTooLong` for a length below 4 or above 65,536. Or `OutOfMemory`; then the first few frames were heard, and
+    /// the first few answers sent. Each closes it. `Closed`, and no other answer, if it was closed before; then nothing
+    /// changes.
     ///
     /// PostgreSQL 15, 55.4. Streaming Replication Protocol, and 55.7. Message Formats.
     pub fn hear(&mut self, piece: &[u8], book: &mut Book, now: u64) -> Result<Heard, LinkFault>
@@ -113,17 +114,17 @@ impl Link {
         }
     }
 
-    /// Takes the next commit of the log up: says the messages that tell the subscriber of it, each in an XLogData at
-    /// the commit's position. A commit without a change for the subscriber is skipped. The answer is `Idle` where all
-    /// of the log is taken, and `NotStarted` before the start; then nothing is said. Each message that is said is
-    /// decoded from its spelling (`read_back`). `now` is the clock, in microseconds since 2000-01-01.
+    /// Takes the next commit of the log: sends the messages that report it to the subscriber, each in an XLogData at
+    /// the commit's position. A commit without a change for the subscriber is skipped. Returns `Idle` if the whole log
+    /// is taken, and `NotStarted` before the start; then nothing is sent. Each message that is sent is decoded from its
+    /// spelling (`read_back`). `now` is the clock, in microseconds since 2000-01-01.
     ///
-    /// It takes time for the commit's changes and messages.
+    /// The time it takes is that of the commit's changes and messages.
     ///
     /// # Errors
     ///
-    /// `Closed` where it was closed before; `OutOfMemory`, which closes it, only where there is a commit to take.
-    /// Nothing of the commit is said then.
+    /// `Closed` if it was closed before; `OutOfMemory`, which closes it, only if there is a commit to take. Then
+    /// nothing of the commit is sent.
     ///
     /// PostgreSQL 15, 55.5. Logical Streaming Replication Protocol.
     pub fn take(&mut self, book: &Book, now: u64) -> Result<Taken, LinkFault>
@@ -152,12 +153,12 @@ impl Link {
         taken
     }
 
-    /// Says a keepalive with the sent position and this clock, in microseconds since 2000-01-01, which may want a
-    /// status. The answer is false where the stream has not started: then nothing is said.
+    /// Sends a keepalive with the sent position and this clock, in microseconds since 2000-01-01, which may want a
+    /// status. Returns false if the stream has not started: then nothing is sent.
     ///
     /// # Errors
     ///
-    /// `Closed` where it was closed before; `OutOfMemory`, which closes it, only while the stream runs.
+    /// `Closed` if it was closed before; `OutOfMemory`, which closes it, only while the stream runs.
     ///
     /// PostgreSQL 15, 55.4. Streaming Replication Protocol (Primary keepalive message).
     pub fn keepalive(&mut self, now: u64, want: bool) -> Result<bool, LinkFault>
@@ -184,7 +185,7 @@ impl Link {
         self.ear.started()
     }
 
-    /// The sent position, in bytes, while the stream runs: where the last commit that was taken ends; where none was,
+    /// The sent position, in bytes, while the stream runs: where the last commit that was taken ends; if none was,
     /// where the stream started, which is 64 for a start at 0.
     pub fn sent(&self) -> Option<u64>
         ensures { result ≡ sent_of (link_stage self.now) }
@@ -199,7 +200,7 @@ impl Link {
         self.voice.output()
     }
 
-    /// Drops so many of the first bytes that wait, or all where fewer wait, without a copy of the others. Where nothing
+    /// Drops this number of the first bytes that wait, or all if fewer wait, without a copy of the others. When nothing
     /// waits any more, the output has no room.
     pub fn passed(&mut self, count: usize)
         ensures { LinkPasses self.old self.new count }
@@ -207,8 +208,8 @@ impl Link {
         self.voice.passed(count);
     }
 
-    /// Loses the connection: closes it, and gives the slot back where its stream was started. Only the first loss
-    /// changes the book. What waits stays.
+    /// Loses the connection: closes it, and releases the slot if its stream was started. Only the first loss changes
+    /// the book. What waits remains.
     pub fn lose(&mut self, book: &mut Book)
         ensures { LinkLoses self.old self.new book.old book.new }
     {

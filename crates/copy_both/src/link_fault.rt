@@ -13,16 +13,16 @@ pub enum LinkFault {
     /// The length of a frame is more than 65,536.
     #[error("a frame is longer than the limit")]
     FrameTooLong,
-    /// The length of a frame is less than 4, or a status has another length than 34 bytes.
+    /// The length of a frame is less than 4, or a status is not 34 bytes long.
     #[error("the length of a frame is less than 4, or that of a status is not 34")]
     BadLength,
-    /// This is no kind of frame, or no first byte of CopyData, that a client may send while a stream runs.
+    /// A client may not send a frame of this kind, or a CopyData with this first byte, while a stream runs.
     #[error("a client can't send a frame or data of kind {0} while a stream runs")]
     Unexpected(u8),
-    /// The start is refused, by an ErrorResponse with this code.
+    /// The start is refused with an ErrorResponse with this code.
     #[error("the start is refused: {0:?}")]
     BadStart(SqlState),
-    /// A status has flushed more than was sent.
+    /// The flushed position of a status is after what was sent.
     #[error("a status confirms more than was sent")]
     StatusAhead,
     /// The connection was closed before.

@@ -37,7 +37,7 @@ fn lone_name(tokens: &[Token]) -> Option<&str>
     }
 }
 
-/// The names that tokens are, with commas between them.
+/// The names in tokens, with commas between them.
 pub fn names_in(alloc: Global, tokens: &[Token]) -> Result<Option<Items<Text>>, AllocError>
     ensures { IfOk result (λ names. names ≡ spec.names_in tokens.now) }
 {

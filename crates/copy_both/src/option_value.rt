@@ -1,4 +1,4 @@
-//! What the value of an option says.
+//! What the value of an option means.
 
 ghost use Rattle.std.specs.Prelude.{◌≡◌, ◌==◌, ◌≤◌, IfOk, codes, length};
 ghost use Rattle.std.specs.Char.{is_ascii_digit};
@@ -28,7 +28,7 @@ fn zeros(digits: &[u8]) -> usize
     digits.iter().take_while(|byte| **byte == b'0').count()
 }
 
-/// Whether digits are `1` after the zeros at their front.
+/// Whether the digits are `1` after leading zeros.
 fn is_one(digits: &[u8]) -> bool
     ensures { result ≡ bytes_eq (spec.without_zeros digits.now) (codes "1") }
 {
@@ -91,7 +91,7 @@ fn given(alloc: Global, name: &str, text: &str) -> Result<OptionValue, AllocErro
     }
 }
 
-/// What the value of the option with this name says.
+/// What the value of the option with this name means.
 pub fn option_value(
     alloc: Global,
     name: &str,

@@ -1,4 +1,4 @@
-//! How far an ear is.
+//! The state of an ear.
 
 ghost use Rattle.std.specs.Prelude.{◌≡◌};
 ghost use Rattle.copy_both.specs.Phases as spec;
@@ -7,7 +7,7 @@ ghost use Rattle.copy_both.specs.Sessions.{told_result};
 use crate::hearing::Hearing;
 use crate::link_fault::LinkFault;
 
-/// How far an ear is: it hears frames; or it hears no more; or it is lost, and so has given its slot back.
+/// The state of an ear: it hears frames; or it hears no more; or it is lost, and so has released its slot.
 #[derive(Clone, Copy)]
 pub(crate) enum Phase {
     Open,
@@ -15,7 +15,7 @@ pub(crate) enum Phase {
     Lost,
 }
 
-/// Where an ear is that heard this.
+/// The state of an ear that heard this.
 pub(crate) fn phase_after(heard: &Result<Hearing, LinkFault>) -> Phase
     ensures { result ≡ spec.phase_after (told_result heard.now) }
 {

@@ -10,7 +10,7 @@ use shard_checker::Checked;
 use std::alloc::{AllocError, Global};
 use tables_log::Commit;
 
-/// Where a connection is: its slot, how many commits of the log are done, by each table's number whether its Relation
+/// Where a connection is: its slot, how many commits of the log are done, for each table's number whether its Relation
 /// was sent, and the sent position.
 #[derive(Drop)]
 pub(crate) struct Place {
@@ -29,7 +29,7 @@ impl Place {
     ghost use Rattle.copy_both.specs.Tellings.{telling_of};
     ghost use Rattle.copy_both.specs.Voices.{AreReadBack, place_past, place_view, taken_of};
 
-    /// Where a connection is that starts at the position, before the Relation of any of so many tables was sent.
+    /// Where a connection is that starts at the position, before a Relation of any of the `tables` tables was sent.
     pub(crate) fn new(
         alloc: Global,
         slot: usize,
@@ -48,7 +48,7 @@ impl Place {
         })
     }
 
-    /// Takes the next commit up, whose frames are added to `out`. The only error is want of memory.
+    /// Takes the next commit, whose frames are added to `out`. The only error is out of memory.
     pub(crate) fn take(
         &mut self,
         alloc: Global,
@@ -86,7 +86,7 @@ impl Place {
         self.sent = lsn + 64;
         Ok(taken)
     }
-    /// Takes the commit of the next number up, of which nothing is told.
+    /// Takes the commit of the next number, of which nothing is sent.
     pub(crate) fn skip(&mut self, number: u32)
         requires { number ≡ self.old.done + 1 }
         ensures { place_view self.new ≡ place_past (place_view self.old) number }

@@ -6,14 +6,14 @@ ghost use Rattle.copy_both.specs.CommandTokens as spec;
 use filter_tree::Text;
 use std::alloc::{AllocError, Global};
 
-/// What is between quotes: what it means, and how many bytes it takes with the last quote.
+/// What is between quotes: its meaning, and the number of its bytes with the last quote.
 #[derive(Drop)]
 pub struct QuotedText {
     pub meant: Text,
     pub length: usize,
 }
 
-/// The first byte, or 0 where there is none.
+/// The first byte, or 0 if there is none.
 pub fn first_byte(text: &str) -> u8
     ensures { result ≡ slice_index text.now 0 }
 {

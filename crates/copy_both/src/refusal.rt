@@ -5,19 +5,19 @@ ghost use Rattle.copy_both.specs.Refusals.{code_of, state_of, text_of, refusal_v
 
 use crate::sql_state::SqlState;
 
-/// Why a stream is not started, with the name of the slot, the option or the publication. Each is answered by an
+/// Why a stream is not started, with the name of the slot, the option or the publication. Each is answered with an
 /// ErrorResponse ("55.8. Error and Notice Message Fields").
 #[derive(Clone, Copy, Debug)]
 pub enum Refusal<'a> {
-    /// The first frame is no Query, or its body is no text with one zero byte, its last.
+    /// The first frame is not a Query, or its body is not a text with one zero byte, its last.
     ExpectedQuery,
-    /// The text is no START_REPLICATION command for a logical slot.
+    /// The text is not a START_REPLICATION command for a logical slot.
     Unreadable,
     /// No subscription has a slot of this name.
     NoSlot(&'a str),
-    /// The option is unknown or given twice, or has no value that it can have.
+    /// The option is unknown, given twice, or does not have a valid value.
     WrongOption(&'a str),
-    /// The option asks for another protocol version, or for what is left out.
+    /// The option requests another protocol version, or a feature that is not supported.
     UnsupportedOption(&'a str),
     /// `proto_version` or `publication_names` is not given.
     MissingOption(&'a str),

@@ -13,7 +13,7 @@ use crate::hearing::Hearing;
 use crate::link_fault::LinkFault;
 use crate::voice::Voice;
 
-/// Starts the stream where one was started.
+/// Starts the stream if one was started.
 fn open(voice: &mut Voice, started: Option<(usize, u64)>) -> Result<(), LinkFault>
     requires { voice_stage voice.old ≢ voices.Closed }
     ensures ok { OnOk result (Says voice.old voice.new (spec.opening (voice_stage voice.old) started)
@@ -27,7 +27,7 @@ fn open(voice: &mut Voice, started: Option<(usize, u64)>) -> Result<(), LinkFaul
     }
 }
 
-/// Says so many keepalives.
+/// Sends this number of keepalives.
 fn reply(voice: &mut Voice, count: u64, now: u64) -> Result<(), LinkFault>
     requires { voice_stage voice.old ≢ voices.Closed }
     ensures ok { OnOk result (Says voice.old voice.new (concat (spec.replies (voice_stage voice.old) count now))
@@ -41,7 +41,7 @@ fn reply(voice: &mut Voice, count: u64, now: u64) -> Result<(), LinkFault>
     Ok(())
 }
 
-/// Closes the voice where the client has ended the connection, and answers CopyDone by CopyDone.
+/// Closes the voice if the client has ended the connection, and answers CopyDone with CopyDone.
 fn end(voice: &mut Voice, ended: Option<u8>) -> Result<(), LinkFault>
     requires { voice_stage voice.old ≢ voices.Closed }
     ensures ok { OnOk result (Says voice.old voice.new (spec.closing (voice_stage voice.old) ended)
@@ -59,8 +59,8 @@ fn end(voice: &mut Voice, ended: Option<u8>) -> Result<(), LinkFault>
     }
 }
 
-/// Says the answers to what was heard, where this slot streams from this position on. With an error some first frames
-/// were said, and the voice is closed.
+/// Sends the answers to what was heard, if this slot streams from this position on. After an error, the first few
+/// frames were sent, and the voice is closed.
 pub(crate) fn answer_heard(
     voice: &mut Voice,
     started: Option<(usize, u64)>,

@@ -79,7 +79,7 @@ impl Session {
         Ok(())
     }
 
-    /// Takes the slot that the frame asks for; the answer is the slot and where its stream starts.
+    /// Acquires the slot that the frame requests; returns the slot and where its stream starts.
     fn begin(&mut self, frame: &Frame, book: &mut Book) -> Result<(usize, u64), LinkFault>
         ensures kept { KeepsRest self.old self.new book.old book.new }
         ensures started { self.new.started ≡ self.old.started }
@@ -95,7 +95,7 @@ impl Session {
         }
     }
 
-    /// Adds the response to a start that the book refuses. The only error is want of memory.
+    /// Adds the response to a start that the book refuses. The only error is out of memory.
     fn refuse(&mut self, slot: usize, error: StartError) -> Result<SqlState, AllocError>
         ensures kept { IsSameSession self.old self.new }
         ensures state { IfOk result (λ state. state ≡ state_of (refused_by_book self.old slot error)) }
@@ -109,7 +109,7 @@ impl Session {
         Ok(refusal.state())
     }
 
-    /// What the frame asks for, if no slot is in use.
+    /// What the frame requests, if no slot is in use.
     fn ask(&mut self, frame: &Frame, book: &Book) -> Result<StartAnswer, AllocError>
         ensures kept { IsSameSession self.old self.new }
         ensures asked { IfOk result (λ asked. asked ≡ told (asked_in self.old book.now frame.now)) }
@@ -158,7 +158,7 @@ impl Session {
         }
     }
 
-    /// Confirms what a status says is flushed.
+    /// Confirms what a status reports as flushed.
     fn hear_status(
         &self,
         slot: usize,

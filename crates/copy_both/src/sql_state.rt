@@ -3,7 +3,7 @@
 ghost use Rattle.std.specs.Prelude.{◌≡◌, length};
 ghost use Rattle.copy_both.specs.Refusals.{code_text};
 
-/// What kind of error ends a start ("Appendix A. PostgreSQL Error Codes").
+/// The kind of error that refuses a start ("Appendix A. PostgreSQL Error Codes").
 #[derive(Clone, Copy, Debug, PartialEq, Eq)]
 pub enum SqlState {
     /// 08P01

@@ -2,11 +2,11 @@
 
 use filter_tree::{Items, Text};
 
-/// What a START_REPLICATION command for a logical slot asks for ("55.4. Streaming Replication Protocol").
+/// What a START_REPLICATION command for a logical slot requests ("55.4. Streaming Replication Protocol").
 #[derive(Debug, Drop)]
 pub struct StartCommand {
     pub slot: Text,
-    /// A place in the log, in bytes: the commits from there on are asked for.
+    /// A place in the log, in bytes: the commits from there on are requested.
     pub position: u64,
     pub options: Items<StartOption>,
 }
@@ -18,17 +18,17 @@ pub struct StartOption {
     pub value: OptionValue,
 }
 
-/// What the value of an option says ("55.5.1. Logical Streaming Replication Parameters").
+/// What the value of an option means ("55.5.1. Logical Streaming Replication Parameters").
 #[derive(Debug, Drop)]
 pub enum OptionValue {
     /// There is no option of this name, or its value is missing, or it can't have this value.
     Wrong,
-    /// Another version of the protocol than 1, or a feature that is left out is on.
+    /// A version of the protocol other than 1, or a feature that is not supported is on.
     Unsupported,
     /// Version 1 of the protocol.
     Version,
     /// The names of the publications.
     Publications(Items<Text>),
-    /// A feature that is left out is off.
+    /// A feature that is not supported is off.
     Off,
 }

@@ -197,8 +197,8 @@ fn is_taken(in_use: &[bool], slot: usize) -> bool
     in_use.get(slot).copied().unwrap_or(false)
 }
 
-/// What a start is held against: the publications and the subscriptions of the catalog, where the log ends, in bytes,
-/// and for each subscription's slot whether a connection streams from it.
+/// What a start is checked against: the publications and the subscriptions of the catalog, where the log ends, in
+/// bytes, and for each subscription's slot whether a connection streams from it.
 #[derive(Clone, Copy)]
 pub struct Offer<'a> {
     pub publications: &'a [Publication],
@@ -249,7 +249,7 @@ pub fn find_slot(subscriptions: &[Subscription], name: &str) -> Option<usize>
         .position(|subscription| name == subscription.name.as_str())
 }
 
-/// The numbers of the publications that the subscription of this slot takes; none where there is no such subscription.
+/// The numbers of the publications that the subscription of this slot takes; none if there is no such subscription.
 pub fn publications_at(subscriptions: &[Subscription], slot: usize) -> &[usize]
     ensures { result.now ≡ spec.publications_at subscriptions.now slot }
 {
@@ -284,7 +284,7 @@ pub fn start_refusal<'a>(offer: &Offer<'_>, command: &'a StartCommand) -> Option
     refusal_at(offer, command, found)
 }
 
-/// The name of the slot of this number; empty where there is none.
+/// The name of the slot of this number; empty if there is none.
 fn slot_name(subscriptions: &[Subscription], slot: usize) -> &str
     ensures { result.now ≡ spec.slot_name subscriptions.now slot }
 {
@@ -294,7 +294,7 @@ fn slot_name(subscriptions: &[Subscription], slot: usize) -> &str
     }
 }
 
-/// Why a start from this slot is refused, which the book refuses by this error.
+/// Why a start from this slot is refused, when the book refuses it with this error.
 pub(crate) fn book_refusal(
     subscriptions: &[Subscription],
     slot: usize,

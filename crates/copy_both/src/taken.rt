@@ -1,6 +1,6 @@
-//! What becomes of the next commit.
+//! The result of taking the next commit.
 
-/// What becomes of the next commit of the log on a connection.
+/// The result of taking the next commit of the log on a connection.
 #[derive(Clone, Copy, Debug, PartialEq, Eq)]
 pub enum Taken {
     /// The stream has not started.

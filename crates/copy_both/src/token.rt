@@ -32,9 +32,9 @@ pub enum Token {
 pub enum Piece {
     /// A byte of white space.
     Blank,
-    /// A token, and how many bytes it takes.
+    /// A token, and the number of its bytes.
     Whole(Token, usize),
-    /// Something that is no token.
+    /// Something that is not a token.
     Bad,
 }
 
@@ -65,7 +65,7 @@ pub fn is_keyword(token: &Token, keyword: &str) -> bool
     }
 }
 
-/// The text if it has as many bytes as a name may have.
+/// The text, if it has as many bytes as a name may have.
 fn as_name(text: &str) -> Option<&str>
     ensures { option_copied result ≡ spec.as_name text.now }
 {

@@ -8,7 +8,7 @@ use crate::token::{Piece, Token};
 use filter_tree::Items;
 use std::alloc::{AllocError, Global};
 
-/// The tokens of a text, or `None` where a part of it is no token.
+/// The tokens of a text, or `None` if a part of it is not a token.
 pub fn tokens_of(alloc: Global, text: &str) -> Result<Option<Items<Token>>, AllocError>
     ensures { IfOk result (λ tokens. tokens ≡ spec.tokens_of text.now) }
 {

@@ -10,7 +10,7 @@ use std::alloc::{AllocError, Global};
 use std::sync::Arc;
 use tables_log::Commit;
 
-/// How far a voice is.
+/// The state of a voice.
 #[derive(Drop)]
 pub(crate) enum Stage {
     NotStarted,
@@ -21,8 +21,8 @@ pub(crate) enum Stage {
 /// The half of a connection's end that sends: where it is in the log, the tables whose Relation was sent, and the
 /// output that waits. It needs neither the tables nor the log, so that it may run in a thread of its own.
 ///
-/// The first fault closes it, and so does its end; from then on each call that speaks answers `Closed`. What waits
-/// stays as whole frames.
+/// The first fault closes it, and so does its end; from then on each call that sends returns `Closed`. What waits
+/// remains, as whole frames.
 ///
 /// PostgreSQL 15, 55.4. Streaming Replication Protocol.
 #[derive(Drop)]
@@ -43,7 +43,7 @@ impl Voice {
     ghost use Rattle.copy_both.specs.Voices.{EntryIsReadBack, IsQuietFor, IsStarted, Says, Closes, told_fault, voice_checked, voice_stage, voice_output, voice_room};
     ghost use Rattle.copy_both.specs.declared.link_fault.LinkFault.TheVariants.{OutOfMemory};
 
-    /// A voice that has not started and has nothing to say.
+    /// A voice that has not started and has nothing to send.
     pub fn new(alloc: Global, checked: Arc<Checked, Global>) -> Voice
         ensures checked { voice_checked result ≡ checked_view (arc_value checked) }
         ensures stage { voice_stage result ≡ spec.NotStarted }
@@ -57,12 +57,12 @@ impl Voice {
         }
     }
 
-    /// Starts the stream of a slot at a position of the log, in bytes: says CopyBothResponse. The commits from there on
-    /// are to be taken.
+    /// Starts the stream of a slot at a position of the log, in bytes: sends CopyBothResponse. The commits from there
+    /// on are taken next.
     ///
     /// # Errors
     ///
-    /// `Closed` where it was started before; `OutOfMemory` only where it was not. Each closes it.
+    /// `Closed` if it was started before; `OutOfMemory` only if it was not. Each closes it.
     pub fn start(&mut self, slot: usize, position: u64) -> Result<(), LinkFault>
         ensures answer { Answers (λ done. done) told_fault (spec.start_answer (voice_stage self.old)) result }
         ensures memory { NeedsMemoryOnlyIf OutOfMemory (voice_stage self.old ≡ spec.NotStarted) result }
@@ -96,17 +96,17 @@ impl Voice {
         Ok(())
     }
 
-    /// Takes the next commit up: says the messages that tell the subscriber of it, each in an XLogData at the commit's
+    /// Takes the next commit: sends the messages that report it to the subscriber, each in an XLogData at the commit's
     /// position. `now` is the clock, in microseconds since 2000-01-01. A commit without a change for the subscriber is
-    /// skipped. The commit is that of the number `next()`, where there is one. Each message that is said is decoded
-    /// from its spelling (`read_back`).
+    /// skipped. The commit is that of the number `next()`, if there is one. Each message that is sent is decoded from
+    /// its spelling (`read_back`).
     ///
-    /// It takes time for the commit's changes and messages.
+    /// The time it takes is that of the commit's changes and messages.
     ///
     /// # Errors
     ///
-    /// `Closed` where it was closed before; `OutOfMemory`, which closes it, only while the stream runs. Nothing of the
-    /// commit is said then.
+    /// `Closed` if it was closed before; `OutOfMemory`, which closes it, only while the stream runs. Then nothing of
+    /// the commit is sent.
     pub fn take_entry(&mut self, commit: &Commit, now: u64) -> Result<Taken, LinkFault>
         requires { IfSome (spec.next_of (voice_stage self.old)) (λ next. commit.now.number ≡ next) }
         ensures answer { Answers (λ taken. taken) told_fault
@@ -148,9 +148,9 @@ impl Voice {
         }
     }
 
-    /// Takes the next commit up, of which the subscriber gets nothing: it is skipped, as `take_entry` skips it by any
-    /// clock. Nothing is said, no memory is taken, and the commit's changes aren't looked at. The commit is that of the
-    /// number `next()`, where there is one. Where the stream doesn't run, nothing changes.
+    /// Takes the next commit, of which the subscriber gets nothing: it is skipped, as `take_entry` skips it at any
+    /// clock. Nothing is sent, no memory is allocated, and the commit's changes aren't looked at. The commit is that of
+    /// the number `next()`, if there is one. If the stream doesn't run, nothing changes.
     pub fn skip(&mut self, commit: &Commit)
         requires next { IfSome (spec.next_of (voice_stage self.old)) (λ next. commit.now.number ≡ next) }
         requires quiet { IsQuietFor (voice_checked self.old) (voice_stage self.old) commit.now }
@@ -163,12 +163,12 @@ impl Voice {
         }
     }
 
-    /// Says a keepalive with the sent position and this clock, in microseconds since 2000-01-01, which may want a
-    /// status. The answer is false where the stream has not started: then nothing is said.
+    /// Sends a keepalive with the sent position and this clock, in microseconds since 2000-01-01, which may want a
+    /// status. Returns false if the stream has not started: then nothing is sent.
     ///
     /// # Errors
     ///
-    /// `Closed` where it was closed before; `OutOfMemory`, which closes it, only while the stream runs.
+    /// `Closed` if it was closed before; `OutOfMemory`, which closes it, only while the stream runs.
     pub fn keepalive(&mut self, now: u64, want: bool) -> Result<bool, LinkFault>
         ensures answer { Answers (λ said. said) told_fault (spec.keep_answer (voice_stage self.old)) result }
         ensures memory { NeedsMemoryOnlyIf OutOfMemory (IsStarted (voice_stage self.old)) result }
@@ -205,11 +205,11 @@ impl Voice {
         Ok(true)
     }
 
-    /// Ends the stream: says CopyDone, where it has started, and closes.
+    /// Ends the stream: sends CopyDone, if it has started, and closes.
     ///
     /// # Errors
     ///
-    /// `Closed` where it was closed before; `OutOfMemory` only while the stream runs.
+    /// `Closed` if it was closed before; `OutOfMemory` only while the stream runs.
     pub fn done(&mut self) -> Result<(), LinkFault>
         ensures answer { Answers (λ done. done) told_fault (spec.done_answer (voice_stage self.old)) result }
         ensures memory { NeedsMemoryOnlyIf OutOfMemory (IsStarted (voice_stage self.old)) result }
@@ -236,7 +236,7 @@ impl Voice {
         }
     }
 
-    /// Says the response to a start that is refused, and closes. The only error is want of memory.
+    /// Sends the response to a start that is refused, and closes. The only error is out of memory.
     pub(crate) fn refuse(&mut self, response: &[u8]) -> Result<(), AllocError>
         ensures ok { OnOk result (Says self.old self.new response.now spec.Closed) }
         ensures err { OnErr result (Closes self.old self.new) }
@@ -252,7 +252,7 @@ impl Voice {
         self.stage = Stage::Closed;
     }
 
-    /// The number of the commit that is to be taken next, where the stream has started.
+    /// The number of the commit that is to be taken next, if the stream has started.
     pub fn next(&self) -> Option<u64>
         ensures { result ≡ spec.next_of (voice_stage self.now) }
     {
@@ -262,8 +262,8 @@ impl Voice {
         }
     }
 
-    /// The sent position, in bytes, where the stream has started: where the last commit that was taken ends; where none
-    /// was, where the stream started, which is 64 for a start at 0.
+    /// The sent position, in bytes, if the stream has started: where the last commit that was taken ends; if none was,
+    /// where the stream started, which is 64 for a start at 0.
     pub fn sent(&self) -> Option<u64>
         ensures { result ≡ spec.sent_of (voice_stage self.now) }
     {
@@ -280,7 +280,7 @@ impl Voice {
         self.out.as_slice()
     }
 
-    /// Drops so many of the first bytes that wait, or all where fewer wait, without a copy of the others. Where nothing
+    /// Drops this number of the first bytes that wait, or all if fewer wait, without a copy of the others. When nothing
     /// waits any more, the output has no room.
     pub fn passed(&mut self, count: usize)
         ensures passes { spec.Passes self.old self.new count }

@@ -20,7 +20,7 @@ nothing_is_part : (limit : ℕ) → front limit [] ≡ Part
 unfolding front
 nothing_is_part limit = refl
 
--- how many frames are allowed doesn't matter, where there are as many as bytes
+-- how many frames are allowed doesn't matter, if there are as many as bytes
 enough : (limit a b : ℕ) (bytes : List ℕ) → length bytes ≤ a → length bytes ≤ b
     → cut_some limit a bytes ≡ cut_some limit b bytes
 enough limit zero zero bytes below above = refl
@@ -138,7 +138,7 @@ reaches_more limit bytes piece at reached = record {
       ∙ ap (λ xs. fault_in limit (xs ++ more)) (sym (drop-append-le at bytes piece reached.within));
 }
 
--- after the first frame was given
+-- after the first frame was returned
 pub reaches_rest : (limit : ℕ) (bytes : List ℕ) (size whole : ℕ) → SpellsFrame limit bytes size
     → Reaches limit bytes whole → Reaches limit (drop size bytes) (whole - size)
 reaches_rest limit bytes size whole here reached = elim (cases_lt whole size) [
@@ -201,7 +201,7 @@ pub cuts_are_whole : CutsAreWhole
 unfolding cut
 cuts_are_whole limit bytes = whole_some limit (length bytes) bytes (omega arith)
 
--- ---- a length is never told as want of memory
+-- ---- a length is never reported as out of memory
 
 length_faults : (small signed long part : Bool) (size : ℕ)
     → cond small (Faulty BadLength)

@@ -1,4 +1,4 @@
--- What a deframer has given of all that it was fed.
+-- What a deframer has returned of all that it was fed.
 use Rattle.std.proofs.Common.{◌≡◌, List, [], ◌∷◌, ◌++◌, refl, sym, ap, ◌∙◌, append_assoc}
 use Rattle.std.specs.List.{flat_map}
 use Rattle.std.proofs.lemmas.List.{append-nil, flat_map_more}

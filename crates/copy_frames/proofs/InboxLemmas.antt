@@ -1,4 +1,4 @@
--- What is held where no frame is whole, and what is given then.
+-- What is held if no frame is whole, and what is returned then.
 use Rattle.std.proofs.Common.{◌≡◌, ℕ, false, List, refl, sym, ap, ◌∙◌}
 use Rattle.std.specs.Prelude.{Option, Some, None}
 use Rattle.copy_frames.specs.declared.frame.Frame.{Frame}
@@ -20,7 +20,7 @@ rest_left limit bytes none =
     ap rest_of (cut_by_front limit bytes)
     ∙ rest_by_front limit bytes (front limit bytes) (sym (ap has_frame (cut_by_front limit bytes)) ∙ none)
 
--- nothing was given, so that no frame is whole
+-- nothing was returned, so no frame is whole
 pub gives_none : (before : Inbox) (found : Option Frame) (after : Inbox) → ((frame : Frame) → found ≡ Some frame → ⊥)
     → Gives before found after
     → (after ≡ before) × (has_frame (cut before.limit before.bytes) ≡ false)

@@ -41,12 +41,12 @@ status_body status =
     114 ∷ (int64 status.written
     ++ (int64 status.flushed ++ (int64 status.applied ++ (int64 status.clock ++ (flag status.wants_reply ∷ [])))))
 
--- ---- what is read of it: the byte that says what it is was looked at before
+-- ---- what is read of it, after the byte for its kind
 
 abbrev pub number_at : ℕ → List ℕ → ℕ
 number_at place bytes = from_be_bytes w64 (take 8 (drop place bytes))
 
--- any byte but zero is yes
+-- any byte other than zero is yes
 abbrev pub flag_at : ℕ → List ℕ → Bool
 flag_at place bytes = not (slice_index bytes place == 0)
 

@@ -1,5 +1,5 @@
--- How the frames that bytes are cut into give the bytes again, and what a deframer gives over many calls ("55.7.
--- Message Formats").
+-- How the frames that bytes are cut into make up the bytes, and what a deframer returns over many calls ("55.7. Message
+-- Formats").
 use Rattle.std.specs.Prelude.{◌≡◌, ℕ, ◌<◌, List, [], ◌∷◌, ◌++◌, slice_index}
 use Rattle.std.specs.List.{flat_map}
 use Rattle.copy_frames.specs.declared.frame.Frame.{Frame}
@@ -23,8 +23,8 @@ abbrev pub SpelledAreCut : Type 0
 SpelledAreCut = (limit : ℕ) (frames : List Frame) (rest : List ℕ) → AreFrames limit frames
     → cut limit (flat_map framed frames ++ rest) ≡ after_frames frames (cut limit rest)
 
--- the frames are within the limit, and neither is there a whole frame at the end nor, without a fault, a length that
--- no frame may have
+-- the frames are within the limit, and at the end there is neither a whole frame nor, without a fault, a length that no
+-- frame may have
 abbrev pub IsCut : ℕ → Cut → Type 0
 IsCut limit (Rest bytes) = front limit bytes ≡ Part
 IsCut limit (Bad fault bytes) = front limit bytes ≡ Faulty fault
@@ -33,9 +33,9 @@ IsCut limit (Then frame more) = IsFrame limit frame × IsCut limit more
 abbrev pub CutsAreWhole : Type 0
 CutsAreWhole = (limit : ℕ) (bytes : List ℕ) → IsCut limit (cut limit bytes)
 
--- ---- what was fed and given
+-- ---- what was fed and returned
 
--- of the bytes that were fed these frames were given, and the rest is held, however the stream goes on
+-- of the bytes that were fed these frames were returned, and the rest is held, however the stream continues
 pub record HasGiven (fed : List ℕ) (given : List Frame) (inbox : Inbox) : Type 0 where
   pub bytes : fed ≡ flat_map framed given ++ inbox.bytes
   pub cuts : (more : List ℕ)

@@ -1,5 +1,5 @@
--- Frames of a connection, and how bytes are cut into them. A frame is one byte that says its kind, a number of 32
--- bits that counts itself and the body, and the body ("55.7. Message Formats").
+-- Frames of a connection, and how bytes are cut into them. A frame is one byte for its kind, a number of 32 bits that
+-- counts itself and the body, and the body ("55.7. Message Formats").
 use Rattle.std.specs.Prelude.{ℕ, zero, suc, ◌+◌, ◌^◌, ◌<◌, ◌≤◌, nat_lt, if◌then◌else◌, List, [], ◌∷◌, ◌++◌, length, take, drop, slice_index, Option, Some, None}
 use Rattle.std.specs.Int.{to_be_bytes, from_be_bytes, w32}
 use Rattle.copy_frames.specs.declared.fault.FrameFault.{FrameFault}
@@ -17,7 +17,7 @@ pub record IsFrame (limit : ℕ) (frame : Frame) : Type 0 where
   pub within : length frame.body + 4 ≤ limit
   pub signed : length frame.body + 4 < 2 ^ 31
 
--- what is at the front of so many bytes where the first frame's length is `size`: a length is a signed number, so
+-- what is at the front of this number of bytes if the first frame's length is `size`: a length is a signed number, so
 -- that one of 2^31 or more is less than 4
 abbrev pub sized : ℕ → ℕ → ℕ → Front
 sized limit size there =
@@ -27,29 +27,29 @@ sized limit size there =
     Part else Whole (size + 1)) else
     Faulty BadLength
 
--- what is at the front of some bytes, where the length of a frame is at most `limit`
+-- what is at the front of some bytes, if the length of a frame is at most `limit`
 unfoldable pub front : ℕ → List ℕ → Front
 front limit bytes = if nat_lt (length bytes) 5 then
     Part else sized limit (from_be_bytes w32 (take 4 (drop 1 bytes))) (length bytes)
 
--- the frame that so many bytes at the front are
+-- the frame that this number of bytes at the front are
 abbrev pub frame_of : ℕ → List ℕ → Frame
 frame_of size bytes = record { kind = slice_index bytes 0; body = drop 5 (take size bytes) }
 
--- bytes as frames: a rest that is no whole frame, a length that no frame may have with what follows it, or a frame
+-- bytes as frames: a rest that is not a whole frame, a length that no frame may have with what follows it, or a frame
 -- and what comes after it
 pub data Cut : Type 0 where
   Rest : List ℕ → Cut
   Bad : FrameFault → List ℕ → Cut
   Then : Frame → Cut → Cut
 
--- bytes with this front are cut so, where `more` cuts the rest
+-- how bytes with this front are cut; `more` cuts the rest
 abbrev pub cut_after : Front → List ℕ → (List ℕ → Cut) → Cut
 cut_after Part bytes more = Rest bytes
 cut_after (Faulty fault) bytes more = Bad fault bytes
 cut_after (Whole size) bytes more = Then (frame_of size bytes) (more (drop size bytes))
 
--- at most so many frames
+-- at most this number of frames
 abbrev pub cut_some : ℕ → ℕ → List ℕ → Cut
 cut_some limit zero bytes = Rest bytes
 cut_some limit (suc n) bytes = cut_after (front limit bytes) bytes (cut_some limit n)

@@ -1,4 +1,4 @@
--- What a deframer keeps of the bytes that it was fed, and what it answers. The frames are those of "55.7. Message
+-- What a deframer keeps of the bytes that it was fed, and what it returns. The frames are those of "55.7. Message
 -- Formats".
 use Rattle.std.specs.Prelude.{◌≡◌, ℕ, Bool, true, false, List, [], ◌++◌, Option, Some, None, Result, Ok, Err}
 use Rattle.copy_frames.specs.declared.fault.FrameFault.{FrameFault}
@@ -6,7 +6,7 @@ use Rattle.copy_frames.specs.declared.fault.FrameFault.TheVariants.{BadLength, F
 use Rattle.copy_frames.specs.declared.frame.Frame.{Frame}
 use Rattle.copy_frames.specs.Frames.{framed, IsFrame, Cut, Rest, Bad, Then, cut, fault_in}
 
--- the limit on a frame's length, the bytes that were fed and not given, and the fault that was answered
+-- the limit on a frame's length, the bytes that were fed and not returned, and the fault that was returned
 pub record Inbox : Type 0 where
   pub limit : ℕ
   pub bytes : List ℕ
@@ -16,16 +16,16 @@ pub record Inbox : Type 0 where
 abbrev pub empty_inbox : ℕ → Inbox
 empty_inbox limit = record { limit = limit; bytes = []; fault = None }
 
--- an inbox without a fault after it was fed: the fault is that of the first length that no frame may have
+-- an inbox that had no fault, after it was fed: the fault is that of the first length that no frame may have
 abbrev pub with_piece : Inbox → List ℕ → Inbox
 with_piece inbox piece =
     record { limit = inbox.limit; bytes = inbox.bytes ++ piece; fault = fault_in inbox.limit (inbox.bytes ++ piece) }
 
--- where memory was refused nothing is kept of the piece
+-- if memory was refused, nothing is kept of the piece
 abbrev pub without_memory : Inbox → Inbox
 without_memory inbox = record { limit = inbox.limit; bytes = inbox.bytes; fault = Some OutOfMemory }
 
--- what feeding answers
+-- what feeding returns
 abbrev pub answer_of : Option FrameFault → Result (Unit {0}) FrameFault
 answer_of None = Ok tt
 answer_of (Some fault) = Err fault
@@ -42,7 +42,7 @@ TakesPiece None None old piece new = new ≡ with_piece old piece
 abbrev pub IsFed : Inbox → List ℕ → Inbox → Type 0
 IsFed old piece new = TakesPiece old.fault new.fault old piece new
 
--- the first frame that was held is given, and the rest is held, however the stream goes on
+-- the first frame that was held is returned, and the rest is held, however the stream continues
 pub record GivesFrame (old : Inbox) (frame : Frame) (new : Inbox) : Type 0 where
   pub spelled : old.bytes ≡ framed frame ++ new.bytes
   pub allowed : IsFrame old.limit frame
@@ -55,7 +55,7 @@ has_frame (Rest bytes) = false
 has_frame (Bad fault bytes) = false
 has_frame (Then frame more) = true
 
--- a whole frame is given if one is held
+-- a whole frame is returned if one is held
 abbrev pub Gives : Inbox → Option Frame → Inbox → Type 0
 Gives old (Some frame) new = GivesFrame old frame new
 Gives old None new = (new ≡ old) × (has_frame (cut old.limit old.bytes) ≡ false)

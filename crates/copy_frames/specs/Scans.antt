@@ -1,11 +1,11 @@
--- What a look at the front of bytes tells of their frames, and how far bytes were looked through.
+-- What a look at the front of bytes reveals of their frames, and how far bytes were looked through.
 use Rattle.std.specs.Prelude.{◌≡◌, ℕ, ◌≤◌, List, ◌++◌, length, drop, Option}
 use Rattle.copy_frames.specs.declared.fault.FrameFault.{FrameFault}
 use Rattle.copy_frames.specs.declared.front.Front.{Front}
 use Rattle.copy_frames.specs.declared.front.Front.TheVariants.{Part, Faulty, Whole}
 use Rattle.copy_frames.specs.Frames.{framed, IsFrame, frame_of, Rest, Bad, Then, cut, fault_in}
 
--- the first bytes, so many of them, are a frame, however the stream goes on
+-- the first bytes, this number of them, are a frame, however the stream continues
 pub record SpellsFrame (limit : ℕ) (bytes : List ℕ) (size : ℕ) : Type 0 where
   pub least : 5 ≤ size
   pub within : size ≤ length bytes
@@ -20,8 +20,7 @@ Tells limit bytes Part = cut limit bytes ≡ Rest bytes
 Tells limit bytes (Faulty fault) = cut limit bytes ≡ Bad fault bytes
 Tells limit bytes (Whole size) = SpellsFrame limit bytes size
 
--- up to this place there are whole frames, so that a fault is to be looked for from there on, however the stream goes
--- on
+-- up to this place there are whole frames, so that a fault can only be after it, however the stream continues
 pub record Reaches (limit : ℕ) (bytes : List ℕ) (at : ℕ) : Type 0 where
   pub within : at ≤ length bytes
   pub same : (more : List ℕ) → fault_in limit (bytes ++ more) ≡ fault_in limit (drop at bytes ++ more)

@@ -33,7 +33,7 @@ impl Model for Deframer {
     ghost invariant = { λ d. Reaches d.limit d.bytes.items d.whole × (length d.bytes.items < 2 ^ 63) };
 }
 
-/// Goes over the frames from `start` on, to the first that is not whole or has a length that no frame may have.
+/// Looks through the frames from `start` on, up to the first that is not whole or has a length that no frame may have.
 #[tactic(auto, using(crate::proofs::CutLemmas::scan_ends_part, crate::proofs::CutLemmas::scan_ends_fault, crate::proofs::CutLemmas::reaches_on))]
 fn scan(limit: u32, bytes: &[u8], start: usize) -> (usize, Option<FrameFault>)
     requires { Reaches limit bytes.now start }
@@ -63,12 +63,12 @@ impl Deframer {
         }
     }
 
-    /// Takes the next bytes of the connection.
+    /// Accepts the next bytes of the connection.
     ///
     /// # Errors
     ///
-    /// `BadLength` and `FrameTooLong` as soon as such a length is whole, after the frames before it; these are still
-    /// given. `OutOfMemory` keeps nothing of the piece. After a fault it is answered again.
+    /// `BadLength` and `FrameTooLong` as soon as such a length is whole, after the frames before it; `next` still
+    /// returns these. `OutOfMemory` keeps nothing of the piece. After a fault the same fault is returned again.
     pub fn feed(&mut self, piece: &[u8]) -> Result<(), FrameFault>
         ensures fed { IsFed self.old piece.now self.new }
         ensures answer { result ≡ answer_of self.new.fault }
@@ -97,7 +97,7 @@ impl Deframer {
         self.fault = fault;
     }
 
-    /// Gives the memory of the bytes back where none is held.
+    /// Releases the memory of the bytes if no byte is held.
     fn rest(&mut self)
         ensures { self.new ≡ self.old }
     {
@@ -106,12 +106,12 @@ impl Deframer {
         }
     }
 
-    /// The next frame that is whole, also after a fault. Its body is not copied. Where no byte is held any more, the
+    /// The next frame that is whole, also after a fault. Its body is not copied. When no byte is held any more, the
     /// deframer keeps no memory.
     ///
     /// # Errors
     ///
-    /// Want of memory, which keeps the frame.
+    /// Out of memory, which keeps the frame.
     pub fn next(&mut self) -> Result<Option<Frame>, AllocError>
         ensures given { IfOk result (λ found. Gives self.old found self.new) }
         ensures err { OnErr result (self.new ≡ self.old) }

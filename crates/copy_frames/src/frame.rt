@@ -2,7 +2,7 @@
 
 use bytes::Bytes;
 
-/// A frame: one byte that says its kind, and the body, which comes after the length ("55.7. Message Formats").
+/// A frame: one byte for its kind, and the body, which comes after the length ("55.7. Message Formats").
 #[derive(Drop)]
 pub struct Frame {
     pub kind: u8,

@@ -1,4 +1,4 @@
-//! What a server says while it has nothing to send.
+//! What a server sends while it has no data.
 
 ghost use Rattle.std.specs.Prelude.{◌≡◌, ◌++◌, OnOk, OnErr};
 ghost use Rattle.copy_frames.specs.Contents.{copy_data, keepalive_body, keepalive_in};
@@ -8,7 +8,7 @@ use crate::room::{put, put_flag, put_int64};
 use bytes::BytesMut;
 use std::alloc::AllocError;
 
-/// What a server says while it has nothing to send: a place in the log, in bytes, and its clock, in microseconds since
+/// What a server sends while it has no data: a place in the log, in bytes, and its clock, in microseconds since
 /// 2000-01-01 ("55.4. Streaming Replication Protocol", Primary keepalive message).
 #[derive(Clone, Copy, Debug, PartialEq, Eq)]
 pub struct Keepalive {
@@ -18,7 +18,7 @@ pub struct Keepalive {
     pub wants_reply: bool,
 }
 
-/// Appends the frame of a keepalive. The only error is want of memory, which leaves `out` as it was.
+/// Appends the frame of a keepalive. The only error is out of memory, which leaves `out` as it was.
 pub fn append_keepalive(out: &mut BytesMut, keepalive: &Keepalive) -> Result<(), AllocError>
     ensures ok { OnOk result (out.new.items ≡ out.old.items ++ copy_data (keepalive_body keepalive.now)) }
     ensures err { OnErr result (out.new.items ≡ out.old.items) }
@@ -31,7 +31,7 @@ pub fn append_keepalive(out: &mut BytesMut, keepalive: &Keepalive) -> Result<(),
     Ok(())
 }
 
-/// The keepalive in the body of a CopyData whose first byte is `k`: 18 bytes, else none.
+/// The keepalive in the body of a CopyData whose first byte is `k`: `None` unless the body has 18 bytes.
 pub fn read_keepalive(body: &[u8]) -> Option<Keepalive>
     ensures { result ≡ keepalive_in body.now }
 {

@@ -1,13 +1,13 @@
-//! Laws of frames, and of what they hold.
+//! Laws about frames, and about their contents.
 
 ghost use Rattle.copy_frames.specs.FrameLaws.{CutsAreSpelled, SpelledAreCut, CutsAreWhole, StartsGiven, FedIsGiven, FrameIsGiven, FaultIsFirst};
 ghost use Rattle.copy_frames.specs.ContentLaws.{XLogDataIsRead, KeepaliveIsRead, StatusIsRead};
 
-/// A law, and no code, of what bytes are cut into.
+/// A law about what bytes are cut into: a function without an effect whose contract states it.
 ///
 /// The frames that were cut, spelled again, and what is left are the bytes. The spellings of frames, one after another,
-/// are cut into those frames and what comes after them. Each frame is within the limit, what is left at the end is no
-/// whole frame, and a fault is that of the length there ("55.7. Message Formats").
+/// are cut into those frames and what comes after them. Each frame is within the limit, what is left at the end is not
+/// a whole frame, and a fault is that of the length there ("55.7. Message Formats").
 #[tactic(auto, using(crate::proofs::CutLemmas::cuts_are_spelled, crate::proofs::CutLemmas::spelled_are_cut, crate::proofs::CutLemmas::cuts_are_whole))]
 pub fn bytes_make_frames()
     ensures spelled { CutsAreSpelled }
@@ -15,9 +15,9 @@ pub fn bytes_make_frames()
     ensures whole { CutsAreWhole }
 {}
 
-/// A law, and no code, of what a `Deframer` gives: whatever the pieces, the bytes that were fed are the frames that it
-/// gave and what it holds, and they are cut into the same frames as if they had come at once. The fault is that of all
-/// bytes that were fed.
+/// A law about a `Deframer`: whatever the pieces, the bytes that were fed are the frames that it returned and what it
+/// holds, and they are cut into the same frames as if they had come at once. The fault is that of all bytes that were
+/// fed.
 #[tactic(auto, using(crate::proofs::HistoryLemmas::fault_is_first))]
 pub fn pieces_make_frames()
     ensures starts { StartsGiven }
@@ -26,7 +26,7 @@ pub fn pieces_make_frames()
     ensures fault { FaultIsFirst }
 {}
 
-/// A law, and no code, of what is carried in CopyData: what is spelled is read.
+/// A law about what is carried in CopyData: what is spelled is read.
 #[tactic(auto, using(crate::proofs::ContentLemmas::data_is_read, crate::proofs::ContentLemmas::keepalive_is_read, crate::proofs::ContentLemmas::status_is_read))]
 pub fn bodies_are_read_as_spelled()
     ensures data { XLogDataIsRead }

@@ -1,4 +1,4 @@
-//! Bytes that are appended where there is room for them.
+//! Bytes that are appended if there is room for them.
 
 ghost use Rattle.std.specs.Prelude.{◌≡◌, ◌≤◌, ◌+◌, ◌++◌, ◌∷◌, [], length};
 ghost use Rattle.copy_frames.specs.Contents.{flag, int64};

@@ -1,4 +1,4 @@
-//! Statuses, by which a client says how far it is.
+//! Statuses, by which a client reports its progress.
 
 ghost use Rattle.std.specs.Prelude.{◌≡◌, ◌++◌, OnOk, OnErr};
 ghost use Rattle.copy_frames.specs.Contents.{copy_data, status_body, status_in};
@@ -8,9 +8,9 @@ use crate::room::{put, put_flag, put_int64};
 use bytes::BytesMut;
 use std::alloc::AllocError;
 
-/// How far a client is: the places in the log, in bytes, up to which it has written, flushed and applied what it got.
-/// The clock is its own, in microseconds since 2000-01-01 ("55.4. Streaming Replication Protocol", Standby status
-/// update).
+/// The progress of a client: the places in the log, in bytes, up to which it has written, flushed and applied what it
+/// received. The clock is its own, in microseconds since 2000-01-01 ("55.4. Streaming Replication Protocol", Standby
+/// status update).
 #[derive(Clone, Copy, Debug, PartialEq, Eq)]
 pub struct Status {
     pub written: u64,
@@ -21,7 +21,7 @@ pub struct Status {
     pub wants_reply: bool,
 }
 
-/// Appends the frame of a status. The only error is want of memory, which leaves `out` as it was.
+/// Appends the frame of a status. The only error is out of memory, which leaves `out` as it was.
 pub fn append_status(out: &mut BytesMut, status: &Status) -> Result<(), AllocError>
     ensures ok { OnOk result (out.new.items ≡ out.old.items ++ copy_data (status_body status.now)) }
     ensures err { OnErr result (out.new.items ≡ out.old.items) }
@@ -36,7 +36,7 @@ pub fn append_status(out: &mut BytesMut, status: &Status) -> Result<(), AllocErr
     Ok(())
 }
 
-/// The status in the body of a CopyData whose first byte is `r`: 34 bytes, else none.
+/// The status in the body of a CopyData whose first byte is `r`: `None` unless the body has 34 bytes.
 pub fn read_status(body: &[u8]) -> Option<Status>
     ensures { result ≡ status_in body.now }
 {

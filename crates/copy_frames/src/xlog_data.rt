@@ -18,7 +18,7 @@ pub struct XLogData {
     pub clock: u64,
 }
 
-/// Appends the frame of an XLogData with this message. The only error is want of memory, which leaves `out` as it was.
+/// Appends the frame of an XLogData with this message. The only error is out of memory, which leaves `out` as it was.
 pub fn append_xlog_data(
     out: &mut BytesMut,
     head: &XLogData,
@@ -39,7 +39,8 @@ pub fn append_xlog_data(
     Ok(())
 }
 
-/// The head and the message in the body of a CopyData whose first byte is `w`: at least 25 bytes, else none.
+/// The head and the message in the body of a CopyData whose first byte is `w`: `None` unless the body has at least 25
+/// bytes.
 pub fn read_xlog_data(body: &[u8]) -> Option<(XLogData, &[u8])>
     ensures { option_map (λ read. (read.0, read.1.now)) result ≡ xlog_data_in body.now }
 {

@@ -1,4 +1,4 @@
--- Lists that have each item once, where the items are seen through a view.
+-- Lists that have each item once, when the items are seen through a view.
 use Rattle.std.proofs.Common.{◌≡◌, ℕ, ◌≤◌, length, take, Bool, true, false, List, [], ◌∷◌, ◌++◌, refl, sym, ◌∙◌, ap, subst}
 use Rattle.std.specs.Prelude.{nat_eq, map, fold, ◌||◌, ◌<◌, if◌then◌else◌, All, Contains}
 use Rattle.std.specs.List.{list_any}
@@ -21,7 +21,7 @@ any_viewed : {X Y : Type 0} (view : X → Y) (p : Y → Bool) (xs : List X)
 any_viewed view p [] = refl
 any_viewed view p (x ∷ xs) = ap (λ b. p (view x) || b) (any_viewed view p xs)
 
--- one more item, where the items are seen through a view
+-- one more item, when the items are seen through a view
 pub map-with_item : {X Y : Type 0} (view : X → Y) (same : Y → Y → Bool) (xs : List X) (x : X)
     → map view (with_item (λ one other. same (view one) (view other)) xs x) ≡ with_item same (map view xs) (view x)
 map-with_item view same xs x = by_test (list_any (same (view x)) (map view xs))
@@ -33,7 +33,7 @@ pub atom_added : {A : _} (atoms : List (Bor (Atom A))) (atom : Bor (Atom A))
     ≡ with_item same_atom (atoms_view atoms) (atom_view atom.now)
 atom_added atoms atom = map-with_item (λ a. atom_view a.now) same_atom atoms atom
 
--- a loop that went to the end of a list went over all of it
+-- a loop that reached the end of a list went over all of it
 pub all_taken : {X : Type 0} (xs ys : List X) (count : ℕ) → length xs ≤ count → xs ≡ ys → take count xs ≡ ys
 all_taken xs ys count h e = take_all count xs h ∙ e
 
@@ -50,7 +50,7 @@ any_of_all : {Y : Type 0} (p : Y → Bool) (same : Y → Y → Bool) (ys more : 
 any_of_all p same ys [] h = h
 any_of_all p same ys (y ∷ more) h = any_of_all p same (with_item same ys y) more (any_of_more p same ys y h)
 
--- an item that was added is there
+-- an item that was added is in the list
 has_added : {Y : Type 0} (same : Y → Y → Bool) (self : (y : Y) → same y y ≡ true) (ys : List Y) (y : Y)
     → list_any (same y) (with_item same ys y) ≡ true
 has_added same self ys y = by_test (list_any (same y) ys)
@@ -89,7 +89,7 @@ module _ {X Y : Type 0} (same : X → X → Bool) (alike : Y → Y → Bool) (pa
     parts_of_distinct : (xs : List X) → distinct alike (map part (distinct same xs)) ≡ distinct alike (map part xs)
     parts_of_distinct xs = parts_added [] [] xs
 
--- what holds of each item holds of each of the list that has them once
+-- what holds for each item holds for each item of the list that has them once
 all_with : {Y : Type 0} (P : Y → Type 0) (has : Bool) (ys : List Y) (y : Y) → All P ys → P y
     → All P (if has then ys else ys ++ y ∷ [])
 all_with P true ys y h p = h
@@ -102,7 +102,7 @@ all_fold P same ys (y ∷ more) h m =
     all_fold P same (with_item same ys y) more (all_with P (list_any (same y) ys) ys y h (All-head P y more m))
     (All-tail P y more m)
 
--- a column that a filter names is among the first so many, if all are
+-- a column that a filter names is among the first `count` ones, if all are
 pub distinct_within : (count : ℕ) (filter : Expr) (column : ℕ) → NamesWithin count filter
     → Contains (distinct_columns filter) column → column < count
 distinct_within count filter column h there =

@@ -1,4 +1,4 @@
--- A list that takes each item unless it has it has each item once, in the order of first appearance.
+-- A list that adds each item unless it already has it has each item once, in the order of first appearance.
 use Rattle.std.proofs.Common.{◌≡◌, ◌+◌, ◌<◌, Bool, true, false, List, [], ◌∷◌, ◌++◌, length, refl, sym, ap, ◌∙◌, subst, append_assoc, append-nil, arith}
 use Rattle.std.specs.Prelude.{nat_eq, fold, ◌||◌}
 use Rattle.std.specs.Cmp.{IsEquivalence, nat_eq_equiv}
@@ -11,7 +11,7 @@ use Rattle.filter_tree.specs.Same.{same_atom, same_term}
 use Rattle.filter_tree.proofs.SameLemmas.{same_atom_is, same_atom_of_equal, same_term_is, same_term_of_equal}
 use Rattle.filter_tree.proofs.Tests.{by_test}
 
--- ---- tests that hold of equal items, and of no others
+-- ---- tests that hold for equal items and for no others
 
 module _ {X : Type 0} (same : X → X → Bool) (is : (x y : X) → same x y ≡ true → x ≡ y)
     (self : (x y : X) → x ≡ y → same x y ≡ true) where
@@ -72,7 +72,7 @@ position-missing p (x ∷ xs) h = by_test (p x)
 -- ---- one more item
 
 module _ {X : Type 0} (same : X → X → Bool) (laws : IsEquivalence same) where
-  -- of an item that is the same as another, whether a list has it
+  -- if an item is the same as another, a list has both or neither
   any_alike : (x y : X) (xs : List X) → same x y ≡ true → list_any (same x) xs ≡ list_any (same y) xs
   any_alike x y [] h = refl
   any_alike x y (z ∷ xs) h = let one = laws.congr x y z h in let others = any_alike x y xs h in rw (one, others) refl
@@ -93,7 +93,7 @@ module _ {X : Type 0} (same : X → X → Bool) (laws : IsEquivalence same) wher
       (λ new. rw new (list_any-append (same x) once (z ∷ []) ∙ ap (λ b. b || list_any (same x) (z ∷ [])) (held x)
       ∙ sym (list_any-append (same x) items (z ∷ []))))
 
-  -- an item that the list lacks stands before no other but where it is added
+  -- an item that the list lacks comes before no other item except where it is added
   ordered_at_new : (once items : List X) (z x y : X) → ((w : X) → list_any (same w) once ≡ list_any (same w) items)
       → list_any (same x) items ≡ false
       → position_or_len (same x) (items ++ z ∷ []) < position_or_len (same y) (items ++ z ∷ [])

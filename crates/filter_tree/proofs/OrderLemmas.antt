@@ -1,4 +1,4 @@
--- The order of rows is total, and ties exactly the same rows.
+-- The order of rows is total, and ties rows exactly if they are the same.
 use Rattle.std.proofs.Common.{◌≡◌, ℤ, Bool, true, false, refl, sym, ap, subst, ◌∙◌}
 use Rattle.std.specs.Ordering.{int_cmp, bool_cmp, eq_by_cmp, ordering_then}
 use Rattle.std.specs.Cmp.{IsTotalOrder, Equal-is, both_ways, tied_itself, nat_cmp_total, int_cmp_total, bool_cmp_total, on_total, then_total}

@@ -62,7 +62,7 @@ two_has f left right a b h k =
 abbrev not_null : Mask
 not_null = record { truth = true; falsity = true; null = false }
 
--- a value that the path has is the atom's
+-- a value in the path is the atom's
 first_value_is : (row : List Datum) (atom : AtomOf) (path : Path) (value : Tri) → Agrees row path
     → first_value atom path ≡ Some value → atom_meaning atom row ≡ value
 first_value_is row atom [] value agrees h = absurd cc
@@ -126,7 +126,7 @@ some_known : (known : Option Tri) (atom : AtomOf) → (t : Tri) × (member (know
 some_known (Some value) atom = (value, single_has value)
 some_known None atom = (True, open_has_true atom)
 
--- some truth value is left to each filter, also on a path with which no row agrees
+-- some truth value is left for each filter, even on a path with which no row agrees
 some_possible : (filter : Expr) (path : Path) → (t : Tri) × (member (possible_of filter path) t ≡ true)
 some_possible (Const known) path = (tri_of known, single_has (tri_of known))
 some_possible (Atom atom) path = some_known (first_value atom path) atom
@@ -173,7 +173,7 @@ true_absorbs false false false True h = absurd cc
 true_absorbs false false false False h = absurd cc
 true_absorbs false false false Null h = absurd cc
 
--- AND with what is surely false is false, whatever the other part
+-- AND with a part that is surely false is false, whatever the other part is
 pub both_false : (filter : Expr) (path : Path)
     → lift_two and_of (single_of False) (possible_of filter path) ≡ single_of False
 both_false filter path =
@@ -181,7 +181,7 @@ both_false filter path =
     let mask = possible_of filter path in
     false_absorbs mask.truth mask.falsity mask.null some.0 some.1
 
--- OR with what is surely true is true, whatever the other part
+-- OR with a part that is surely true is true, whatever the other part is
 pub either_true : (filter : Expr) (path : Path)
     → lift_two or_of (single_of True) (possible_of filter path) ≡ single_of True
 either_true filter path =

@@ -1,4 +1,4 @@
--- The tests of sameness hold of equal values only, and of each value with itself.
+-- The tests for sameness hold for equal values only, and for each value with itself.
 use Rattle.std.proofs.Common.{◌≡◌, ℕ, ◌+◌, ◌<◌, ◌≤◌, true, ◌&&◌, List, [], ◌∷◌, length, refl, sym, ap, subst, arith, drop, add-one}
 use Rattle.std.specs.Prelude.{nat_eq}
 use Rattle.std.proofs.lemmas.Option.{unwrap_or-slice_get}
@@ -146,7 +146,7 @@ same_atom_of_equal c d e = subst (λ x. same_atom c x ≡ true) e (same_atom_sel
 
 -- ---- rows
 
--- the values from a column on, where there is one
+-- the values from a column on, if there is one
 drop_from : (row : List Datum) (column : ℕ) → column < length row
     → drop column row ≡ value_at row column ∷ drop (column + 1) row
 drop_from row column h = rw (add-one, unwrap_or-slice_get row column Missing) (drop-cons row column Missing h)

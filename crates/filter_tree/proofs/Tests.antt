@@ -1,4 +1,4 @@
--- Cases on a test, and small facts of tests.
+-- Case distinctions on a test, and small facts about tests.
 use Rattle.std.proofs.Common.{◌≡◌, Bool, true, false, not, ◌&&◌, ◌||◌, refl}
 use Rattle.std.specs.Prelude.{T}
 

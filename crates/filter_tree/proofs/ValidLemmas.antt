@@ -70,7 +70,7 @@ unless_fault : (b : Bool) (later : Option RowFault) (fault : RowFault) → (if b
 unless_fault true later fault h = (refl, h)
 unless_fault false later fault h = absurd cc
 
--- of bytes that are UTF-8 only the text's fault is left
+-- for bytes that are UTF-8 only the text's fault is left
 pub utf8_fault : (k : ℕ) (bytes : List ℕ) → IsUtf8 bytes → bytes_fault k bytes ≡ text_fault k bytes
 utf8_fault k bytes utf8 = rw (is_utf8-from_IsUtf8 bytes utf8) refl
 
@@ -160,7 +160,7 @@ fit_columns row number (column ∷ columns) fits =
     subst (λ i. IfSome (slice_get columns k) (λ column. Fits column (value_at row i))) f (fits (suc k))) in
     cc
 
--- a test of the width that goes before another fault
+-- a test of the width that comes before another fault
 width_passed : (b : Bool) (later : Option RowFault) → (if b then later else Some Width) ≡ None → (b ≡ true)
     × (later ≡ None)
 width_passed true later h = (refl, h)

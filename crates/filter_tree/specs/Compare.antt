@@ -1,5 +1,5 @@
--- Comparisons of a value with constants: the operators and predicates of "9.2 Comparison Functions and Operators",
--- and IN of "9.24 Row and Array Comparisons". All but IS DISTINCT FROM are null where the value is null.
+-- Comparisons of a value with constants: the operators and predicates of "9.2 Comparison Functions and Operators", and
+-- IN of "9.24 Row and Array Comparisons". All but IS DISTINCT FROM are null if the value is null.
 use Rattle.std.specs.Prelude.{ℕ, ℤ, Bool, false, not, List, int_lt, int_le}
 use Rattle.std.specs.List.{list_any}
 use Rattle.std.specs.Ordering.{int_eq}
@@ -20,19 +20,19 @@ compare_numbers_of Le m n = int_le m n
 compare_numbers_of Gt m n = int_lt n m
 compare_numbers_of Ge m n = int_le n m
 
--- filters compare truth values by `=` and `<>` alone
+-- filters compare truth values by `=` and `<>` only
 abbrev pub compare_truths_of : Op → Bool → Bool → Bool
 compare_truths_of Eq p q = beq p q
 compare_truths_of Ne p q = not (beq p q)
 compare_truths_of _ p q = false
 
--- filters compare texts by `=` and `<>` alone, byte for byte
+-- filters compare texts by `=` and `<>` only, byte by byte
 abbrev pub compare_texts_of : Op → List ℕ → List ℕ → Bool
 compare_texts_of Eq s t = bytes_eq s t
 compare_texts_of Ne s t = not (bytes_eq s t)
 compare_texts_of _ s t = false
 
--- the comparison of two constants, which holds of no two of different types
+-- the comparison of two constants, which never holds for constants of different types
 abbrev pub compare_known : Op → Constant → Constant → Bool
 compare_known op (Number m) (Number n) = compare_numbers_of op m n
 compare_known op (Truth p) (Truth q) = compare_truths_of op p q
@@ -44,7 +44,7 @@ abbrev pub compare_of : Op → Datum → Constant → Tri
 compare_of op Missing constant = Null
 compare_of op (Known value) constant = tri_of (compare_known op value constant)
 
--- the value is the constant; null is none
+-- the value equals the constant; null equals no constant
 abbrev pub equals : Datum → Constant → Bool
 equals Missing constant = false
 equals (Known value) constant = compare_known Eq value constant
@@ -54,11 +54,11 @@ abbrev pub among_of : Datum → List Constant → Tri
 among_of Missing constants = Null
 among_of (Known value) constants = tri_of (list_any (equals (Known value)) constants)
 
--- `value BETWEEN low AND high`, both ends among what is taken
+-- `value BETWEEN low AND high`, both ends included
 abbrev pub between_of : Datum → ℤ → ℤ → Tri
 between_of value low high = and_of (compare_of Ge value (Number low)) (compare_of Le value (Number high))
 
--- `value IS DISTINCT FROM constant`, which is true of null and never null itself
+-- `value IS DISTINCT FROM constant`, which is true for null and is never null itself
 abbrev pub distinct_of : Datum → Constant → Tri
 distinct_of Missing constant = True
 distinct_of (Known value) constant = tri_of (compare_known Ne value constant)

@@ -30,8 +30,8 @@ pub data Expr : Type 0 where
   Or : Expr → Expr → Expr
   Is : Test → Expr → Expr
 
--- the remainder of a number, which truncates towards zero, and by 0 is the number itself; any other value stays as it
--- is
+-- the remainder of a number: it truncates towards zero, and the remainder by 0 is the number itself; any other value
+-- stays as it is
 abbrev pub remainder_of : Datum → ℤ → Datum
 remainder_of (Known (Number n)) divisor = Known (Number (int_rem n divisor))
 remainder_of value divisor = value
@@ -53,7 +53,7 @@ term_of (In term constants) = term
 term_of (Between term low high) = term
 term_of (Distinct term constant) = term
 
--- what an atom says of the value of its term
+-- what an atom says about the value of its term
 abbrev pub said_of : AtomOf → Datum → Tri
 said_of (Cmp term op constant) value = compare_of op value constant
 said_of (IsNull column) value = is_missing value
@@ -64,7 +64,7 @@ said_of (Distinct term constant) value = distinct_of value constant
 abbrev pub atom_meaning : AtomOf → List Datum → Tri
 atom_meaning atom row = said_of atom (term_value (term_of atom) row)
 
--- what a filter says of a row
+-- what a filter says about a row
 abbrev pub meaning : Expr → List Datum → Tri
 meaning (Const known) row = tri_of known
 meaning (Atom atom) row = atom_meaning atom row

@@ -46,7 +46,7 @@ distinct_terms filter = distinct same_term (terms_in filter)
 abbrev pub distinct_columns : Expr → List ℕ
 distinct_columns filter = distinct nat_eq (columns_in (atoms_in filter))
 
--- the columns that a filter names are among the first so many
+-- the columns that a filter names are among the first `count` ones
 abbrev pub NamesWithin : ℕ → Expr → Type 0
 NamesWithin count filter = All (λ column. column < count) (columns_in (atoms_in filter))
 

@@ -35,7 +35,7 @@ is_of AskFalse False = True
 is_of AskUnknown Null = True
 is_of _ _ = False
 
--- a test whose answer is known
+-- a test whose result is known
 abbrev pub tri_of : Bool → Tri
 tri_of true = True
 tri_of false = False

@@ -29,11 +29,11 @@ mask_where test = record { truth = test True; falsity = test False; null = test 
 abbrev pub single_of : Tri → Mask
 single_of value = mask_where (same_tri value)
 
--- what the connective gives of the members of a set
+-- what the connective gives for the members of a set
 abbrev pub lift_one : (Tri → Tri) → Mask → Mask
 lift_one f mask = mask_where (λ t. list_any (λ a. member mask a && same_tri (f a) t) all_three)
 
--- what the connective gives of a member of one set and a member of the other
+-- what the connective gives for a member of one set and a member of the other
 abbrev pub lift_two : (Tri → Tri → Tri) → Mask → Mask → Mask
 lift_two f left right =
     mask_where (λ t. list_any (λ a. list_any (λ b. member left a && (member right b && same_tri (f a b) t)) all_three)

@@ -1,4 +1,4 @@
--- What it is that a list has each item once, in the order of first appearance: the atoms and terms of row filters
+-- What it means that a list has each item once, in the order of first appearance: the atoms and terms of row filters
 -- ("31.3 Row Filters"), by whose places certificates name them, and their columns.
 use Rattle.std.specs.Prelude.{ℕ, Bool, nat_eq, List, ◌≡◌, ◌<◌}
 use Rattle.std.specs.List.{IsDistinct, list_any, position_or_len}
@@ -15,7 +15,7 @@ pub record HasEachOnce {X : Type 0} (same : X → X → Bool) (once items : List
   pub ordered : (x y : X) → position_or_len (same x) items < position_or_len (same y) items
       → position_or_len (same x) once < position_or_len (same y) once
 
--- A list that takes each item unless it has it is such a list, of atoms, of terms and of numbers of columns.
+-- A list that adds each item unless it already has it is such a list, for atoms, for terms and for numbers of columns.
 pub record DistinctIsOnce : Type 0 where
   pub atoms : (atoms : List AtomOf) → HasEachOnce same_atom (distinct same_atom atoms) atoms
   pub terms : (terms : List Term) → HasEachOnce same_term (distinct same_term terms) terms

@@ -17,7 +17,7 @@ rank_of (Known (Number number)) = 1
 rank_of (Known (Truth truth)) = 2
 rank_of (Known (Bytes bytes)) = 3
 
--- of a value of each kind what tells it from the others of its kind
+-- for a value of each kind, what distinguishes it from the others of its kind
 abbrev pub number_of : Datum → ℤ
 number_of (Known (Number number)) = number
 number_of value = pos 0
@@ -35,7 +35,7 @@ abbrev pub datum_cmp : Datum → Datum → Ordering
 datum_cmp = then_cmp (on rank_of nat_cmp) (then_cmp (on number_of int_cmp)
     (then_cmp (on truth_of bool_cmp) (on bytes_of (slice_cmp nat_cmp))))
 
--- by the first column in which they differ; a row that another one begins with comes before that one
+-- by the first column in which they differ; a row that is the beginning of another comes before it
 abbrev pub row_cmp : List Datum → List Datum → Ordering
 row_cmp = slice_cmp datum_cmp
 
@@ -48,6 +48,6 @@ pub record OrdersValues : Type 0 where
   pub truths : (one other : Bool) → datum_cmp (Known (Truth one)) (Known (Truth other)) ≡ bool_cmp one other
   pub texts : (one other : List ℕ) → datum_cmp (Known (Bytes one)) (Known (Bytes other)) ≡ slice_cmp nat_cmp one other
 
--- Exactly the same rows tie.
+-- Rows tie exactly if they are the same.
 abbrev pub TiesSameRows : Type 0
 TiesSameRows = (one other : List Datum) → eq_by_cmp row_cmp one other ≡ same_row one other

@@ -1,4 +1,4 @@
--- What is known of a row once some atoms were tested, and which truth values a filter can still have on it.
+-- What is known about a row once some atoms are tested, and which truth values a filter can still have on it.
 use Rattle.std.specs.Prelude.{◌≡◌, true, false, List, [], ◌∷◌, map, if◌then◌else◌, Option, Some, None}
 use Rattle.std.specs.Borrow.{Bor}
 use Rattle.filter_tree.specs.Datum.{Datum}
@@ -24,12 +24,12 @@ abbrev pub Agrees : List Datum → Path → Type 0
 Agrees row [] = Unit {0}
 Agrees row (entry ∷ path) = (atom_meaning entry.0 row ≡ entry.1) × Agrees row path
 
--- the value of an atom that the path has first
+-- the value that the path has first for an atom
 abbrev pub first_value : AtomOf → Path → Option Tri
 first_value atom [] = None
 first_value atom (entry ∷ path) = if same_atom atom entry.0 then Some entry.1 else first_value atom path
 
--- what an atom may be while nothing is known of it: `IS NULL` and `IS DISTINCT FROM` are never null
+-- what an atom may be while nothing is known about it: `IS NULL` and `IS DISTINCT FROM` are never null
 abbrev pub open_mask : AtomOf → Mask
 open_mask (Cmp term op constant) = mask_where (λ value. true)
 open_mask (IsNull column) = record { truth = true; falsity = true; null = false }

@@ -1,4 +1,4 @@
--- The ranges of the integer types: "8.1 Numeric Types". A type that is no integer type has the range of bigint.
+-- The ranges of the integer types: "8.1 Numeric Types". A type that is not an integer type has the range of bigint.
 use Rattle.std.specs.Prelude.{ℤ, pos, negsuc}
 use Rattle.filter_tree.specs.declared.table.ColType.{ColType}
 use Rattle.filter_tree.specs.declared.table.ColType.TheVariants.{SmallInt, Integer}

@@ -1,4 +1,4 @@
--- A filter tree of the program as plain data, in whatever memory it lies.
+-- A filter tree of the program as plain data, whichever memory it is in.
 use Rattle.std.specs.Prelude.{List, map}
 use Rattle.std.specs.Borrow.{Bor}
 use Rattle.filter_tree.specs.Values.{constant_view}
@@ -20,7 +20,7 @@ atom_view (Distinct term literal) = e.Distinct term (constant_view literal)
 abbrev pub atoms_view : {A : _} → List (Bor (Atom A)) → List AtomOf
 atoms_view atoms = map (λ atom. atom_view atom.now) atoms
 
--- `p` and `q` are where the boxes lie
+-- `p` and `q` are where the boxes are
 abbrev pub expr_view : {A : _} → Filter A → Expr
 expr_view (Const known) = e.Const known
 expr_view (Leaf atom) = e.Atom (atom_view atom)

@@ -1,6 +1,6 @@
 -- Which rows fit a table, and the first fault of one that doesn't: the columns' types and NOT NULL of "CREATE TABLE",
 -- the ranges of "8.1 Numeric Types", texts in UTF-8 of "24.3. Character Set Support", and the longest text that is
--- taken.
+-- accepted.
 use Rattle.std.specs.Prelude.{◌≡◌, ℕ, ◌+◌, ◌≤◌, ℤ, ◌≤ℤ◌, int_le, false, ◌&&◌, List, [], ◌∷◌, length, Contains, if◌then◌else◌, ◌==◌, nat_le, Option, Some, None, Result, Ok, Err, IfSome, slice_get}
 use Rattle.std.specs.List.{list_any}
 use Rattle.std.specs.Str.{IsUtf8, is_utf8}
@@ -22,7 +22,7 @@ pub record IsText (bytes : List ℕ) : Type 0 where
   pub no_zero : ¬ Contains bytes 0
   pub short : length bytes ≤ 65535
 
--- the constant is a value of the type; bytes that are not UTF-8 are no text
+-- the constant is a value of the type; bytes that are not UTF-8 are not a text
 abbrev pub IsOf : ColType → Constant → Type 0
 IsOf SmallInt (Number number) = IsWithin SmallInt number
 IsOf Integer (Number number) = IsWithin Integer number
@@ -31,12 +31,12 @@ IsOf Boolean (Truth truth) = Unit {0}
 IsOf Text (Bytes bytes) = IsUtf8 bytes × IsText bytes
 IsOf _ _ = ⊥
 
--- the column takes the value: null unless the column is NOT NULL, or a value of its type
+-- the column accepts the value: null unless the column is NOT NULL, or a value of its type
 abbrev pub Fits : Column → Datum → Type 0
 Fits column Missing = column.not_null ≡ false
 Fits column (Known constant) = IsOf column.kind constant
 
--- the row is as wide as the table, and each column takes its value
+-- the row is as wide as the table, and each column accepts its value
 pub record IsValid (columns : List Column) (row : List Datum) : Type 0 where
   pub wide : length row ≡ length columns
   pub fits : (k : ℕ) → IfSome (slice_get columns k) (λ column. Fits column (value_at row k))
@@ -52,7 +52,7 @@ text_fault column bytes =
     if list_any (λ byte. byte == 0) bytes then Some (NulInText column)
     else (if nat_le (length bytes) 65535 then None else Some (TextTooLong column))
 
--- bytes that are not UTF-8 are of no column's type
+-- bytes that are not UTF-8 have no column's type
 abbrev pub bytes_fault : ℕ → List ℕ → Option RowFault
 bytes_fault column bytes = if is_utf8 bytes then text_fault column bytes else Some (WrongType column)
 
@@ -84,7 +84,7 @@ columns_fault number (column ∷ columns) row =
 abbrev pub row_fault : List Column → List Datum → Option RowFault
 row_fault columns row = if length row == length columns then columns_fault 0 columns row else Some Width
 
--- what `valid` answers
+-- what `valid` returns
 abbrev pub verdict_of : Option RowFault → Result (Unit {0}) RowFault
 verdict_of None = Ok tt
 verdict_of (Some fault) = Err fault

@@ -1,4 +1,4 @@
--- The values of rows and the constants of filters of the program as plain data, in whatever memory they lie.
+-- The values of rows and the constants of filters of the program as plain data, whichever memory they are in.
 use Rattle.filter_tree.specs.Datum.{Constant, Number, Truth, Bytes, Datum, Missing, Known}
 use Rattle.filter_tree.specs.declared.value.Value.{Value}
 use Rattle.filter_tree.specs.declared.value.Value.TheVariants.{Null, Int, Bool, Text}

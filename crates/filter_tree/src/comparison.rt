@@ -10,8 +10,8 @@ use crate::tri::Tri;
 use crate::value::{Literal, Value};
 use std::alloc::Allocator;
 
-/// SQL's `value op literal`: null where the value is null. Otherwise a comparison of unlike types is false, and so is
-/// an order of texts or of truth values.
+/// SQL's `value op literal`, which is null if the value is null. Otherwise a comparison of different types is false,
+/// and so is an order comparison of texts or of truth values.
 ///
 /// PostgreSQL 15, 9.2 Comparison Functions and Operators.
 pub fn compare<A: Allocator, B: Allocator>(op: Op, value: &Value<A>, literal: &Literal<B>) -> Tri
@@ -26,7 +26,7 @@ pub fn compare<A: Allocator, B: Allocator>(op: Op, value: &Value<A>, literal: &L
     }
 }
 
-/// SQL's `value IN (literals)`: null where the value is null.
+/// SQL's `value IN (literals)`, which is null if the value is null.
 ///
 /// PostgreSQL 15, 9.24.1 IN.
 pub fn compare_list<A: Allocator, B: Allocator>(value: &Value<A>, literals: &[Literal<B>]) -> Tri
@@ -49,7 +49,7 @@ fn is_among<A: Allocator, B: Allocator>(value: &Value<A>, literals: &[Literal<B>
     false
 }
 
-/// Whether the value is the literal; null is none.
+/// Whether the value equals the literal; null equals no literal.
 fn is_equal<A: Allocator, B: Allocator>(value: &Value<A>, literal: &Literal<B>) -> bool
     ensures { result ≡ equals (datum_view value.now) (constant_view literal.now) }
 {
@@ -61,7 +61,7 @@ fn is_equal<A: Allocator, B: Allocator>(value: &Value<A>, literal: &Literal<B>) 
     }
 }
 
-/// SQL's `value BETWEEN low AND high`: null where the value is null.
+/// SQL's `value BETWEEN low AND high`, which is null if the value is null.
 ///
 /// PostgreSQL 15, 9.2 Comparison Functions and Operators.
 pub fn compare_between<A: Allocator>(value: &Value<A>, low: i64, high: i64) -> Tri
@@ -74,7 +74,7 @@ pub fn compare_between<A: Allocator>(value: &Value<A>, low: i64, high: i64) -> T
     }
 }
 
-/// SQL's `value IS DISTINCT FROM literal`, which is true where the value is null.
+/// SQL's `value IS DISTINCT FROM literal`, which is true if the value is null.
 ///
 /// PostgreSQL 15, 9.2 Comparison Functions and Operators.
 pub fn compare_distinct<A: Allocator, B: Allocator>(value: &Value<A>, literal: &Literal<B>) -> Tri
@@ -86,8 +86,8 @@ pub fn compare_distinct<A: Allocator, B: Allocator>(value: &Value<A>, literal: &
     }
 }
 
-/// Whether `left op right` holds of two constants. It never holds of constants of different types, and of texts and
-/// truth values only `=` and `<>` may hold.
+/// Whether `left op right` holds for two constants. It never holds for constants of different types. For texts and
+/// truth values only `=` and `<>` can hold.
 ///
 /// PostgreSQL 15, 9.2 Comparison Functions and Operators.
 pub fn compare_literals<A: Allocator, B: Allocator>(

@@ -7,7 +7,7 @@ use crate::text::Text;
 use crate::value::{Literal, Row, Value};
 use std::alloc::{AllocError, Allocator};
 
-/// A copy of the filter, whose memory is taken from `alloc`. The only error is want of memory.
+/// A copy of the filter, whose memory is taken from `alloc`. The only error is out of memory.
 pub fn copy_in<A: Allocator, B: Allocator + Clone>(
     alloc: B,
     filter: &Filter<A>,
@@ -92,7 +92,7 @@ fn copy_literal<A: Allocator, B: Allocator + Clone>(
     }
 }
 
-/// A copy of the row, whose memory is taken from `alloc`. The only error is want of memory.
+/// A copy of the row, whose memory is taken from `alloc`. The only error is out of memory.
 pub fn copy_row<A: Allocator, B: Allocator + Clone>(
     alloc: B,
     row: &Row<A>,
@@ -107,7 +107,7 @@ pub fn copy_row<A: Allocator, B: Allocator + Clone>(
     Ok(Row::from_values(copies))
 }
 
-/// A copy of the value, whose memory is taken from `alloc`. The only error is want of memory.
+/// A copy of the value, whose memory is taken from `alloc`. The only error is out of memory.
 pub fn copy_value<A: Allocator, B: Allocator + Clone>(
     alloc: &B,
     value: &Value<A>,

@@ -1,4 +1,4 @@
-//! Lists that have each item once.
+//! Lists that have each item only once.
 
 ghost use Rattle.std.specs.Prelude.{◌≡◌, OnOk, Bool, nat_eq};
 ghost use Rattle.std.specs.List.{list_any};
@@ -10,7 +10,7 @@ use crate::filter::{Atom, Term};
 use crate::same::{same_atom, same_term};
 use std::alloc::{AllocError, Allocator};
 
-/// Items that can be told from one another.
+/// Items that can be told apart.
 pub trait Distinct {
     ghost same: { Self → Self → Bool };
 
@@ -54,7 +54,7 @@ fn has<T: Distinct>(items: &[T], item: &T) -> bool
     false
 }
 
-/// Adds the item at the end of the list, unless the list has it. The only error is want of memory.
+/// Adds the item at the end of the list, unless the list already has it. The only error is out of memory.
 pub fn add_distinct<T: Distinct + Drop, A: Allocator>(
     items: &mut Vec<T, A>,
     item: T,

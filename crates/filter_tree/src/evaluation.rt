@@ -9,8 +9,8 @@ use crate::tri::Tri;
 use crate::value::{Row, Value};
 use std::alloc::Allocator;
 
-/// What the filter says of the row. A column past the row's end reads as null, and a comparison of unlike types is
-/// false, so each filter has a value on each row.
+/// What the filter says about the row. A column past the row's end reads as null, and a comparison of different types
+/// is false, so each filter has a value on each row.
 ///
 /// PostgreSQL 15, 4.2 Value Expressions, and "Logical Replication", 31.3 Row Filters.
 pub fn eval<A: Allocator, R: Allocator>(filter: &Filter<A>, row: &Row<R>) -> Tri
@@ -47,7 +47,7 @@ fn eval_atom<A: Allocator, R: Allocator>(atom: &Atom<A>, row: &Row<R>) -> Tri
     }
 }
 
-/// What the atom says of the remainder of the value. A remainder has the sign of the value.
+/// What the atom says about the remainder of the value. A remainder has the sign of the value.
 fn say_of_remainder<A: Allocator, R: Allocator>(
     atom: &Atom<A>,
     value: &Value<R>,
@@ -63,7 +63,7 @@ fn say_of_remainder<A: Allocator, R: Allocator>(
     }
 }
 
-/// What the atom says of the value of its term.
+/// What the atom says about the value of its term.
 fn say<A: Allocator, R: Allocator>(atom: &Atom<A>, value: &Value<R>) -> Tri
     ensures { result ≡ said_of (atom_view atom.now) (datum_view value.now) }
 {

@@ -46,7 +46,7 @@ pub enum Atom<A: Allocator = Global> {
     Cmp(Term, Op, Literal<A>),
     /// `IS NULL` of a column.
     IsNull(usize),
-    /// `IN` a list of constants. A filter that is read has each of them once, in ascending order.
+    /// `IN` a list of constants. A filter that was read has each of them once, in ascending order.
     In(Term, Vec<Literal<A>, A>),
     /// `BETWEEN` two numbers, the low end first. Both ends are included.
     Between(Term, i64, i64),
@@ -72,7 +72,7 @@ impl<A: Allocator> Atom<A> {
     }
 }
 
-/// What `IS TRUE`, `IS FALSE` and `IS UNKNOWN` ask for.
+/// What `IS TRUE`, `IS FALSE` and `IS UNKNOWN` test for.
 ///
 /// PostgreSQL 15, 9.2 Comparison Functions and Operators.
 #[derive(Clone, Copy, Debug, PartialEq, Eq)]
@@ -82,7 +82,7 @@ pub enum Test {
     Unknown,
 }
 
-/// A row filter. A chain of ANDs and ORs, however long, leans to the left; `drop` goes down it in a loop, and takes
+/// A row filter. A chain of ANDs and ORs, of any length, leans to the left; `drop` walks down it in a loop, and uses
 /// stack only for a right part.
 ///
 /// PostgreSQL 15, "Logical Replication", 31.3 Row Filters.

@@ -43,7 +43,7 @@ impl<T> Items<T> {
         self.items.len()
     }
 
-    /// Whether there is no element.
+    /// Whether there are no elements.
     pub fn is_empty(&self) -> bool
         ensures { result ≡ (length self.now == 0) }
     {
@@ -68,7 +68,7 @@ impl<T> Items<T> {
 }
 
 impl<T: Drop> Items<T> {
-    /// Adds an element after the others, or drops it and changes nothing. The only error is want of memory.
+    /// Adds an element at the end, or drops it and changes nothing. The only error is out of memory.
     pub fn push(&mut self, element: T) -> Result<(), AllocError>
         ensures ok { OnOk result (self.new ≡ self.old ++ element ∷ []) }
         ensures err { OnErr result (self.new ≡ self.old) }

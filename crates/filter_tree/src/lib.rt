@@ -1,5 +1,5 @@
-//! Rows, columns and row filters of PostgreSQL tables: values, SQL's three-valued logic, filter trees, which rows fit
-//! a table, and what a filter says of a row.
+//! Rows, columns and row filters of PostgreSQL tables: values, SQL's three-valued logic, filter trees, which rows fit a
+//! table, and what a filter says about a row.
 #![tactic(auto)]
 
 mod comparison;

@@ -11,7 +11,7 @@ use crate::distinct::add_distinct;
 use crate::filter::{Atom, Filter, Term};
 use std::alloc::{AllocError, Allocator};
 
-/// The atoms of the filter, each once, in the order of first appearance from left to right. The only error is want of
+/// The atoms of the filter, each once, in the order of first appearance from left to right. The only error is out of
 /// memory.
 pub fn atoms_of<'a, A: Allocator, B: Allocator>(
     alloc: B,
@@ -24,7 +24,7 @@ pub fn atoms_of<'a, A: Allocator, B: Allocator>(
     Ok(atoms)
 }
 
-/// Adds the filter's atoms that the list has not, in the order of first appearance. The only error is want of memory.
+/// Adds the filter's atoms that the list lacks, in the order of first appearance. The only error is out of memory.
 pub fn add_atoms<'a, A: Allocator, B: Allocator>(
     atoms: &mut Vec<&'a Atom<A>, B>,
     filter: &'a Filter<A>,
@@ -43,7 +43,7 @@ pub fn add_atoms<'a, A: Allocator, B: Allocator>(
     }
 }
 
-/// Adds the atom at the end of the list, unless the list has it. The only error is want of memory.
+/// Adds the atom at the end of the list, unless the list already has it. The only error is out of memory.
 pub fn add_atom<'a, A: Allocator, B: Allocator>(
     atoms: &mut Vec<&'a Atom<A>, B>,
     atom: &'a Atom<A>,
@@ -56,7 +56,7 @@ pub fn add_atom<'a, A: Allocator, B: Allocator>(
 }
 
 /// The terms of the filter's atoms, each once, in the order of first appearance; `IS NULL` counts as an appearance of
-/// its column. The only error is want of memory.
+/// its column. The only error is out of memory.
 pub fn terms_of<A: Allocator, B: Allocator + Clone>(
     alloc: B,
     filter: &Filter<A>,
@@ -72,7 +72,7 @@ pub fn terms_of<A: Allocator, B: Allocator + Clone>(
 }
 
 /// The columns that the filter names, each once, in the order of first appearance. Rows that agree on them have the
-/// same meaning under the filter. The only error is want of memory.
+/// same meaning under the filter. The only error is out of memory.
 pub fn columns_of<A: Allocator, B: Allocator + Clone>(
     alloc: B,
     filter: &Filter<A>,
@@ -88,9 +88,10 @@ pub fn columns_of<A: Allocator, B: Allocator + Clone>(
     Ok(columns)
 }
 
-/// A law, and no code, of lists of the parts of filters, by whose places certificates name atoms and terms. A list that
-/// takes each part unless it has it has each part once: no two are the same, none is lost and none is new, and what
-/// first appears before another comes before it. `atoms_of`, `terms_of` and `columns_of` give such lists.
+/// A law about lists of the parts of filters, by whose places certificates name atoms and terms: a function without an
+/// effect whose contract states it. If a list is given each part, and skips those that it has, it has each part once:
+/// no two are the same, none is lost and none is new, and what first appears before another comes before it.
+/// `atoms_of`, `terms_of` and `columns_of` return such lists.
 ///
 /// PostgreSQL 15, "Logical Replication", 31.3 Row Filters.
 #[tactic(auto, using(crate::proofs::OnceLemmas::distinct_once))]

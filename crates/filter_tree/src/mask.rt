@@ -5,7 +5,7 @@ ghost use Rattle.filter_tree.specs.Mask.{member, single_of, lift_one, lift_two};
 use crate::filter::Test;
 use crate::tri::Tri;
 
-/// A set of truth values, as those that a filter may have: whether true, false and null are in it.
+/// A set of truth values, such as those that a filter may have: whether true, false and null are in it.
 #[derive(Clone, Copy, Debug, PartialEq, Eq)]
 pub struct Mask {
     pub truth: bool,
@@ -36,7 +36,7 @@ impl Mask {
         }
     }
 
-    /// What `AND` may give of a member of `self` and a member of `other`.
+    /// What `AND` may give for a member of `self` and a member of `other`.
     pub fn and(self, other: Mask) -> Mask
         ensures { result ≡ lift_two and_of self other }
     {
@@ -47,7 +47,7 @@ impl Mask {
         }
     }
 
-    /// What `OR` may give of a member of `self` and a member of `other`.
+    /// What `OR` may give for a member of `self` and a member of `other`.
     pub fn or(self, other: Mask) -> Mask
         ensures { result ≡ lift_two or_of self other }
     {
@@ -58,7 +58,7 @@ impl Mask {
         }
     }
 
-    /// What `NOT` may give of a member.
+    /// What `NOT` may give for a member.
     pub fn not(self) -> Mask
         ensures { result ≡ lift_one not_of self }
     {
@@ -69,7 +69,7 @@ impl Mask {
         }
     }
 
-    /// What `IS TRUE`, `IS FALSE` or `IS UNKNOWN` may give of a member.
+    /// What `IS TRUE`, `IS FALSE` or `IS UNKNOWN` may give for a member.
     pub fn is(self, test: Test) -> Mask
         ensures { result ≡ lift_one (is_of test) self }
     {

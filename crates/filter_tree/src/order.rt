@@ -1,4 +1,4 @@
-//! The order of values and rows, by which ordered maps keep them.
+//! The order of values and rows, in which ordered maps keep them.
 
 ghost use Rattle.std.specs.Prelude.{◌≡◌, true, refl, Some, IfSome, slice_get};
 ghost use Rattle.std.specs.Cmp.{IsTotalOrder};
@@ -39,7 +39,7 @@ impl<A: Allocator> PartialOrd for Value<A> {
 }
 
 /// Null first, numbers by their size, FALSE before TRUE, texts byte by byte. Values of two kinds, which no column has,
-/// are in the order numbers, truth values, texts.
+/// are ordered as numbers, truth values, texts.
 ///
 /// PostgreSQL 15, 7.5 Sorting Rows (NULLS FIRST), 9.2 Comparison Functions and Operators, 24.2.2.1 Standard
 /// Collations ("C").
@@ -86,7 +86,7 @@ fn first_number<A: Allocator>(row: &Row<A>) -> Option<i64>
     }
 }
 
-/// The order of the numbers that the rows begin with; `Equal` where one of them begins with none.
+/// The order of the numbers at the start of the rows; `Equal` if one of them does not start with a number.
 fn order_of_first_numbers<A: Allocator>(row: &Row<A>, other: &Row<A>) -> Ordering
     ensures { is_ne result ≡ true → row_cmp row.now other.now ≡ result }
 {
@@ -128,8 +128,8 @@ impl<A: Allocator> PartialOrd for Row<A> {
     }
 }
 
-/// By the first column in which the rows differ. A row that another one begins with comes before that one. Numbers that
-/// rows begin with are compared before all else, since keys most often differ there.
+/// By the first column in which the rows differ. A row that is the beginning of another row comes before it. Numbers at
+/// the start of rows are compared first, since keys most often differ there.
 ///
 /// PostgreSQL 15, 7.5 Sorting Rows.
 impl<A: Allocator> Ord for Row<A> {
@@ -150,9 +150,9 @@ impl<A: Allocator> Ord for Row<A> {
     }
 }
 
-/// A law, and no code, of the order of rows. It is total (`total`), so that an ordered map may have rows as its keys.
-/// What it ties is equal (`equal`), and it ties exactly the same rows (`ties`). Two values are in the order that
-/// PostgreSQL gives those of a column (`values`).
+/// A law about the order of rows. It is total (`total`), so an ordered map may have rows as its keys. Rows that it ties
+/// are equal (`equal`), and it ties rows exactly if they are the same (`ties`). Two values are in the order that
+/// PostgreSQL gives the values of a column (`values`).
 #[tactic(auto, using(crate::proofs::OrderLemmas::row_total, crate::proofs::OrderLemmas::row_tie, crate::proofs::OrderLemmas::ties_same_rows, crate::proofs::OrderLemmas::orders_values))]
 pub fn rows_are_ordered()
     ensures total { IsTotalOrder row_cmp }

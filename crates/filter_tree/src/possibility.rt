@@ -12,8 +12,8 @@ use crate::same::same_atom;
 use crate::tri::Tri;
 use std::alloc::Allocator;
 
-/// The truth values that the filter may have on the rows on which each atom of the path has its value there. Of an
-/// atom that is there twice, the first entry counts.
+/// The truth values that the filter may have on the rows on which each atom of the path has its value there. If an atom
+/// is in the path twice, the first entry counts.
 #[tactic(auto, using(crate::proofs::PossibleLemmas::possible_holds))]
 pub fn possible<A: Allocator>(filter: &Filter<A>, path: &[(&Atom<A>, Tri)]) -> Mask
     ensures set { result ≡ possible_of (expr_view filter.now) (path_view path.now) }
@@ -23,7 +23,7 @@ pub fn possible<A: Allocator>(filter: &Filter<A>, path: &[(&Atom<A>, Tri)]) -> M
     mask_of(filter, path)
 }
 
-/// As `possible`. A part whose value cannot matter any more is not looked at.
+/// As `possible`. A part whose value can no longer matter is not looked at.
 #[tactic(auto, using(crate::proofs::PossibleLemmas::both_false, crate::proofs::PossibleLemmas::either_true))]
 fn mask_of<A: Allocator>(filter: &Filter<A>, path: &[(&Atom<A>, Tri)]) -> Mask
     ensures { result ≡ possible_of (expr_view filter.now) (path_view path.now) }

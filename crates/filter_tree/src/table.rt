@@ -45,7 +45,7 @@ impl ColType {
     }
 }
 
-/// A column: its name, its data type, and whether it takes no null. The columns of a primary key take none.
+/// A column: its name, its data type, and whether it is NOT NULL. The columns of a primary key are.
 ///
 /// PostgreSQL 15, 5.4.2 Not-Null Constraints.
 #[derive(Debug, Drop)]
@@ -65,8 +65,8 @@ pub struct UniqueIndex {
     pub columns: Items<usize>,
 }
 
-/// A table's replica identity: what is recorded of an old row. `Default` records the primary key's columns, `Index`
-/// those of the table's unique index of this number, from 0, `Full` the whole row, `Nothing` nothing.
+/// A table's replica identity: what is recorded of an old row. `Default` records the primary key's columns, `Index` the
+/// columns of the table's unique index of this number, counted from 0, `Full` the whole row, `Nothing` nothing.
 ///
 /// PostgreSQL 15, SQL Commands, ALTER TABLE (REPLICA IDENTITY).
 #[derive(Clone, Copy, Debug, PartialEq, Eq)]
@@ -78,7 +78,7 @@ pub enum Identity {
 }
 
 /// A table. `key` has the numbers of the primary key's columns, from 0, in the key's order; `indexes` are its unique
-/// indexes in the order in which they are made, without that of the primary key.
+/// indexes in the order in which they are created, without the index of the primary key.
 ///
 /// PostgreSQL 15, SQL Commands, CREATE TABLE.
 #[derive(Debug, Drop)]

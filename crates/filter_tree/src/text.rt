@@ -27,7 +27,7 @@ impl<A: Allocator> Text<A> {
         Text { text: string }
     }
 
-    /// A copy of `text`, whose memory is taken from `alloc`. The only error is want of memory.
+    /// A copy of `text`, whose memory is taken from `alloc`. The only error is out of memory.
     pub fn from_str(alloc: A, text: &str) -> Result<Text<A>, AllocError>
         ensures { IfOk result (λ copy. copy ≡ text.now) }
     {
@@ -56,7 +56,7 @@ impl<A: Allocator> Text<A> {
         self.text.len()
     }
 
-    /// Whether the text has no byte.
+    /// Whether the text is empty.
     pub fn is_empty(&self) -> bool
         ensures { result ≡ (length self.now == 0) }
     {

@@ -47,7 +47,7 @@ impl Tri {
         }
     }
 
-    /// SQL's `self IS TRUE`, `IS FALSE` or `IS UNKNOWN`: whether it is the value that the test asks for. The answer is
+    /// SQL's `self IS TRUE`, `IS FALSE` or `IS UNKNOWN`: whether it is the value that the test tests for. The result is
     /// never null.
     ///
     /// PostgreSQL 15, 9.2 Comparison Functions and Operators.

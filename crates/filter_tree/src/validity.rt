@@ -15,7 +15,7 @@ pub enum RowFault {
     /// The row has more or fewer values than the table has columns.
     #[error("the row's number of values is not the table's number of columns")]
     Width,
-    /// A null where the column is NOT NULL.
+    /// A null in a NOT NULL column.
     #[error("column {0} is NOT NULL, but its value is null")]
     NullInNotNull(usize),
     /// A value of another kind than the column's type.
@@ -24,7 +24,7 @@ pub enum RowFault {
     /// A number out of the range of the column's type.
     #[error("the number in column {0} is out of range for the column's type")]
     OutOfRange(usize),
-    /// A text with a zero byte.
+    /// A text that has a zero byte.
     #[error("the text in column {0} has a zero byte")]
     NulInText(usize),
     /// A text of more than 65,535 bytes.
@@ -32,11 +32,12 @@ pub enum RowFault {
     TextTooLong(usize),
 }
 
-/// The most bytes that a text value has.
+/// The most bytes that a text value can have.
 pub const MAX_TEXT_BYTES: usize = 65_535;
 
-/// Tells whether the row fits the table, or the first fault: the width goes first, and then the columns in their order.
-/// Of a text with both faults the zero byte is told. A text is UTF-8 by its type, so that what fits has texts in UTF-8.
+/// Returns whether the row fits the table, or its first fault: the width comes first, and then the columns in their
+/// order. For a text that is also too long the zero byte is reported. A text is UTF-8 by its type, so the texts of a
+/// row that fits are UTF-8.
 ///
 /// PostgreSQL 15, 8.1 Numeric Types, 5.4 Constraints, and 24.3 Character Set Support.
 #[tactic(auto, using(crate::proofs::ValidLemmas::valid_from_no_fault, crate::proofs::ValidLemmas::no_fault_from_valid))]

@@ -15,7 +15,7 @@ pub enum Value<A: Allocator = Global> {
     Text(Text<A>),
 }
 
-/// A constant that a filter compares a column with: a value that is never null.
+/// A constant with which a filter compares a column: a value that is never null.
 #[derive(Debug, Drop)]
 pub enum Literal<A: Allocator = Global> {
     Int(i64),
@@ -63,7 +63,7 @@ impl<A: Allocator> Row<A> {
         self.values.len()
     }
 
-    /// Whether the row has no value.
+    /// Whether the row has no values.
     pub fn is_empty(&self) -> bool
         ensures { result ≡ (length self.now == 0) }
     {

@@ -1,4 +1,4 @@
--- Reading so many values one after the other, as a loop does.
+-- Reading a number of values one after the other, as a loop does.
 use Rattle.std.proofs.Common.{◌≡◌, ℕ, suc, ◌-◌, ◌+◌, ◌≤◌, ◌<◌, List, [], ◌∷◌, ◌++◌, Ok, Err, refl, sym, ap, ◌∙◌, append_assoc, append-nil, arith}
 use Rattle.filter_tree.specs.Memory.{TellsFault}
 use Rattle.pgoutput_msgs.specs.declared.error.MsgError.{MsgError}

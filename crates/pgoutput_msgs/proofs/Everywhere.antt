@@ -1,5 +1,5 @@
--- What holds of the Relation of each table, and of the messages of each change that can be sent, holds of all
--- messages that tell of a commit.
+-- What holds of the Relation of each table, and of the messages of each change that can be sent, holds of all messages
+-- that report a commit.
 use Rattle.std.proofs.Common.{◌≡◌, ℕ, zero, suc, ◌≤◌, Bool, true, false, Option, Some, None, List, [], ◌∷◌, ◌++◌, length, subst, arith}
 use Rattle.std.specs.Prelude.{All, IfSome, filter, option_map, if◌then◌else◌, slice_get, slice_index_or}
 use Rattle.std.specs.List.{list_any}
@@ -96,9 +96,9 @@ unfolding IfSendable
 is_sendable checked subscriber change out sendable is =
     subst IfSendable is (got_sendable checked subscriber change sendable)
 
--- ---- what is said
+-- ---- what is sent
 
--- it holds of what is said of the tables, and of each change that can be sent
+-- it holds of what is sent for the tables, and of each change that can be sent
 pub record Everywhere (P : Msg → Type 0) (tables : List Table) : Type 0 where
   pub relations : (number : ℕ) → IfSome (slice_get tables number) (λ table. P (m.Relation (relation_of number table)))
   pub changes : (change : r.ChangeOf) → IsSendableChange change → All P (message_of change)

@@ -1,4 +1,4 @@
--- Rules that are exact: what is read was spelled so, and what is spelled is read, whatever follows it. How the
+-- Rules that are exact: what is read was spelled this way, and what is spelled is read, whatever follows it. How the
 -- exactness of a rule follows from that of its parts.
 use Rattle.std.proofs.Common.{◌≡◌, ℕ, zero, suc, Bool, true, false, List, [], ◌∷◌, ◌++◌, length, Result, Ok, Err, refl, sym, ap, subst, ◌∙◌, append_assoc, arith}
 use Rattle.std.specs.Prelude.{◌==◌, if◌then◌else◌}
@@ -54,7 +54,7 @@ bound (Err fault) more b rest e = absurd cc
 
 -- ---- rules from rules
 
--- what is read first is told by the whole: its key
+-- what is read first is determined by the whole: its key
 pub exact_then : {A B : Type 0} (head : Rule A) (more : A → Rule B) (spell : A → List ℕ) (spell_more : B → List ℕ)
     (Fits : A → Type 0) (FitsMore : B → Type 0) (key : B → A)
     → Exact head spell Fits → ((a : A) → Fits a → Exact (more a) spell_more (λ b. (key b ≡ a) × FitsMore b))
@@ -85,7 +85,7 @@ exact_pure a = record {
   again = λ x rest fits. ap (λ y. done y rest) (sym fits.0);
 }
 
--- the same rule, with its spelling and its values said in other words
+-- the same rule, with its spelling and its values stated in another way
 pub exact_as : {A : Type 0} (rule : Rule A) (spell : A → List ℕ) (Fits : A → Type 0) (spell_as : A → List ℕ)
     (FitsAs : A → Type 0)
     → Exact rule spell Fits → ((a : A) → Fits a → (spell a ≡ spell_as a) × FitsAs a) → ((a : A) → FitsAs a → Fits a)
@@ -124,7 +124,7 @@ exact_if {A = A} kind one rule other spell Fits key it later =
     (λ e. subst (λ (n : ℕ). Exact rule spell (λ a. (key a ≡ n) × Fits a)) (sym (eqb-true kind one e)) it)
     (λ e. later (eqb-false kind one e))
 
--- a value that is told by its key alone
+-- a value that is determined by its key alone
 pub exact_value : {A : Type 0} (a : A) (spell : A → List ℕ) (Fits : A → Type 0) (key : A → ℕ) (one : ℕ)
     → spell a ≡ [] → key a ≡ one → Fits a → ((x : A) → key x ≡ one → x ≡ a)
     → Exact (pure a) spell (λ x. (key x ≡ one) × Fits x)
@@ -133,7 +133,7 @@ exact_value {A = A} a spell Fits key one none is fits alone =
     (λ x same. subst (λ (y : A). ([] ≡ spell y) × ((key y ≡ one) × Fits y)) (sym same.0) (sym none, (is, fits)))
     (λ x keyed. (alone x keyed.0, tt))
 
--- values of one kind are made of those of another, by a function whose values are told apart by `back`
+-- values of one kind are made of those of another, by a function whose values are distinguished by `back`
 pub exact_mapped : {A B : Type 0} (rule : Rule A) (spell : A → List ℕ) (Fits : A → Type 0) (f : A → B)
     (spell_made : B → List ℕ) (FitsMade : B → Type 0)
     → Exact rule spell Fits
@@ -201,7 +201,7 @@ exact_passed {A = A} test fault rule spell Fits FitsTest one holds told = record
       ∙ ap (λ (passes : Bool). tested passes fault b rest) (told b fits).0;
 }
 
--- so many, one after the other
+-- a number of values, one after the other
 pub exact_many : {A : Type 0} (rule : Rule A) (spell : A → List ℕ) (Fits : A → Type 0) → Exact rule spell Fits → (n : ℕ)
     → Exact (many rule n) (flat_map spell) (λ all. (length all ≡ n) × AllByRecursion Fits all)
 unfolding many

@@ -46,7 +46,7 @@ pub exact_byte : Exact byte int8 (λ n. n < 256)
 unfolding byte
 exact_byte = record { takes = byte_takes; again = λ b rest fits. refl }
 
--- ---- so many bytes
+-- ---- a number of bytes
 
 chosen : {A : Type 0} (test : Bool) (fault : MsgError) (a b : A) (x rest : List ℕ)
     → (if test then Err fault else done a x) ≡ done b rest → (test ≡ false) × ((a ≡ b) × (x ≡ rest))

@@ -4,7 +4,7 @@ use Rattle.std.specs.Prelude.{All}
 use Rattle.std.proofs.lemmas.List.{at_drop_more, at_drop_all}
 use Rattle.std.proofs.lemmas.List.Elements.{All-nil, All-push}
 
--- what was gathered, and what is left, make all of it; and of each that was gathered this holds
+-- what was gathered and what is left make up the whole, and this holds of each that was gathered
 pub record Gathers {A B : Type 0} (P : B → Type 0) (make : ℕ → List A → List B) (all : List A) (made : List B)
     (number : ℕ) : Type 0 where
   pub list : made ++ make number (drop number all) ≡ make 0 all

@@ -73,7 +73,7 @@ told_before : (told : List Bool) (number n : ℕ) → n ≢ number → is_told (
     → is_told told n ≡ true
 told_before told number n differs h = sym (get_or-set_other told number n true false differs) ∙ h
 
--- the Relation of a table that is there and was not told
+-- the Relation of a table that exists and was not announced
 new_relation : (told : List Bool) (number : ℕ) (table : Table) → number < length told → is_told told number ≡ false
     → Introduces told (told_one told number) (m.Relation (relation_of number table) ∷ [])
 new_relation told number table within is_new = record {
@@ -252,7 +252,7 @@ got_of checked subscriber (r.Truncate numbers) h =
     emptied_of checked.catalog.tables numbers h (list_any (setting.carries subscriber) numbers)
     (setting.carries subscriber)
 
--- ---- what is said of changes
+-- ---- what is sent for changes
 
 one_said : (tables : List Table) (told : List Bool) (change : Option r.ChangeOf) → length tables ≤ length told
     → IfOf tables change

@@ -1,4 +1,4 @@
--- What commands without a fault record is of the tables that there are.
+-- What commands without a fault record is of existing tables.
 use Rattle.std.proofs.Common.{◌≡◌, ℕ, ◌+◌, ◌<◌, Bool, true, false, List, [], ◌∷◌, ◌++◌, length, refl, sym, subst}
 use Rattle.std.specs.Prelude.{Option, None, All, fold, nat_eq, if◌then◌else◌}
 use Rattle.std.specs.List.{list_any, list_all}
@@ -34,9 +34,9 @@ all_of_fold P numbers (number ∷ more) all later =
 all_distinct : (P : ℕ → Type 0) (numbers : List ℕ) → All P numbers → All P (distinct nat_eq numbers)
 all_distinct P numbers all = all_of_fold P [] numbers (All-nil P) all
 
--- ---- tables that there are
+-- ---- tables that exist
 
--- where there is no fault, the test for it holds
+-- if there is no fault, the test for it holds
 no_fault : (test : Bool) (fault : CommandFault) (next : Option CommandFault) → unless test fault next ≡ None
     → test ≡ true
 no_fault true fault next h = refl

@@ -1,4 +1,4 @@
--- The tuple of a row that fits a table has short texts alone.
+-- The tuple of a row that fits a table has only short texts.
 use Rattle.std.proofs.Common.{◌≡◌, ℕ, zero, suc, ◌<◌, ◌≤◌, ◌^◌, ◌+◌, ℤ, pos, negsuc, ◌≤ℤ◌, List, [], ◌∷◌, true, false, length, All, IfSome, slice_get, arith, lit≤, lit<}
 use Rattle.std.proofs.lemmas.List.{length-map}
 use Rattle.std.specs.Fmt.{signed_decimal}

@@ -1,4 +1,4 @@
--- The values of a row as they are in a message, and the room that they take.
+-- The values of a row as they are in a message, and the room that they need.
 use Rattle.std.proofs.Common.{◌≡◌, ℕ, ◌+◌, ◌<◌, ◌≤◌, ◌∷◌, ◌++◌, ℤ, pos, negsuc, ◌≤ℤ◌, List, length, get_or, take, map, sym, ap, subst, ◌∙◌, arith, lit<}
 use Rattle.std.specs.Fmt.{signed_decimal}
 use Rattle.std.specs.List.{flat_map}
@@ -30,7 +30,7 @@ spelled_row values =
     ap (λ (n : ℕ). int16 n ++ flat_map cell_spelling (cells_of (map datum_view values))) count
     ∙ ap (λ (bytes : List ℕ). int16 (length values) ++ bytes) (spelled_values values)
 
--- where there is room for all values in the layout, there is for one
+-- if there is room for all values in the layout, there is for one
 pub value_fits : {A : _} (values : List (Value A)) (i : ℕ) (value : Value A) → value ≡ get_or values i value
     → i < length values → All IsCellWithinRange (cells_of (map datum_view values))
     → IsCellWithinRange (cell_of (datum_view value))

@@ -1,4 +1,4 @@
--- What a subscriber is told of a commit is what it sees of the commit's commands.
+-- What a subscriber is sent for a commit is what it sees of the commit's commands.
 use Rattle.std.proofs.Common.{◌≡◌, ℕ, Bool, true, false, Option, Some, None, List, [], ◌∷◌, ◌++◌, length, length-append, map, refl, sym, ap, ◌∙◌, arith}
 use Rattle.std.specs.Prelude.{filter, filter_map, slice_get, slice_index_or}
 use Rattle.std.specs.List.{flat_map, cons_option}
@@ -49,7 +49,7 @@ is_its_own (r.Delete table None) = refl
 is_its_own (r.Delete table (Some part)) = refl
 is_its_own (r.Truncate numbers) = refl
 
--- the messages of the changes that are there
+-- the messages of the existing changes
 abbrev messages_in : List r.ChangeOf → List Msg
 messages_in changes = flat_map message_of changes
 
@@ -88,7 +88,7 @@ within_begin commit (first ∷ others) = filter-append is_change (first ∷ othe
     no_more [] = refl
     no_more (x ∷ xs) = ap (λ (rest : List Msg). x ∷ rest) (no_more xs)
 
--- ---- nothing is said where nothing is got
+-- ---- nothing is sent if the subscriber gets nothing
 
 none_after : (checked : CheckedOf) (subscriber : ℕ) (told : List Bool) (mine : Option r.ChangeOf)
     (got_later : List r.ChangeOf) (changes : List r.ChangeOf)

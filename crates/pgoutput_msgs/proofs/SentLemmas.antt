@@ -1,4 +1,4 @@
--- Messages that tell of a commit are messages that are read back, and are no longer than so many bytes.
+-- Messages that report a commit are read back, and have a limited length.
 use Rattle.std.proofs.Common.{◌≡◌, ℕ, ◌+◌, ◌*◌, ◌<◌, ◌≤◌, ◌^◌, Bool, true, false, Option, Some, None, List, [], ◌∷◌, ◌++◌, length, length-append, get_or, map, refl, sym, ap, subst, ◌∙◌, arith, lit<}
 use Rattle.std.specs.Prelude.{All, IfSome, slice_get, codes}
 use Rattle.std.specs.Int.{w32, cast_unsigned}
@@ -37,7 +37,7 @@ pub record IsPlain (message : Msg) : Type 0 where
   pub read_back : HasTexts message → IsMessage message
   pub short : length (spelling_of message) ≤ 13108011
 
--- spellings one after the other, each of at most so many bytes
+-- spellings one after the other, each of at most a given number of bytes
 flat_at_most : {A : Type 0} (spell : A → List ℕ) (most : ℕ) (xs : List A) → All (λ x. length (spell x) ≤ most) xs
     → length (flat_map spell xs) ≤ most * length xs
 flat_at_most spell most [] all = omega arith

@@ -1,4 +1,4 @@
--- Nothing is said of a commit of which the subscriber gets nothing.
+-- Nothing is sent for a commit of which the subscriber gets nothing.
 use Rattle.std.proofs.Common.{◌≡◌, ℕ, Bool, true, false, ◌||◌, Option, Some, None, List, [], ◌∷◌, refl, sym, ap, ◌∙◌}
 use Rattle.std.specs.Prelude.{is_some}
 use Rattle.replica_identity.specs.Transforms.{out_for}

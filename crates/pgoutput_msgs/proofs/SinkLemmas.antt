@@ -22,7 +22,7 @@ module _ {S : Type 0} (takes_one : S → S → Msg → Type 0) where
   takes_both old between new (message ∷ first) second one other =
       (one.0, one.1, takes_both one.0 between new first second one.2 other)
 
-  -- what is said of a change that the subscriber gets: the Relations that were not sent, and the message
+  -- what is sent for a change that the subscriber gets: the Relations that were not sent before, and the message
   pub takes_said : (old between new : S) (tables : List Table) (told : List Bool) (change : r.ChangeOf)
       → Takes takes_one old between (relations_of tables told (named_in change))
       → Takes takes_one between new (message_of change)
@@ -139,7 +139,7 @@ module _ {S : Type 0} (takes_one : S → S → Msg → Type 0) where
   all_changes_told old now checked subscriber told told_now all i over so =
       all_told checked subscriber told told_now [] so.messages all i over so.so_far
 
-  -- what is said of what the subscriber gets of a change
+  -- what is sent for what the subscriber gets of a change
   pub said_of : (old new : S) (tables all : List Table) (told : List Bool) (one other : Option r.ChangeOf)
       → tables ≡ all → other ≡ one
       → Takes takes_one old new (said tables told one) → Takes takes_one old new (said all told other)
@@ -147,7 +147,7 @@ module _ {S : Type 0} (takes_one : S → S → Msg → Type 0) where
       subst (λ (change : Option r.ChangeOf). Takes takes_one old new (said all told change)) (sym is)
       (subst (λ (ts : List Table). Takes takes_one old new (said ts told one)) same took)
 
-  -- where the subscriber gets nothing, nothing is taken
+  -- if the subscriber gets nothing, nothing is taken
   pub nothing_taken : (sink : S) (tables : List Table) (told : List Bool)
       → Takes takes_one sink sink (said tables told None)
   unfolding said
@@ -160,7 +160,7 @@ module _ {S : Type 0} (takes_one : S → S → Msg → Type 0) where
   nothing_deleted sink tables told table None is = refl
   nothing_deleted sink tables told table (Some part) is = absurd cc
 
-  -- where the change names this table alone
+  -- if the change names this table alone
   pub takes_named : (old between new : S) (tables : List Table) (told : List Bool) (table : ℕ) (change : r.ChangeOf)
       → named_in change ≡ table ∷ []
       → Takes takes_one old between (relations_of tables told (table ∷ []))

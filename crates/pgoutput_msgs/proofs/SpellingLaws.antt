@@ -1,4 +1,4 @@
--- What is decoded is spelled so, what is spelled is decoded, and a spelling with bytes after it is not.
+-- What is decoded has this spelling, what is spelled is decoded, and a spelling with bytes after it is not.
 use Rattle.std.proofs.Common.{◌≡◌, ℕ, Bool, true, false, List, [], ◌∷◌, ◌++◌, length, append-nil, Result, Ok, Err, refl, sym, ap, ◌∙◌, arith}
 use Rattle.std.specs.Prelude.{◌==◌, IfOk, if◌then◌else◌}
 use Rattle.std.proofs.lemmas.Bool.{eqb-true}

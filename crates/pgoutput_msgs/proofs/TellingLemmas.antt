@@ -1,4 +1,4 @@
--- What is said of tables and of changes, one after the other, as loops say it.
+-- What is sent for tables and for changes, one after the other, as loops send it.
 use Rattle.std.proofs.Common.{◌≡◌, ℕ, zero, suc, ◌+◌, ◌<◌, ◌≤◌, Bool, true, false, Option, Some, None, List, [], ◌∷◌, ◌++◌, length, get_or, drop, map, refl, sym, ap, subst, ◌∙◌, append_assoc, append-nil, arith}
 use Rattle.std.proofs.lemmas.List.{at_drop_more, at_drop_all, get_or-map, length-map}
 use Rattle.std.proofs.lemmas.List.Elements.{All-append}
@@ -20,7 +20,7 @@ use Rattle.std.specs.List.{list_any}
 use Rattle.pgoutput_msgs.specs.Telling.{relation_once, relations_of, told_one, told_all, said, told_by, said_each, told_each, begin_of, commit_of, enclosed}
 use Rattle.pgoutput_msgs.specs.declared.message.Msg.{Msg}
 
--- the Relations so far, and those of the tables that are left, are those of all
+-- the Relations so far and those of the remaining tables are those of all
 pub record Introduces (tables : List Table) (told told_now : List Bool) (before now : List Msg) (all left : List ℕ) :
     Type 0 where
   pub text : now ++ relations_of tables told_now left ≡ before ++ relations_of tables told all
@@ -78,7 +78,7 @@ all_marked tables told told_now before now all i over so_far = sym (at_drop_all 
 
 -- ---- changes
 
--- what was said so far, and what is said of the changes that are left, is what is said of all
+-- what was sent so far and what is sent for the remaining changes is what is sent for all
 pub record Says (checked : CheckedOf) (subscriber : ℕ) (told told_now : List Bool) (before now : List Msg)
     (all left : List Change) : Type 0 where
   pub text : now ++ said_each checked subscriber told_now (map change_view left) ≡ before
@@ -242,9 +242,9 @@ truncated_numbers plan subscriber (r.Delete table part) numbers fits e =
 truncated_numbers plan subscriber (r.Truncate all) numbers fits e =
     subst (All IsTableNumber) (sym (same_numbers (list_any (takes_any plan subscriber) all) all numbers e)) fits.1
 
--- ---- the tables that a subscriber takes anything of
+-- ---- the tables that a subscriber gets anything of
 
--- those so far, and those of what is left, are those of all
+-- those so far and those of the rest are those of all
 pub record Keeps (test : ℕ → Bool) (all kept left : List ℕ) : Type 0 where
   pub list : kept ++ filter test left ≡ filter test all
   pub numbers : All IsTableNumber kept
@@ -283,7 +283,7 @@ pub all_kept : (test : ℕ → Bool) (all kept : List ℕ) (i : ℕ) → length 
 all_kept test all kept i over so_far =
     sym (append-nil kept) ∙ ap (λ (x : List ℕ). kept ++ x) (sym (at_drop_all (filter test) all i over)) ∙ so_far.list
 
--- ---- where nothing is said
+-- ---- if nothing is sent
 
 pub nothing_told : (told : List Bool) → told ≡ told_by told None
 unfolding told_by

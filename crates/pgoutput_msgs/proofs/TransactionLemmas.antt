@@ -92,7 +92,7 @@ module _ (tables : List Table) where
   introduced_by true number = refl
   introduced_by false number = refl
 
-  -- of a table that isn't there nothing is said
+  -- nothing is sent for a table that doesn't exist
   none_there : (b : Bool) (number : ℕ) → slice_get tables number ≡ None
       → (if b then [] else relation_at number (slice_get tables number)) ≡ []
   none_there true number none = refl
@@ -121,7 +121,7 @@ module _ (tables : List Table) where
 
 -- ---- changes that a subscriber gets
 
--- what is said of them, and the tables that were told of after them
+-- what is sent for them, and the tables that were announced after them
 all_said : List Table → List Bool → List r.ChangeOf → List Msg
 all_said tables told [] = []
 all_said tables told (change ∷ changes) =
@@ -168,7 +168,7 @@ module _ (checked : CheckedOf) (subscriber : ℕ) where
 
 -- ---- what is seen, as it is recorded
 
--- something is recorded of an old row that goes
+-- something is recorded of an old row that is removed
 part_there : (setting : Setting) → Covered setting → (table : ℕ) (old : List Datum) (as_it : Recorded)
     → setting.recorded table ≡ as_it
     → (part : Option r.PartOf) → part ≡ part_by as_it (setting.identity table) (setting.blanked table) old None

@@ -14,7 +14,7 @@ use Rattle.pgoutput_msgs.specs.Spelling.{int8, int16, cell_spelling, tuple_spell
 use Rattle.pgoutput_msgs.proofs.Exact.{Exact, exact_then, exact_as, exact_fail, exact_if, exact_value, exact_mapped, exact_many}
 use Rattle.pgoutput_msgs.proofs.Fields.{exact_byte, exact_count16, sized, exact_text}
 
--- so many, with a fact of each
+-- a number of values, with a fact about each
 pub many_all : {A : Type 0} (rule : Rule A) (spell : A → List ℕ) (Fits : A → Type 0) → Exact rule spell Fits → (n : ℕ)
     → Exact (many rule n) (flat_map spell) (λ all. (length all ≡ n) × All Fits all)
 many_all rule spell Fits one n =

@@ -30,7 +30,7 @@ within_mag k.Boolean (negsuc n) low high = omega (arith, leb-true _ _ low)
 within_mag k.Text (pos n) low high = omega (arith, leb-true _ _ high)
 within_mag k.Text (negsuc n) low high = omega (arith, leb-true _ _ low)
 
--- a text that is parsed gives its number, if that is its own text
+-- a text that is parsed gives its number, if it is the number's own text
 pub number_read : {E : Type 0} (kind : ColType) (text : List ℕ) (z : ℤ) (r : Result ℤ E) → ParsesSigned w64 10 text r
     → r ≡ Ok z → number_in kind text ≡ number_if kind text z
 unfolding number_in
@@ -65,7 +65,7 @@ abbrev pub onto_row : List Datum → Option (List Datum) → Option (List Datum)
 onto_row front None = None
 onto_row front (Some row) = Some (front ++ row)
 
--- the values so far, and those that are left, are the row
+-- the values so far and the remaining ones are the row
 pub record RowSoFar (kinds : List ColType) (cells : List Cell) (front : List Datum) (kinds_left : List ColType)
     (cells_left : List Cell) : Type 0 where
   pub row : onto_row front (row_in kinds_left cells_left) ≡ row_in kinds cells

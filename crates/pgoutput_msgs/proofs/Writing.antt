@@ -9,7 +9,7 @@ use Rattle.std.proofs.lemmas.List.Concat.{flat_map-cons}
 use Rattle.pgoutput_msgs.specs.Room.{HasRoom, Puts}
 use Rattle.pgoutput_msgs.specs.Spelling.{int32}
 
--- what was written and what is left spell all of it, and there is as much room as before
+-- what was written and what is left spell the whole, and there is as much room as before
 pub record Writes {A : Type 0} (spell : A → List ℕ) (old now : Vec ℕ) (all left : List A) : Type 0 where
   pub text : now.items ++ flat_map spell left ≡ old.items ++ flat_map spell all
   pub long : vec_len now + length (flat_map spell left) ≡ vec_len old + length (flat_map spell all)
@@ -67,7 +67,7 @@ all_written spell old now all i over so_far =
 abbrev pub capped : ℕ → ℕ
 capped n = min n (2 ^ 64 - 1)
 
--- what was counted and what is left are all of it
+-- what was counted and what is left are the whole
 pub record Measures {A : Type 0} (spell : A → List ℕ) (all left : List A) (total : ℕ) : Type 0 where
   pub sum : capped (total + length (flat_map spell left)) ≡ capped (length (flat_map spell all))
   pub few : total < 2 ^ 64
@@ -89,7 +89,7 @@ all_measured spell all i total over so_far =
 
 -- ---- room for values, up to the greatest number
 
--- what room was counted, and what is left to be written, are enough for this many bytes and all values
+-- the room that was counted and the room for the rest are enough for this many bytes and all values
 pub record Covers {A : Type 0} (spell : A → List ℕ) (before : ℕ) (all left : List A) (total : ℕ) : Type 0 where
   pub sum : capped (before + length (flat_map spell all)) ≤ capped (total + length (flat_map spell left))
 

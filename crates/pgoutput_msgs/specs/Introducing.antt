@@ -1,4 +1,4 @@
--- That a Relation message tells of each table before the first change of it, and once: PostgreSQL 15, 55.5.3. Logical
+-- That a Relation message announces each table before its first change, and once: PostgreSQL 15, 55.5.3. Logical
 -- Replication Protocol Message Flow.
 use Rattle.std.specs.Prelude.{◌≡◌, ℕ, ◌<◌, ◌≤◌, Bool, true, false, List, [], ◌∷◌, ◌++◌, fold, length, slice_index_or, All, Contains, None}
 use Rattle.filter_tree.specs.declared.table.Table.{Table}
@@ -17,7 +17,7 @@ use Rattle.pgoutput_msgs.specs.declared.message.Msg.TheVariants as m
 
 -- ---- messages
 
--- Where these OIDs are known, a change is of tables that are known, and a Relation of one that isn't.
+-- If these OIDs are known, a change is of tables that are known, and a Relation of one that isn't.
 abbrev pub IsIntroduced : List ℕ → Msg → Type 0
 IsIntroduced known (m.Begin final_lsn time xid) = Unit {0}
 IsIntroduced known (m.Commit lsn end_lsn time) = Unit {0}
@@ -32,7 +32,7 @@ abbrev pub known_after : List ℕ → Msg → List ℕ
 known_after known (m.Relation relation) = relation.oid ∷ known
 known_after known _ = known
 
--- So is each of these messages, after those before it.
+-- The same holds for each of these messages, after those before it.
 abbrev pub AreIntroduced : List ℕ → List Msg → Type 0
 AreIntroduced known [] = Unit {0}
 AreIntroduced known (message ∷ messages) = IsIntroduced known message
@@ -40,7 +40,7 @@ AreIntroduced known (message ∷ messages) = IsIntroduced known message
 
 -- ---- commits
 
--- the OIDs that are known are those of the tables that were told
+-- the OIDs that are known are those of the tables that were announced
 pub record AreTold (told : List Bool) (known : List ℕ) : Type 0 where
   pub each : (table : ℕ) → slice_index_or told table false ≡ true → Contains known (oid_of table)
   pub only : (table : ℕ) → Contains known (oid_of table) → slice_index_or told table false ≡ true
@@ -52,7 +52,7 @@ tables_in (r.Update table part new) = table ∷ []
 tables_in (r.Delete table part) = table ∷ []
 tables_in (r.Truncate numbers) = numbers
 
--- a change is of these tables, and each change of a commit is
+-- a change is of these tables, and so is each change of a commit
 abbrev pub IsChangeOf : List Table → r.ChangeOf → Type 0
 IsChangeOf tables change = All (λ table. table < length tables) (tables_in change)
 
@@ -71,30 +71,30 @@ told_in_turn checked subscriber told commits = fold (told_after checked subscrib
 
 -- ---- laws
 
--- What commands without a fault record is of the tables that there are.
+-- What commands without a fault record is of existing tables.
 abbrev pub RecordsAreOfTables : Type 0
 RecordsAreOfTables = (checked : CheckedOf) (tables : Tables) (number : ℕ) (commands : List Command)
     → first_fault (setting_in checked) tables number commands ≡ None
     → All (IsChangeOf checked.catalog.tables) (record_of (setting_in checked) tables commands)
 
--- So are the commits of a log.
+-- The same holds for the commits of a log.
 abbrev pub LogsAreOfTables : Type 0
 LogsAreOfTables = (book : Book) (transactions : List Transaction) → StandsFor book transactions
     → All (IsOf (book_checked book).catalog.tables) (book_log book)
 
--- Where the OIDs of the tables that were told are known, the messages are introduced, and then those of the tables
--- that were told after them are known.
+-- If the OIDs of the tables that were announced are known, the messages are introduced, and then those of the tables
+-- that were announced after them are known.
 pub record Introduces (told after : List Bool) (messages : List Msg) : Type 0 where
   pub introduced : (known : List ℕ) → AreTold told known → AreIntroduced known messages
   pub known : (known : List ℕ) → AreTold told known → AreTold after (fold known_after known messages)
 
--- So do those of a commit, where there is a flag for each table,
+-- The same holds for the messages of a commit, if there is a flag for each table,
 abbrev pub CommitsIntroduce : Type 0
 CommitsIntroduce = (checked : CheckedOf) (subscriber : ℕ) (told : List Bool) (commit : CommitOf)
     → length checked.catalog.tables ≤ length told → IsOf checked.catalog.tables commit
     → Introduces told (told_after checked subscriber told commit) (messages_for checked subscriber told commit)
 
--- and those of commits, one after the other.
+-- and for those of commits, one after the other.
 abbrev pub CommitsInTurnIntroduce : Type 0
 CommitsInTurnIntroduce = (checked : CheckedOf) (subscriber : ℕ) (told : List Bool) (commits : List CommitOf)
     → length checked.catalog.tables ≤ length told → All (IsOf checked.catalog.tables) commits

@@ -1,5 +1,5 @@
--- Which messages the layout has room for, where counts and lengths are signed numbers, and what each field of a
--- message is: PostgreSQL 15, 55.9. Logical Replication Message Formats.
+-- Which messages the layout has room for, with signed counts and lengths, and what each field of a message is:
+-- PostgreSQL 15, 55.9. Logical Replication Message Formats.
 use Rattle.std.specs.Prelude.{ℕ, ◌<◌, ◌^◌, List, length, All, Contains, FitsSigned, Option, Some, None}
 use Rattle.std.specs.Int.{w32}
 use Rattle.std.specs.Str.{IsUtf8}
@@ -76,7 +76,7 @@ HasTexts (m.Truncate options relations) = Unit {0}
 
 -- ---- messages: each field is a value of its type, and there is room for it
 
--- a text that is ended by a zero byte
+-- a text that ends with a zero byte
 pub record IsName (text : List ℕ) : Type 0 where
   pub is_text : IsUtf8 text
   pub no_zero : ¬ Contains text 0

@@ -45,8 +45,8 @@ abbrev pub old_cells : OldTuple → List Cell
 old_cells (o.Key tuple) = tuple
 old_cells (o.Full tuple) = tuple
 
--- Where anything is recorded of an old row that fits its table, its tuple is read back as the row with nulls outside
--- the columns of the replica identity; under FULL that is the row.
+-- If anything is recorded of an old row that fits its table, its tuple is read back as the row with nulls outside the
+-- columns of the replica identity; under FULL that is the row.
 abbrev pub RecordedRowsReadBack : Type 0
 RecordedRowsReadBack = (table : Table) (old : List Datum) → IsValid table.columns old
     → (new : Option (List Datum)) (part : PartOf) → part_in table old new ≡ Some part

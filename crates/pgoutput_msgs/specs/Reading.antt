@@ -1,5 +1,5 @@
--- How a message is read from the left: each rule takes bytes from the front of a list, and gives what it reads and
--- the bytes that are left, or the first fault: PostgreSQL 15, 55.9. Logical Replication Message Formats.
+-- How a message is read from the left: each rule reads bytes from the front of a list, and gives what it reads and the
+-- remaining bytes, or the first fault: PostgreSQL 15, 55.9. Logical Replication Message Formats.
 use Rattle.std.specs.Prelude.{ℕ, zero, suc, ◌+◌, ◌^◌, ◌==◌, nat_lt, Bool, true, false, if◌then◌else◌, List, [], ◌∷◌, length, take, drop, Option, Some, None, Result, Ok, Err}
 use Rattle.std.specs.Int.{Width, w16, w32, w64, byte_len, from_be_bytes, cast_signed}
 use Rattle.std.specs.List.{position}
@@ -35,7 +35,7 @@ abbrev pub and_then : {A B : Type 0} → Outcome A → (A → Rule B) → Outcom
 and_then (Ok read) more = more read.0 read.1
 and_then (Err fault) more = Err fault
 
--- what is read decides how what follows is read
+-- what is read determines how the rest is read
 infixl 10 ◌>>=◌
 abbrev pub ◌>>=◌ : {A B : Type 0} → Rule A → (A → Rule B) → Rule B
 rule >>= more = λ bytes. and_then (rule bytes) more
@@ -48,7 +48,7 @@ infixr 11 ◌&◌
 abbrev pub ◌&◌ : {A B : Type 0} → Rule A → Rule B → Rule (A × B)
 rule & other = rule >>= (λ a. mapped (λ b. (a, b)) other)
 
--- what is read has to pass a test
+-- what is read must pass a test
 abbrev pub tested : {A : Type 0} → Bool → MsgError → A → Rule A
 tested true fault a = pure a
 tested false fault a = fail fault
@@ -56,7 +56,7 @@ tested false fault a = fail fault
 abbrev pub passed : {A : Type 0} → (A → Bool) → MsgError → Rule A → Rule A
 passed test fault rule = rule >>= (λ a. tested (test a) fault a)
 
--- so many, one after the other
+-- this number of values, one after the other
 unfoldable pub many : {A : Type 0} → Rule A → ℕ → Rule (List A)
 many rule zero = pure []
 many rule (suc n) = rule >>= (λ a. mapped (λ others. a ∷ others) (many rule n))
@@ -67,7 +67,7 @@ unfoldable pub byte : Rule ℕ
 byte [] = Err Short
 byte (first ∷ rest) = Ok (first, rest)
 
--- so many bytes
+-- this number of bytes
 unfoldable pub some : ℕ → Rule (List ℕ)
 some n bytes = if nat_lt (length bytes) n then Err Short else Ok (take n bytes, drop n bytes)
 
@@ -75,7 +75,7 @@ some n bytes = if nat_lt (length bytes) n then Err Short else Ok (take n bytes, 
 unfoldable pub number : Width → Rule ℕ
 number w = mapped (from_be_bytes w) (some (byte_len w))
 
--- a count or a length has a sign, and is none where the sign is minus
+-- a count or a length has a sign, and must not be negative
 unfoldable pub count16 : Rule ℕ
 count16 = passed (λ n. nat_lt n (2 ^ 15)) BadCount (number w16)
 
@@ -94,7 +94,7 @@ up_to_zero bytes = cut_at (position (λ one. one == 0) bytes) bytes
 unfoldable pub utf8_text : List ℕ → Rule (List ℕ)
 utf8_text bytes = tested (is_utf8 bytes) BadText bytes
 
--- a String, which is ended by a zero byte
+-- a String, which ends with a zero byte
 unfoldable pub string_at : Rule (List ℕ)
 string_at = up_to_zero >>= utf8_text
 
@@ -219,7 +219,7 @@ decoded bytes = ended (message_at bytes)
 
 -- ---- what a function of the code reads
 
--- the fault that an error tells, if it tells one
+-- the fault that an error reports, if any
 abbrev pub told : MsgError → Option MsgError
 told (Unknown found) = Some (Unknown found)
 told Toast = Some Toast

@@ -1,4 +1,4 @@
--- Bytes that are appended to a `Vec` which has room for them.
+-- Bytes that are appended to a `Vec` that has room for them.
 use Rattle.std.specs.Prelude.{◌≡◌, ℕ, ◌+◌, ◌≤◌, List, ◌++◌, length}
 use Rattle.std.specs.Global.{Vec}
 use Rattle.std.specs.Vec.{vec_len, vec_capacity}
@@ -7,7 +7,7 @@ use Rattle.std.specs.Vec.{vec_len, vec_capacity}
 abbrev pub HasRoom : Vec ℕ → List ℕ → Type 0
 HasRoom out bytes = vec_len out + length bytes ≤ vec_capacity out
 
--- they were appended, and what room there was beside is kept
+-- they were appended, and the other room is kept
 pub record Puts (old new : Vec ℕ) (bytes : List ℕ) : Type 0 where
   pub appended : new.items ≡ old.items ++ bytes
   pub longer : vec_len new ≡ vec_len old + length bytes

@@ -1,4 +1,4 @@
--- That what a subscriber is told of a commit is what it sees of the commit's commands, with what is recorded of old
+-- That what a subscriber is sent for a commit is what it sees of the commit's commands, with what is recorded of old
 -- rows: PostgreSQL 15, "Logical Replication", 31.3.3 UPDATE Transformations, and 55.5.3. Logical Replication Protocol
 -- Message Flow.
 use Rattle.std.specs.Prelude.{◌≡◌, ℕ, Bool, true, false, List, [], ◌∷◌, length, filter, map, Option, Some, None}
@@ -18,7 +18,7 @@ use Rattle.pgoutput_msgs.specs.ValueText.{cells_of}
 use Rattle.pgoutput_msgs.specs.declared.message.Msg.{Msg}
 use Rattle.pgoutput_msgs.specs.declared.message.Msg.TheVariants as m
 
--- a message that is a change, and no Begin, Commit or Relation
+-- a message that is a change, not a Begin, Commit or Relation
 abbrev pub is_change : Msg → Bool
 is_change (m.Begin final_lsn time xid) = false
 is_change (m.Commit lsn end_lsn time) = false
@@ -28,7 +28,7 @@ is_change (m.Update relation old new) = true
 is_change (m.Delete relation old) = true
 is_change (m.Truncate options relations) = true
 
--- an old row alone is a Delete; nothing where nothing is recorded of it
+-- an old row alone is a Delete; nothing if nothing is recorded of it
 abbrev pub gone_message : ℕ → Option r.PartOf → List Msg
 gone_message table None = []
 gone_message table (Some part) = m.Delete (oid_of table) (old_of part) ∷ []
@@ -41,18 +41,18 @@ seen_message setting (s.Update table old new) =
 seen_message setting (s.Delete table old) = gone_message table (part_of setting table old None)
 seen_message setting (s.Truncate numbers) = m.Truncate 0 (map oid_of numbers) ∷ []
 
--- messages that tell of what is seen
+-- messages that report what is seen
 pub record TellsWhatIsSeen (setting : Setting) (messages : List Msg) (all : List Seen) : Type 0 where
   -- the changes among them are the messages of what is seen, in its order
   pub changes : filter is_change messages ≡ flat_map (seen_message setting) all
   -- each has one message
   pub one_each : (one : Seen) → length (seen_message setting one) ≡ 1
-  -- where nothing is seen there is none, and only there
+  -- there is none if, and only if, nothing is seen
   pub none : all ≡ [] → messages ≡ []
   pub only : messages ≡ [] → all ≡ []
 
--- The messages of a commit, whose changes are what its commands record on the tables before it, tell of what is seen
--- of the commands.
+-- The messages of a commit whose changes are what its commands record on the tables before it report what is seen of
+-- the commands.
 abbrev pub MessagesTellWhatIsSeen : Type 0
 MessagesTellWhatIsSeen = (checked : CheckedOf) → Covered (setting_in checked)
     → (subscriber : ℕ) (told : List Bool) (commit : CommitOf)

@@ -1,5 +1,5 @@
--- What is known of each message that tells a subscriber of a commit: that its spelling is read as that message, and
--- how long it is at most: PostgreSQL 15, 55.9. Logical Replication Message Formats.
+-- What is known of each message that reports a commit to a subscriber: that its spelling is read as that message, and
+-- its greatest length: PostgreSQL 15, 55.9. Logical Replication Message Formats.
 use Rattle.std.specs.Prelude.{◌≡◌, ◌≤◌, List, All, length, Ok}
 use Rattle.pgoutput_msgs.specs.Ranges.{IsMessage}
 use Rattle.pgoutput_msgs.specs.Reading.{decoded}

@@ -1,4 +1,4 @@
--- That nothing is said of a commit of which the subscriber gets nothing: PostgreSQL 15, "Logical Replication", 31.3.3
+-- That nothing is sent for a commit of which the subscriber gets nothing: PostgreSQL 15, "Logical Replication", 31.3.3
 -- UPDATE Transformations, and 55.5.3. Logical Replication Protocol Message Flow.
 use Rattle.std.specs.Prelude.{◌≡◌, ℕ, Bool, false, List, []}
 use Rattle.row_owners.specs.Owners.{concerns}
@@ -6,7 +6,7 @@ use Rattle.shard_checker.specs.CheckedView.{CheckedOf}
 use Rattle.tables_log.specs.Commits.{CommitOf}
 use Rattle.pgoutput_msgs.specs.Telling.{messages_for, told_after}
 
--- No message tells of the commit, and no Relation is sent.
+-- No message reports the commit, and no Relation is sent.
 pub record IsSilent (checked : CheckedOf) (subscriber : ℕ) (told : List Bool) (commit : CommitOf) : Type 0 where
   pub messages : messages_for checked subscriber told commit ≡ []
   pub after : told_after checked subscriber told commit ≡ told

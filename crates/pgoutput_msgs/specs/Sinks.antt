@@ -1,5 +1,5 @@
--- Messages that are taken one after another, where a relation says what one message leaves: PostgreSQL 15, 55.5.3.
--- Logical Replication Protocol Message Flow.
+-- Messages that are taken one after another; a relation states what one message leaves: PostgreSQL 15, 55.5.3. Logical
+-- Replication Protocol Message Flow.
 use Rattle.std.specs.Prelude.{◌≡◌, List, [], ◌∷◌}
 use Rattle.pgoutput_msgs.specs.declared.message.Msg.{Msg}
 

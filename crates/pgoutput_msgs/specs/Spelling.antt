@@ -52,7 +52,7 @@ abbrev pub old_spelling : OldTuple → List ℕ
 old_spelling (Key tuple) = codes "K" ++ tuple_spelling tuple
 old_spelling (Full tuple) = codes "O" ++ tuple_spelling tuple
 
--- nothing where nothing is sent of it
+-- nothing if nothing is sent of it
 abbrev pub maybe_old_spelling : Option OldTuple → List ℕ
 maybe_old_spelling None = []
 maybe_old_spelling (Some old) = old_spelling old
@@ -114,7 +114,7 @@ fields_spelling (m.Truncate options relations) = int32 (length relations) ++ (in
 abbrev pub spelling_of : Msg → List ℕ
 spelling_of message = letter message ∷ fields_spelling message
 
--- a Delete, where something is sent of the old row
+-- a Delete, if something is sent of the old row
 abbrev pub maybe_delete_spelling : ℕ → Option OldTuple → List ℕ
 maybe_delete_spelling relation None = []
 maybe_delete_spelling relation (Some old) = spelling_of (m.Delete relation old)

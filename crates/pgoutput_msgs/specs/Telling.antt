@@ -1,4 +1,4 @@
--- The messages that tell a subscriber of a commit: PostgreSQL 15, 55.5.3. Logical Replication Protocol Message Flow,
+-- The messages that report a commit to a subscriber: PostgreSQL 15, 55.5.3. Logical Replication Protocol Message Flow,
 -- and 55.9. Logical Replication Message Formats. Log sequence numbers, OIDs and numbers of transactions are this
 -- project's own.
 use Rattle.std.specs.Prelude.{ℕ, ◌+◌, ◌*◌, negsuc, Bool, true, false, List, [], ◌∷◌, ◌++◌, map, slice_get, slice_index_or, slice_set, Option, Some, None}
@@ -42,7 +42,7 @@ xid_of number = number + 2
 abbrev pub oid_of : ℕ → ℕ
 oid_of table = 16384 + table
 
--- the bytes of it
+-- its bytes
 abbrev pub oid_spelling : ℕ → List ℕ
 oid_spelling table = int32 (oid_of table)
 
@@ -85,7 +85,7 @@ relation_of number table = record {
   columns = columns_from table 0 table.columns;
 }
 
--- ---- what is said of a change
+-- ---- what is sent for a change
 
 abbrev pub old_of : r.PartOf → OldTuple
 old_of (r.Key part) = o.Key (cells_of part)
@@ -95,7 +95,7 @@ abbrev pub maybe_old_of : Option r.PartOf → Option OldTuple
 maybe_old_of None = None
 maybe_old_of (Some part) = Some (old_of part)
 
--- the message of a change, as the subscriber gets it; no message tells of an old row where nothing is recorded of it
+-- the message of a change, as the subscriber gets it; there is none for an old row if nothing is recorded of it
 abbrev pub message_of : r.ChangeOf → List Msg
 message_of (r.Insert table new) = m.Insert (oid_of table) (cells_of new) ∷ []
 message_of (r.Update table part new) = m.Update (oid_of table) (maybe_old_of part) (cells_of new) ∷ []
@@ -111,7 +111,7 @@ named_in (r.Delete table None) = []
 named_in (r.Delete table (Some part)) = table ∷ []
 named_in (r.Truncate numbers) = numbers
 
--- ---- Relations, each sent once: `told` has by a table's number whether it was
+-- ---- Relations, each sent once: `told` says by a table's number whether it was
 
 abbrev pub relation_at : ℕ → Option Table → List Msg
 relation_at number None = []
@@ -140,7 +140,7 @@ told_all told (number ∷ numbers) = told_all (told_one told number) numbers
 
 -- ---- commits
 
--- what is said of a change that the subscriber gets, if it gets one
+-- what is sent for a change that the subscriber gets, if it gets one
 unfoldable pub said : List Table → List Bool → Option r.ChangeOf → List Msg
 said tables told None = []
 said tables told (Some change) = relations_of tables told (named_in change) ++ message_of change
@@ -149,7 +149,7 @@ unfoldable pub told_by : List Bool → Option r.ChangeOf → List Bool
 told_by told None = told
 told_by told (Some change) = told_all told (named_in change)
 
--- what is said of changes, one after the other
+-- what is sent for changes, one after the other
 unfoldable pub said_each : CheckedOf → ℕ → List Bool → List r.ChangeOf → List Msg
 said_each checked subscriber told [] = []
 said_each checked subscriber told (change ∷ changes) =
@@ -167,12 +167,12 @@ begin_of commit = m.Begin (lsn_of commit.number) commit.time (xid_of commit.numb
 abbrev pub commit_of : CommitOf → Msg
 commit_of commit = m.Commit (lsn_of commit.number) (end_lsn_of commit.number) commit.time
 
--- Begin, what is said, and Commit; nothing where nothing is said
+-- Begin, the messages between, and Commit; nothing if there are none between
 abbrev pub enclosed : CommitOf → List Msg → List Msg
 enclosed commit [] = []
 enclosed commit (first ∷ others) = begin_of commit ∷ (first ∷ others) ++ commit_of commit ∷ []
 
--- the messages of a commit for the subscriber of this number, where these Relations were sent before it
+-- the messages of a commit for the subscriber of this number, if these Relations were sent before it
 abbrev pub messages_for : CheckedOf → ℕ → List Bool → CommitOf → List Msg
 messages_for checked subscriber told commit = enclosed commit (said_each checked subscriber told commit.changes)
 

@@ -1,6 +1,6 @@
--- What a connection tells a subscriber of transactions, said of what the subscriber sees of them alone: Begin, each
--- change directly after the Relations of those of its tables that no change of the connection named before, and
--- Commit: PostgreSQL 15, 55.5.3. Logical Replication Protocol Message Flow. Log sequence numbers, OIDs and numbers of
+-- What a connection sends a subscriber for transactions, by what the subscriber sees of them alone: Begin, each change
+-- directly after the Relations of those of its tables that no change of the connection named before, and Commit:
+-- PostgreSQL 15, 55.5.3. Logical Replication Protocol Message Flow. Log sequence numbers, OIDs and numbers of
 -- transactions are this project's own.
 use Rattle.std.specs.Prelude.{◌≡◌, ℕ, ◌<◌, nat_eq, Bool, false, List, [], ◌∷◌, ◌++◌, length, slice_get, slice_index_or, if◌then◌else◌, None}
 use Rattle.std.specs.List.{flat_map, list_any}
@@ -53,8 +53,8 @@ changes_told checked named [] = []
 changes_told checked named (change ∷ changes) =
     change_told checked named change ++ changes_told checked (named ++ tables_of change) changes
 
--- Begin and Commit with the number and the time of the transaction, and the changes between them; nothing where
--- nothing is seen
+-- Begin and Commit with the number and the time of the transaction, and the changes between them; nothing if nothing is
+-- seen
 abbrev pub transaction_told : CheckedOf → List ℕ → ℕ → ℕ → List Seen → List Msg
 transaction_told checked named number time [] = []
 transaction_told checked named number time (first ∷ others) =
@@ -63,12 +63,12 @@ transaction_told checked named number time (first ∷ others) =
 
 -- ---- the law
 
--- the flags of the tables that were told of are those of the tables that were named
+-- the flags mark the tables that were named
 pub record AreNamed (tables : List Table) (told : List Bool) (named : List ℕ) : Type 0 where
   pub long : length told ≡ length tables
   pub each : (number : ℕ) → number < length tables → slice_index_or told number false ≡ is_among number named
 
--- the messages of a commit tell what is seen of its transaction, and then the tables are named that it names
+-- the messages of a commit report what is seen of its transaction, and then the tables that it names are marked
 pub record TellsTransaction (checked : CheckedOf) (subscriber : ℕ) (told : List Bool) (named : List ℕ)
     (commit : CommitOf) (all : List Seen) : Type 0 where
   pub messages : messages_for checked subscriber told commit
@@ -76,7 +76,7 @@ pub record TellsTransaction (checked : CheckedOf) (subscriber : ℕ) (told : Lis
   pub named_after : AreNamed checked.catalog.tables (told_after checked subscriber told commit)
       (named ++ flat_map tables_of all)
 
--- So it is with each commit whose changes are what its commands record on the tables before it.
+-- This holds for each commit whose changes are what its commands record on the tables before it.
 abbrev pub CommitsTellTransactions : Type 0
 CommitsTellTransactions = (checked : CheckedOf) → Covered (setting_in checked)
     → (subscriber : ℕ) (told : List Bool) (named : List ℕ) → AreNamed checked.catalog.tables told named

@@ -1,6 +1,6 @@
--- The text of a row's value in a message, and the value that a text is of a type: integers in decimal, booleans as
--- `t` and `f`, and null, which has none: PostgreSQL 15, 55.9. Logical Replication Message Formats, and Chapter 8.
--- Data Types.
+-- The text of a row's value in a message, and the value of a type that a text is: integers in decimal, booleans as `t`
+-- and `f`, and null, which has none: PostgreSQL 15, 55.9. Logical Replication Message Formats, and Chapter 8. Data
+-- Types.
 use Rattle.std.specs.Prelude.{ℕ, ℤ, int_le, true, false, ◌&&◌, ◌==◌, nat_le, if◌then◌else◌, List, [], ◌∷◌, length, map, codes, Option, Some, None, option_map}
 use Rattle.std.specs.Fmt.{signed_decimal}
 use Rattle.std.specs.List.{list_any}
@@ -71,8 +71,7 @@ row_with None others = None
 row_with (Some datum) None = None
 row_with (Some datum) (Some others) = Some (datum ∷ others)
 
--- the row of a tuple whose columns have these types: none where it has another width, or a text that is none of its
--- type
+-- the row of a tuple whose columns have these types: none if it has another width, or a text that is not of its type
 unfoldable pub row_in : List ColType → List Cell → Option (List Datum)
 row_in [] [] = Some []
 row_in (kind ∷ kinds) (cell ∷ cells) = row_with (datum_in kind cell) (row_in kinds cells)

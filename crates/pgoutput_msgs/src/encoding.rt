@@ -16,7 +16,7 @@ use crate::tuple::{Cell, OldTuple, Tuple};
 use crate::update::{put_update, update_len};
 use std::alloc::AllocError;
 
-/// Appends the bytes that spell the message. The only error is want of memory, which leaves `out` as it was. Room is
+/// Appends the bytes that spell the message. The only error is out of memory, which leaves `out` as it was. Room is
 /// made for the whole message at once.
 ///
 /// PostgreSQL 15, 55.9. Logical Replication Message Formats.

@@ -1,4 +1,4 @@
-//! Why bytes are no message.
+//! Why bytes are not a message.
 
 ghost use Rattle.std.specs.Prelude.{◌≡◌};
 ghost use Rattle.pgoutput_msgs.specs.declared.error.MsgError.TheVariants.{OutOfMemory};
@@ -11,11 +11,11 @@ use thiserror::Error;
 /// PostgreSQL 15, 55.9. Logical Replication Message Formats.
 #[derive(Clone, Copy, Debug, PartialEq, Eq, Error)]
 pub enum MsgError {
-    /// This byte is none of those that may be here: of the letters of messages, of rows and of replica identities, of
-    /// the kinds of a column's value, and of flags.
+    /// This byte may not be here: it is not one of the letters of messages, of rows and of replica identities, of the
+    /// kinds of a column's value, or of flags.
     #[error("a message can't have the byte {0} here")]
     Unknown(u8),
-    /// A value that was not sent, since it is stored out of line and did not change (`u`).
+    /// A value was not sent, because it is stored out of line and did not change (`u`).
     #[error("a value of the message was left out, since it did not change")]
     Toast,
     /// A count or a length is negative.

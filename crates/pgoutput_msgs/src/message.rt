@@ -35,12 +35,12 @@ pub enum Msg {
         old: Option<OldTuple>,
         new: Tuple,
     },
-    /// A row of the table with this OID was deleted, and this is sent of it.
+    /// A row of the table with this OID was deleted: what is sent of it.
     Delete {
         relation: u32,
         old: OldTuple,
     },
-    /// The tables with these OIDs were emptied. In the options the bit 1 is CASCADE, and 2 is RESTART IDENTITY.
+    /// The tables with these OIDs were emptied. In the options, bit 1 is CASCADE, and bit 2 is RESTART IDENTITY.
     Truncate {
         options: u8,
         relations: Items<u32>,

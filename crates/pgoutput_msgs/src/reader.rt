@@ -11,7 +11,7 @@ use filter_tree::Text;
 use std::alloc::Global;
 use std::marker::Model;
 
-/// The bytes that are left to be read.
+/// The bytes that remain to be read.
 #[derive(Drop)]
 pub(crate) struct Reader<'a> {
     rest: &'a [u8],
@@ -124,7 +124,7 @@ impl<'a> Reader<'a> {
         Ok(before)
     }
 
-    /// A text that is ended by a zero byte.
+    /// A text that ends with a zero byte.
     #[tactic(auto, unfolding(crate::specs::Reading::string_at))]
     pub(crate) fn string(&mut self, alloc: Global) -> Result<Text, MsgError>
         ensures { Reads (λ x. x) (string_at self.old) result self.new }

@@ -37,8 +37,8 @@ impl ReplicaIdentity {
     }
 }
 
-/// A column of a table: whether it is one of the replica identity's, its name, and the OID and the modifier of its
-/// type. The modifier is -1 for a type without one.
+/// A column of a table: whether it belongs to the replica identity, its name, and the OID and the modifier of its type.
+/// The modifier is -1 for a type without one.
 ///
 /// PostgreSQL 15, 55.9. Logical Replication Message Formats (Relation).
 #[derive(Debug, Drop)]

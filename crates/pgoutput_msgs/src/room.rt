@@ -1,4 +1,4 @@
-//! Fields of a message, written where there is room for them.
+//! Fields of a message, written if there is room for them.
 
 ghost use Rattle.std.specs.Prelude.{◌≡◌, ◌∷◌, [], ◌^◌, ◌-◌, length, min};
 ghost use Rattle.pgoutput_msgs.specs.Room.{HasRoom, Puts};

@@ -13,8 +13,8 @@ use replica_identity::OldPart;
 use std::alloc::AllocError;
 
 /// Appends the bytes that spell the Delete message of what is recorded of a row of the table with this OID: those that
-/// `encode` appends, without the memory of a tuple. Nothing is appended where nothing is recorded. The row needs room in
-/// the layout. The only error is want of memory, which leaves `out` as it was. Room is made for the whole message at
+/// `encode` appends, without the memory of a tuple. Nothing is appended if nothing is recorded. The row needs room in
+/// the layout. The only error is out of memory, which leaves `out` as it was. Room is made for the whole message at
 /// once. The row's texts are UTF-8.
 ///
 /// PostgreSQL 15, 55.9. Logical Replication Message Formats (Delete, TupleData).

@@ -13,9 +13,9 @@ use filter_tree::Row;
 use std::alloc::AllocError;
 
 /// Appends the bytes that spell the Insert message of a row of the table with this OID: those that `encode` appends for
-/// the row's `tuple_of`, without the memory of a tuple. The row needs room in the layout, which each row has that fits a
-/// table of fewer than 2^15 columns. The only error is want of memory, which leaves `out` as it was. Room is made for
-/// the whole message at once. The row's texts are UTF-8.
+/// the row's `tuple_of`, without the memory of a tuple. The row needs room in the layout; each row that fits a table of
+/// fewer than 2^15 columns has it. The only error is out of memory, which leaves `out` as it was. Room is made for the
+/// whole message at once. The row's texts are UTF-8.
 ///
 /// PostgreSQL 15, 55.9. Logical Replication Message Formats (Insert, TupleData).
 pub fn encode_insert(relation: u32, row: &Row, out: &mut Vec<u8>) -> Result<(), AllocError>

@@ -11,7 +11,7 @@ use crate::room::put_byte;
 use crate::row_tuple::{put_row, row_room};
 use replica_identity::OldPart;
 
-/// Room for so many bytes and for what is recorded of an old row, up to `usize::MAX`.
+/// Room for `before` bytes and for what is recorded of an old row, up to `usize::MAX`.
 pub(crate) fn part_room(before: usize, part: &OldPart) -> usize
     ensures { min (before + length (maybe_old_spelling (maybe_old_of (part_view part.now)))) (2 ^ 64 - 1) ≤ result }
 {
@@ -21,7 +21,7 @@ pub(crate) fn part_room(before: usize, part: &OldPart) -> usize
     }
 }
 
-/// Writes `K` or `O` and the row that is recorded, if one is.
+/// Writes `K` or `O` and the row that is recorded, if any.
 pub(crate) fn put_part(part: &OldPart, out: &mut Vec<u8>)
     requires fits { IsMaybeOldWithinRange (maybe_old_of (part_view part.now)) }
     requires room { HasRoom out.old (maybe_old_spelling (maybe_old_of (part_view part.now))) }

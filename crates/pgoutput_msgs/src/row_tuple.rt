@@ -35,7 +35,7 @@ fn value_room(value: &Value) -> usize
     }
 }
 
-/// Room for so many bytes and for the values, up to `usize::MAX`.
+/// Room for `before` bytes and for the values, up to `usize::MAX`.
 #[tactic(auto, using(crate::proofs::Writing::covers_on, crate::proofs::Writing::all_covered))]
 fn values_room(before: usize, values: &[Value]) -> usize
     ensures { min (before + length (flat_map value_spelling values.now)) (2 ^ 64 - 1) ≤ result }
@@ -47,7 +47,7 @@ fn values_room(before: usize, values: &[Value]) -> usize
     total
 }
 
-/// Room for so many bytes, the letter before a row, and the row, up to `usize::MAX`.
+/// Room for `before` bytes, the letter before a row, and the row, up to `usize::MAX`.
 pub(crate) fn row_room(before: usize, row: &Row) -> usize
     ensures { min (before + length (new_spelling (cells_of row.now))) (2 ^ 64 - 1) ≤ result }
 {

@@ -18,7 +18,7 @@ use std::alloc::AllocError;
 
 /// Appends the bytes that spell the Update message of a row of the table with this OID, and of what is recorded of the
 /// row that it replaces: those that `encode` appends, without the memory of tuples. Both need room in the layout. The
-/// only error is want of memory, which leaves `out` as it was. Room is made for the whole message at once. The rows'
+/// only error is out of memory, which leaves `out` as it was. Room is made for the whole message at once. The rows'
 /// texts are UTF-8.
 ///
 /// PostgreSQL 15, 55.9. Logical Replication Message Formats (Update, TupleData).

@@ -72,9 +72,9 @@ fn truth_of(text: &str) -> Option<bool>
     }
 }
 
-/// The value of a column of this type whose text the cell has; `None` where the type has no such value. A number has to
-/// be in decimal without leading zeros and in the type's range, a boolean is `t` or `f`, and a text has no zero byte
-/// and at most 65,535 bytes; it is the cell's own, without a copy. The only error is want of memory.
+/// The value of a column of this type whose text the cell has; `None` if the type has no such value. A number has to be
+/// in decimal without leading zeros and in the type's range, a boolean is `t` or `f`, and a text has no zero byte and
+/// at most 65,535 bytes; it is the cell's own, without a copy. The only error is out of memory.
 ///
 /// PostgreSQL 15, Chapter 8. Data Types, and 55.9. Logical Replication Message Formats.
 pub fn value_of(alloc: Global, kind: ColType, cell: Cell) -> Result<Option<Value>, AllocError>

@@ -1,4 +1,4 @@
-//! What is said of a change: Relations that were not sent, and a message.
+//! What is sent for a change: Relations that were not sent before, and a message.
 
 ghost use Rattle.std.specs.Prelude.{◌≡◌, ◌∷◌, [], All, OnOk, false, slice_get, slice_index_or};
 ghost use Rattle.std.specs.Option.{option_copied};
@@ -36,7 +36,7 @@ fn table_at(tables: &[Table], number: usize) -> Option<&Table>
     tables.get(number)
 }
 
-/// Says the Relation of a table.
+/// Sends the Relation of a table.
 fn say_new_relation<S: MessageSink>(
     tables: &[Table],
     number: usize,
@@ -56,7 +56,7 @@ fn say_new_relation<S: MessageSink>(
     }
 }
 
-/// Says the Relation of a table, if it was not sent.
+/// Sends the Relation of a table, if it was not sent before.
 fn say_relation<S: MessageSink>(
     tables: &[Table],
     number: usize,
@@ -74,7 +74,7 @@ fn say_relation<S: MessageSink>(
     Ok(())
 }
 
-/// Says the Relations of tables that were not sent, in this order.
+/// Sends the Relations of tables that were not sent before, in this order.
 pub(crate) fn say_relations<S: MessageSink>(
     tables: &[Table],
     numbers: &[usize],
@@ -152,7 +152,7 @@ fn say_gone<S: MessageSink>(
     Ok(())
 }
 
-/// Says nothing where nothing is recorded of the row.
+/// Sends nothing if nothing is recorded of the row.
 pub(crate) fn say_delete<S: MessageSink>(
     tables: &[Table],
     table: usize,

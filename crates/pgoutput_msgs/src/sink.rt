@@ -1,11 +1,11 @@
-//! What takes the messages that tell a subscriber of changes.
+//! What takes the messages that report changes to a subscriber.
 
 use filter_tree::{Row, Table};
 use replica_identity::OldPart;
 use std::alloc::AllocError;
 
-/// What takes the messages that tell a subscriber of changes, one after the other. It gets the rows themselves, so that
-/// it may spell a message without a copy of them. `takes_one` says what one message leaves.
+/// What takes the messages that report changes to a subscriber, one after the other. It gets the rows themselves, so
+/// that it may spell a message without a copy of them. `takes_one` states what one message leaves.
 ///
 /// PostgreSQL 15, 55.5.3. Logical Replication Protocol Message Flow.
 pub trait MessageSink {
@@ -20,30 +20,30 @@ pub trait MessageSink {
 
     ghost takes_one: { Self → Self → Msg → Type 0 };
 
-    /// Takes the Relation of the table of this number. The only error is want of memory.
+    /// Takes the Relation of the table of this number. The only error is out of memory.
     fn relation(&mut self, number: usize, table: &Table) -> Result<(), AllocError>
         requires number { IsTableNumber number }
         requires limited { IsLimitedTable table.now }
         ensures { OnOk result (Takes takes_one self.old self.new (relation_at number (Some table.now))) };
 
-    /// Takes the Insert of a row of the table of this number. The only error is want of memory.
+    /// Takes the Insert of a row of the table of this number. The only error is out of memory.
     fn insert(&mut self, table: usize, new: &Row) -> Result<(), AllocError>
         requires { IsSendableChange (r.Insert table new.now) }
         ensures { OnOk result (Takes takes_one self.old self.new (message_of (r.Insert table new.now))) };
 
-    /// Takes the Update of a row of the table of this number. The only error is want of memory.
+    /// Takes the Update of a row of the table of this number. The only error is out of memory.
     fn update(&mut self, table: usize, old: &OldPart, new: &Row) -> Result<(), AllocError>
         requires { IsSendableChange (r.Update table (part_view old.now) new.now) }
         ensures { OnOk result
             (Takes takes_one self.old self.new (message_of (r.Update table (part_view old.now) new.now))) };
 
-    /// Takes the Delete of a row of the table of this number; none where nothing is recorded of the row. The only error
-    /// is want of memory.
+    /// Takes the Delete of a row of the table of this number; none if nothing is recorded of the row. The only error is
+    /// out of memory.
     fn delete(&mut self, table: usize, old: &OldPart) -> Result<(), AllocError>
         requires { IsSendableChange (r.Delete table (part_view old.now)) }
         ensures { OnOk result (Takes takes_one self.old self.new (message_of (r.Delete table (part_view old.now)))) };
 
-    /// Takes the Truncate of the tables of these numbers. The only error is want of memory.
+    /// Takes the Truncate of the tables of these numbers. The only error is out of memory.
     fn truncate(&mut self, tables: &[usize]) -> Result<(), AllocError>
         requires { IsSendableChange (r.Truncate tables.now) }
         ensures { OnOk result (Takes takes_one self.old self.new (message_of (r.Truncate tables.now))) };

@@ -1,4 +1,4 @@
-//! Messages that are to be sent, in their order.
+//! Messages to be sent, in their order.
 
 ghost use Rattle.std.specs.Prelude.{◌≡◌, All, IfOk, map};
 ghost use Rattle.replica_identity.specs.ChangeView.{part_view};
@@ -51,7 +51,7 @@ impl Spoken {
         *self.messages.allocator()
     }
 
-    /// Adds a message after the others. The only error is want of memory.
+    /// Adds a message after the others. The only error is out of memory.
     fn push(&mut self, message: Msg) -> Result<(), AllocError>
         requires { HasTexts message }
         ensures { OnOk result (self.new ≡ self.old ++ message ∷ []) }

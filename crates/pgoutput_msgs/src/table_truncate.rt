@@ -13,8 +13,8 @@ use crate::tables::oid_of;
 use std::alloc::AllocError;
 
 /// Appends the bytes that spell the Truncate message of tables, by their numbers from 0, without options: those that
-/// `encode` appends for their OIDs, without the memory of a list of these. The only error is want of memory, which
-/// leaves `out` as it was. Room is made for the whole message at once.
+/// `encode` appends for their OIDs, without the memory of a list of them. The only error is out of memory, which leaves
+/// `out` as it was. Room is made for the whole message at once.
 ///
 /// PostgreSQL 15, 55.9. Logical Replication Message Formats (Truncate).
 pub fn encode_truncate(tables: &[usize], out: &mut Vec<u8>) -> Result<(), AllocError>

@@ -68,9 +68,8 @@ fn column_of(alloc: Global, column: &Column, is_key: bool) -> Result<RelationCol
     })
 }
 
-/// The Relation message of the table of this number, which is counted from 0: its columns in their order, where the
-/// flag marks those of the replica identity, under FULL all. Its names are UTF-8 (`texts`). The only error is want of
-/// memory.
+/// The Relation message of the table of this number, which is counted from 0: its columns in their order; the flag
+/// marks those of the replica identity, under FULL all. Its names are UTF-8 (`texts`). The only error is out of memory.
 ///
 /// PostgreSQL 15, 55.9. Logical Replication Message Formats (Relation).
 pub fn relation_of(alloc: Global, number: usize, table: &Table) -> Result<Relation, AllocError>

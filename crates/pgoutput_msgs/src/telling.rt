@@ -1,4 +1,4 @@
-//! The messages that tell a subscriber of a commit.
+//! The messages that report a commit to a subscriber.
 
 ghost use Rattle.std.specs.Prelude.{◌≡◌, ◌++◌, All, IfOk, OnOk, OnErr, filter, map};
 ghost use Rattle.pub_catalog.specs.CatalogLimits.{IsLimitedTable};
@@ -24,12 +24,12 @@ use shard_checker::Checked;
 use std::alloc::{AllocError, Global};
 use tables_log::Commit;
 
-/// The messages that tell the subscriber of this number of a commit: Begin, then for each change that is for it the
-/// message of what it gets, and Commit; none if no change is for it. `told` has by a table's number whether its
-/// Relation was sent: one that wasn't comes directly before the first message that names its table, before a Truncate
-/// in its order, and is told from then on. Each message fits its layout (`room`), the bytes that spell it are decoded
+/// The messages that report a commit to the subscriber of this number: Begin, then for each change that is for it the
+/// message of what it gets, and Commit; none if no change is for it. `told` says by a table's number whether its
+/// Relation was sent: one that wasn't is sent directly before the first message that names its table, before a Truncate
+/// in its order, and is marked from then on. Each message fits its layout (`room`), the bytes that spell it are decoded
 /// as that message, and there are at most 13,108,011 of them (`sent`). Commit n has the LSN `64 * n`, ends at `64 * n +
-/// 64` and is transaction `n + 2`; table j has the OID `16384 + j`. The only error is want of memory, which leaves
+/// 64` and is transaction `n + 2`; table j has the OID `16384 + j`. The only error is out of memory, which leaves
 /// `told` as it was.
 ///
 /// PostgreSQL 15, 55.5.3. Logical Replication Protocol Message Flow.
@@ -62,7 +62,7 @@ pub fn messages_of(
     Ok(messages)
 }
 
-/// Begin, what is said, and Commit; no message where nothing is said.
+/// Begin, the messages between, and Commit; no message if there are none between.
 #[tactic(auto, using(crate::proofs::TellingLemmas::enclosed_some, crate::proofs::TellingLemmas::enclosed_none))]
 fn enclosed(commit: &Commit, said: Vec<Msg>) -> Result<Vec<Msg>, AllocError>
     requires { All HasTexts said.items }
@@ -97,9 +97,9 @@ fn tables_of(checked: &Checked) -> &[Table]
     checked.catalog().tables.as_slice()
 }
 
-/// Tells the subscriber of this number of the changes of a commit that are for it, and of tables whose Relation was not
-/// sent: the messages between Begin and Commit of `messages_of`, which a sink takes one after the other. `told` has by a
-/// table's number whether its Relation was sent. The only error is want of memory; then `sink` has taken some first
+/// Reports to the subscriber of this number the changes of a commit that are for it, and tables whose Relation was not
+/// sent: the messages between Begin and Commit of `messages_of`, which a sink takes one after the other. `told` says by
+/// a table's number whether its Relation was sent. The only error is out of memory; then `sink` has taken the first few
 /// messages.
 ///
 /// PostgreSQL 15, 55.5.3. Logical Replication Protocol Message Flow.
@@ -119,7 +119,7 @@ pub fn tell_changes<S: MessageSink>(
     Ok(())
 }
 
-/// Tells the subscriber of changes, one after the other.
+/// Reports changes to the subscriber, one after the other.
 fn tell_each<S: MessageSink>(
     alloc: Global,
     checked: &Checked,
@@ -140,7 +140,7 @@ fn tell_each<S: MessageSink>(
     Ok(())
 }
 
-/// Tells the subscriber of a change.
+/// Reports a change to the subscriber.
 #[tactic(auto, using(crate::proofs::TellingLemmas::got_none, crate::proofs::TellingLemmas::got_insert, crate::proofs::TellingLemmas::got_update, crate::proofs::TellingLemmas::got_delete, crate::proofs::TellingLemmas::got_truncate, crate::proofs::TellingLemmas::truncated_numbers))]
 fn tell_change<S: MessageSink>(
     alloc: Global,
@@ -185,7 +185,7 @@ fn table_of(change: &Change) -> usize
     }
 }
 
-/// Those of the tables that the subscriber takes anything of.
+/// Those of the tables that the subscriber gets anything of.
 #[tactic(auto, using(crate::proofs::TellingLemmas::keeps_on, crate::proofs::TellingLemmas::keeps_past, crate::proofs::TellingLemmas::all_kept))]
 fn carried_of(
     alloc: Global,

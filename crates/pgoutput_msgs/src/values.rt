@@ -11,7 +11,7 @@ use filter_tree::{Row, Text, Value};
 use std::alloc::{AllocError, Allocator, Global};
 
 /// The row's values as a message has them. An Insert message has room for those of a row that fits a table of fewer
-/// than 2^15 columns. The only error is want of memory.
+/// than 2^15 columns. The only error is out of memory.
 ///
 /// PostgreSQL 15, 55.9. Logical Replication Message Formats (TupleData).
 pub fn tuple_of<A: Allocator>(alloc: Global, row: &Row<A>) -> Result<Tuple, AllocError>

@@ -1,5 +1,5 @@
--- A catalog is within its limits, carries tables that are there, and is named: what its fields keep, of which there
--- is one proof at most.
+-- A catalog is within its limits, carries tables that exist, and has proper names: what its fields keep. Of each of
+-- these there is at most one proof.
 use Rattle.std.proofs.Common.{◌≡◌, ℕ, List, [], ◌∷◌, All, length, map, refl, sym, ap, subst, arith}
 use Rattle.std.specs.Prelude.{Option, Some, None}
 use Rattle.std.proofs.Math.Logic.{∥∥₁_elim}
@@ -71,7 +71,7 @@ AreTaken-prop count numbers = Prim.hlevel props
 all_taken-prop : (count : ℕ) (subscriptions : List Subscription) → IsProp (All (TakesKnown count) subscriptions)
 all_taken-prop count subscriptions = Prim.hlevel (props, AreTaken-prop)
 
--- publications have the same names as plain data
+-- publications as plain data have the same names
 pub names_viewed : (publications : List Publication)
     → map (λ (p : PublicationOf Expr). p.name) (map publication_view publications)
     ≡ map (λ (p : Publication). p.name) publications

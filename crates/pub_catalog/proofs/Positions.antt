@@ -1,4 +1,4 @@
--- The position of a name in a list of what bears names.
+-- The position of a name in a list of things that have names.
 use Rattle.std.proofs.Common.{◌≡◌, ◌+◌, Bool, not, cond, List, [], ◌∷◌, map, length, refl, ap, ◌∙◌}
 use Rattle.std.proofs.lemmas.List.{length-map}
 use Rattle.std.specs.Prelude.{Some, None, nat_lt, position}

@@ -1,5 +1,5 @@
--- How much a catalog has at most, that the columns of its keys and unique indexes are there, and what names are:
--- PostgreSQL 15, "SQL Syntax", 4.1.1 Identifiers and Key Words.
+-- How much a catalog can have, that the columns of its keys and unique indexes exist, and what names are: PostgreSQL
+-- 15, "SQL Syntax", 4.1.1 Identifiers and Key Words.
 use Rattle.std.specs.Prelude.{◌≡◌, ◌<◌, ◌≤◌, true, List, All, length, slice_get}
 use Rattle.filter_tree.specs.declared.table.Column.{Column}
 use Rattle.filter_tree.specs.declared.table.Identity.{Identity}
@@ -14,7 +14,7 @@ use Rattle.pub_catalog.specs.IndexIdentities.{identifies}
 abbrev pub IsIndexOf : List Column → UniqueIndex → Type 0
 IsIndexOf columns index = All (λ number. number < length columns) index.columns
 
--- an identity by an index names one of these whose columns take no null
+-- an identity by an index names one of these whose columns are NOT NULL
 abbrev pub IsIdentity : List Column → List UniqueIndex → Identity → Type 0
 IsIdentity columns indexes (Index number) = identifies columns (slice_get indexes number) ≡ true
 IsIdentity columns indexes _ = Unit {0}
@@ -28,7 +28,7 @@ pub record IsNamed (table : Table) : Type 0 where
   pub name : IsPlainName table.name
   pub columns : All HasPlainName table.columns
 
--- at most 100 columns, those of the key among them, and 8 unique indexes, and such names
+-- at most 100 columns, those of the key among them, and 8 unique indexes, and names as above
 pub record IsLimitedTable (table : Table) : Type 0 where
   pub columns : length table.columns ≤ 100
   pub keyed : All (λ number. number < length table.columns) table.key

@@ -1,4 +1,4 @@
--- A catalog of the code as plain data.
+-- A catalog of the program as plain data.
 use Rattle.std.specs.Prelude.{map}
 use Rattle.filter_tree.specs.Expr.{Expr}
 use Rattle.pub_catalog.specs.declared.catalog.Catalog.{Catalog}

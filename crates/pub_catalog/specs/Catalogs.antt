@@ -9,7 +9,7 @@ use Rattle.filter_tree.specs.declared.table.UniqueIndex.{UniqueIndex}
 use Rattle.pub_catalog.specs.declared.catalog.Operations.{Operations}
 use Rattle.pub_catalog.specs.declared.catalog.Subscription.{Subscription}
 
--- a publication's entry: the number of a table, and the filter of its rows; with no filter it carries the whole table
+-- a publication's entry: the number of a table, and the filter of its rows; without a filter it carries the whole table
 pub record EntryOf (S : Type 0) : Type 0 where
   pub table : ℕ
   pub filter : Option S
@@ -19,7 +19,7 @@ pub record PublicationOf (S : Type 0) : Type 0 where
   pub publishes : Operations
   pub entries : List (EntryOf S)
 
--- tables, publications and subscriptions, each in the order in which they are made
+-- tables, publications and subscriptions, each in the order in which they are created
 pub record CatalogOf (S : Type 0) : Type 0 where
   pub tables : List Table
   pub publications : List (PublicationOf S)
@@ -47,13 +47,13 @@ indexes_at [] number = []
 indexes_at (table ∷ tables) zero = table.indexes
 indexes_at (table ∷ tables) (suc number) = indexes_at tables number
 
--- the tables where that of this number has this identity
+-- the tables, with this identity for the table of this number
 abbrev pub identified : List Table → ℕ → Identity → List Table
 identified [] number identity = []
 identified (table ∷ tables) zero identity = record table { identity = identity } ∷ tables
 identified (table ∷ tables) (suc number) identity = table ∷ identified tables number identity
 
--- the tables where that of this number has one unique index more
+-- the tables, with one more unique index for the table of this number
 abbrev pub indexed : List Table → ℕ → UniqueIndex → List Table
 indexed [] number index = []
 indexed (table ∷ tables) zero index = record table { indexes = table.indexes ++ index ∷ [] } ∷ tables

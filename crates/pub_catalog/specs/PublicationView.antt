@@ -1,4 +1,4 @@
--- A publication of the code as plain data.
+-- A publication of the program as plain data.
 use Rattle.std.specs.Prelude.{map}
 use Rattle.std.specs.Option.{option_map}
 use Rattle.filter_tree.specs.Expr.{Expr}

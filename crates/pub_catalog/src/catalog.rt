@@ -8,17 +8,17 @@ ghost use Rattle.pub_catalog.specs.PublicationView.{publication_view};
 
 use filter_tree::{Filter, Items, Table, Text};
 
-/// The tables, the publications and the subscriptions of a catalog, each in the order in which they are made, so that
-/// each has a number from 0.
+/// The tables, the publications and the subscriptions of a catalog, each in the order in which they are created, so
+/// that each has a number from 0.
 ///
 /// It is always within its limits: at most 64 tables of at most 100 columns and 8 unique indexes, 64 publications and
 /// 32 subscriptions. The columns of a primary key and of a unique index are columns of their table. An identity by an
-/// index names an index of the table whose columns take no null. The names of schemas, tables and columns have 1 to 63
+/// index names an index of the table whose columns are NOT NULL. The names of schemas, tables and columns have 1 to 63
 /// bytes of UTF-8, and no zero byte.
 ///
-/// Publications have names of that kind too, and no two have the same name. The same is so of subscriptions. Each entry
-/// of a publication is for one of the tables, and its filter names columns of that table. Each subscription takes at
-/// least one of the publications, and none twice.
+/// Publications have names of this kind too, and no two have the same name. The same holds for subscriptions. Each
+/// entry of a publication is for one of the tables, and its filter names columns of that table. Each subscription names
+/// at least one of the publications, and none twice.
 ///
 /// PostgreSQL 15, "Logical Replication", 31.1 Publication, 31.2 Subscription and 31.3 Row Filters.
 #[derive(Drop)]
@@ -47,8 +47,9 @@ pub struct Operations {
     pub truncate: bool,
 }
 
-/// A publication: its name, the operations that it publishes, and the tables that it carries: those that it names, and
-/// then, in the order of the tables, each that it carries whole by FOR ALL TABLES or TABLES IN SCHEMA.
+/// A publication: its name, the operations that it publishes, and the tables that it carries. These are first the
+/// tables that it names, and then, in the order of the tables, each table that it carries whole by FOR ALL TABLES or
+/// TABLES IN SCHEMA.
 ///
 /// PostgreSQL 15, "Logical Replication", 31.1 Publication.
 #[derive(Drop)]
@@ -69,7 +70,7 @@ pub struct Entry {
 }
 
 /// A subscription: its name, which is also the name of its replication slot, and the numbers of the publications that
-/// it takes, from 0, in the order of its list.
+/// it subscribes to, from 0, in the order of its list.
 ///
 /// PostgreSQL 15, "Logical Replication", 31.2 Subscription.
 #[derive(Drop)]

@@ -1,5 +1,5 @@
 //! What the catalog of a publisher has: tables, publications with their row filters, and subscriptions, always within
-//! its limits and named as the grammar has it. It is read by `pub_reader`.
+//! its limits and with names that the grammar allows. It is read by `pub_reader`.
 #![tactic(auto)]
 
 mod catalog;

@@ -1,4 +1,4 @@
--- Catalogs are read the same whatever the forms of their filters make.
+-- Catalogs are read the same, whatever the forms of their filters make.
 use Rattle.std.proofs.Common.{◌≡◌, ℕ, suc, Bool, true, false, List, [], ◌∷◌, ◌++◌, map, refl, ap, sym, ◌∙◌}
 use Rattle.std.proofs.lemmas.List.{map-append}
 use Rattle.std.specs.Prelude.{Option, Some, None, Result, Ok, Err, IfOk}
@@ -102,7 +102,7 @@ module _ {S T : Type 0} (from : Forms S) (to : Forms T) (h : S → T) (carries :
       (statement_by-carried (item_ahead ts) draft ts)
       (λ made ts2. then-same (draft_map h) (expect i.Semicolon ts2) _ _ (λ a ts3. refl))
 
-  -- the catalog of a text with one kind of filters is that with the other, carried over
+  -- the catalog of a text with one kind of filters is the catalog with the other kind, carried over
   pub catalog_by-carried : (text : List ℕ) → catalog_by to text ≡ verdict_map (catalog_map h) (catalog_by from text)
   unfolding catalog_by statements
   catalog_by-carried text =

@@ -1,4 +1,4 @@
--- What a catalog has while it is read is the same whatever the forms of its filters make.
+-- What a catalog has while it is being read is the same, whatever the forms of its filters make.
 use Rattle.std.proofs.Common.{◌≡◌, ℕ, Bool, true, false, ◌||◌, List, [], ◌∷◌, ◌++◌, map, refl, ap, sym, ◌∙◌}
 use Rattle.std.proofs.lemmas.List.{length-map, map-append}
 use Rattle.std.specs.Prelude.{Option, Some, None, Ok, Err, if◌then◌else◌, ◌==◌}
@@ -28,7 +28,7 @@ use Rattle.pub_reader.specs.Tables.{table_body, create_table}
 use Rattle.pub_catalog.proofs.Positions.{position-map}
 use Rattle.filter_tree.proofs.Tests.{by_test}
 
--- an outcome, of which the value is the same
+-- an outcome whose value is the same
 abbrev same : {A : Type 0} → A → A
 same a = a
 

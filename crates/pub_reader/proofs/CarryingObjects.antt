@@ -1,4 +1,4 @@
--- Publications are read the same whatever the forms of their filters make.
+-- Publications are read the same, whatever the forms of their filters make.
 use Rattle.std.proofs.Common.{◌≡◌, ℕ, List, [], ◌∷◌, ◌++◌, refl, ap, sym, ◌∙◌}
 use Rattle.std.proofs.lemmas.List.{map-append}
 use Rattle.std.specs.Prelude.{Option, Some, Ok}

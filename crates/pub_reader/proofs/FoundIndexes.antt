@@ -1,4 +1,4 @@
--- An index that was found by its name is the identity of a table, or is no identity.
+-- An index that was found by its name is the identity of a table, or is not an identity.
 use Rattle.std.proofs.Common.{◌≡◌, ℕ, Bool, true, false, List, refl, sym, ap, ◌∙◌}
 use Rattle.std.specs.Prelude.{Option, Some, Ok, Err, slice_get}
 use Rattle.filter_tree.specs.declared.table.Column.{Column}

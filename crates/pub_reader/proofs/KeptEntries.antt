@@ -1,5 +1,5 @@
--- Each statement keeps it that entries of publications are for tables that are there, and their filters name columns
--- of these.
+-- Each statement preserves that entries of publications are for tables that exist, and that their filters name columns
+-- of these tables.
 use Rattle.std.proofs.Common.{◌≡◌, ℕ, zero, suc, ◌+◌, ◌<◌, ◌≤◌, Bool, true, false, not, cond, ◌||◌, List, [], ◌∷◌, ◌++◌, All, length, map, get_or, refl, sym, ap, subst, arith}
 use Rattle.std.specs.Prelude.{Option, Some, None, Result, Ok, Err, if◌then◌else◌, nat_lt, position}
 use Rattle.std.specs.List.{list_any, position_or_len}
@@ -297,7 +297,7 @@ columns_at-indexed (table ∷ tables) zero (suc number) index = refl
 columns_at-indexed (table ∷ tables) (suc changed) zero index = refl
 columns_at-indexed (table ∷ tables) (suc changed) (suc number) index = columns_at-indexed tables changed number index
 
--- an entry stays known where there are no fewer tables, each with its columns
+-- an entry stays known if there are no fewer tables, each with its columns
 module _ (tables others : List Table) (grows : length tables ≤ length others)
     (same : (number : ℕ) → number < length tables → columns_at others number ≡ columns_at tables number) where
   entry-later : (entry : EntryOf Expr) → IsKnownEntry tables entry → IsKnownEntry others entry

@@ -1,4 +1,4 @@
--- Indexes and identities have columns that are there, and there are at most 8 indexes of a table.
+-- Indexes and identities have columns that exist, and a table has at most 8 indexes.
 use Rattle.std.proofs.Common.{◌≡◌, ℕ, zero, suc, ◌<◌, ◌≤◌, Bool, true, false, List, [], ◌∷◌, ◌++◌, All, length, refl, ap, subst, arith}
 use Rattle.std.specs.Prelude.{nat_le, if◌then◌else◌, Option, Some, None, Ok, Err, slice_get}
 use Rattle.std.specs.Option.{is_some}
@@ -30,7 +30,7 @@ use Rattle.pub_catalog.specs.IndexIdentities.{identifies}
 use Rattle.pub_reader.specs.Indexes.{check_new_index, method, once_in_index, index_column, index_columns, index_tail, index_body, indexed_table}
 use Rattle.pub_reader.specs.TableNames.{table_number}
 
--- the limits of a table, without those of its names
+-- the limits of a table, without the limits of its names
 pub record IsSizedTable (table : Table) : Type 0 where
   pub columns : length table.columns ≤ 100
   pub keyed : AreColumns table.columns table.key
@@ -160,7 +160,7 @@ identified-limited (table ∷ tables) (suc number) identity h is =
     All-cons IsSizedTable table (identified tables number identity) (All-head IsSizedTable table tables h)
     (identified-limited tables number identity (All-tail IsSizedTable table tables h) is)
 
--- an index more changes none of those before it
+-- one more index changes none of those before it
 still_identifies : (columns : List Column) (indexes : List UniqueIndex) (index : UniqueIndex) (number : ℕ)
     → identifies columns (slice_get indexes number) ≡ true
     → identifies columns (slice_get (indexes ++ index ∷ []) number) ≡ true

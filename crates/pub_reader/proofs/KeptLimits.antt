@@ -1,4 +1,4 @@
--- Each statement keeps the limits of a catalog.
+-- Each statement preserves the limits of a catalog.
 use Rattle.std.proofs.Common.{◌≡◌, ℕ, ◌<◌, ◌≤◌, List, [], ◌∷◌, ◌++◌, All, length, get_or, subst, arith}
 use Rattle.std.specs.Prelude.{nat_le, Option, Some, Ok}
 use Rattle.std.specs.Option.{is_some}
@@ -34,7 +34,7 @@ use Rattle.pub_reader.specs.TableNames.{table_number, check_new_table, new_named
 use Rattle.pub_reader.specs.Tables.{keyed, table_of, table_tail, table_body, create_table}
 use Rattle.pub_reader.proofs.KeptIndexes.{IsSizedTable, HasRoom, length-identified, length-indexed, identified-limited, indexed-limited, replica_identity-gives, indexed_table-gives, index_body-gives}
 
--- the limits, as a catalog keeps them while it is read
+-- the limits, as a catalog keeps them while it is being read
 abbrev AreLimited : List Table → Type 0
 AreLimited tables = (length tables ≤ 64) × All IsSizedTable tables
 
@@ -258,7 +258,7 @@ resolved-within draft h named = record {
   subscriptions = h.1.1;
 }
 
--- what is made of the statements of a text, where its names are plain
+-- what is made of the statements of a text, if its names are plain
 pub resolved_limited : {S : Type 0} (forms : Forms S) (ts : Items) (draft : DraftOf S) (rest : Items)
     → statements forms no_draft ts ≡ Ok (draft, rest) → All IsNamed draft.tables
     → IsLimited (resolved draft)

@@ -1,5 +1,5 @@
--- Each statement keeps what is said of names: they are as a text writes them, and each publication and subscription
--- has one of its own.
+-- Each statement preserves what is stated about names: they are as a text writes them, and each publication and
+-- subscription has its own.
 use Rattle.std.proofs.Common.{◌≡◌, ℕ, zero, suc, ◌<◌, Bool, true, List, [], ◌∷◌, ◌++◌, All, length, get_or, subst, arith, rules}
 use Rattle.std.specs.Prelude.{Option, Some, Ok, Err}
 use Rattle.std.proofs.lemmas.List.Elements.{All-cons, All-head, All-tail, All-push}
@@ -125,7 +125,7 @@ table_body-plain called ts h =
     any-plain ColumnsPlain (with_rest (keyed called parts) ts4) _ (check-plain (keyed called parts) ts4 r) (λ n ts5 s.
     any-plain ColumnsPlain (table_tail ts5) _ (table_tail-plain ts5 s) (λ m ts6 u. (q.0, u))))))
 
--- the same names where tables change
+-- the same names when tables change
 with_tables : {S : Type 0} (draft : DraftOf S) (tables : List Table) → IsNamedDraft draft → All IsNamed tables
     → IsNamedDraft (record draft { tables = tables })
 with_tables draft tables named all =
@@ -260,7 +260,7 @@ module _ {S : Type 0} (forms : Forms S) where
       (statement_by-named (item_ahead ts) draft ts p h) (λ made ts2 named.
       any-gives IsNamedDraft (expect i.Semicolon ts2) _ (λ a ts3. named))
 
-  -- after a statement that a reader takes
+  -- after a statement that a reader reads
   pub statement_named : (r : Reader) (draft made : DraftOf S) (rest : Items)
       → ended_statement forms draft (to_read r) ≡ Ok (made, rest) → IsNamedDraft draft → IsNamedDraft made
   statement_named r draft made rest e h =

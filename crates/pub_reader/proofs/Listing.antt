@@ -19,7 +19,7 @@ cut (byte ∷ text) h =
     let longer : parts (byte ∷ text) ≡ before_first byte (parts text) = rw e refl in
     longer ∙ ap (before_first byte) (cut text (omega arith)) ∙ rw one_more refl)
 
--- one without
+-- a text without a comma
 whole : (text : List ℕ) → length text ≤ prefix_len is_part_byte text → parts text ≡ text ∷ []
 whole [] h = refl
 whole (byte ∷ text) h =

@@ -1,5 +1,5 @@
--- CREATE PUBLICATION and CREATE SUBSCRIPTION keep that each has a name of its own, and that a subscription's
--- publications are there.
+-- CREATE PUBLICATION and CREATE SUBSCRIPTION preserve that each has its own name, and that a subscription's
+-- publications exist.
 use Rattle.std.proofs.Common.{◌≡◌, ℕ, ◌<◌, ◌≤◌, Bool, true, false, ◌==◌, List, [], ◌∷◌, ◌++◌, All, length, map, refl, sym, ap, subst, ◌∙◌, arith}
 use Rattle.std.specs.Prelude.{nat_eq, nat_le, position, Option, Some, None, Ok, Err}
 use Rattle.std.specs.Cmp.{IsEquivalence, decided, nat_eq_equiv}
@@ -40,7 +40,7 @@ use Rattle.pub_reader.specs.Subscriptions.{check_new_subscription, subscription_
 use Rattle.filter_tree.proofs.Tests.{by_test}
 use Rattle.pub_reader.proofs.Positions.{position-none, list_any-map}
 
--- what is read is so, whatever is left
+-- the fact holds for what is read, whatever is left
 pub first_of : {A : Type 0} (P : A → Type 0) (read : Outcome A) → Leaves (λ a ts. P a) read → Gives P read
 first_of P (Ok read) h = h
 first_of P (Err fault) h = tt
@@ -66,7 +66,7 @@ own_push name_of xs x own plain free =
       differ = IsDistinct-push same_bytes (map name_of xs) (name_of x) own.differ none;
     })
 
--- a name is plain, and what it is looked for isn't found
+-- a name is plain, and the search for it finds nothing
 abbrev IsNew : (List ℕ → Option ℕ) → PlacedName → Type 0
 IsNew find called = IsPlainName called.text × (find called.text ≡ None)
 
@@ -130,7 +130,7 @@ create_publication-named forms draft ts h named =
 
 -- ---- the publications of a subscription
 
--- each once, and each is there
+-- each once, and each exists
 abbrev AreKnown : ℕ → List ℕ → Type 0
 AreKnown count numbers = IsDistinct nat_eq numbers × All (λ number. number < count) numbers
 
@@ -145,7 +145,7 @@ turned_any number (n ∷ numbers) = rw (turned number n, turned_any number numbe
     turned : (one other : ℕ) → nat_eq one other ≡ (other == one)
     turned one other = grind (arith, nat_tests)
 
--- a number that is there and not yet taken
+-- a number that exists and is not yet taken
 abbrev IsFree : ℕ → List ℕ → ℕ → Type 0
 IsFree count numbers number = (number < count) × (list_any (λ n. n == number) numbers ≡ false)
 

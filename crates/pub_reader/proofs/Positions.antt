@@ -1,4 +1,4 @@
--- The position of a name in a list of what bears names.
+-- The position of a name in a list of things that have names.
 use Rattle.std.proofs.Common.{◌≡◌, ℕ, ◌+◌, ◌≤◌, Bool, true, false, ◌||◌, cond, List, [], ◌∷◌, ◌++◌, map, length, refl, ap, sym, ◌∙◌, arith}
 use Rattle.std.proofs.lemmas.List.{map-append}
 use Rattle.std.specs.Prelude.{Some, None, nat_lt, position}
@@ -21,7 +21,7 @@ past_end : (n m : ℕ) → cond (nat_lt n m) (Some n) None ≡ None → m ≤ n
 past_end n m e = by_test (nat_lt n m) (λ less. let bad : Some n ≡ None = rw less at e in cc)
     (λ same. grind (arith, nat_tests))
 
--- what is at no position isn't there
+-- what has no position is not in the list
 pub position-none : {A : Type 0} (p : A → Bool) (xs : List A) → position p xs ≡ None → list_any p xs ≡ false
 position-none p xs e = not_found p xs (past_end (position_or_len p xs) (length xs) e)
 
@@ -30,13 +30,13 @@ pub list_any-map : {A B : Type 0} (p : B → Bool) (f : A → B) (xs : List A)
 list_any-map p f [] = refl
 list_any-map p f (x ∷ xs) = ap (λ b. p (f x) || b) (list_any-map p f xs)
 
--- the same, where the list of names is known by an equation
+-- the same, if the list of names is known by an equation
 pub position-by_names : {A : Type 0} (text : List ℕ) (name_of : A → List ℕ) (names : List (List ℕ)) (xs : List A)
     → names ≡ map name_of xs →
     position (bytes_eq text) names ≡ position (λ x. bytes_eq text (name_of x)) xs
 position-by_names text name_of names xs e = ap (position (bytes_eq text)) e ∙ position-map (bytes_eq text) name_of xs
 
--- names stay those of a list where one of each is added
+-- names remain the names of a list if one is added to each
 pub names-push : {A : Type 0} (name_of : A → List ℕ) (text : List ℕ) (names new_names : List (List ℕ))
     (xs ys : List A) (x : A) →
     names ≡ map name_of xs → text ≡ name_of x → position (λ y. bytes_eq (name_of x) (name_of y)) xs ≡ None →

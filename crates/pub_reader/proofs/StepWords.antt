@@ -1,4 +1,4 @@
--- Taking the word of a step leaves fewer tokens.
+-- Reading the word of a step leaves fewer tokens.
 use Rattle.std.proofs.Common.{◌≡◌, ◌<◌, Some, arith}
 use Rattle.sql_reader.specs.Items.{Items, Stop, Broken, Then, size}
 use Rattle.sql_reader.specs.Reading.{rest_of}

@@ -1,4 +1,4 @@
--- What is read of a whole text is what its rule reads, with nothing said of what is left.
+-- What is read from a whole text is what its rule reads; nothing is stated about what is left.
 use Rattle.std.proofs.Common.{ap, Result, Ok, Err}
 use Rattle.std.specs.Prelude.{Option, Some, None}
 use Rattle.filter_tree.specs.Memory.{TellsFault}

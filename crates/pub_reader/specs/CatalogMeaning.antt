@@ -6,7 +6,7 @@ use Rattle.sql_reader.specs.Reading.{Verdict}
 use Rattle.sql_reader.specs.Written.{Written, written_meaning, filter_of}
 use Rattle.pub_catalog.specs.Catalogs.{CatalogOf, catalog_map}
 
--- Every filter of a catalog means on every row what its expression means as it is written.
+-- On every row, every filter of a catalog means what its expression means as it is written.
 pub record MeansAsWritten (read : Verdict (CatalogOf Written)) (catalog : CatalogOf Expr) : Type 0 where
   pub written : CatalogOf Written
   pub is_read : read ≡ Ok written

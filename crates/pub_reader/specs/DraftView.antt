@@ -1,4 +1,4 @@
--- A catalog while it is read, as plain data.
+-- A catalog while it is being read, as plain data.
 use Rattle.std.specs.Prelude.{map}
 use Rattle.filter_tree.specs.Expr.{Expr}
 use Rattle.pub_reader.specs.declared.coverage.Coverage.{Coverage}

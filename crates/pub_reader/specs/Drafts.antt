@@ -1,5 +1,5 @@
--- What a catalog has while it is read, and what it comes to at its end: PostgreSQL 15, SQL Commands, CREATE
--- PUBLICATION: FOR ALL TABLES and FOR TABLES IN SCHEMA cover tables that are made later too.
+-- What a catalog has while it is being read, and what it becomes at its end: PostgreSQL 15, SQL Commands, CREATE
+-- PUBLICATION: FOR ALL TABLES and FOR TABLES IN SCHEMA also cover tables that are created later.
 use Rattle.std.specs.Prelude.{ℕ, suc, Bool, false, ◌||◌, ◌&&◌, ◌==◌, if◌then◌else◌, List, [], ◌∷◌, ◌++◌, map, position, Option, None, codes}
 use Rattle.std.specs.List.{list_any}
 use Rattle.std.specs.Option.{is_some, option_map, option_to_list}
@@ -23,7 +23,7 @@ pub record DraftPublicationOf (S : Type 0) : Type 0 where
   pub publishes : Operations
   pub coverage : CoverageOf S
 
--- schemas, tables, publications and subscriptions, each in the order in which they are made
+-- schemas, tables, publications and subscriptions, each in the order in which they are created
 pub record DraftOf (S : Type 0) : Type 0 where
   pub schemas : List (List ℕ)
   pub tables : List Table
@@ -36,7 +36,7 @@ nothing_covered = record { entries = []; schemas = []; everything = false }
 abbrev pub public_schema : List ℕ
 public_schema = codes "public"
 
--- the schema "public" is there from the start
+-- the schema "public" exists from the start
 abbrev pub no_draft : {S : Type 0} → DraftOf S
 no_draft = record { schemas = public_schema ∷ []; tables = []; publications = []; subscriptions = [] }
 
@@ -45,11 +45,11 @@ no_draft = record { schemas = public_schema ∷ []; tables = []; publications = 
 abbrev pub find_schema : List ℕ → List (List ℕ) → Option ℕ
 find_schema text schemas = position (bytes_eq text) schemas
 
--- the names with one more, if it is new
+-- the names with one more added, if it is new
 abbrev pub with_name : List (List ℕ) → List ℕ → List (List ℕ)
 with_name names text = if list_any (bytes_eq text) names then names else names ++ text ∷ []
 
--- the table of this schema and name
+-- the table with this schema and name
 abbrev pub is_table : List ℕ → List ℕ → Table → Bool
 is_table schema text table = bytes_eq schema table.schema && bytes_eq text table.name
 
@@ -59,7 +59,7 @@ find_table schema text tables = position (is_table schema text) tables
 abbrev pub find_index : List ℕ → List UniqueIndex → Option ℕ
 find_index text indexes = position (λ index. bytes_eq text index.name) indexes
 
--- Tables and indexes of a schema share their names: whether the table, or an index of it, has this one.
+-- Tables and indexes of a schema share their names: whether the table, or an index of it, has this name.
 abbrev pub has_name : List ℕ → List ℕ → Table → Bool
 has_name schema text table =
     bytes_eq schema table.schema && (bytes_eq text table.name || is_some (find_index text table.indexes))
@@ -93,7 +93,7 @@ filters_on tree number (publication ∷ publications) =
 abbrev pub is_covered : Bool → List (List ℕ) → Table → Bool
 is_covered everything schemas table = everything || is_some (find_schema table.schema schemas)
 
--- a whole entry for each table that is covered, where the first table has this number
+-- a whole entry for each table that is covered; the first table has this number
 abbrev pub whole_from : {S : Type 0} → (Table → Bool) → ℕ → List Table → List (EntryOf S)
 whole_from covers number [] = []
 whole_from covers number (table ∷ tables) =
@@ -114,7 +114,7 @@ resolved_publication tables publication =
           resolved_entries tables publication.coverage;
     }
 
--- the catalog, once all tables are made
+-- the catalog, after all tables were created
 abbrev pub resolved : {S : Type 0} → DraftOf S → CatalogOf S
 resolved draft = record {
   tables = draft.tables;

@@ -1,5 +1,5 @@
--- The names that the rules of the grammar are written with: keywords `k`, tokens `i`, what is wrong `w`, and how
--- rules are read.
+-- The names with which the rules of the grammar are written: keywords `k`, tokens `i`, what is wrong `w`, and how rules
+-- are read.
 pub use Rattle.sql_reader.specs.declared.word.Keyword.TheVariants as k
 pub use Rattle.sql_reader.specs.declared.item.Item.TheVariants as i
 pub use Rattle.sql_reader.specs.ErrorKinds as w

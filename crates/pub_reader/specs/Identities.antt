@@ -14,7 +14,7 @@ use Rattle.pub_catalog.specs.IndexIdentities.{identifies}
 use Rattle.pub_reader.specs.Drafts.{DraftOf, find_index}
 use Rattle.pub_reader.specs.TableNames.{table_number}
 
--- another action is left out
+-- no other action is supported
 abbrev pub action_by : Option Item → Rule (Unit {0})
 action_by (Some (i.Keyword k.Replica)) = advance
 action_by (Some (i.Keyword keyword)) = refuse_as (w.LeftOut Clause)
@@ -26,14 +26,14 @@ action ts = action_by (item_ahead ts) ts
 
 -- ---- by an index
 
--- the identity by the index of this number, which has to be there, and to identify rows
+-- the identity by the index of this number, which must exist and identify rows
 abbrev pub by_index : List Column → List UniqueIndex → PlacedName → Option ℕ → Verdict Identity
 by_index columns indexes called None = Err (fault called.place w.UnknownName)
 by_index columns indexes called (Some number) =
     if identifies columns (slice_get indexes number) then
     Ok (Index number) else Err (fault called.place w.NullableIndex)
 
--- the identity by the index of this name, of a table that has these columns and indexes
+-- the identity by the index of this name; the table has these columns and indexes
 unfoldable pub index_named : List Column → List UniqueIndex → PlacedName → Verdict Identity
 index_named columns indexes called = by_index columns indexes called (find_index called.text indexes)
 
@@ -63,7 +63,7 @@ unfoldable pub alter_table : {S : Type 0} → DraftOf S → Rule (DraftOf S)
 alter_table draft = do
   expect (i.Keyword k.Alter)
   expect (i.Keyword k.Table)
-  -- ONLY leaves out the tables that inherit from a table, of which there are none
+  -- ONLY excludes the tables that inherit from a table, of which there are none
   eat (i.Keyword k.Only)
   number ← table_number draft
   recorded ← replica_identity (columns_at draft.tables number) (indexes_at draft.tables number)

@@ -1,6 +1,6 @@
 -- CREATE UNIQUE INDEX: PostgreSQL 15, SQL Commands, CREATE INDEX, and "Data Definition", 5.9 Schemas. An index is in
--- its table's schema, and has columns alone: an order, an operator class, an expression, and the clauses after the
--- list are left out.
+-- its table's schema, and has only columns: an order, an operator class, an expression, and the clauses after the list
+-- are not supported.
 use Rattle.std.specs.Prelude.{ℕ, ◌==◌, nat_le, if◌then◌else◌, List, [], ◌∷◌, ◌++◌, length, Option, Some, Ok, Err, codes}
 use Rattle.std.specs.List.{list_any}
 use Rattle.std.specs.Str.{bytes_eq}
@@ -19,8 +19,8 @@ use Rattle.pub_reader.specs.Drafts.{DraftOf, find_relation}
 use Rattle.pub_reader.specs.Schemas.{fresh}
 use Rattle.pub_reader.specs.TableNames.{table_number}
 
--- a new index of the table of this number has a name that no table and no index of the table's schema has, and a
--- table has at most 8
+-- a new index of the table of this number has a name that no table and no index of the table's schema has, and a table
+-- has at most 8 indexes
 unfoldable pub check_new_index : List Table → ℕ → PlacedName → Verdict (Unit {0})
 check_new_index tables number called =
     fresh called (find_relation (schema_at tables number) called.text tables)
@@ -28,7 +28,7 @@ check_new_index tables number called =
 
 -- ---- the method
 
--- another method than B-tree is left out
+-- no method other than B-tree is supported
 unfoldable pub known_method : PlacedName → Verdict (Unit {0})
 known_method called = if bytes_eq called.text (codes "btree") then
     Ok tt else Err (fault called.place (w.LeftOut Clause))
@@ -65,7 +65,7 @@ index_columns columns = index_column columns [] >>= repeat (link i.Comma (index_
 
 -- ---- the statement
 
--- words after the columns are a clause that is left out
+-- words after the columns are a clause that is not supported
 abbrev pub index_tail_by : Option Item → Rule (Unit {0})
 index_tail_by (Some (i.Keyword keyword)) = refuse_as (w.LeftOut Clause)
 index_tail_by (Some i.Word) = refuse_as (w.LeftOut Clause)
@@ -74,7 +74,7 @@ index_tail_by _ = pure tt
 unfoldable pub index_tail : Rule (Unit {0})
 index_tail ts = index_tail_by (item_ahead ts) ts
 
--- after the name of a table of these columns
+-- after the name of a table with these columns
 unfoldable pub index_body : List Column → Rule (List ℕ)
 index_body columns = do
   method
@@ -88,7 +88,7 @@ index_body columns = do
 unfoldable pub indexed_table : {S : Type 0} → DraftOf S → PlacedName → Rule ℕ
 indexed_table draft called = do
   expect (i.Keyword k.On)
-  -- ONLY leaves out the partitions of a table, of which there are none
+  -- ONLY excludes the partitions of a table, of which there are none
   eat (i.Keyword k.Only)
   number ← table_number draft
   check (check_new_index draft.tables number called)

@@ -1,5 +1,5 @@
--- What a publication is made for: PostgreSQL 15, SQL Commands, CREATE PUBLICATION: FOR TABLE, FOR TABLES IN SCHEMA
--- and the WHERE clause.
+-- What a publication is for: PostgreSQL 15, SQL Commands, CREATE PUBLICATION: FOR TABLE, FOR TABLES IN SCHEMA and the
+-- WHERE clause.
 use Rattle.std.specs.Prelude.{ℕ, Bool, not, ◌&&◌, ◌||◌, ◌==◌, if◌then◌else◌, List, [], ◌∷◌, ◌++◌, Option, Some, None, Ok, Err}
 use Rattle.std.specs.List.{list_any}
 use Rattle.std.specs.Option.{is_some}
@@ -20,7 +20,7 @@ use Rattle.pub_reader.specs.TableNames.{table_named}
 
 -- ---- what one more object adds
 
--- a schema, of which a second mention is ignored
+-- a schema, whose second mention is ignored
 abbrev pub with_schema : {S : Type 0} → CoverageOf S → List ℕ → CoverageOf S
 with_schema coverage schema = record coverage { schemas = with_name coverage.schemas schema }
 
@@ -28,7 +28,7 @@ abbrev pub schema_by : {S : Type 0} → CoverageOf S → PlacedName → Option �
 schema_by coverage called (Some number) = Ok (with_schema coverage called.text)
 schema_by coverage called None = Err (fault called.place w.UnknownName)
 
--- a schema that was made before
+-- a schema that was created before
 unfoldable pub schema_mentioned : {S : Type 0} → DraftOf S → CoverageOf S → PlacedName → Verdict (CoverageOf S)
 schema_mentioned draft coverage called = schema_by coverage called (find_schema called.text draft.schemas)
 
@@ -53,7 +53,7 @@ abbrev pub limited_by : ℕ → Option Limit → Verdict (Unit {0})
 limited_by place None = Ok tt
 limited_by place (Some limit) = Err (fault place (w.TooMany limit))
 
--- the filters on a table are limited; a fault is at the word WHERE of the one that passes a limit
+-- the filters on a table are limited; a fault is at the word WHERE of the filter that exceeds a limit
 unfoldable pub limited : ℕ → List Expr → Verdict (Unit {0})
 limited place filters = limited_by place (exceeded filters)
 
@@ -92,7 +92,7 @@ in_schema draft coverage = do
   expect (i.Keyword k.Schema)
   schema_object draft coverage
 
--- a schema, once its name is read
+-- a schema, after its name was read
 unfoldable pub taken_schema : {S : Type 0} → DraftOf S → CoverageOf S → PlacedName → Rule (ObjectsOf S)
 taken_schema draft coverage called =
     check (schema_mentioned draft coverage called) >>= (λ covered. pure (objects_so_far o.Schema covered))
@@ -124,11 +124,11 @@ module _ {S : Type 0} (forms : Forms S) where
   unfoldable pub filter_clause : DraftOf S → CoverageOf S → ℕ → Rule (Option S)
   filter_clause draft coverage number = look >> (λ ts. filter_by (item_ahead ts) draft coverage number ts)
 
-  -- a table of which a first name was taken, with its filter, or a whole one
+  -- a table with its filter, or a whole table, after a first name was read
   unfoldable pub taken_table : DraftOf S → CoverageOf S → PlacedName → Rule (ObjectsOf S)
   taken_table draft coverage called = do
     number ← table_named draft called
-    -- a star takes in the tables that inherit from a table, of which there are none
+    -- a star includes the tables that inherit from a table, of which there are none
     eat (i.Operator Star)
     filter ← filter_clause draft coverage number
     covered ← check (table_mentioned coverage called.place (record { table = number; filter = filter }))
@@ -142,12 +142,12 @@ module _ {S : Type 0} (forms : Forms S) where
 
   -- ---- objects
 
-  -- an object of this kind, once its name is read
+  -- an object of this kind, after its name was read
   abbrev pub taken_by : ObjectKind → DraftOf S → CoverageOf S → PlacedName → Rule (ObjectsOf S)
   taken_by o.Table draft coverage called = taken_table draft coverage called
   taken_by o.Schema draft coverage called = taken_schema draft coverage called
 
-  -- TABLES begins an object of its own before IN, and is a name otherwise
+  -- TABLES begins an object of its own if IN follows, and is a name otherwise
   abbrev pub tables_by : Option Item → ObjectKind → DraftOf S → CoverageOf S → PlacedName → Rule (ObjectsOf S)
   tables_by (Some (i.Keyword k.In)) kind draft coverage called = in_schema draft coverage
   tables_by _ kind draft coverage called = taken_by kind draft coverage called

@@ -10,7 +10,7 @@ use Rattle.pub_catalog.specs.declared.catalog.Operations.{Operations}
 abbrev pub no_operation : Operations
 no_operation = record { insert = false; update = false; delete = false; truncate = false }
 
--- a text without the white space at its start, and without that at its end
+-- a text without the white space at its start, and without the white space at its end
 abbrev pub start_trimmed : List ℕ → List ℕ
 start_trimmed text = drop (prefix_len is_ascii_whitespace text) text
 
@@ -32,7 +32,7 @@ parts (byte ∷ text) = if byte == 44 then [] ∷ parts text else before_first b
 abbrev pub is_part_byte : ℕ → Bool
 is_part_byte byte = not (byte == 44)
 
--- those of what follows a comma, if there is one
+-- the parts of what follows a comma, if there is one
 abbrev pub parts_after : Option (Bor (List ℕ)) → List (List ℕ)
 parts_after None = []
 parts_after (Some text) = parts text.now
@@ -50,12 +50,12 @@ with_operation listed word =
     if str_eq_ignore_ascii_case word (codes "truncate") then Some (record listed { truncate = true }) else
     None
 
--- each word has to name an operation
+-- each word must name an operation
 abbrev pub listed_by : Option Operations → List (List ℕ) → Option Operations
 listed_by None words = None
 listed_by (Some listed) [] = Some listed
 listed_by (Some listed) (word ∷ words) = listed_by (with_operation listed (trimmed word)) words
 
--- the operations of a list, of which a text of white space alone has none
+-- the operations of a list; a text of only white space has none
 unfoldable pub operations : List ℕ → Option Operations
 operations text = if length (trimmed text) == 0 then Some no_operation else listed_by (Some no_operation) (parts text)

@@ -13,7 +13,7 @@ use Rattle.pub_reader.specs.Objects.{objects}
 use Rattle.pub_reader.specs.Publishing.{parameters_clause}
 use Rattle.pub_reader.specs.Schemas.{fresh}
 
--- a new publication has a new name, and there are at most 64
+-- a new publication has a new name, and there are at most 64 publications
 unfoldable pub check_new_publication : {S : Type 0} → DraftOf S → PlacedName → Verdict (Unit {0})
 check_new_publication draft called =
     fresh called (find_publication called.text draft.publications) (nat_le 64 (length draft.publications))
@@ -25,7 +25,7 @@ publication_name draft = do
   check (check_new_publication draft called)
   pure called
 
--- every table, those that are made later too
+-- every table, including those that are created later
 unfoldable pub all_tables : {S : Type 0} → Rule (CoverageOf S)
 all_tables = do
   expect (i.Keyword k.All)

@@ -19,7 +19,7 @@ abbrev pub operations_taken : Option Operations → Rule Operations
 operations_taken (Some listed) = λ ts. Ok (listed, rest_of ts)
 operations_taken None = refuse_as w.UnknownName
 
--- The value is a string or a word. No operation has a quote in its name, so a doubled one need not be undone.
+-- The value is a string or a word. No operation has a quote in its name, so a doubled quote need not be undone.
 abbrev pub operations_by : Option Item → List ℕ → Rule Operations
 operations_by (Some i.Text) written = operations_taken (operations written)
 operations_by (Some i.Word) written = operations_taken (operations written)

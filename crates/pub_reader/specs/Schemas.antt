@@ -6,7 +6,7 @@ use Rattle.pub_reader.specs.Grammar.{PlacedName, Rule, Verdict, fault, ◌>>=◌
 use Rattle.sql_reader.specs.declared.error.Limit.{Limit}
 use Rattle.pub_reader.specs.Drafts.{DraftOf, find_schema, with_name}
 
--- the position of what has a name, which has to be there
+-- the position of what has a name, which must exist
 abbrev pub known : PlacedName → Option ℕ → Verdict ℕ
 known called (Some number) = Ok number
 known called None = Err (fault called.place w.UnknownName)
@@ -17,7 +17,7 @@ fresh called found is_full limit =
     if is_some found then Err (fault called.place w.NameTwice)
     else (if is_full then Err (fault called.place (w.TooMany limit)) else Ok tt)
 
--- a schema that was made before
+-- a schema that was created before
 unfoldable pub known_schema : List (List ℕ) → PlacedName → Verdict ℕ
 known_schema schemas called = known called (find_schema called.text schemas)
 

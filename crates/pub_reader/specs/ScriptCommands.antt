@@ -12,7 +12,7 @@ use Rattle.pub_reader.specs.declared.script_command.CommandWord.{CommandWord}
 use Rattle.pub_reader.specs.declared.script_command.CommandWord.TheVariants as c
 use Rattle.pub_reader.specs.ScriptTables.{script_table}
 
--- ---- the words that begin commands, in upper or lower case; all of them may be names too
+-- ---- the words that begin commands, in upper or lower case; all of them may also be names
 
 unfoldable pub command_word : List ℕ → Option CommandWord
 command_word word =
@@ -81,7 +81,7 @@ one_command tables commands = command tables >>= (λ command. pure (commands ++ 
 unfoldable pub command_list : List Table → Rule (List Command)
 command_list tables = one_command tables [] >>= repeat (link i.Comma (one_command tables))
 
--- a list may be empty, where the step ends
+-- a list may be empty, if the step ends
 unfoldable pub commands_or_none : List Table → Rule (List Command)
 commands_or_none tables = do
   is_end ← next_is i.Semicolon

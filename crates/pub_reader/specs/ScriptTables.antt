@@ -1,5 +1,5 @@
 -- The tables that a script names, which are those of a catalog: PostgreSQL 15, "Data Definition", 5.9 Schemas. A name
--- without a schema is one of the schema "public".
+-- without a schema is in the schema "public".
 use Rattle.std.specs.Prelude.{ℕ, Bool, ◌||◌, if◌then◌else◌, List, Ok, Err}
 use Rattle.std.specs.List.{list_any}
 use Rattle.std.specs.Str.{bytes_eq}
@@ -10,11 +10,12 @@ use Rattle.pub_reader.specs.Grammar.{PlacedName, Rule, Verdict, fault, ◌>>=◌
 use Rattle.pub_reader.specs.Drafts.{public_schema}
 use Rattle.pub_reader.specs.TableNames.{known_table}
 
--- a table is in the schema
+-- the schema has a table
 abbrev pub has_table : List Table → List ℕ → Bool
 has_table tables schema = list_any (λ table. bytes_eq schema table.schema) tables
 
--- A catalog keeps its tables, and no schema that has none: a schema is known if it is "public" or some table's.
+-- A catalog keeps its tables, but no schema that has none: a schema is known if it is "public" or the schema of a
+-- table.
 abbrev pub is_schema : List Table → List ℕ → Bool
 is_schema tables text = bytes_eq text public_schema || has_table tables text
 
@@ -33,8 +34,8 @@ unfoldable pub table_after_schema : List Table → PlacedName → Rule ℕ
 table_after_schema tables schema =
     name_after_schema tables schema >>= (λ called. check (known_table tables schema.text called))
 
--- After a first name, which is that of a schema if a dot follows: the token after it is looked at before it is looked
--- up.
+-- After a first name, which is that of a schema if a dot follows: the token after it is checked before the name is
+-- looked up.
 unfoldable pub table_called : List Table → PlacedName → Rule ℕ
 table_called tables called =
     look >> (λ ts. if is_ahead i.Dot ts then

@@ -1,4 +1,4 @@
--- Scripts: steps to the end of a text, each ended by a semicolon. There is no empty one.
+-- Scripts: steps to the end of a text, each ended by a semicolon. No step is empty.
 use Rattle.std.specs.Prelude.{ℕ, List, [], ◌∷◌, ◌++◌, length}
 use Rattle.filter_tree.specs.declared.table.Table.{Table}
 use Rattle.pub_reader.specs.Grammar.i
@@ -12,7 +12,7 @@ pub record LineOf : Type 0 where
   pub place : ℕ
   pub step : StepOf
 
--- a step, before which there are this many
+-- a step that has this number of steps before it
 unfoldable pub next_line : List Table → ℕ → Rule LineOf
 next_line tables count = do
   place ← here
@@ -21,13 +21,13 @@ next_line tables count = do
   expect i.Semicolon
   pure (record { place = place; step = step })
 
--- one step more
+-- one more step
 unfoldable pub one_line : List Table → List LineOf → Rule (List LineOf)
 one_line tables lines = next_line tables (length lines) >>= (λ line. pure (lines ++ line ∷ []))
 
 unfoldable pub lines : List Table → Rule (List LineOf)
 lines tables = repeat (each more_ahead (one_line tables)) []
 
--- the steps that a text spells, where the tables of its commands are those of a catalog, or the first fault of the text
+-- the steps that a text spells, or the first fault of the text; the tables of its commands are those of a catalog
 unfoldable pub script_by : List Table → List ℕ → Verdict (List LineOf)
 script_by tables text = without_rest (lines tables (items_of text))

@@ -1,4 +1,4 @@
--- The steps of a script, in words of its own: what is committed, and what happens on the connection of a subscriber,
+-- The steps of a script, in words of their own: what is committed, and what happens on the connection of a subscriber,
 -- by its number. Bytes are counted.
 use Rattle.std.specs.Prelude.{ℕ, Bool, true, false, nat_le, List, Option, Some, None, if◌then◌else◌, codes}
 use Rattle.std.specs.Str.{str_eq_ignore_ascii_case}
@@ -26,7 +26,7 @@ pub data StepOf : Type 0 where
   Pump : ℕ → StepOf
   View : StepOf
 
--- ---- the words that begin steps, in upper or lower case; all of them may be names too
+-- ---- the words that begin steps, in upper or lower case; all of them may also be names
 
 unfoldable pub step_word : List ℕ → Option StepWord
 step_word word =
@@ -49,7 +49,8 @@ step_word_by _ written = None
 unfoldable pub step_ahead : Items → Option StepWord
 step_ahead ts = step_word_by (item_ahead ts) (written_ahead ts)
 
--- The word of a step after this many others, of which there are at most 100,000: no token after it is looked at.
+-- The word of a step after this number of other steps: there are at most 100,000 steps, and no token after the word is
+-- looked at.
 abbrev pub counted : ℕ → Option StepWord → Rule StepWord
 counted count None = refuse
 counted count (Some word) = if nat_le 100000 count then refuse_as (w.TooMany Steps) else advance >> pure word
@@ -75,7 +76,7 @@ truth_by _ = refuse
 unfoldable pub truth : Rule Bool
 truth ts = truth_by (item_ahead ts) ts
 
--- FALSE where there is none
+-- FALSE if there is none
 abbrev pub truth_or_false_by : Option Item → Rule Bool
 truth_or_false_by (Some (i.Keyword k.True)) = advance >> pure true
 truth_or_false_by (Some (i.Keyword k.False)) = advance >> pure false
@@ -89,7 +90,7 @@ truth_or_false ts = truth_or_false_by (item_ahead ts) ts
 unfoldable pub commit_body : List Table → Rule StepOf
 commit_body tables = commands_or_none tables >>= (λ commands. pure (Commit commands))
 
--- a step on a subscriber alone
+-- a step on a subscriber only
 unfoldable pub on_subscriber : (ℕ → StepOf) → Rule StepOf
 on_subscriber step = natural >>= (λ subscriber. pure (step subscriber))
 

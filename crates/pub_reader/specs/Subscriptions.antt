@@ -1,5 +1,5 @@
 -- CREATE SUBSCRIPTION: PostgreSQL 15, SQL Commands, CREATE SUBSCRIPTION. The connection text is not used, and WITH is
--- left out.
+-- not supported.
 use Rattle.std.specs.Prelude.{ℕ, ◌==◌, nat_le, if◌then◌else◌, List, [], ◌∷◌, ◌++◌, length, Option, Some, None, Ok, Err}
 use Rattle.std.specs.List.{list_any}
 use Rattle.pub_reader.specs.Grammar.k
@@ -11,7 +11,7 @@ use Rattle.sql_reader.specs.declared.error.Limit.TheVariants.{Subscriptions}
 use Rattle.pub_reader.specs.Drafts.{DraftOf, find_publication, find_subscription}
 use Rattle.pub_reader.specs.Schemas.{fresh}
 
--- a new subscription has a new name, and there are at most 32
+-- a new subscription has a new name, and there are at most 32 subscriptions
 unfoldable pub check_new_subscription : {S : Type 0} → DraftOf S → PlacedName → Verdict (Unit {0})
 check_new_subscription draft called =
     fresh called (find_subscription called.text draft.subscriptions) (nat_le 32 (length draft.subscriptions))

@@ -27,7 +27,7 @@ table_of called parts =
       identity = Default;
     }
 
--- the words after the elements at which a clause begins that is left out
+-- the words after the elements that begin a clause that is not supported
 abbrev pub tail_by : Option Item → Rule (Unit {0})
 tail_by (Some (i.Keyword k.Inherits)) = left_out
 tail_by (Some (i.Keyword k.Partition)) = left_out

@@ -1,4 +1,4 @@
-//! What a publication covers, while the catalog is read.
+//! What a publication covers, while the catalog is being read.
 
 use crate::names::Names;
 use filter_tree::{Table, Text};
@@ -13,8 +13,8 @@ pub enum ObjectKind {
     Schema,
 }
 
-/// The tables that a publication names, and what it carries whole: the tables of some schemas, or every table. It
-/// carries those that are made later too.
+/// The tables that a publication names, and what it carries whole: the tables of some schemas, or every table. Tables
+/// that are created later are included.
 #[derive(Drop)]
 pub struct Coverage {
     pub entries: Vec<Entry>,
@@ -31,7 +31,7 @@ impl Coverage {
     ghost use Rattle.pub_reader.specs.DraftView.{coverage_view};
     ghost use Rattle.pub_reader.specs.Objects as spec;
 
-    /// Nothing.
+    /// No tables.
     pub fn new(alloc: Global) -> Coverage
         ensures { coverage_view result ≡ nothing_covered }
     {
@@ -42,14 +42,14 @@ impl Coverage {
         }
     }
 
-    /// Whether a table is carried whole because its schema is, or every table.
+    /// Whether a table is carried whole, because its schema is or because every table is.
     pub fn covers(&self, table: &Table) -> bool
         ensures { result ≡ is_covered self.now.everything self.now.schemas table.now }
     {
         self.everything || self.schemas.find(table.schema.as_str()).is_some()
     }
 
-    /// Adds the tables of a schema, if they are new here.
+    /// Adds the tables of a schema, unless it has them already.
     pub fn add_schema(&mut self, schema: Text) -> Result<(), AllocError>
         ensures { OnOk result (coverage_view self.new ≡ spec.with_schema (coverage_view self.old) schema) }
     {

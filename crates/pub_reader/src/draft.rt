@@ -1,4 +1,4 @@
-//! A catalog while it is read: what was made so far, and the names by which it is found.
+//! A catalog while it is being read: what was created so far, and the names by which it is found.
 
 ghost use Rattle.std.specs.Prelude.{◌≡◌, ◌<◌, length, map, IfSome};
 ghost use Rattle.pub_reader.specs.Drafts as spec;
@@ -22,10 +22,10 @@ const MAX_PUBLICATIONS: usize = 64;
 
 const MAX_SUBSCRIPTIONS: usize = 32;
 
-/// The schema that is there from the start.
+/// The schema that exists from the start.
 pub const PUBLIC: &str = "public";
 
-/// A publication while the catalog is read: what it covers whole shows only at the end of the catalog.
+/// A publication while the catalog is being read: what it covers whole is known only at the end of the catalog.
 #[derive(Drop)]
 pub struct DraftPublication {
     pub name: Text,
@@ -33,7 +33,7 @@ pub struct DraftPublication {
     pub coverage: Coverage,
 }
 
-/// The number of the index of a name.
+/// The number of the index with a name.
 pub fn find_index(indexes: &[UniqueIndex], name: &str) -> Option<usize>
     ensures value { result ≡ spec.find_index name.now indexes.now }
     ensures within { IfSome result (λ n. n < length indexes.now) }
@@ -49,7 +49,7 @@ fn has_name(table: &Table, schema: &str, name: &str) -> bool
         && (name == table.name.as_str() || find_index(table.indexes.as_slice(), name).is_some())
 }
 
-/// The schemas, tables, publications and subscriptions made so far, with their names.
+/// The schemas, tables, publications and subscriptions created so far, with their names.
 #[derive(Drop)]
 pub struct Draft {
     schemas: Names,
@@ -79,7 +79,7 @@ impl Draft {
     ghost use Rattle.pub_reader.specs.Subscriptions.{check_new_subscription};
     ghost use Rattle.pub_reader.specs.TableNames.{check_new_table, known_table};
 
-    /// Nothing made but the schema `public`.
+    /// Only the schema `public`.
     pub fn new(alloc: Global) -> Result<Draft, AllocError>
         ensures { IfOk result (λ draft. draft_view draft ≡ spec.no_draft) }
     {
@@ -110,7 +110,7 @@ impl Draft {
         Ok(())
     }
 
-    /// The number of a schema that was made before.
+    /// The number of a schema that was created before.
     #[tactic(auto, unfolding(crate::specs::Schemas::known_schema))]
     pub fn known_schema(&self, name: &PlacedName) -> Result<usize, ReadError>
         ensures { Answers (λ n. n) (known_schema (draft_view self.now).schemas name.now) result }
@@ -126,7 +126,7 @@ impl Draft {
         self.schemas.add(name.into_string())
     }
 
-    /// The number of the table of a schema and a name.
+    /// The number of the table with a schema and a name.
     fn find_table(&self, schema: &str, name: &str) -> Option<usize>
         ensures value { result ≡ spec.find_table schema.now name.now (draft_view self.now).tables }
         ensures within { IfSome result (λ n. n < length (draft_view self.now).tables) }
@@ -135,7 +135,8 @@ impl Draft {
             && name == table.name.as_str())
     }
 
-    /// The number of the table that has a name in a schema, or an index of the name: they share their names.
+    /// The number of the table that has a name in a schema, or that has an index of this name: tables and indexes share
+    /// their names.
     fn find_relation(&self, schema: &str, name: &str) -> Option<usize>
         ensures { result ≡ spec.find_relation schema.now name.now (draft_view self.now).tables }
     {
@@ -144,21 +145,21 @@ impl Draft {
             .position(|table| has_name(table, schema, name))
     }
 
-    /// The number of the publication of a name.
+    /// The number of the publication with a name.
     fn find_publication(&self, name: &str) -> Option<usize>
         ensures { result ≡ spec.find_publication name.now (draft_view self.now).publications }
     {
         self.publication_names.find(name)
     }
 
-    /// The number of the subscription of a name.
+    /// The number of the subscription with a name.
     fn find_subscription(&self, name: &str) -> Option<usize>
         ensures { result ≡ spec.find_subscription name.now (draft_view self.now).subscriptions }
     {
         self.subscription_names.find(name)
     }
 
-    /// Refuses a table whose name a table or an index of its schema has, or that is one too many.
+    /// Refuses a table whose name is taken by a table or an index of its schema, or that is one too many.
     #[tactic(auto, unfolding(crate::specs::TableNames::check_new_table))]
     pub fn check_new_table(&self, name: &NewName) -> Result<(), ReadError>
         ensures { Answers (λ u. u) (check_new_table (draft_view self.now).tables name.now) result }
@@ -172,8 +173,8 @@ impl Draft {
         )
     }
 
-    /// Refuses an index of the table of this number whose name a table or an index of the table's schema has, or that
-    /// is one too many.
+    /// Refuses an index of the table of this number, if its name is taken by a table or an index of the table's schema,
+    /// or if it is one too many.
     #[tactic(auto, unfolding(crate::specs::Indexes::check_new_index))]
     pub fn check_new_index(&self, number: usize, name: &PlacedName) -> Result<(), ReadError>
         requires { number < length (draft_view self.now).tables }
@@ -218,7 +219,7 @@ impl Draft {
         )
     }
 
-    /// The number of a table that was made before.
+    /// The number of a table that was created before.
     #[tactic(auto, unfolding(crate::specs::TableNames::known_table))]
     pub fn known_table(&self, schema: &str, name: &PlacedName) -> Result<usize, ReadError>
         ensures answer { Answers (λ n. n) (known_table (draft_view self.now).tables schema.now name.now) result }
@@ -227,7 +228,7 @@ impl Draft {
         known_number(name, self.find_table(schema, name.text.as_str()))
     }
 
-    /// The number of a publication that was made before.
+    /// The number of a publication that was created before.
     pub fn known_publication(&self, name: &PlacedName) -> Result<usize, ReadError>
         ensures { Answers (λ n. n)
             (known name.now (spec.find_publication name.now.text (draft_view self.now).publications)) result }
@@ -287,7 +288,7 @@ impl Draft {
         Ok(())
     }
 
-    /// Adds a publication of a new name.
+    /// Adds a publication with a new name.
     pub fn add_publication(
         &mut self,
         alloc: Global,
@@ -304,7 +305,7 @@ impl Draft {
         Ok(())
     }
 
-    /// Adds a subscription of a new name.
+    /// Adds a subscription with a new name.
     pub fn add_subscription(
         &mut self,
         alloc: Global,
@@ -342,7 +343,7 @@ impl Draft {
         Ok(())
     }
 
-    /// The catalog, once it is read: what the publications cover is resolved.
+    /// The catalog, after it was read: what the publications cover is resolved.
     pub fn finish(self, alloc: Global) -> Result<Catalog, AllocError>
         requires limits { IsLimited (spec.resolved (draft_view self)) }
         requires entries { AllCarryKnown (spec.resolved (draft_view self)) }

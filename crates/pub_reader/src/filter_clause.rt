@@ -16,7 +16,7 @@ use filter_tree::Filter;
 use sql_reader::{ErrorKind, Item, Keyword, ReadError, Reader, exceeded_limit, read_filter};
 use std::alloc::Global;
 
-/// Refuses filters that pass a limit together.
+/// Refuses filters that exceed a limit together.
 #[tactic(auto, unfolding(crate::specs::Objects::limited))]
 fn limited(alloc: Global, place: usize, filters: &[&Filter]) -> Result<(), ReadError>
     ensures { Answers (λ u. u) (spec.limited place (map (λ f. expr_view f.now) filters.now)) result }
@@ -30,7 +30,7 @@ fn limited(alloc: Global, place: usize, filters: &[&Filter]) -> Result<(), ReadE
     }
 }
 
-/// Refuses filters that pass a limit together.
+/// Refuses filters that exceed a limit together.
 fn within_limits(
     alloc: Global,
     draft: &Draft,
@@ -48,7 +48,7 @@ fn within_limits(
     Ok(limited(alloc, place, &filters)?)
 }
 
-/// Takes the parenthesis after a filter.
+/// Reads the parenthesis after a filter.
 #[tactic(auto, unfolding(crate::specs::Objects::ended))]
 fn ended(
     r: &mut Reader<'_>,
@@ -68,7 +68,7 @@ fn ended(
     Ok(Some(filter))
 }
 
-/// Takes WHERE and a filter of the rows of a table.
+/// Reads WHERE and a filter for the rows of a table.
 #[tactic(auto, unfolding(crate::specs::Objects::where_clause))]
 fn where_clause(
     r: &mut Reader<'_>,
@@ -87,7 +87,7 @@ fn where_clause(
     Ok(ended(r, alloc, draft, coverage, number, place, filter)?)
 }
 
-/// Takes the filter after a table, if there is one.
+/// Reads the filter after a table, if there is one.
 #[tactic(auto, unfolding(crate::specs::Objects::filter_clause))]
 pub fn filter_clause(
     r: &mut Reader<'_>,

@@ -9,7 +9,7 @@ use filter_tree::Filter;
 use pub_catalog::Entry;
 use std::alloc::AllocError;
 
-/// Adds the filter of an entry, if the entry is of this table and has one.
+/// Adds the filter of an entry, if the entry is for this table and has one.
 fn add_filter<'a>(
     filters: &mut Vec<&'a Filter>,
     entry: &'a Entry,
@@ -28,7 +28,7 @@ fn add_filter<'a>(
     Ok(())
 }
 
-/// Adds the filters of the entries of this table.
+/// Adds the filters of the entries for this table.
 pub fn add_filters<'a>(
     filters: &mut Vec<&'a Filter>,
     entries: &'a [Entry],

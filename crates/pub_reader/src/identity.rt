@@ -12,7 +12,7 @@ use pub_catalog::identifies;
 use sql_reader::{ErrorKind, Item, Keyword, Omitted, PlacedName, ReadError, Reader, read_name};
 use std::alloc::Global;
 
-/// Takes the word REPLICA.
+/// Reads the word REPLICA.
 #[tactic(auto, using(sql_reader::proofs::Ahead::rest_of_some_is_fewer), unfolding(crate::specs::Identities::action))]
 fn action(r: &mut Reader<'_>) -> Result<(), ReadError>
     ensures { TakesSome (λ u. u) spec.action r.old result r.new }
@@ -28,7 +28,7 @@ fn action(r: &mut Reader<'_>) -> Result<(), ReadError>
     }
 }
 
-/// The identity by the index of a name.
+/// The identity by the index with a name.
 #[tactic(auto, unfolding(crate::specs::Identities::index_named))]
 fn index_named(
     columns: &[Column],
@@ -47,7 +47,7 @@ fn index_named(
     Ok(Identity::Index(number))
 }
 
-/// Takes USING INDEX and the name of an index.
+/// Reads USING INDEX and the name of an index.
 #[tactic(auto, unfolding(crate::specs::Identities::using_index))]
 fn using_index(
     r: &mut Reader<'_>,
@@ -63,7 +63,7 @@ fn using_index(
     Ok(index_named(columns, indexes, &name)?)
 }
 
-/// Takes DEFAULT, FULL, NOTHING or USING INDEX with the name of an index.
+/// Reads DEFAULT, FULL, NOTHING or USING INDEX with the name of an index.
 #[tactic(auto, using(sql_reader::proofs::Ahead::rest_is_no_more), unfolding(crate::specs::Identities::identity))]
 fn identity(
     r: &mut Reader<'_>,
@@ -91,7 +91,7 @@ fn identity(
     }
 }
 
-/// Takes REPLICA IDENTITY and the identity.
+/// Reads REPLICA IDENTITY and the identity.
 #[tactic(auto, unfolding(crate::specs::Identities::replica_identity))]
 fn replica_identity(
     r: &mut Reader<'_>,
@@ -106,7 +106,7 @@ fn replica_identity(
     identity(r, alloc, columns, indexes)
 }
 
-/// Takes ALTER TABLE, and gives the table its replica identity.
+/// Reads ALTER TABLE, and sets the replica identity of the table.
 #[tactic(auto, unfolding(crate::specs::Identities::alter_table))]
 pub fn alter_table(r: &mut Reader<'_>, alloc: Global, draft: &mut Draft) -> Result<(), ReadError>
     ensures { TakesSome (λ _. draft_view draft.new) (spec.alter_table (draft_view draft.old)) r.old result r.new }

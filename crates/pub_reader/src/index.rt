@@ -14,7 +14,7 @@ use sql_reader::{
 };
 use std::alloc::Global;
 
-/// Refuses another method than B-tree.
+/// Refuses any method other than B-tree.
 #[tactic(auto, unfolding(crate::specs::Indexes::known_method))]
 fn known_method(name: &PlacedName) -> Result<(), ReadError>
     ensures { Answers (λ u. u) (spec.known_method name.now) result }
@@ -28,7 +28,7 @@ fn known_method(name: &PlacedName) -> Result<(), ReadError>
     })
 }
 
-/// Takes USING and the name of the method.
+/// Reads USING and the name of the method.
 #[tactic(auto, unfolding(crate::specs::Indexes::named_method))]
 fn named_method(r: &mut Reader<'_>, alloc: Global) -> Result<(), ReadError>
     ensures { TakesSome (λ u. u) spec.named_method r.old result r.new }
@@ -39,7 +39,7 @@ fn named_method(r: &mut Reader<'_>, alloc: Global) -> Result<(), ReadError>
     Ok(())
 }
 
-/// Takes USING and the name of the method, if they are ahead.
+/// Reads USING and the name of the method, if they are ahead.
 #[tactic(auto, unfolding(crate::specs::Indexes::method))]
 fn method(r: &mut Reader<'_>, alloc: Global) -> Result<(), ReadError>
     ensures { Takes (λ u. u) spec.method r.old result r.new }
@@ -64,7 +64,7 @@ fn once_in_index(numbers: &[usize], name: &PlacedName, column: FoundColumn) -> R
     Ok(())
 }
 
-/// Takes the name of a column of the index.
+/// Reads the name of a column of the index.
 #[tactic(auto, unfolding(crate::specs::Indexes::index_column))]
 fn index_column(
     r: &mut Reader<'_>,
@@ -81,7 +81,7 @@ fn index_column(
     Ok(())
 }
 
-/// Takes the names of the columns of the index, which commas part.
+/// Reads the names of the columns of the index, separated by commas.
 #[tactic(auto, using(sql_reader::proofs::RepetitionLemmas::chains), unfolding(crate::specs::Indexes::index_columns))]
 fn index_columns(
     r: &mut Reader<'_>,
@@ -99,7 +99,7 @@ fn index_columns(
     Ok(numbers)
 }
 
-/// Refuses words after the columns, where a clause begins that is left out.
+/// Refuses words after the columns that begin a clause that is not supported.
 #[tactic(auto, unfolding(crate::specs::Indexes::index_tail))]
 fn index_tail(r: &Reader<'_>) -> Result<(), ReadError>
     ensures { Reads (λ u. u) (spec.index_tail (to_read r.now)) result (to_read r.now) }
@@ -111,7 +111,7 @@ fn index_tail(r: &Reader<'_>) -> Result<(), ReadError>
     }
 }
 
-/// Takes what follows the name of the table, and tells the numbers of the index's columns.
+/// Reads what follows the name of the table, and returns the numbers of the index's columns.
 #[tactic(auto, unfolding(crate::specs::Indexes::index_body))]
 fn index_body(
     r: &mut Reader<'_>,
@@ -128,7 +128,7 @@ fn index_body(
     Ok(numbers)
 }
 
-/// Takes ON and the name of the table of a new index, and tells the table's number.
+/// Reads ON and the name of the table of a new index, and returns the table's number.
 #[tactic(auto, unfolding(crate::specs::Indexes::indexed_table))]
 fn indexed_table(
     r: &mut Reader<'_>,
@@ -147,7 +147,7 @@ fn indexed_table(
     Ok(number)
 }
 
-/// Takes what follows CREATE UNIQUE, and makes the index.
+/// Reads what follows CREATE UNIQUE, and creates the index.
 #[tactic(auto, unfolding(crate::specs::Indexes::create_index))]
 pub fn create_index(r: &mut Reader<'_>, alloc: Global, draft: &mut Draft) -> Result<(), ReadError>
     ensures { TakesSome (λ _. draft_view draft.new) (spec.create_index (draft_view draft.old)) r.old result r.new }

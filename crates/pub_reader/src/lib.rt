@@ -1,7 +1,7 @@
 //! Reads the catalog of a publisher, its schemas, tables, replica identities, publications with their row filters and
-//! subscriptions, from the SQL of PostgreSQL 15 in which people write them; rows of its tables are read by `read_row`,
-//! and scripts of commands and of what happens to subscribers by `read_script`. Each statement of a catalog takes its
-//! tokens, and changes the draft of the catalog that is read.
+//! subscriptions, from the SQL of PostgreSQL 15 in which it is written. Rows of its tables are read by `read_row`, and
+//! scripts of commands and of what happens to subscribers by `read_script`. Each statement of a catalog consumes its
+//! tokens, and changes the draft of the catalog that is being read.
 #![tactic(auto)]
 
 mod coverage;

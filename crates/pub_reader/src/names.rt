@@ -12,7 +12,7 @@ use sql_reader::{ErrorKind, Limit, PlacedName, ReadError};
 use std::alloc::{AllocError, Global};
 use std::marker::Model;
 
-/// Different names in the order in which they were made, each with its position.
+/// Different names in the order in which they were added, each with its position.
 #[derive(Drop)]
 pub struct Names {
     names: IndexSet<String>,
@@ -45,7 +45,7 @@ impl Names {
         self.names.get_index_of(name)
     }
 
-    /// Adds a name after the others, if it is new.
+    /// Adds a name at the end, if it is new.
     pub fn add(&mut self, name: String) -> Result<(), AllocError>
         ensures ok { OnOk result (self.new ≡ with_name self.old (string_bytes name)) }
         ensures err { OnErr result (self.new ≡ self.old) }
@@ -55,7 +55,7 @@ impl Names {
     }
 }
 
-/// The number that was found for a name, which has to be there.
+/// The number that was found for a name, which must exist.
 pub fn known_number(name: &PlacedName, found: Option<usize>) -> Result<usize, ReadError>
     ensures answer { Answers (λ n. n) (known name.now found) result }
     ensures found { IfOk result (λ n. found ≡ Some n) }

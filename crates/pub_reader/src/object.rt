@@ -1,4 +1,4 @@
-//! What a publication is made for: tables, with the filters of their rows, and schemas.
+//! What a publication is for: tables, with the filters of their rows, and schemas.
 
 ghost use Rattle.std.specs.Prelude.{◌≡◌};
 ghost use Rattle.sql_reader.specs.ParsingContracts.{Takes, TakesSome, to_read, Reads, Answers};
@@ -17,7 +17,7 @@ use sql_reader::{ErrorKind, Item, Keyword, PlacedName, ReadError, Reader, read_n
 use sql_tokens::Operator;
 use std::alloc::Global;
 
-/// Adds a schema that was made before.
+/// Adds a schema that was created before.
 #[tactic(auto, unfolding(crate::specs::Objects::schema_mentioned, crate::specs::Schemas::known_schema))]
 fn mention_schema(draft: &Draft, coverage: &mut Coverage, name: PlacedName) -> Result<(), ReadError>
     ensures { Answers (λ _. coverage_view coverage.new)
@@ -28,7 +28,7 @@ fn mention_schema(draft: &Draft, coverage: &mut Coverage, name: PlacedName) -> R
     Ok(())
 }
 
-/// Takes the name of a schema.
+/// Reads the name of a schema.
 #[tactic(auto, unfolding(crate::specs::Objects::named_schema))]
 fn named_schema(
     r: &mut Reader<'_>,
@@ -44,7 +44,7 @@ fn named_schema(
     Ok(ObjectKind::Schema)
 }
 
-/// Takes CURRENT_SCHEMA.
+/// Reads CURRENT_SCHEMA.
 #[tactic(auto, unfolding(crate::specs::Objects::current_schema))]
 fn current_schema(
     r: &mut Reader<'_>,
@@ -60,7 +60,7 @@ fn current_schema(
     Ok(ObjectKind::Schema)
 }
 
-/// Takes a schema.
+/// Reads a schema.
 #[tactic(auto, unfolding(crate::specs::Objects::schema_object))]
 fn schema_object(
     r: &mut Reader<'_>,
@@ -77,7 +77,7 @@ fn schema_object(
     }
 }
 
-/// Takes IN SCHEMA and a schema.
+/// Reads IN SCHEMA and a schema.
 #[tactic(auto, unfolding(crate::specs::Objects::in_schema))]
 fn in_schema(
     r: &mut Reader<'_>,
@@ -93,7 +93,7 @@ fn in_schema(
     schema_object(r, alloc, draft, coverage)
 }
 
-/// Adds a schema, once its name is read.
+/// Adds a schema, after its name was read.
 #[tactic(auto, unfolding(crate::specs::Objects::taken_schema))]
 fn taken_schema(
     r: &Reader<'_>,
@@ -109,7 +109,7 @@ fn taken_schema(
     Ok(ObjectKind::Schema)
 }
 
-/// Takes the rest of a table and its filter, once the first part of the table's name is taken.
+/// Reads the rest of a table and its filter, after the first part of the table's name was read.
 #[tactic(auto, unfolding(crate::specs::Objects::taken_table))]
 fn taken_table(
     r: &mut Reader<'_>,
@@ -134,7 +134,7 @@ fn taken_table(
     Ok(ObjectKind::Table)
 }
 
-/// Takes a table with its filter, or a whole one.
+/// Reads a table with its filter, or a whole table.
 #[tactic(auto, unfolding(crate::specs::Objects::table_object))]
 fn table_object(
     r: &mut Reader<'_>,
@@ -150,7 +150,7 @@ fn table_object(
     Ok(taken_table(r, alloc, draft, coverage, &name)?)
 }
 
-/// Takes the rest of an object of this kind, once the first part of its name is taken.
+/// Reads the rest of an object of this kind, after the first part of its name was read.
 fn taken_object(
     r: &mut Reader<'_>,
     alloc: Global,
@@ -168,7 +168,7 @@ fn taken_object(
     }
 }
 
-/// Takes the rest of an object, once the word TABLES at its front is taken: it begins TABLES IN SCHEMA, or is a name.
+/// Reads the rest of an object, after the word TABLES at its front was read: it begins TABLES IN SCHEMA, or is a name.
 #[tactic(auto, unfolding(crate::specs::Objects::after_tables))]
 fn after_tables(
     r: &mut Reader<'_>,
@@ -188,7 +188,7 @@ fn after_tables(
     }
 }
 
-/// Takes an object whose first word is TABLES.
+/// Reads an object whose first word is TABLES.
 #[tactic(auto, unfolding(crate::specs::Objects::tables_object))]
 fn tables_object(
     r: &mut Reader<'_>,
@@ -204,7 +204,7 @@ fn tables_object(
     Ok(after_tables(r, alloc, draft, kind, coverage, name)?)
 }
 
-/// Takes an object of this kind.
+/// Reads an object of this kind.
 fn object_of(
     r: &mut Reader<'_>,
     alloc: Global,
@@ -221,7 +221,7 @@ fn object_of(
     }
 }
 
-/// Takes one more object, which is of the kind of the one before unless it names its own.
+/// Reads one more object, which is of the kind of the one before unless it names its own.
 #[tactic(auto, using(sql_reader::proofs::Ahead::rest_is_no_more), unfolding(crate::specs::Objects::object))]
 fn object(
     r: &mut Reader<'_>,
@@ -243,7 +243,7 @@ fn object(
     }
 }
 
-/// Takes the first object, which names its kind.
+/// Reads the first object, which names its kind.
 #[tactic(auto, using(sql_reader::proofs::Ahead::rest_is_no_more), unfolding(crate::specs::Objects::first_object))]
 fn first_object(
     r: &mut Reader<'_>,
@@ -267,7 +267,7 @@ fn first_object(
     }
 }
 
-/// Takes objects, which commas part.
+/// Reads objects, separated by commas.
 #[tactic(auto, using(sql_reader::proofs::RepetitionLemmas::chains), unfolding(crate::specs::Objects::objects))]
 pub fn objects(
     r: &mut Reader<'_>,

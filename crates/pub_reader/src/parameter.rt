@@ -29,7 +29,7 @@ const NONE_GIVEN: Given = Given {
     partition_root: false,
 };
 
-/// Takes the list of operations ahead.
+/// Reads the list of operations ahead.
 #[tactic(auto, using(sql_reader::proofs::Ahead::rest_is_no_more))]
 fn operations_taken(r: &mut Reader<'_>) -> Result<Operations, ReadError>
     requires { IsSome (item_ahead (to_read r.old)) }
@@ -45,7 +45,7 @@ fn operations_taken(r: &mut Reader<'_>) -> Result<Operations, ReadError>
     }
 }
 
-/// Takes the value of `publish`, a string or a word.
+/// Reads the value of `publish`, a string or a word.
 #[tactic(auto, unfolding(crate::specs::Publishing::operations_value))]
 fn operations_value(r: &mut Reader<'_>) -> Result<Operations, ReadError>
     ensures { Takes (λ listed. listed) spec.operations_value r.old result r.new }
@@ -58,7 +58,7 @@ fn operations_value(r: &mut Reader<'_>) -> Result<Operations, ReadError>
     }
 }
 
-/// Takes `publish` and its value.
+/// Reads `publish` and its value.
 #[tactic(auto, using(sql_reader::proofs::Ahead::rest_is_no_more), unfolding(crate::specs::Publishing::publish))]
 fn publish(r: &mut Reader<'_>, given: Given) -> Result<Given, ReadError>
     ensures { TakesSome (λ given. given) (spec.publish given) r.old result r.new }
@@ -82,7 +82,7 @@ fn is_boolean(word: &str) -> bool
         || same_word(word, "off")
 }
 
-/// Takes the value ahead, if it is a truth value.
+/// Reads the value ahead, if it is a truth value.
 #[tactic(auto, using(sql_reader::proofs::Ahead::rest_is_no_more))]
 fn boolean_taken(r: &mut Reader<'_>, is_boolean: bool) -> Result<(), ReadError>
     ensures { Takes (λ u. u) (spec.boolean_taken is_boolean) r.old result r.new }
@@ -94,7 +94,7 @@ fn boolean_taken(r: &mut Reader<'_>, is_boolean: bool) -> Result<(), ReadError>
     Ok(())
 }
 
-/// Takes the value of `publish_via_partition_root`.
+/// Reads the value of `publish_via_partition_root`.
 #[tactic(auto, unfolding(crate::specs::Publishing::boolean_value))]
 fn boolean_value(r: &mut Reader<'_>) -> Result<(), ReadError>
     ensures { Takes (λ u. u) spec.boolean_value r.old result r.new }
@@ -108,7 +108,7 @@ fn boolean_value(r: &mut Reader<'_>) -> Result<(), ReadError>
     }
 }
 
-/// Takes `=` and the value of `publish_via_partition_root`.
+/// Reads `=` and the value of `publish_via_partition_root`.
 #[tactic(auto, unfolding(crate::specs::Publishing::given_boolean))]
 fn given_boolean(r: &mut Reader<'_>) -> Result<(), ReadError>
     ensures { Takes (λ u. u) spec.given_boolean r.old result r.new }
@@ -117,7 +117,7 @@ fn given_boolean(r: &mut Reader<'_>) -> Result<(), ReadError>
     boolean_value(r)
 }
 
-/// Takes the value of `publish_via_partition_root`, if there is one.
+/// Reads the value of `publish_via_partition_root`, if there is one.
 #[tactic(auto, unfolding(crate::specs::Publishing::boolean_or_none))]
 fn boolean_or_none(r: &mut Reader<'_>) -> Result<(), ReadError>
     ensures { Takes (λ u. u) spec.boolean_or_none r.old result r.new }
@@ -129,7 +129,7 @@ fn boolean_or_none(r: &mut Reader<'_>) -> Result<(), ReadError>
     Ok(())
 }
 
-/// Takes `publish_via_partition_root`.
+/// Reads `publish_via_partition_root`.
 #[tactic(auto, using(sql_reader::proofs::Ahead::rest_of_some_is_fewer), unfolding(crate::specs::Publishing::partition_root))]
 fn partition_root(r: &mut Reader<'_>, given: Given) -> Result<Given, ReadError>
     requires { IsSome (item_ahead (to_read r.old)) }
@@ -167,7 +167,7 @@ fn parameter_ahead(r: &Reader<'_>) -> Option<Parameter>
     }
 }
 
-/// Takes a parameter, if it is none of those given so far.
+/// Reads a parameter, if it was not given before.
 fn parameter_given(
     r: &mut Reader<'_>,
     parameter: Option<Parameter>,
@@ -195,7 +195,7 @@ fn parameter_given(
     }
 }
 
-/// Takes a parameter.
+/// Reads a parameter.
 #[tactic(auto, unfolding(crate::specs::Publishing::one_parameter))]
 fn one_parameter(r: &mut Reader<'_>, given: Given) -> Result<Given, ReadError>
     ensures { TakesSome (λ given. given) (spec.one_parameter given) r.old result r.new }
@@ -206,7 +206,7 @@ fn one_parameter(r: &mut Reader<'_>, given: Given) -> Result<Given, ReadError>
     parameter_given(r, parameter_ahead(r), given)
 }
 
-/// Takes parameters, which commas part.
+/// Reads parameters, separated by commas.
 #[tactic(auto, using(sql_reader::proofs::RepetitionLemmas::chains), unfolding(crate::specs::Publishing::parameters))]
 fn parameters(r: &mut Reader<'_>) -> Result<Given, ReadError>
     ensures { TakesSome (λ given. given) spec.parameters r.old result r.new }
@@ -219,7 +219,7 @@ fn parameters(r: &mut Reader<'_>) -> Result<Given, ReadError>
     Ok(given)
 }
 
-/// Takes `WITH ( parameter , .. )`.
+/// Reads `WITH ( parameter , .. )`.
 #[tactic(auto, unfolding(crate::specs::Publishing::parameter_list))]
 fn parameter_list(r: &mut Reader<'_>) -> Result<Given, ReadError>
     ensures { TakesSome (λ given. given) spec.parameter_list r.old result r.new }
@@ -231,7 +231,7 @@ fn parameter_list(r: &mut Reader<'_>) -> Result<Given, ReadError>
     Ok(given)
 }
 
-/// Takes the parameters, if there are any.
+/// Reads the parameters, if there are any.
 #[tactic(auto, unfolding(crate::specs::Publishing::parameters_clause))]
 pub fn parameters_clause(r: &mut Reader<'_>) -> Result<Given, ReadError>
     ensures { Takes (λ given. given) spec.parameters_clause r.old result r.new }

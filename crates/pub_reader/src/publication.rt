@@ -15,7 +15,7 @@ use pub_catalog::Operations;
 use sql_reader::{Item, Keyword, PlacedName, ReadError, Reader, read_name};
 use std::alloc::{AllocError, Global};
 
-/// What a publication publishes unless it says otherwise.
+/// What a publication publishes by default.
 const EVERY_OPERATION: Operations = Operations {
     insert: true,
     update: true,
@@ -23,7 +23,7 @@ const EVERY_OPERATION: Operations = Operations {
     truncate: true,
 };
 
-/// Takes the name of a new publication.
+/// Reads the name of a new publication.
 #[tactic(auto, unfolding(crate::specs::Publications::publication_name))]
 fn publication_name(
     r: &mut Reader<'_>,
@@ -38,7 +38,7 @@ fn publication_name(
     Ok(name)
 }
 
-/// Takes ALL TABLES.
+/// Reads ALL TABLES.
 #[tactic(auto, unfolding(crate::specs::Publications::all_tables))]
 fn all_tables(r: &mut Reader<'_>, alloc: Global) -> Result<Coverage, ReadError>
     ensures { TakesSome (λ coverage. coverage_view coverage) spec.all_tables r.old result r.new }
@@ -50,7 +50,7 @@ fn all_tables(r: &mut Reader<'_>, alloc: Global) -> Result<Coverage, ReadError>
     Ok(coverage)
 }
 
-/// Takes tables and schemas.
+/// Reads tables and schemas.
 #[tactic(auto, unfolding(crate::specs::Publications::listed_objects))]
 fn listed_objects(r: &mut Reader<'_>, alloc: Global, draft: &Draft) -> Result<Coverage, ReadError>
     ensures { TakesSome (λ coverage. coverage_view coverage) (spec.listed_objects as_filter (draft_view draft.now))
@@ -61,7 +61,7 @@ fn listed_objects(r: &mut Reader<'_>, alloc: Global, draft: &Draft) -> Result<Co
     Ok(coverage)
 }
 
-/// Takes what the publication is for, after FOR.
+/// Reads what the publication is for, after FOR.
 #[tactic(auto, unfolding(crate::specs::Publications::scope))]
 fn scope(r: &mut Reader<'_>, alloc: Global, draft: &Draft) -> Result<Coverage, ReadError>
     ensures { TakesSome (λ coverage. coverage_view coverage) (spec.scope as_filter (draft_view draft.now))
@@ -73,7 +73,7 @@ fn scope(r: &mut Reader<'_>, alloc: Global, draft: &Draft) -> Result<Coverage, R
     }
 }
 
-/// Takes FOR and what the publication is for; without FOR it has no tables.
+/// Reads FOR and what the publication is for; without FOR it has no tables.
 #[tactic(auto, using(sql_reader::proofs::Ahead::rest_is_no_more), unfolding(crate::specs::Publications::for_clause))]
 fn for_clause(r: &mut Reader<'_>, alloc: Global, draft: &Draft) -> Result<Coverage, ReadError>
     ensures { Takes (λ coverage. coverage_view coverage) (spec.for_clause as_filter (draft_view draft.now))
@@ -107,7 +107,7 @@ fn add_publication(
     draft.add_publication(alloc, publication)
 }
 
-/// Takes what follows CREATE PUBLICATION, and makes the publication.
+/// Reads what follows CREATE PUBLICATION, and creates the publication.
 #[tactic(auto, unfolding(crate::specs::Publications::create_publication))]
 pub fn create_publication(
     r: &mut Reader<'_>,

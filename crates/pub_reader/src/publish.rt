@@ -20,7 +20,7 @@ fn trimmed(text: &[u8]) -> &[u8]
     text.trim_ascii_start().trim_ascii_end()
 }
 
-/// The operations with one more, if the word names one.
+/// The operations with one more added, if the word names one.
 #[tactic(auto, unfolding(crate::specs::Operations::with_operation))]
 fn with_operation(listed: Operations, word: &[u8]) -> Option<Operations>
     ensures { result ≡ spec.with_operation listed word.now }
@@ -64,7 +64,7 @@ fn first_part(text: &[u8]) -> (&[u8], Option<&[u8]>)
     }
 }
 
-/// The operations that a text lists, parted by commas, if each word names one.
+/// The operations that a text lists, separated by commas, if each word names one.
 #[tactic(auto, unfolding(crate::specs::Operations::operations))]
 pub fn operations(text: &[u8]) -> Option<Operations>
     ensures { result ≡ spec.operations text.now }

@@ -1,4 +1,4 @@
-//! What publications cover, once all tables are made.
+//! What publications cover, after all tables were created.
 
 ghost use Rattle.std.specs.Prelude.{◌≡◌, IfOk, map};
 ghost use Rattle.pub_catalog.specs.CatalogView.{entry_view, publication_view};

@@ -8,7 +8,7 @@ use crate::draft::Draft;
 use sql_reader::{ReadError, Reader, read_name};
 use std::alloc::Global;
 
-/// Takes what follows CREATE SCHEMA, and makes the schema.
+/// Reads what follows CREATE SCHEMA, and creates the schema.
 #[tactic(auto, unfolding(crate::specs::Schemas::create_schema))]
 pub fn create_schema(r: &mut Reader<'_>, alloc: Global, draft: &mut Draft) -> Result<(), ReadError>
     ensures { TakesSome (λ _. draft_view draft.new) (spec.create_schema (draft_view draft.old)) r.old result r.new }

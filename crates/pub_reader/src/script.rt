@@ -20,7 +20,7 @@ pub struct Line {
     pub step: Step,
 }
 
-/// Takes a step and its semicolon, before which there are `count` steps.
+/// Reads a step and its semicolon, before which there are `count` steps.
 #[tactic(auto, unfolding(crate::specs::Scripts::next_line))]
 fn next_line(
     r: &mut Reader<'_>,
@@ -37,7 +37,7 @@ fn next_line(
     Ok(Line { place, step })
 }
 
-/// Takes one more step and its semicolon.
+/// Reads one more step and its semicolon.
 #[tactic(auto, unfolding(crate::specs::Scripts::one_line))]
 fn one_line(
     r: &mut Reader<'_>,
@@ -54,7 +54,7 @@ fn one_line(
     Ok(())
 }
 
-/// Takes steps to the end of a text.
+/// Reads steps to the end of a text.
 #[tactic(auto, using(sql_reader::proofs::RepetitionLemmas::turns), unfolding(crate::specs::Scripts::lines))]
 fn lines(r: &mut Reader<'_>, alloc: Global, tables: &[Table]) -> Result<Vec<Line>, ReadError>
     ensures { Reads (λ lines. map line_view lines.items) (spec.lines tables.now (to_read r.old))
@@ -67,20 +67,20 @@ fn lines(r: &mut Reader<'_>, alloc: Global, tables: &[Table]) -> Result<Vec<Line
     Ok(lines)
 }
 
-/// Reads a script: steps, each ended by `;`, at most 100,000, of which none is empty. The tables of its commands are
-/// those of the catalog. Rows, keys and the numbers of subscribers are not held against it.
+/// Reads a script: steps, each ended by `;`. There are at most 100,000 steps, and none is empty. The tables of its
+/// commands are those of the catalog. Rows, keys and the numbers of subscribers are not checked against the catalog.
 ///
 /// | Step | |
 /// |---|---|
 /// | `COMMIT [command, ..]` | `INSERT table row`, `UPDATE table key row`, `DELETE table key`, `TRUNCATE (table, ..)` |
 /// | `OPEN i`, `TAKE i`, `LOSE i`, `PUMP i` | on the connection of subscriber i |
-/// | `HEAR i k`, `DELIVER i k` | of the next bytes at most k |
-/// | `KEEP i TRUE`, `KEEP i FALSE`, `REPORT i [TRUE or FALSE]` | whether an answer is wanted |
+/// | `HEAR i k`, `DELIVER i k` | at most k of the next bytes |
+/// | `KEEP i TRUE`, `KEEP i FALSE`, `REPORT i [TRUE or FALSE]` | whether a reply is requested |
 /// | `VIEW` | |
 ///
 /// # Errors
 ///
-/// The first fault of the text, or `OutOfMemory` where an allocation was refused.
+/// The first fault of the text, or `OutOfMemory` if an allocation failed.
 #[tactic(auto, unfolding(crate::specs::Scripts::script_by))]
 pub fn read_script(alloc: Global, catalog: &Catalog, text: &str) -> Result<Vec<Line>, ReadError>
     ensures { Answers (λ lines. map line_view lines.items) (spec.script_by catalog.now.tables.items text.now) result }

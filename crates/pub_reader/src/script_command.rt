@@ -77,7 +77,7 @@ fn delete_body(r: &mut Reader<'_>, alloc: Global, tables: &[Table]) -> Result<Co
     Ok(Command::Delete { table, key })
 }
 
-/// Takes one more table.
+/// Reads one more table.
 #[tactic(auto, unfolding(crate::specs::ScriptCommands::one_table))]
 fn one_table(
     r: &mut Reader<'_>,
@@ -92,7 +92,7 @@ fn one_table(
     Ok(())
 }
 
-/// Takes the names of tables, which commas part, and tells their numbers.
+/// Reads the names of tables, separated by commas, and returns their numbers.
 #[tactic(auto, using(sql_reader::proofs::RepetitionLemmas::chains), unfolding(crate::specs::ScriptCommands::table_list))]
 fn table_list(r: &mut Reader<'_>, alloc: Global, tables: &[Table]) -> Result<Vec<usize>, ReadError>
     ensures { TakesSome (λ numbers. numbers.items) (spec.table_list tables.now) r.old result r.new }
@@ -116,7 +116,7 @@ fn truncate_body(r: &mut Reader<'_>, alloc: Global, tables: &[Table]) -> Result<
     Ok(Command::Truncate { tables })
 }
 
-/// Takes a command.
+/// Reads a command.
 #[tactic(auto, using(sql_reader::proofs::Ahead::rest_is_no_more), unfolding(crate::specs::ScriptCommands::command))]
 fn command(r: &mut Reader<'_>, alloc: Global, tables: &[Table]) -> Result<Command, ReadError>
     ensures { TakesSome command_view (spec.command tables.now) r.old result r.new }
@@ -142,7 +142,7 @@ fn command(r: &mut Reader<'_>, alloc: Global, tables: &[Table]) -> Result<Comman
     }
 }
 
-/// Takes one more command.
+/// Reads one more command.
 #[tactic(auto, unfolding(crate::specs::ScriptCommands::one_command))]
 fn one_command(
     r: &mut Reader<'_>,
@@ -158,7 +158,7 @@ fn one_command(
     Ok(())
 }
 
-/// Takes commands, which commas part.
+/// Reads commands, separated by commas.
 #[tactic(auto, using(sql_reader::proofs::RepetitionLemmas::chains), unfolding(crate::specs::ScriptCommands::command_list))]
 fn command_list(
     r: &mut Reader<'_>,
@@ -177,7 +177,7 @@ fn command_list(
     Ok(commands)
 }
 
-/// Takes commands, or none where the step ends.
+/// Reads commands, or none if the step ends.
 #[tactic(auto, unfolding(crate::specs::ScriptCommands::commands_or_none))]
 pub fn commands_or_none(
     r: &mut Reader<'_>,

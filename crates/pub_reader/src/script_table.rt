@@ -19,7 +19,7 @@ fn has_table(tables: &[Table], schema: &str) -> bool
     tables.iter().any(|table| schema == table.schema.as_str())
 }
 
-/// Whether this is the schema `public` or that of a table.
+/// Whether this is the schema `public` or the schema of a table.
 fn is_schema(tables: &[Table], name: &str) -> bool
     ensures { result ≡ spec.is_schema tables.now name.now }
 {
@@ -40,14 +40,14 @@ fn schema_in_use(tables: &[Table], name: &PlacedName) -> Result<(), ReadError>
     })
 }
 
-/// The number of the table of a schema and a name.
+/// The number of the table with a schema and a name.
 fn find_table(tables: &[Table], schema: &str, name: &str) -> Option<usize>
     ensures { result ≡ table_found schema.now name.now tables.now }
 {
     tables.iter().position(|table| schema == table.schema.as_str() && name == table.name.as_str())
 }
 
-/// The number of a table, which has to be there.
+/// The number of a table, which must exist.
 #[tactic(auto, unfolding(crate::specs::TableNames::known_table))]
 fn known_table(tables: &[Table], schema: &str, name: &PlacedName) -> Result<usize, ReadError>
     ensures { Answers (λ n. n) (table_known tables.now schema.now name.now) result }
@@ -55,7 +55,7 @@ fn known_table(tables: &[Table], schema: &str, name: &PlacedName) -> Result<usiz
     Ok(known_number(name, find_table(tables, schema, name.text.as_str()))?)
 }
 
-/// Takes a dot and a name, after the name of a schema.
+/// Reads a dot and a name, after the name of a schema.
 #[tactic(auto, unfolding(crate::specs::ScriptTables::name_after_schema))]
 fn name_after_schema(
     r: &mut Reader<'_>,
@@ -70,7 +70,7 @@ fn name_after_schema(
     read_name(r, alloc, "the name of a table")
 }
 
-/// Takes a dot and the name of a table, after the name of its schema, and tells its number.
+/// Reads a dot and the name of a table, after the name of its schema, and returns its number.
 #[tactic(auto, unfolding(crate::specs::ScriptTables::table_after_schema))]
 fn table_after_schema(
     r: &mut Reader<'_>,
@@ -84,7 +84,7 @@ fn table_after_schema(
     Ok(known_table(tables, schema.text.as_str(), &name)?)
 }
 
-/// Tells the number of a table, once the first part of its name is taken.
+/// Returns the number of a table, after the first part of its name was read.
 #[tactic(auto, unfolding(crate::specs::ScriptTables::table_called))]
 fn table_called(
     r: &mut Reader<'_>,
@@ -101,7 +101,7 @@ fn table_called(
     Ok(known_table(tables, PUBLIC, name)?)
 }
 
-/// Takes the name of a table, and tells its number.
+/// Reads the name of a table, and returns its number.
 #[tactic(auto, unfolding(crate::specs::ScriptTables::script_table))]
 pub fn script_table(r: &mut Reader<'_>, alloc: Global, tables: &[Table]) -> Result<usize, ReadError>
     ensures { TakesSome (λ number. number) (spec.script_table tables.now) r.old result r.new }

@@ -23,7 +23,7 @@ use pub_catalog::Catalog;
 use sql_reader::{Item, Keyword, ReadError, Reader};
 use std::alloc::Global;
 
-/// Takes what is made, after CREATE.
+/// Reads what is created, after CREATE.
 #[tactic(auto, using(sql_reader::proofs::Ahead::rest_is_no_more), unfolding(crate::specs::Statements::created))]
 fn created(r: &mut Reader<'_>, alloc: Global, draft: &mut Draft) -> Result<(), ReadError>
     ensures { TakesSome (λ _. draft_view draft.new) (spec.created as_filter (draft_view draft.old)) r.old result r.new }
@@ -61,7 +61,7 @@ fn create(r: &mut Reader<'_>, alloc: Global, draft: &mut Draft) -> Result<(), Re
     created(r, alloc, draft)
 }
 
-/// Takes a statement, which may be empty, up to its semicolon.
+/// Reads a statement, which may be empty, up to its semicolon.
 #[tactic(auto, unfolding(crate::specs::Statements::statement))]
 fn statement(r: &mut Reader<'_>, alloc: Global, draft: &mut Draft) -> Result<(), ReadError>
     ensures { Takes (λ _. draft_view draft.new) (spec.statement as_filter (draft_view draft.old)) r.old result r.new }
@@ -74,7 +74,7 @@ fn statement(r: &mut Reader<'_>, alloc: Global, draft: &mut Draft) -> Result<(),
     }
 }
 
-/// Takes a statement and its semicolon.
+/// Reads a statement and its semicolon.
 #[tactic(auto, unfolding(crate::specs::Statements::ended_statement))]
 fn ended_statement(r: &mut Reader<'_>, alloc: Global, draft: &mut Draft) -> Result<(), ReadError>
     ensures { TakesSome (λ _. draft_view draft.new) (spec.ended_statement as_filter (draft_view draft.old))
@@ -85,7 +85,7 @@ fn ended_statement(r: &mut Reader<'_>, alloc: Global, draft: &mut Draft) -> Resu
     Ok(())
 }
 
-/// Takes statements to the end of a text.
+/// Reads statements to the end of a text.
 #[tactic(auto, using(sql_reader::proofs::RepetitionLemmas::turns), unfolding(crate::specs::Statements::statements))]
 fn statements(r: &mut Reader<'_>, alloc: Global, draft: &mut Draft) -> Result<(), ReadError>
     ensures reads { Reads (λ _. draft_view draft.new) (spec.statements as_filter (draft_view draft.old) (to_read r.old))
@@ -100,16 +100,16 @@ fn statements(r: &mut Reader<'_>, alloc: Global, draft: &mut Draft) -> Result<()
 
 /// Reads a catalog: CREATE SCHEMA, CREATE TABLE, CREATE UNIQUE INDEX, ALTER TABLE .. REPLICA IDENTITY, CREATE
 /// PUBLICATION and CREATE SUBSCRIPTION, each ended by `;`. A publication's entries are the tables that it names, and
-/// then each table that it carries whole by FOR ALL TABLES or TABLES IN SCHEMA, wherever in the text the table is made.
-/// There are at most 64 tables of at most 100 columns and 8 unique indexes, 64 publications and 32 subscriptions. An
-/// identity by an index names one of the table's, none of whose columns takes a null. The names of schemas, tables and
-/// columns have 1 to 63 bytes of UTF-8, none of which is zero. Each publication has such a name of its own, and each
-/// subscription, which takes at least one of the publications, and none twice. The columns of keys and the tables and
-/// columns that publications name are there.
+/// then each table that it carries whole by FOR ALL TABLES or TABLES IN SCHEMA, wherever in the text the table is
+/// created. There are at most 64 tables of at most 100 columns and 8 unique indexes, 64 publications and 32
+/// subscriptions. An identity by an index names an index of the table, all of whose columns are NOT NULL. The names of
+/// schemas, tables and columns have 1 to 63 bytes of UTF-8, none of which is zero. Each publication has such a name of
+/// its own, and so does each subscription, which names at least one of the publications, and none twice. The columns of
+/// keys and the tables and columns that publications name exist.
 ///
 /// # Errors
 ///
-/// The first fault of the text, or `OutOfMemory` where an allocation was refused.
+/// The first fault of the text, or `OutOfMemory` if an allocation failed.
 #[tactic(auto, using(crate::proofs::CarryingCatalogs::means_as_written, pub_catalog::proofs::CatalogFacts::catalog_limited, pub_catalog::proofs::CatalogFacts::catalog_entries_known, pub_catalog::proofs::CatalogFacts::catalog_named))]
 pub fn read_catalog(alloc: Global, text: &str) -> Result<Catalog, ReadError>
     ensures catalog { Answers catalog_view (spec.catalog_by as_filter text.now) result }

@@ -11,33 +11,33 @@ use sql_reader::{Item, Keyword, ReadError, Reader};
 use std::alloc::Global;
 use table_changes::Command;
 
-/// A step of a script: what is committed, or what happens on the connection of a subscriber, which is told by its
-/// number from 0 and need not be there.
+/// A step of a script: what is committed, or what happens on the connection of a subscriber. The subscriber is given by
+/// its number from 0 and need not exist.
 #[derive(Drop)]
 pub enum Step {
     /// A transaction of these commands is committed.
     Commit(Vec<Command>),
     /// The subscriber connects, and asks for the stream from its position on.
     Open { subscriber: usize },
-    /// The publisher hears the next bytes of the subscriber, at most so many.
+    /// The publisher receives the next bytes from the subscriber, at most this number.
     Hear { subscriber: usize, bytes: usize },
     /// The publisher takes the next commit and sends what the subscriber gets of it.
     Take { subscriber: usize },
-    /// The publisher sends a keepalive, which may want an answer.
+    /// The publisher sends a keepalive, which may ask for a reply.
     Keep { subscriber: usize, want: bool },
-    /// The next bytes of the publisher, at most so many, come to the subscriber.
+    /// The next bytes from the publisher, at most this number, arrive at the subscriber.
     Deliver { subscriber: usize, bytes: usize },
-    /// The subscriber sends its position, and may want an answer.
+    /// The subscriber sends its position, and may ask for a reply.
     Report { subscriber: usize, want: bool },
     /// The connection is lost.
     Lose { subscriber: usize },
-    /// The subscriber gets all that was committed, and says so.
+    /// The subscriber gets all that was committed, and confirms it.
     Pump { subscriber: usize },
-    /// What is in the publisher and in each subscriber is shown.
+    /// The state of the publisher and of each subscriber is shown.
     View,
 }
 
-/// Takes a number without a sign.
+/// Reads a number without a sign.
 #[tactic(auto, using(sql_reader::proofs::Ahead::rest_of_some_is_fewer), unfolding(crate::specs::Steps::natural))]
 fn natural(r: &mut Reader<'_>, what: &'static str) -> Result<usize, ReadError>
     ensures { TakesSome (λ number. number) spec.natural r.old result r.new }
@@ -63,7 +63,7 @@ fn byte_count(r: &mut Reader<'_>) -> Result<usize, ReadError>
     Ok(natural(r, "a number of bytes")?)
 }
 
-/// Takes TRUE or FALSE.
+/// Reads TRUE or FALSE.
 #[tactic(auto, using(sql_reader::proofs::Ahead::rest_of_some_is_fewer), unfolding(crate::specs::Steps::truth))]
 fn truth(r: &mut Reader<'_>) -> Result<bool, ReadError>
     ensures { TakesSome (λ b. b) spec.truth r.old result r.new }
@@ -81,7 +81,7 @@ fn truth(r: &mut Reader<'_>) -> Result<bool, ReadError>
     }
 }
 
-/// Takes TRUE or FALSE, or nothing, which is FALSE.
+/// Reads TRUE or FALSE, or nothing, which is FALSE.
 #[tactic(auto, using(sql_reader::proofs::Ahead::rest_is_no_more), unfolding(crate::specs::Steps::truth_or_false))]
 fn truth_or_false(r: &mut Reader<'_>) -> Result<bool, ReadError>
     ensures { Takes (λ b. b) spec.truth_or_false r.old result r.new }
@@ -174,7 +174,7 @@ fn pump_body(r: &mut Reader<'_>) -> Result<Step, ReadError>
     Ok(Step::Pump { subscriber })
 }
 
-/// Takes what follows the word of a step.
+/// Reads what follows the word of a step.
 #[tactic(auto, unfolding(crate::specs::Steps::step_body))]
 pub fn step_body(
     r: &mut Reader<'_>,

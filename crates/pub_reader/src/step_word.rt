@@ -65,7 +65,7 @@ fn step_ahead(r: &Reader<'_>) -> Option<StepWord>
     }
 }
 
-/// Takes the word of a step, before which there are `count` steps.
+/// Reads the word of a step, before which there are `count` steps.
 #[tactic(auto, using(crate::proofs::StepWords::rest_of_step_is_fewer), unfolding(crate::specs::Steps::counted_word))]
 pub fn counted_word(r: &mut Reader<'_>, count: usize) -> Result<StepWord, ReadError>
     ensures { TakesSome (λ word. word) (spec.counted_word count) r.old result r.new }

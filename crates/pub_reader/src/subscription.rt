@@ -12,7 +12,7 @@ use pub_catalog::Subscription;
 use sql_reader::{ErrorKind, Item, Keyword, Omitted, PlacedName, ReadError, Reader, read_name};
 use std::alloc::Global;
 
-/// Takes the name of a new subscription.
+/// Reads the name of a new subscription.
 #[tactic(auto, unfolding(crate::specs::Subscriptions::subscription_name))]
 fn subscription_name(
     r: &mut Reader<'_>,
@@ -27,7 +27,7 @@ fn subscription_name(
     Ok(name)
 }
 
-/// The number of a publication that was made before, if it isn't among these numbers.
+/// The number of a publication that was created before, if it is not among these numbers.
 #[tactic(auto, unfolding(crate::specs::Subscriptions::subscribed))]
 fn subscribed(draft: &Draft, numbers: &[usize], name: &PlacedName) -> Result<usize, ReadError>
     ensures { Answers (λ n. n) (spec.subscribed (draft_view draft.now) numbers.now name.now) result }
@@ -42,7 +42,7 @@ fn subscribed(draft: &Draft, numbers: &[usize], name: &PlacedName) -> Result<usi
     Ok(number)
 }
 
-/// Takes the name of a publication.
+/// Reads the name of a publication.
 #[tactic(auto, unfolding(crate::specs::Subscriptions::one_publication))]
 fn one_publication(
     r: &mut Reader<'_>,
@@ -59,7 +59,7 @@ fn one_publication(
     Ok(())
 }
 
-/// Takes the names of publications, which commas part.
+/// Reads the names of publications, separated by commas.
 #[tactic(auto, using(sql_reader::proofs::RepetitionLemmas::chains), unfolding(crate::specs::Subscriptions::publication_list))]
 fn publication_list(
     r: &mut Reader<'_>,
@@ -88,7 +88,7 @@ fn subscription_tail(r: &Reader<'_>) -> Result<(), ReadError>
     }
 }
 
-/// Takes what follows the name of a subscription, and tells the numbers of its publications.
+/// Reads what follows the name of a subscription, and returns the numbers of its publications.
 #[tactic(auto, unfolding(crate::specs::Subscriptions::subscription_body))]
 fn subscription_body(
     r: &mut Reader<'_>,
@@ -105,7 +105,7 @@ fn subscription_body(
     Ok(numbers)
 }
 
-/// Takes what follows CREATE SUBSCRIPTION, and makes the subscription.
+/// Reads what follows CREATE SUBSCRIPTION, and creates the subscription.
 #[tactic(auto, unfolding(crate::specs::Subscriptions::create_subscription))]
 pub fn create_subscription(
     r: &mut Reader<'_>,

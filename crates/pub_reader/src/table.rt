@@ -29,7 +29,7 @@ fn keyed(name: &PlacedName, parts: &TableParts) -> Result<(), ReadError>
     Ok(())
 }
 
-/// Refuses a clause that is left out after the elements of a table.
+/// Refuses an unsupported clause after the elements of a table.
 #[tactic(auto, unfolding(crate::specs::Tables::table_tail))]
 fn table_tail(r: &Reader<'_>) -> Result<(), ReadError>
     ensures { Reads (λ u. u) (spec.table_tail (to_read r.now)) result (to_read r.now) }
@@ -41,7 +41,7 @@ fn table_tail(r: &Reader<'_>) -> Result<(), ReadError>
     }
 }
 
-/// The table of a name and elements. It has no unique index yet.
+/// The table with a name and elements. It has no unique index yet.
 fn table_of(alloc: Global, name: NewName, parts: TableParts) -> Table
     ensures { result ≡ spec.table_of name (parts_view parts) }
 {
@@ -57,7 +57,7 @@ fn table_of(alloc: Global, name: NewName, parts: TableParts) -> Table
     }
 }
 
-/// Takes what follows the name of a new table.
+/// Reads what follows the name of a new table.
 #[tactic(auto, unfolding(crate::specs::Tables::table_body))]
 fn table_body(r: &mut Reader<'_>, alloc: Global, name: &PlacedName) -> Result<TableParts, ReadError>
     ensures { TakesSome parts_view (spec.table_body name.now) r.old result r.new }
@@ -70,7 +70,7 @@ fn table_body(r: &mut Reader<'_>, alloc: Global, name: &PlacedName) -> Result<Ta
     Ok(parts)
 }
 
-/// Takes what follows CREATE TABLE, and makes the table.
+/// Reads what follows CREATE TABLE, and creates the table.
 #[tactic(auto, unfolding(crate::specs::Tables::create_table))]
 pub fn create_table(r: &mut Reader<'_>, alloc: Global, draft: &mut Draft) -> Result<(), ReadError>
     ensures { TakesSome (λ _. draft_view draft.new) (spec.create_table (draft_view draft.old)) r.old result r.new }

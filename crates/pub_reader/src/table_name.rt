@@ -19,7 +19,7 @@ pub struct NewName {
     pub name: PlacedName,
 }
 
-/// Takes a dot and a name, after the name of a schema that was made before.
+/// Reads a dot and a name, after the name of a schema that was created before.
 #[tactic(auto, unfolding(crate::specs::TableNames::name_in_schema))]
 fn name_in_schema(
     r: &mut Reader<'_>,
@@ -35,7 +35,7 @@ fn name_in_schema(
     read_name(r, alloc, "the name of a table")
 }
 
-/// Takes a dot and the name of a table that was made before, after the name of its schema, and tells its number.
+/// Reads a dot and the name of a table that was created before, after the name of its schema, and returns its number.
 #[tactic(auto, unfolding(crate::specs::TableNames::table_in_schema))]
 fn table_in_schema(
     r: &mut Reader<'_>,
@@ -51,7 +51,7 @@ fn table_in_schema(
     Ok(draft.known_table(schema.text.as_str(), &name)?)
 }
 
-/// Tells the number of a table that was made before, once the first part of its name is taken.
+/// Returns the number of a table that was created before, after the first part of its name was read.
 #[tactic(auto, unfolding(crate::specs::TableNames::table_named))]
 pub fn table_named(
     r: &mut Reader<'_>,
@@ -69,7 +69,7 @@ pub fn table_named(
     Ok(draft.known_table(PUBLIC, name)?)
 }
 
-/// Takes the name of a table that was made before, and tells its number.
+/// Reads the name of a table that was created before, and returns its number.
 #[tactic(auto, unfolding(crate::specs::TableNames::table_number))]
 pub fn table_number(r: &mut Reader<'_>, alloc: Global, draft: &Draft) -> Result<usize, ReadError>
     ensures takes { TakesSome (λ number. number) (spec.table_number (draft_view draft.now)) r.old result r.new }
@@ -79,7 +79,7 @@ pub fn table_number(r: &mut Reader<'_>, alloc: Global, draft: &Draft) -> Result<
     Ok(table_named(r, alloc, draft, &name)?)
 }
 
-/// Takes a dot and the name of a new table, after the name of its schema.
+/// Reads a dot and the name of a new table, after the name of its schema.
 #[tactic(auto, unfolding(crate::specs::TableNames::new_in_schema))]
 fn new_in_schema(
     r: &mut Reader<'_>,
@@ -96,7 +96,7 @@ fn new_in_schema(
     })
 }
 
-/// Takes the rest of the name of a new table, once its first part is taken.
+/// Reads the rest of the name of a new table, after its first part was read.
 #[tactic(auto, unfolding(crate::specs::TableNames::new_named))]
 fn new_named(
     r: &mut Reader<'_>,
@@ -121,7 +121,7 @@ fn new_named(
     }
 }
 
-/// Refuses a clause that is left out after the name of a table.
+/// Refuses an unsupported clause after the name of a table.
 #[tactic(auto, unfolding(crate::specs::TableNames::table_head))]
 fn table_head(r: &Reader<'_>) -> Result<(), ReadError>
     ensures { Reads (λ u. u) (spec.table_head (to_read r.now)) result (to_read r.now) }
@@ -132,7 +132,7 @@ fn table_head(r: &Reader<'_>) -> Result<(), ReadError>
     }
 }
 
-/// Takes the name of a new table.
+/// Reads the name of a new table.
 #[tactic(auto, unfolding(crate::specs::TableNames::new_name))]
 pub fn new_name(r: &mut Reader<'_>, alloc: Global, draft: &Draft) -> Result<NewName, ReadError>
     ensures { TakesSome (λ name. name) (spec.new_name (draft_view draft.now)) r.old result r.new }

@@ -16,7 +16,7 @@ use std::{env, io};
 ///
 /// # Errors
 ///
-/// `CommandLine` where a word is not UTF-8; `OutOfMemory`.
+/// `CommandLine` if a word is not UTF-8; `OutOfMemory`.
 fn words(rt: &HostRuntime) -> Result<Vec<String>, Failure<'static>>
     ensures { IfErr result
         (λ failure. (status_of_failure failure ≡ CommandLine) ⊎ (status_of_failure failure ≡ OutOfMemory)) }
@@ -36,7 +36,7 @@ fn words(rt: &HostRuntime) -> Result<Vec<String>, Failure<'static>>
     Ok(words)
 }
 
-/// Says why the program ends, and gives its exit status.
+/// Prints why the program ends, and returns its exit status.
 fn stop(rt: &HostRuntime, failure: Failure<'_>) -> ExitCode {
     ExitCode::from(report(rt.alloc(), failure, &mut io::writer(rt)) as u8)
 }

@@ -1,4 +1,5 @@
-//! Calls that several trials make. What is called here has no contract, so a proof of its caller has less to go through.
+//! Calls that several trials make. The functions here have no contract, so a proof of their caller has less to go
+//! through.
 
 use copy_both::{Heard, Link, LinkFault, Taken};
 use filter_tree::Row;
@@ -10,12 +11,12 @@ use table_changes::Command;
 use tables_log::{Book, CommitError};
 use test_subscriber::{SubFault, Subscriber};
 
-/// What a commit of the commands is answered.
+/// The answer to a commit of the commands.
 pub fn commit(book: &mut Book, commands: &[Command]) -> Result<u32, CommitError> {
     book.commit(commands, 2)
 }
 
-/// What a session's commit of the commands is answered.
+/// The answer to a session's commit of the commands.
 pub fn publish<P: Publishing, R: Wait>(
     rt: &R,
     publisher: &Publisher<P>,
@@ -30,7 +31,7 @@ pub fn count_notes<P: Publishing>(seat: &Seat<P>) -> usize {
     seat.notes().len()
 }
 
-/// What becomes of the next commit on a connection.
+/// The result of taking the next commit on a connection.
 pub fn take(link: &mut Link, book: &Book) -> Result<Taken, LinkFault> {
     link.take(book, 3)
 }
@@ -40,7 +41,7 @@ pub fn hear(link: &mut Link, piece: &[u8], book: &mut Book) -> Result<Heard, Lin
     link.hear(piece, book, 3)
 }
 
-/// Whether a keepalive is said.
+/// Whether a keepalive is sent.
 pub fn keepalive(link: &mut Link) -> Result<bool, LinkFault> {
     link.keepalive(3, false)
 }
@@ -50,12 +51,12 @@ pub fn said(link: &Link) -> &[u8] {
     link.output()
 }
 
-/// All that waits is gone.
+/// Drops all that waits.
 pub fn pass(link: &mut Link) {
     link.passed(usize::MAX);
 }
 
-/// The connection is lost.
+/// Loses the connection.
 pub fn lose(link: &mut Link, book: &mut Book) {
     link.lose(book);
 }
@@ -70,7 +71,7 @@ pub fn feed(subscriber: &mut Subscriber, piece: &[u8]) -> Result<(), SubFault> {
     subscriber.feed(piece)
 }
 
-/// The subscriber says how far it is.
+/// The subscriber reports its position.
 pub fn report(subscriber: &mut Subscriber) -> Result<(), SubFault> {
     subscriber.status(5, true)
 }
@@ -80,7 +81,7 @@ pub fn asked(subscriber: &Subscriber) -> &[u8] {
     subscriber.output()
 }
 
-/// Up to where the subscriber has the log.
+/// The position up to which the subscriber has the log.
 pub fn position(subscriber: &Subscriber) -> u64 {
     subscriber.position()
 }
@@ -90,17 +91,17 @@ pub fn rows(subscriber: &Subscriber, oid: u32) -> Result<Vec<Row>, AllocError> {
     subscriber.rows(oid)
 }
 
-/// Whether the publisher asked how far the subscriber is.
+/// Whether the publisher asked for the subscriber's position.
 pub fn is_asked(subscriber: &Subscriber) -> bool {
     subscriber.reply_wanted()
 }
 
-/// What an event is answered.
+/// The answer to an event.
 pub fn step(world: &mut World, event: &Event) -> Answer {
     world.step(7, event)
 }
 
-/// What a pump of the subscriber is answered.
+/// The answer to a pump of the subscriber.
 pub fn pump(world: &mut World, subscriber: usize) -> Answer {
     world.pump(8, subscriber)
 }

@@ -1,4 +1,4 @@
-//! A stream with each of its bytes changed in turn: what a subscriber answers, and what it has then.
+//! A stream with each of its bytes changed in turn: what a subscriber answers, and what it then has.
 
 use crate::calls::{feed, is_asked, open, position, rows};
 use crate::publishers::subscriber;
@@ -8,11 +8,11 @@ use std::alloc::Global;
 use std::io::Write;
 use test_subscriber::{SubFault, Subscriber};
 
-/// The table whose rows are told.
+/// The table whose rows are written.
 const TABLE: u32 = 16_384;
 
-/// Feeds the bytes before a place at once and each byte after that by itself, up to a fault. How many were fed, and the
-/// last answer.
+/// Feeds the bytes before a place at once and each byte after that by itself, up to a fault. Returns how many were fed,
+/// and the last answer.
 fn feed_from(
     subscriber: &mut Subscriber,
     bytes: &[u8],
@@ -31,7 +31,7 @@ fn feed_from(
     (fed, answer)
 }
 
-/// Writes the rows of the table, each on a line.
+/// Writes the rows of the table, one per line.
 fn write_rows<W: Write>(alloc: Global, subscriber: &Subscriber, writer: &mut W) -> Result<()> {
     for row in rows(subscriber, TABLE)?.iter() {
         writeln!(writer, "{}", write_row(alloc, row)?)?;
@@ -39,8 +39,8 @@ fn write_rows<W: Write>(alloc: Global, subscriber: &Subscriber, writer: &mut W) 
     Ok(())
 }
 
-/// Writes what the subscriber answers to the bytes on a new connection, those before a place fed at once, what it
-/// answers to no bytes then, and what it has.
+/// Writes what the subscriber answers to the bytes on a new connection, those before a place fed at once, what it then
+/// answers to no bytes, and what it has.
 fn write_connection<W: Write>(
     alloc: Global,
     subscriber: &mut Subscriber,

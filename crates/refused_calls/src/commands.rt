@@ -9,7 +9,7 @@ use table_changes::Command;
 /// The number of the first row that the commit's last commands insert into each table.
 pub const FIRST: u16 = 10;
 
-/// The number of the last one.
+/// The number of the last row.
 pub const LAST: u16 = 26;
 
 /// The row of this text.
@@ -25,8 +25,8 @@ enum Order {
     Truncate(&'static [usize]),
 }
 
-/// The orders of the commits that make the first rows. The log has memory for four commits at first, so that the fifth
-/// one makes an allocation for the log too.
+/// The orders of the commits that make the first rows. The log has memory for four commits at first, so the fifth one
+/// makes an allocation for the log too.
 const FIRST_ORDERS: [&[Order]; 4] = [
     &[
         Order::Insert(0, "(1, 'one', NULL)"),

@@ -20,7 +20,7 @@ fn entries(alloc: Global, book: &Book) -> Result<Vec<Arc<Commit, Global>>> {
     Ok(entries)
 }
 
-/// That the log has these entries.
+/// Checks that the log has these entries.
 fn check_entries(book: &Book, entries: &[Arc<Commit, Global>]) -> Result<()> {
     for entry in entries {
         let found = book.entry(entry.number()).context("an entry is gone")?;
@@ -29,7 +29,7 @@ fn check_entries(book: &Book, entries: &[Arc<Commit, Global>]) -> Result<()> {
     Ok(())
 }
 
-/// That the commit was accepted.
+/// Checks that the commit was accepted.
 fn check_accepted(
     alloc: Global,
     book: &Book,
@@ -44,7 +44,7 @@ fn check_accepted(
     check_book(alloc, book, COMMITS)
 }
 
-/// That a refused commit left the book as it was, and that the book takes the same commit next.
+/// Checks that a refused commit left the book as it was, and that the book accepts the same commit next.
 fn check_refused(
     alloc: Global,
     book: &mut Book,
@@ -57,7 +57,8 @@ fn check_refused(
     check_accepted(alloc, book, answer, entries).context("the same commit next")
 }
 
-/// Makes the last commit with its request of this number refused, and tests what follows. Whether it was refused.
+/// Makes the last commit with its request of this number refused, and tests what follows. Returns whether it was
+/// refused.
 pub fn is_refused(alloc: Global, number: u16) -> Result<bool> {
     let Published { mut book, .. } = begun(alloc)?;
     let commands = commands(alloc)?;

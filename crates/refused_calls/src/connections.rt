@@ -7,10 +7,10 @@ use std::sync::atomic::{AtomicU64, Ordering};
 use std::thread;
 use std::time::{Clock, Duration};
 
-/// How often a client looks whether it has all, before it ends the connection.
+/// How often a client checks whether it has all, before it ends the connection.
 const TURNS: u32 = 20_000;
 
-/// How many bytes a client has room for.
+/// The number of bytes for which a client has room.
 const ROOM: usize = 65_536;
 
 /// What a client gets, which its reader and its writer share.
@@ -21,7 +21,7 @@ pub struct Getting {
 }
 
 impl Getting {
-    /// A client that wants so many bytes.
+    /// A client that wants this number of bytes.
     pub fn new(wanted: usize) -> Getting {
         Getting {
             wanted: wanted as u64,
@@ -97,7 +97,7 @@ impl<C: Clock> Source for Asking<'_, C> {
     }
 }
 
-/// What a client reads, for which there is room, so that it takes no memory.
+/// What a client reads, for which there is room, so that it allocates no memory.
 #[derive(Drop)]
 pub struct Kept<'a> {
     getting: &'a Getting,

@@ -8,7 +8,7 @@ use anyhow::{Result, ensure};
 use std::alloc::Global;
 use test_subscriber::{SubFault, Subscriber};
 
-/// How many bytes come at a time.
+/// The number of bytes that come at a time.
 const PIECE: usize = 100;
 
 /// Feeds a stream in pieces, up to a fault.
@@ -19,7 +19,7 @@ fn feed_all(subscriber: &mut Subscriber, stream: &[u8]) -> Result<(), SubFault> 
     Ok(())
 }
 
-/// That a refusal has left the subscriber what the commits up to its position leave, without a connection.
+/// Checks that a refusal has left the subscriber what the commits up to its position leave, without a connection.
 fn check_shut(
     alloc: Global,
     subscriber: &mut Subscriber,
@@ -50,8 +50,8 @@ fn check_shut(
     Ok(())
 }
 
-/// Feeds a subscriber the whole stream with the request of this number refused, and tests what follows. Whether it was
-/// refused.
+/// Feeds a subscriber the whole stream with the request of this number refused, and tests what follows. Returns whether
+/// it was refused.
 pub fn is_refused(alloc: Global, number: u16) -> Result<bool> {
     let mut published = whole(alloc)?;
     let mut subscriber = subscriber(alloc)?;

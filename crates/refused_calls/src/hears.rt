@@ -9,16 +9,16 @@ use std::alloc::Global;
 use std::sync::Arc;
 use tables_log::Book;
 
-/// Two statuses that all is flushed up to 64 and that want a reply, and the first bytes of a third.
+/// Two statuses that report everything up to 64 as flushed and that want a reply, and the first bytes of a third.
 const STATUSES: &[u8] =
     b"d\0\0\0\x26r\0\0\0\0\0\0\0\x40\0\0\0\0\0\0\0\x40\0\0\0\0\0\0\0\x40\0\0\0\0\0\0\0\x05\x01\
     d\0\0\0\x26r\0\0\0\0\0\0\0\x40\0\0\0\0\0\0\0\x40\0\0\0\0\0\0\0\x40\0\0\0\0\0\0\0\x05\x01d\0\0\0";
 
-/// Its other bytes. It wants no reply.
+/// The other bytes of the third. It wants no reply.
 const LAST_STATUS: &[u8] =
     b"\x26r\0\0\0\0\0\0\0\x40\0\0\0\0\0\0\0\x40\0\0\0\0\0\0\0\x40\0\0\0\0\0\0\0\x05\0";
 
-/// What is said to that: CopyBothResponse, and two keepalives at 64 with the clock 3.
+/// The answer to these: CopyBothResponse, and two keepalives at 64 with the clock 3.
 const SAID: &[u8] = b"W\0\0\0\x07\0\0\0\
     d\0\0\0\x16k\0\0\0\0\0\0\0\x40\0\0\0\0\0\0\0\x03\0\
     d\0\0\0\x16k\0\0\0\0\0\0\0\x40\0\0\0\0\0\0\0\x03\0";
@@ -32,7 +32,7 @@ fn hear_all(link: &mut Link, book: &mut Book, query: &[u8]) -> Result<(), LinkFa
     Ok(())
 }
 
-/// That some first frames are said, and that all are if nothing was refused.
+/// Checks that the first few frames are sent, and all of them if nothing was refused.
 fn check_said(output: &[u8], is_all: bool) -> Result<()> {
     ensure!(SAID.starts_with(output), "other bytes are said");
     ensure!(
@@ -44,7 +44,7 @@ fn check_said(output: &[u8], is_all: bool) -> Result<()> {
 }
 
 /// Has a link hear a Query and statuses with the request of this number refused, and tests what follows: the link is
-/// closed, and its slot can be started by another. Whether it was refused.
+/// closed, and another can start its slot. Returns whether it was refused.
 pub fn is_refused(alloc: Global, number: u16) -> Result<bool> {
     let mut published = whole(alloc)?;
     let mut subscriber = subscriber(alloc)?;

@@ -1,10 +1,11 @@
 //! The program `refused_calls`: makes calls again and again, with each of their requests for memory refused in turn,
-//! and tests what no proof says of a run: that memory is refused, what is left then, and that all goes on from there.
+//! and tests what no proof says about a run: that memory is refused, what is left then, and that everything continues
+//! from there.
 //!
 //! The refusals come from `tools/testing/refusing.c`, a library that is loaded before the C library. Without it nothing
-//! is refused, and the program says so.
+//! is refused, and the program reports this.
 //!
-//! Where a stream is on its standard input, it feeds that to a subscriber instead, with each byte changed in turn, and
+//! If its standard input has a stream, it feeds that to a subscriber instead, with each byte changed in turn, and
 //! writes what the subscriber answers.
 #![tactic(auto)]
 
@@ -62,7 +63,7 @@ const CALLS: &[(Call, &str)] = &[
     (Call::Serve, "serve"),
 ];
 
-/// Makes the call with its request of this number refused, and tests what follows. Whether it was refused.
+/// Makes the call with its request of this number refused, and tests what follows. Returns whether it was refused.
 fn is_refused<R: Threads + Wait + Clock + Sync>(
     rt: &R,
     alloc: Global,

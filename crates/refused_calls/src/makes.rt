@@ -12,7 +12,7 @@ use std::alloc::Global;
 /// The table that both subscribers have rows of.
 const TABLE: usize = 1;
 
-/// Whether a certificate is made, and not memory wanted. It is an error if another answer is made.
+/// Whether a certificate is made, rather than memory running out. Any other answer is an error.
 fn is_made(alloc: Global, arena: &Bump, catalog: &Catalog, plan: &Plan) -> Result<bool> {
     let made = make(alloc, arena, catalog, plan, TABLE);
     let is_refusal = matches!(made, Made::OutOfMemory);
@@ -23,8 +23,8 @@ fn is_made(alloc: Global, arena: &Bump, catalog: &Catalog, plan: &Plan) -> Resul
     Ok(!is_refusal)
 }
 
-/// Makes a certificate with the request of this number refused, and tests what follows: the arena is reset, and serves
-/// the next one. Whether it was refused.
+/// Makes a certificate with the request of this number refused, and tests what follows: the arena is reset, and can be
+/// used for the next one. Returns whether it was refused.
 pub fn is_refused(alloc: Global, number: u16) -> Result<bool> {
     let catalog = catalog(alloc)?;
     let plan = plan(alloc, &catalog)?;

@@ -14,7 +14,7 @@ const CATALOG: &str = "CREATE TABLE t (id integer PRIMARY KEY, region text, is_o
 CREATE PUBLICATION near FOR TABLE t WHERE (id < 100 AND region IN ('as', 'eu'));
 CREATE PUBLICATION odd FOR TABLE t WHERE (id % 7 = 3 OR is_open IS DISTINCT FROM TRUE);";
 
-/// Rows, each with the publications that carry it. The first two lie at the same places.
+/// Rows, each with the publications that carry it. The first two are at the same places.
 const ROWS: &[(&str, &str)] = &[
     ("(7, 'eu', TRUE)", "near"),
     ("(8, 'eu', TRUE)", "near"),
@@ -44,7 +44,7 @@ fn filters(alloc: Global, catalog: &Catalog) -> Result<Vec<&Filter>> {
     Ok(filters)
 }
 
-/// Whether the text that is found is the row's. Where none is found, the row's is kept.
+/// Whether the text that is found is the row's. If none is found, the row's is kept.
 fn is_told(
     memo: &mut Memo,
     places: &mut Places,
@@ -73,7 +73,7 @@ fn are_told(
     Ok(true)
 }
 
-/// That the text of each row is found.
+/// Checks that the text of each row is found.
 fn check_found(memo: &Memo, places: &mut Places, rows: &[(Row, &str)]) -> Result<()> {
     for (row, text) in rows {
         memo.locate(places, row)?;
@@ -85,8 +85,9 @@ fn check_found(memo: &Memo, places: &mut Places, rows: &[(Row, &str)]) -> Result
     Ok(())
 }
 
-/// Makes a memo and tells the rows' texts with the request of this number refused, and tests what follows: the memo, or
-/// a new one where there is none, has no text for a row but its own, and keeps all of them. Whether it was refused.
+/// Makes a memo and looks up the rows' texts with the request of this number refused, and tests what follows: the memo,
+/// or a new one if there is none, has only its own text for a row, and keeps all of them. Returns whether it was
+/// refused.
 pub fn is_refused(alloc: Global, number: u16) -> Result<bool> {
     let catalog = read_catalog(alloc, CATALOG)?;
     let filters = filters(alloc, &catalog)?;

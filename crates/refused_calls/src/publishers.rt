@@ -12,7 +12,7 @@ use std::sync::Arc;
 use tables_log::Book;
 use test_subscriber::Subscriber;
 
-/// How many commits there are in the end.
+/// The number of commits at the end.
 pub const COMMITS: u64 = 5;
 
 /// A checked catalog, and a book of its tables.
@@ -61,7 +61,7 @@ pub fn connect(
     Ok(link)
 }
 
-/// Takes all commits that are left.
+/// Takes all remaining commits.
 pub fn take_all(link: &mut Link, book: &Book) -> Result<()> {
     for _ in 0..=COMMITS {
         if take(link, book)? == Taken::Idle {
@@ -71,7 +71,7 @@ pub fn take_all(link: &mut Link, book: &Book) -> Result<()> {
     bail!("a link takes more commits than there are")
 }
 
-/// All bytes that the publisher has for the subscriber, on a connection that is lost then.
+/// All bytes that the publisher has for the subscriber, on a connection that is then lost.
 pub fn stream(
     alloc: Global,
     published: &mut Published,
@@ -83,7 +83,7 @@ pub fn stream(
     Ok(said(&link).to_vec(alloc)?)
 }
 
-/// That the subscriber gets on a new connection what it has not, and has all then.
+/// Checks that the subscriber gets what it lacks on a new connection, and then has everything.
 pub fn check_catches_up(
     alloc: Global,
     published: &mut Published,
@@ -94,7 +94,7 @@ pub fn check_catches_up(
     check_shard(alloc, subscriber, COMMITS)
 }
 
-/// That a link was closed by a refusal: it hears and says nothing more.
+/// Checks that a link was closed by a refusal: it hears and sends nothing more.
 pub fn check_closed(
     link: &mut Link,
     book: &mut Book,

@@ -25,8 +25,9 @@ use std::thread::Threads;
 use std::time::Clock;
 use test_subscriber::Subscriber;
 
-/// Serves a client that asks by this Query, with the request of this number refused. It ends the connection when it has
-/// so many bytes, or once the request is refused. What came of it, what the client got, and whether there was a refusal.
+/// Serves a client that sends this Query, with the request of this number refused. It ends the connection when it has
+/// the wanted number of bytes, or once the request is refused. Returns the result, what the client got, and whether
+/// there was a refusal.
 fn serve_query<P: Publishing + Sync, R: Threads + Wait + Clock + Sync>(
     rt: &R,
     alloc: Global,
@@ -45,8 +46,8 @@ fn serve_query<P: Publishing + Sync, R: Threads + Wait + Clock + Sync>(
     Ok((served, bytes, was_refused))
 }
 
-/// That the connection started where the subscriber was, if it started, and ended by its client or since all is taken
-/// up, whichever came first, or for want of memory where a request was refused.
+/// Checks that the connection started where the subscriber was, if it started, and was ended by its client or because
+/// all commits were taken, whichever came first, or because memory ran out if a request was refused.
 fn check_served(served: &Served, from: u64, was_refused: bool) -> Result<()> {
     let Served { start, end, .. } = served;
     ensure!(
@@ -61,8 +62,8 @@ fn check_served(served: &Served, from: u64, was_refused: bool) -> Result<()> {
     Ok(())
 }
 
-/// Serves a subscriber on a new connection, with the request of this number refused. What came of it, and whether there
-/// was a refusal.
+/// Serves a subscriber on a new connection, with the request of this number refused. Returns the result, and whether
+/// there was a refusal.
 fn connect<P: Publishing + Sync, R: Threads + Wait + Clock + Sync>(
     rt: &R,
     alloc: Global,
@@ -81,7 +82,7 @@ fn connect<P: Publishing + Sync, R: Threads + Wait + Clock + Sync>(
 }
 
 /// Serves a subscriber with the request of this number refused, and then on a new connection, which brings it to the
-/// end of the log. What came of both, and whether there was a refusal.
+/// end of the log. Returns both results, and whether there was a refusal.
 fn connect_twice<P: Publishing + Sync, R: Threads + Wait + Clock + Sync>(
     rt: &R,
     alloc: Global,
@@ -127,7 +128,7 @@ fn publish<P: Publishing + Sync, R: Threads + Wait + Clock + Sync>(
     let (publisher, mut seats) = Publisher::<P>::new(alloc, blank, checked, LIMIT)?;
     let mut seat = seats.seat().context("there is no seat")?;
     commit_all(rt, alloc, &publisher, &mut seat)?;
-    // (where the request that is refused is one of the connection's second thread, the client is heard only once its
+    // (if the request that is refused is made by the connection's second thread, the client is heard only once its
     // sender has stopped, and a sender waits for commits until no more can come)
     publisher.finish(rt);
     let (served, was_refused) = connect_twice(rt, alloc, &publisher, number)?;
@@ -136,7 +137,7 @@ fn publish<P: Publishing + Sync, R: Threads + Wait + Clock + Sync>(
 }
 
 /// Has a publisher serve a subscriber with the request of this number refused, and tests what follows: the slot is
-/// given back, and the publisher can be closed. Whether it was refused.
+/// released, and the publisher can be closed. Returns whether it was refused.
 pub fn is_refused<R: Threads + Wait + Clock + Sync>(
     rt: &R,
     alloc: Global,

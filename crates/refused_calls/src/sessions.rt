@@ -20,7 +20,7 @@ use std::sync::ledger::Blank;
 use std::sync::{Arc, Wait};
 use tables_log::CommitError;
 
-/// How many commits the log may have.
+/// The number of commits that the log may have.
 pub const LIMIT: u32 = 5;
 
 /// Makes all commits but the last.
@@ -36,7 +36,7 @@ pub fn commit_first<P: Publishing, R: Wait>(
     Ok(())
 }
 
-/// That the publisher can be closed, with a book of all commits.
+/// Checks that the publisher can be closed, with a book of all commits.
 pub fn check_closes<P: Publishing>(
     alloc: Global,
     publisher: Publisher<P>,
@@ -51,7 +51,7 @@ pub fn check_closes<P: Publishing>(
 }
 
 /// Makes the last commit with its request of this number refused, and tests what follows: the seat is as it was, and
-/// the same commit is accepted next. Whether it was refused.
+/// the same commit is accepted next. Returns whether it was refused.
 fn commit_last<P: Publishing, R: Wait>(
     rt: &R,
     alloc: Global,
@@ -103,8 +103,8 @@ fn publish<P: Publishing, R: Wait>(
     Ok(was_refused)
 }
 
-/// Has a session make the last commit with its request of this number refused, and tests what follows. Whether it was
-/// refused.
+/// Has a session make the last commit with its request of this number refused, and tests what follows. Returns whether
+/// it was refused.
 pub fn is_refused<R: Wait>(rt: &R, alloc: Global, number: u16) -> Result<bool> {
     publish::<Brand, _>(rt, alloc, Blank::new(1_000), checked(alloc)?, number)
 }

@@ -10,7 +10,7 @@ use std::sync::Arc;
 
 /// A table whose rows are identified by a unique index, one whose rows are identified by all their values and go to one
 /// of two subscribers by their number, and one whose primary key is a number and a text, in another order than that of
-/// its columns, and whose notes differ where they are not null.
+/// its columns, and whose notes differ if they are not null.
 const CATALOG: &str = "CREATE TABLE codes (id integer PRIMARY KEY, code text NOT NULL, note text);
 CREATE UNIQUE INDEX codes_code ON codes (code);
 ALTER TABLE codes REPLICA IDENTITY USING INDEX codes_code;

@@ -1,4 +1,4 @@
-//! What the tables have after each commit, as it is written down.
+//! The contents of the tables after each commit, written out.
 
 use crate::commands::{FIRST, LAST, numbered_code, numbered_order, numbered_place, row};
 use anyhow::{Result, ensure};
@@ -47,7 +47,7 @@ const LAST_TABLES: [&[&str]; 3] = [
     &["('a', 2, 'other')"],
 ];
 
-/// The row that the first four commits leave to the second subscriber, and the last one deletes.
+/// The row that the first four commits leave at the second subscriber, and that the last one deletes.
 const FAR: &str = "(200, NULL)";
 
 fn rows(alloc: Global, texts: &[&str]) -> Result<Vec<Row>> {
@@ -67,7 +67,7 @@ fn tables_of(alloc: Global, texts: &[&[&str]; 3]) -> Result<Tables> {
     })
 }
 
-/// What the last commit has to leave.
+/// What the last commit must leave.
 fn last_tables(alloc: Global) -> Result<Tables> {
     let mut tables = tables_of(alloc, &LAST_TABLES)?;
     for number in FIRST..=LAST {
@@ -78,7 +78,7 @@ fn last_tables(alloc: Global) -> Result<Tables> {
     Ok(tables)
 }
 
-/// What the first subscriber has to have after so many commits.
+/// What the first subscriber must have after this number of commits.
 pub fn shard_after(alloc: Global, commits: u64) -> Result<Tables> {
     for (number, texts) in FIRST_TABLES.iter().enumerate() {
         if number as u64 == commits {
@@ -88,7 +88,7 @@ pub fn shard_after(alloc: Global, commits: u64) -> Result<Tables> {
     last_tables(alloc)
 }
 
-/// What the publisher has to have after so many commits.
+/// What the publisher must have after this number of commits.
 pub fn tables_after(alloc: Global, commits: u64) -> Result<Tables> {
     let mut tables = shard_after(alloc, commits)?;
     if commits == 4 {
@@ -109,7 +109,7 @@ impl Tables {
     }
 }
 
-/// That the book has so many commits, and what they leave.
+/// Checks that the book has this number of commits, and what they leave.
 pub fn check_book(alloc: Global, book: &Book, commits: u64) -> Result<()> {
     let found = Tables {
         codes: book.rows(0)?,
@@ -136,7 +136,7 @@ pub fn end_of(number: u64) -> u64 {
     }
 }
 
-/// That the subscriber has what so many commits leave, and is where they end.
+/// Checks that the subscriber has what this number of commits leave, and is where they end.
 pub fn check_shard(alloc: Global, subscriber: &Subscriber, commits: u64) -> Result<()> {
     let found = Tables {
         codes: subscriber.rows(16_384)?,

@@ -19,8 +19,8 @@ fn take_first(link: &mut Link, book: &Book) -> Result<()> {
     Ok(())
 }
 
-/// Takes the last commit with the request of this number refused, and tests what follows: nothing of a commit that is
-/// refused waits, and the link is closed. Whether it was refused.
+/// Takes the last commit with the request of this number refused, and tests what follows: nothing of a refused commit
+/// waits, and the link is closed. Returns whether it was refused.
 pub fn is_refused(alloc: Global, number: u16) -> Result<bool> {
     let mut published = whole(alloc)?;
     let mut subscriber = subscriber(alloc)?;

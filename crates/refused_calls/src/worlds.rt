@@ -55,7 +55,7 @@ fn is_refusal(answer: Answer) -> bool {
     answer == Answer::OutOfMemory || answer == Answer::Refused(CommitError::OutOfMemory)
 }
 
-/// The events happen, up to one that is refused memory.
+/// Makes the events happen, up to one that is refused memory.
 fn run(world: &mut World, events: &[Event], answers: &mut Vec<Answer>) -> Result<(), AllocError> {
     for event in events {
         let answer = step(world, event);
@@ -67,7 +67,7 @@ fn run(world: &mut World, events: &[Event], answers: &mut Vec<Answer>) -> Result
     Ok(())
 }
 
-/// The answer to the event of this place where nothing is refused.
+/// The answer to the event at this place if nothing is refused.
 fn plain(place: u64) -> Option<Answer> {
     if place < COMMITS {
         return Some(Answer::Committed((place + 1) as u32));
@@ -78,7 +78,7 @@ fn plain(place: u64) -> Option<Answer> {
     }
 }
 
-/// How many of the answers are those without refusals: all but one that was refused.
+/// How many of the answers are those without refusals: all except one that was refused.
 fn count_plain(answers: &[Answer], was_refused: bool) -> Result<u64> {
     let mut count = 0u64;
     for answer in answers {
@@ -95,7 +95,8 @@ fn count_plain(answers: &[Answer], was_refused: bool) -> Result<u64> {
     Ok(count)
 }
 
-/// That after so many commits the publisher and its first subscriber have what these leave, and the other one nothing.
+/// Checks that after this number of commits the publisher and its first subscriber have what these leave, and the other
+/// one nothing.
 fn check_view(alloc: Global, view: &View, commits: u64) -> Result<()> {
     ensure!(
         u64::from(view.log) == commits,
@@ -120,7 +121,7 @@ fn check_view(alloc: Global, view: &View, commits: u64) -> Result<()> {
     Ok(())
 }
 
-/// That the commits that are left are made.
+/// Checks that the remaining commits are accepted.
 fn check_commits(world: &mut World, events: &[Event], done: u64) -> Result<()> {
     for (place, event) in events.iter().enumerate() {
         let place = place as u64;
@@ -134,7 +135,7 @@ fn check_commits(world: &mut World, events: &[Event], done: u64) -> Result<()> {
     Ok(())
 }
 
-/// That a subscriber that connects, if it is not connected, gets all.
+/// Checks that a subscriber that connects, if it is not connected, gets everything.
 fn check_pump(world: &mut World, subscriber: usize) -> Result<()> {
     step(world, &on(subscriber, PeerEvent::Open));
     let answer = pump(world, subscriber);
@@ -145,8 +146,8 @@ fn check_pump(world: &mut World, subscriber: usize) -> Result<()> {
     Ok(())
 }
 
-/// Makes all events with the request of this number refused, and tests what follows: a commit that is refused changes
-/// nothing, and anything else loses the connection; then all that is left happens. Whether it was refused.
+/// Makes all events with the request of this number refused, and tests what follows: a refused commit changes nothing,
+/// and anything else loses the connection; then everything that remains happens. Returns whether it was refused.
 pub fn is_refused(alloc: Global, number: u16) -> Result<bool> {
     let mut world = World::new(alloc, checked(alloc)?, 1_000)?;
     let events = events(alloc)?;

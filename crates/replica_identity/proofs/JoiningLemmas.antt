@@ -15,7 +15,7 @@ use Rattle.replica_identity.specs.Plans.{filters_for, share_in, shares_from}
 use Rattle.replica_identity.specs.Shares.{ShareOf, Nothing, Everything, Where, any_of, share_by}
 use Rattle.filter_tree.proofs.Tests.{by_test}
 
--- ---- one filter more
+-- ---- one more filter
 
 joined_whole : (share : ShareOf) → joined share None ≡ Everything
 joined_whole Nothing = refl
@@ -37,7 +37,7 @@ share_by_more filters (Some more) = by_test (list_any is_none filters)
     (λ e. rw (list_any-append is_none filters (Some more ∷ []), e)
     (ap any_of (filter_map-append (λ f. f) filters (Some more ∷ [])) ∙ any_of_more (filter_map (λ f. f) filters) more))
 
--- ---- one entry more
+-- ---- one more entry
 
 filters_for-append : (table : ℕ) (entries more : List (EntryOf Expr))
     → filters_for table (entries ++ more) ≡ filters_for table entries ++ filters_for table more
@@ -80,7 +80,7 @@ earlier_number : (n k : ℕ) → n < k → (n == k) ≡ false
 earlier_number n k h =
     by_test (n == k) (λ e. let same : n ≡ k = (unsigned_Decides n k).0 e in absurd (omega arith)) (λ e. e)
 
--- an entry of an earlier table changes nothing
+-- an entry for an earlier table changes nothing
 shares_same : (entries : List (EntryOf Expr)) (entry : EntryOf Expr) (k : ℕ) (tables : List Table) → entry.table < k
     → shares_from (entries ++ entry ∷ []) k tables ≡ shares_from entries k tables
 shares_same entries entry k [] h = refl
@@ -117,7 +117,7 @@ no_entries : (k : ℕ) (tables : List Table) → replicate (length tables) Nothi
 no_entries k [] = refl
 no_entries k (table ∷ tables) = ap (λ shares. Nothing ∷ shares) (no_entries (k + 1) tables)
 
--- from no shares on
+-- starting from no shares
 pub joined_all : (entries : List (EntryOf Expr)) (tables : List Table)
     → fold joined_at (replicate (length tables) Nothing) entries ≡ shares_from entries 0 tables
 joined_all entries tables = ap (λ shares. fold joined_at shares entries) (no_entries 0 tables)

@@ -1,4 +1,4 @@
--- What is recorded of an old row: which of its columns tell it, and whether a new row agrees with it in them.
+-- What is recorded of an old row: which of its columns identify it, and whether a new row agrees with it in them.
 use Rattle.std.proofs.Common.{◌≡◌, ℕ, true, false, List, [], ◌∷◌, refl, sym, ◌∙◌}
 use Rattle.std.specs.Prelude.{Option, Some, None, slice_get}
 use Rattle.std.specs.Cmp.{both_tied}

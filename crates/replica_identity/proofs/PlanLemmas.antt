@@ -24,7 +24,7 @@ as_many : (shares : List (Share Global)) → length (map share_view shares) ≡ 
 as_many [] = refl
 as_many (share ∷ shares) = ap suc (as_many shares)
 
--- an entry of no table
+-- an entry for no table
 pub joined_past : (shares : List (Share Global)) (entry : EntryOf Expr) → length shares ≤ entry.table
     → map share_view shares ≡ joined_at (map share_view shares) entry
 joined_past shares entry h =

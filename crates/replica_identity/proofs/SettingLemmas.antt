@@ -1,4 +1,4 @@
--- What the setting of a catalog has of its tables, and which columns identify a row.
+-- What the setting of a catalog has for its tables, and which columns identify a row.
 use Rattle.std.proofs.Common.{◌≡◌, ℕ, zero, suc, ◌+◌, true, List, [], ◌∷◌, ◌++◌, length, map, refl, sym, ◌∙◌, ap, arith}
 use Rattle.std.specs.Prelude.{Option, Some, None, is_some, slice_get, option_map}
 use Rattle.std.proofs.lemmas.Option.{slice_get-map, slice_get_within}
@@ -52,7 +52,7 @@ map_append : {A B : Type 0} (f : A → B) (xs ys : List A) → map f (xs ++ ys) 
 map_append f [] ys = refl
 map_append f (x ∷ xs) ys = ap (λ rest. f x ∷ rest) (map_append f xs ys)
 
--- the numbers after 0 are the successors of as many
+-- the numbers after 0 are the successors of the first `n` numbers
 numbers_after : (n : ℕ) → numbers_to (suc n) ≡ 0 ∷ map suc (numbers_to n)
 numbers_after zero = refl
 numbers_after (suc n) =

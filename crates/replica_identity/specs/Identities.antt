@@ -1,5 +1,5 @@
--- The columns of a table's replica identity, whose old values an UPDATE or DELETE records, and whether they tell
--- which row it was: PostgreSQL 15, "Logical Replication", 31.1 Publication, and ALTER TABLE (REPLICA IDENTITY).
+-- The columns of a table's replica identity, whose old values an UPDATE or DELETE records, and whether they identify
+-- the row: PostgreSQL 15, "Logical Replication", 31.1 Publication, and ALTER TABLE (REPLICA IDENTITY).
 use Rattle.std.specs.Prelude.{ℕ, zero, suc, ◌==◌, Bool, true, false, List, [], ◌∷◌, ◌++◌, length, Option, Some, None, slice_get}
 use Rattle.std.specs.List.{list_any}
 use Rattle.filter_tree.specs.declared.table.Identity.{Identity}
@@ -8,12 +8,12 @@ use Rattle.filter_tree.specs.declared.table.Table.{Table}
 use Rattle.filter_tree.specs.declared.table.UniqueIndex.{UniqueIndex}
 use Rattle.pub_catalog.specs.IndexIdentities.{identifies}
 
--- 0, 1 and so on, so many
+-- 0, 1 and so on, this many numbers
 abbrev pub numbers_to : ℕ → List ℕ
 numbers_to zero = []
 numbers_to (suc n) = numbers_to n ++ n ∷ []
 
--- none where there is no such index
+-- none if there is no such index
 abbrev pub index_columns : Option UniqueIndex → List ℕ
 index_columns None = []
 index_columns (Some index) = index.columns
@@ -32,16 +32,16 @@ identity_columns table = columns_by table.identity table
 abbrev pub is_covered : Table → ℕ → Bool
 is_covered table column = list_any (λ number. number == column) (identity_columns table)
 
--- ---- rows told apart
+-- ---- rows that are distinguished
 
--- An index that is not there, or one of whose columns takes a null, is no replica identity: one that was dropped is
--- as NOTHING.
+-- An index that does not exist, or one of whose columns allows null, is not a replica identity: an index that was
+-- dropped acts as NOTHING.
 abbrev pub identity_tells : Identity → Table → Bool
 identity_tells Default table = true
 identity_tells (Index number) table = identifies table.columns (slice_get table.indexes number)
 identity_tells Full table = true
 identity_tells Nothing table = false
 
--- whether what is recorded of an old row tells which row of the table it was
+-- whether what is recorded of an old row identifies that row in the table
 abbrev pub tells_rows_apart : Table → Bool
 tells_rows_apart table = identity_tells table.identity table

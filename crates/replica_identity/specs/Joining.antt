@@ -5,7 +5,7 @@ use Rattle.filter_tree.specs.Expr.{Expr, Or}
 use Rattle.pub_catalog.specs.Catalogs.{EntryOf}
 use Rattle.replica_identity.specs.Shares.{ShareOf, Nothing, Everything, Where}
 
--- with one entry more for the table
+-- with one more entry for the table
 abbrev pub joined : ShareOf → Option Expr → ShareOf
 joined Everything more = Everything
 joined Nothing None = Everything
@@ -13,6 +13,6 @@ joined (Where filter) None = Everything
 joined Nothing (Some more) = Where more
 joined (Where filter) (Some more) = Where (Or filter more)
 
--- the shares of the tables with one entry more for its table
+-- the shares of the tables with one more entry for its table
 abbrev pub joined_at : List ShareOf → EntryOf Expr → List ShareOf
 joined_at shares entry = slice_set shares entry.table (joined (slice_index_or shares entry.table Nothing) entry.filter)

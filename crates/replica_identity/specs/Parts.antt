@@ -14,12 +14,12 @@ use Rattle.table_changes.specs.Columns.{values_at, blanked_from}
 use Rattle.table_changes.specs.Records.{PartOf, part_by, part_of}
 use Rattle.table_changes.specs.Setting.{Columns}
 
--- of an old row that goes, or that a new one replaces
+-- what is recorded of an old row that goes, or that a new one replaces
 abbrev pub part_in : Table → List Datum → Option (List Datum) → Option PartOf
 part_in table old new =
     part_by (recorded_as table.identity) (identity_in (Some table)) (blanked_in (Some table)) old new
 
--- the same, where these columns identify rows
+-- the same, if these columns identify rows
 abbrev pub key_part : List ℕ → List Datum → Option (List Datum) → Option PartOf
 key_part columns old new = part_by Columns (values_at columns) (blanked_from columns 0) old new
 
@@ -30,7 +30,7 @@ agree_at one other column = eq_by_cmp datum_cmp (value_at one column) (value_at 
 abbrev pub agree_in : List Datum → List Datum → List ℕ → Bool
 agree_in one other columns = list_all (agree_at one other) columns
 
--- In the setting of a catalog this is what is recorded of the rows of a table that is there.
+-- In the setting of a catalog this is what is recorded of the rows of a table that exists.
 abbrev pub RecordsParts : Type 0
 RecordsParts = (catalog : CatalogOf Expr) (plan : PlanOf) (number : ℕ) (table : Table)
     → slice_get catalog.tables number ≡ Some table

@@ -1,6 +1,5 @@
--- Which rows pass to a subscriber: those that some publication which it takes carries, with the whole table or by a
--- filter that is true: PostgreSQL 15, "Logical Replication", 31.1 Publication, 31.2 Subscription and 31.3 Row
--- Filters.
+-- Which rows pass to a subscriber: those that one of its publications carries, with the whole table or by a filter that
+-- is true: PostgreSQL 15, "Logical Replication", 31.1 Publication, 31.2 Subscription and 31.3 Row Filters.
 use Rattle.std.specs.Prelude.{ℕ, ◌==◌, Bool, true, ◌&&◌, List, [], Option, Some, None, slice_get, filter_map}
 use Rattle.std.specs.List.{list_any}
 use Rattle.filter_tree.specs.Datum.{Datum}
@@ -17,11 +16,11 @@ abbrev pub listed_by : List (PublicationOf Expr) → Option Subscription → Lis
 listed_by publications None = []
 listed_by publications (Some subscription) = listed publications subscription
 
--- the publications that the subscriber of this number takes
+-- the publications that the subscriber of this number subscribes to
 abbrev pub taken : CatalogOf Expr → ℕ → List (PublicationOf Expr)
 taken catalog subscriber = listed_by catalog.publications (slice_get catalog.subscriptions subscriber)
 
--- no filter, or one that is true
+-- no filter, or a filter that is true
 abbrev pub lets : Option Expr → List Datum → Bool
 lets None row = true
 lets (Some filter) row = is_true (meaning filter row)
@@ -34,6 +33,6 @@ entry_carries table row entry = (entry.table == table) && lets entry.filter row
 abbrev pub carries : ℕ → List Datum → PublicationOf Expr → Bool
 carries table row publication = list_any (entry_carries table row) publication.entries
 
--- some publication that the subscriber takes does
+-- some publication that the subscriber subscribes to does
 abbrev pub passes : CatalogOf Expr → ℕ → ℕ → List Datum → Bool
 passes catalog subscriber table row = list_any (carries table row) (taken catalog subscriber)

@@ -1,4 +1,4 @@
--- What each subscriber takes of each table of a catalog: PostgreSQL 15, "Logical Replication", 31.2 Subscription and
+-- What each subscriber gets of each table of a catalog: PostgreSQL 15, "Logical Replication", 31.2 Subscription and
 -- 31.3.6 Combining Multiple Row Filters.
 use Rattle.std.specs.Prelude.{◌≡◌, ℕ, ◌+◌, ◌<◌, ◌==◌, List, [], ◌∷◌, map, flat_map, filter, slice_get, slice_index_or, length, Option, Some, None}
 use Rattle.filter_tree.specs.Datum.{Datum}
@@ -18,7 +18,7 @@ filters_for table entries =
 abbrev pub share_in : List (EntryOf Expr) → ℕ → ShareOf
 share_in entries table = share_by (filters_for table entries)
 
--- the shares of the tables that begin at this number
+-- the shares of the tables, the first of which has this number
 abbrev pub shares_from : List (EntryOf Expr) → ℕ → List Table → List ShareOf
 shares_from entries number [] = []
 shares_from entries number (table ∷ tables) = share_in entries number ∷ shares_from entries (number + 1) tables
@@ -40,22 +40,22 @@ abbrev pub shares_for : CatalogOf Expr → Subscription → List ShareOf
 shares_for catalog subscription =
     shares_from (entries_listed catalog.publications subscription.publications) 0 catalog.tables
 
--- of each subscriber the share of each table
+-- the share of each table, for each subscriber
 abbrev pub PlanOf : Type 0
 PlanOf = List (List ShareOf)
 
--- a plan of the code
+-- a plan of the program
 abbrev pub plan_view : Plan → PlanOf
 plan_view plan = map (λ shares. map share_view shares.items) plan.shares.items
 
 abbrev pub plan_of : CatalogOf Expr → PlanOf
 plan_of catalog = map (shares_for catalog) catalog.subscriptions
 
--- a subscriber's share of a table; of others nothing
+-- a subscriber's share of a table; nothing for others
 abbrev pub share_at : PlanOf → ℕ → ℕ → ShareOf
 share_at plan subscriber table = slice_index_or (slice_index_or plan subscriber []) table Nothing
 
--- Of each table of the catalog each subscriber's share takes the rows that pass to it.
+-- For each table of the catalog, each subscriber's share takes the rows that pass to it.
 pub record TakesWhatPasses (catalog : CatalogOf Expr) (plan : PlanOf) : Type 0 where
   pub same : (subscriber table : ℕ) → table < length catalog.tables → (row : List Datum)
       → takes (share_at plan subscriber table) row ≡ passes catalog subscriber table row

@@ -1,4 +1,4 @@
--- What a catalog and its plan say of changes of its tables: PostgreSQL 15, "Logical Replication", 31.1 Publication
+-- What a catalog and its plan define for changes of its tables: PostgreSQL 15, "Logical Replication", 31.1 Publication
 -- and 31.3 Row Filters, and 5.4.4 Primary Keys and 11.6 Unique Indexes.
 use Rattle.std.specs.Prelude.{not, List, [], ◌∷◌, map, length, nat_lt, slice_get, Option, Some, None}
 use Rattle.filter_tree.specs.Datum.{Datum}
@@ -23,7 +23,7 @@ recorded_as (Index number) = Columns
 recorded_as Full = Whole
 recorded_as Nothing = Nowhere
 
--- ---- of a table that is there; elsewhere a row has no fault, its key has no column, and it is its own identity
+-- ---- for a table that exists; otherwise a row has no fault, its key has no column, and it is its own identity
 
 abbrev pub fault_in : Option Table → List Datum → Option RowFault
 fault_in None row = None
@@ -32,7 +32,7 @@ fault_in (Some table) row = row_fault table.columns row
 abbrev pub primary_key : Table → UniqueKey
 primary_key table row = Some (values_at table.key row)
 
--- nulls are not equal, so a row with one has no value in the index
+-- nulls are not equal, so a row with a null has no value in the index
 abbrev pub index_key : UniqueIndex → UniqueKey
 index_key index row = unless_null (values_at index.columns row)
 
@@ -65,7 +65,7 @@ abbrev pub blanked_in : Option Table → List Datum → List Datum
 blanked_in None row = row
 blanked_in (Some table) row = blanked_by (recorded_as table.identity) table row
 
--- what a catalog and its plan say
+-- what a catalog and its plan define
 abbrev pub setting_of : CatalogOf Expr → PlanOf → Setting
 setting_of catalog plan = record {
   known = λ table. nat_lt table (length catalog.tables);

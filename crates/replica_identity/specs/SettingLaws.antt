@@ -1,5 +1,5 @@
--- What the setting of each catalog and plan has of its tables, and by which columns rows are told apart: PostgreSQL
--- 15, 5.4.4 Primary Keys, 11.6 Unique Indexes, and SQL Commands, ALTER TABLE (REPLICA IDENTITY).
+-- What the setting of each catalog and plan has for its tables, and which columns distinguish rows: PostgreSQL 15,
+-- 5.4.4 Primary Keys, 11.6 Unique Indexes, and SQL Commands, ALTER TABLE (REPLICA IDENTITY).
 use Rattle.std.specs.Prelude.{◌≡◌, ℕ, ◌+◌, true, List, length, Some, slice_get}
 use Rattle.filter_tree.specs.Datum.{Datum}
 use Rattle.filter_tree.specs.Expr.{Expr}
@@ -14,7 +14,7 @@ use Rattle.table_changes.specs.Columns.{values_at, unless_null}
 use Rattle.table_changes.specs.Keys.{key_at, HasPrimaryKeys}
 use Rattle.table_changes.specs.Setting.{Setting}
 
--- the table of this number is there
+-- the table of this number exists
 pub record HasTable (setting : Setting) (number : ℕ) (table : Table) : Type 0 where
   pub known : setting.known number ≡ true
   pub fault : (row : List Datum) → setting.fault number row ≡ row_fault table.columns row

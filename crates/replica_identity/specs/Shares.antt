@@ -1,5 +1,5 @@
--- What a subscriber takes of a table, where filters of several publications are joined by OR and one that carries the
--- table whole makes the others redundant: PostgreSQL 15, "Logical Replication", 31.3.6 Combining Multiple Row
+-- What a subscriber gets of a table. Filters of several publications are joined by OR, and a publication that carries
+-- the table whole makes the others redundant: PostgreSQL 15, "Logical Replication", 31.3.6 Combining Multiple Row
 -- Filters.
 use Rattle.std.specs.Prelude.{Bool, true, false, List, [], ◌∷◌, Option, fold, is_none, filter_map, if◌then◌else◌}
 use Rattle.std.specs.List.{list_any}
@@ -17,7 +17,7 @@ pub data ShareOf : Type 0 where
   Everything : ShareOf
   Where : Expr → ShareOf
 
--- a share of the code as plain data
+-- a share of the program as plain data
 abbrev pub share_view : {A : _} → Share A → ShareOf
 share_view s.Nothing = Nothing
 share_view s.Everything = Everything
@@ -27,7 +27,7 @@ abbrev pub is_true : Tri → Bool
 is_true True = true
 is_true _ = false
 
--- whether it has the row; not where its filter is null
+-- whether it has the row; it does not if its filter is null
 abbrev pub takes : ShareOf → List Datum → Bool
 takes Nothing row = false
 takes Everything row = true

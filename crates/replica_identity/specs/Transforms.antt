@@ -7,11 +7,11 @@ use Rattle.replica_identity.specs.Shares.{takes, is_nothing}
 use Rattle.table_changes.specs.Outs.{OutOf, transform_of}
 use Rattle.table_changes.specs.Records.{ChangeOf}
 
--- the subscriber takes the row of the table
+-- the subscriber gets the row of the table
 abbrev pub takes_row : PlanOf → ℕ → ℕ → List Datum → Bool
 takes_row plan subscriber table row = takes (share_at plan subscriber table) row
 
--- it takes anything of the table
+-- it gets anything from the table
 abbrev pub takes_any : PlanOf → ℕ → ℕ → Bool
 takes_any plan subscriber table = not (is_nothing (share_at plan subscriber table))
 

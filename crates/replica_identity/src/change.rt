@@ -19,7 +19,7 @@ pub enum OldPart {
 }
 
 impl OldPart {
-    /// An equal part, which shares the row. The only error is that this is shared too often.
+    /// An equal part, which shares the row. The only error is that the row is shared too often.
     pub fn share(&self) -> Result<OldPart, AllocError>
         ensures { IfOk result (λ copy. part_view copy ≡ part_view self.now) }
     {
@@ -30,7 +30,7 @@ impl OldPart {
         }
     }
 
-    /// Whether the parts are equal: both are nothing, or equal rows of one kind.
+    /// Whether the parts are equal: both are nothing, or they are equal rows of one kind.
     pub fn same(&self, other: &OldPart) -> bool
         ensures { MatchBool result
             (part_view self.now ≡ part_view other.now) (part_view self.now ≢ part_view other.now) }
@@ -47,8 +47,8 @@ impl OldPart {
     }
 }
 
-/// A change of tables, which are told by their numbers from 0: a new row, a new row in the place of an old one, an old
-/// row that is gone, or tables that are emptied.
+/// A change of tables, which are identified by their numbers from 0: a new row, a new row in place of an old one, an
+/// old row that is gone, or tables that are emptied.
 ///
 /// PostgreSQL 15, Chapter 6 Data Manipulation, and SQL Commands, TRUNCATE.
 #[derive(Debug, Drop, PartialEq, Eq)]
@@ -72,7 +72,7 @@ pub enum Change {
 }
 
 impl Change {
-    /// An equal change, which shares the rows, and whose other memory is taken from `alloc`. The only errors are want of
+    /// An equal change, which shares the rows, and whose other memory is taken from `alloc`. The only errors are out of
     /// memory, and that a row is shared too often.
     pub fn copy(&self, alloc: Global) -> Result<Change, AllocError>
         ensures { IfOk result (λ copy. change_view copy ≡ change_view self.now) }

@@ -18,7 +18,7 @@ fn numbers(alloc: Global, length: usize) -> Result<Vec<usize>, AllocError>
     Ok(numbers)
 }
 
-/// These numbers in memory of their own.
+/// A copy of these numbers.
 fn copied(alloc: Global, numbers: &[usize]) -> Result<Vec<usize>, AllocError>
     ensures { IfOk result (λ copy. copy.items ≡ numbers.now) }
 {
@@ -27,7 +27,7 @@ fn copied(alloc: Global, numbers: &[usize]) -> Result<Vec<usize>, AllocError>
     Ok(copy)
 }
 
-/// The columns of a table's unique index of this number; none where there is no such index.
+/// The columns of a table's unique index of this number; none if there is no such index.
 pub(crate) fn index_columns(table: &Table, number: usize) -> &[usize]
     ensures { result.now ≡ spec.index_columns (slice_get table.now.indexes number) }
 {
@@ -38,8 +38,8 @@ pub(crate) fn index_columns(table: &Table, number: usize) -> &[usize]
 }
 
 /// The numbers of the columns of a table's replica identity: those of the primary key in its order for `Default`, those
-/// of the index in its order for `Index` (none where the table has no such index), all columns for `Full`, none for
-/// `Nothing`. The only error is want of memory.
+/// of the index in its order for `Index` (none if the table has no such index), all columns for `Full`, none for
+/// `Nothing`. The only error is out of memory.
 ///
 /// PostgreSQL 15, "Logical Replication", 31.1 Publication.
 pub fn identity_columns(alloc: Global, table: &Table) -> Result<Vec<usize>, AllocError>
@@ -68,9 +68,9 @@ pub fn covered(table: &Table, column: usize) -> bool
     }
 }
 
-/// Whether what a table's replica identity records of an old row tells which row of the table it was. `Nothing`
-/// doesn't, nor does an `Index` that the table doesn't have or that has a column which may be null. No `Catalog` has
-/// such an identity.
+/// Whether what a table's replica identity records of an old row identifies that row in the table. `Nothing` does not,
+/// nor does an `Index` that the table does not have or that has a column which may be null. No `Catalog` has such an
+/// identity.
 ///
 /// PostgreSQL 15, SQL Commands, ALTER TABLE (REPLICA IDENTITY).
 pub fn tells_rows_apart(table: &Table) -> bool

@@ -1,4 +1,4 @@
-//! What each subscriber takes of each table of a catalog, and what a table's replica identity records of an old row.
+//! What each subscriber gets of each table of a catalog, and what a table's replica identity records of an old row.
 #![tactic(auto)]
 
 mod change;

@@ -70,7 +70,7 @@ fn blanked_part(alloc: Global, columns: &[usize], old: &Row) -> Result<OldPart, 
     Ok(OldPart::Key(SharedRow::new(alloc, blanked)?))
 }
 
-/// What is recorded of the old row, where these columns identify rows.
+/// What is recorded of the old row, if these columns identify rows.
 #[tactic(auto, using(crate::proofs::PartLemmas::none_of_kept, crate::proofs::PartLemmas::key_of_changed))]
 fn key_part(
     alloc: Global,
@@ -94,9 +94,9 @@ fn key_part(
 }
 
 /// What is recorded of an old row that goes, or that a new one replaces. For `Full` it is the whole row, for `Nothing`
-/// nothing. For the primary key or a unique index it is the row with nulls outside the columns of that, if there is no
-/// new row or one of these columns changes; otherwise nothing. The whole row is shared, and not copied. The only errors
-/// are want of memory, and that the row is shared too often.
+/// nothing. For the primary key or a unique index it is the row with nulls outside its columns, if there is no new row
+/// or one of these columns changes; otherwise nothing. The whole row is shared, and not copied. The only errors are out
+/// of memory, and that the row is shared too often.
 ///
 /// PostgreSQL 15, SQL Commands, ALTER TABLE (REPLICA IDENTITY).
 #[tactic(auto, using(crate::proofs::PartLemmas::by_default, crate::proofs::PartLemmas::by_index, crate::proofs::PartLemmas::by_full, crate::proofs::PartLemmas::by_nothing))]

@@ -22,7 +22,7 @@ fn join_to(alloc: Global, share: &mut Share, entry: &Entry) -> Result<(), AllocE
     Ok(())
 }
 
-/// Joins an entry to the share of its table, if the table is there.
+/// Joins an entry to the share of its table, if the table exists.
 #[tactic(auto, using(crate::proofs::PlanLemmas::joins))]
 fn join(alloc: Global, shares: &mut Vec<Share>, entry: &Entry) -> Result<(), AllocError>
     ensures { OnOk result
@@ -47,7 +47,7 @@ fn join_entries(alloc: Global, shares: &mut Vec<Share>, entries: &[Entry]) -> Re
     Ok(())
 }
 
-/// Joins the entries of a publication, if it is there.
+/// Joins the entries of a publication, if it exists.
 fn join_publication(
     alloc: Global,
     shares: &mut Vec<Share>,
@@ -81,7 +81,7 @@ fn join_publications(
     Ok(())
 }
 
-/// Nothing of so many tables.
+/// The share `Nothing` for each of this number of tables.
 fn no_shares(alloc: Global, tables: usize) -> Result<Vec<Share>, AllocError>
     ensures { IfOk result (λ shares. map share_view shares.items ≡ replicate tables Nothing) }
 {
@@ -126,10 +126,10 @@ fn all_shares(alloc: Global, catalog: &Catalog) -> Result<Vec<Vec<Share>>, Alloc
     Ok(all)
 }
 
-/// What each subscriber takes of each table of a catalog. It takes every row where some publication that it takes
-/// carries the table whole. Otherwise it takes the rows for which one of the publications' filters is true: the filters
-/// joined by OR in the order of the subscription's list. The only error is want of memory. A filter's nesting takes
-/// stack; `read_catalog` limits it.
+/// What each subscriber gets of each table of a catalog. It gets every row if one of its publications carries the table
+/// whole. Otherwise it gets the rows for which the filter of one of its publications is true: the filters are joined by
+/// OR in the order of the subscription's list. The only error is out of memory. The nesting of a filter uses stack;
+/// `read_catalog` limits it.
 ///
 /// PostgreSQL 15, "Logical Replication", 31.3.6 Combining Multiple Row Filters.
 #[tactic(auto, using(crate::proofs::PassingLemmas::takes_what_passes))]

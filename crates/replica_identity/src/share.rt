@@ -1,4 +1,4 @@
-//! What a subscriber takes of a table.
+//! What a subscriber gets of a table.
 
 ghost use Rattle.std.specs.Prelude.{◌≡◌, IfOk};
 ghost use Rattle.std.specs.Option.{option_map};
@@ -10,7 +10,7 @@ ghost use Rattle.replica_identity.specs.Shares.{share_view, Where};
 use filter_tree::{Filter, Row, Tri, copy_in, eval};
 use std::alloc::{AllocError, Allocator, Global};
 
-/// What a subscriber takes of a table: no row, every row, or the rows for which a filter is true.
+/// What a subscriber gets of a table: no row, every row, or the rows for which a filter is true.
 ///
 /// PostgreSQL 15, "Logical Replication", 31.3.6 Combining Multiple Row Filters.
 #[derive(Debug, Drop)]
@@ -24,7 +24,7 @@ impl<A: Allocator> Share<A> {
     ghost use Rattle.std.specs.Prelude.{◌≡◌};
     ghost use Rattle.replica_identity.specs.Shares.{share_view, takes};
 
-    /// Whether the subscriber takes the row. Where a filter is null it does not.
+    /// Whether the subscriber gets the row. It does not if a filter is null.
     pub fn takes<R: Allocator>(&self, row: &Row<R>) -> bool
         ensures { result ≡ takes (share_view self.now) row.now }
     {
@@ -36,7 +36,7 @@ impl<A: Allocator> Share<A> {
     }
 }
 
-/// A filter that is true where either of two is.
+/// A filter that is true if either of two is true.
 fn either(alloc: Global, left: Filter, right: Filter) -> Result<Filter, AllocError>
     ensures { IfOk result (λ filter. expr_view filter ≡ Or (expr_view left) (expr_view right)) }
 {
@@ -45,7 +45,7 @@ fn either(alloc: Global, left: Filter, right: Filter) -> Result<Filter, AllocErr
     Ok(Filter::Or(left, right))
 }
 
-/// The share of a filter, with one filter more.
+/// The share of a filter, with one more filter.
 fn with_filter(alloc: Global, filter: Filter, more: &Filter) -> Result<Share, AllocError>
     ensures { IfOk result (λ share. share_view share ≡ Where (Or (expr_view filter) (expr_view more.now))) }
 {
@@ -60,8 +60,8 @@ fn first_filter(alloc: Global, filter: &Filter) -> Result<Share, AllocError>
     Ok(Share::Where(copy_in(alloc, filter)?))
 }
 
-/// What is taken where one more publication carries the table, whole or the rows of a filter. The only error is want of
-/// memory.
+/// What a subscriber gets if one more publication carries the table, whole or the rows of a filter. The only error is
+/// out of memory.
 pub fn joined(alloc: Global, share: Share, more: Option<&Filter>) -> Result<Share, AllocError>
     ensures { IfOk result
         (λ joined. share_view joined ≡ joined_of (share_view share)

@@ -11,7 +11,7 @@ use std::alloc::{AllocError, Global};
 use std::marker::Model;
 use std::sync::Arc;
 
-/// A row with several owners, in any threads: its table, and the changes that made it and took it away. Contracts see
+/// A row with several owners, in any threads: its table, and the changes that created it and removed it. Contracts see
 /// the list of its values.
 #[derive(Debug, Drop)]
 pub struct SharedRow {
@@ -29,7 +29,7 @@ impl Model for SharedRow {
 }
 
 impl SharedRow {
-    /// The row, to be shared. The only error is want of memory.
+    /// The row, to be shared. The only error is out of memory.
     pub fn new(alloc: Global, row: Row) -> Result<SharedRow, AllocError>
         ensures { IfOk result (λ shared. shared ≡ row) }
     {
@@ -37,7 +37,7 @@ impl SharedRow {
         Ok(SharedRow { row })
     }
 
-    /// The same row once more, without a copy. The only error is that it is shared too often.
+    /// The same row again, without a copy. The only error is that it is shared too often.
     pub fn share(&self) -> Result<SharedRow, AllocError>
         ensures { IfOk result (λ shared. shared ≡ self.now) }
     {

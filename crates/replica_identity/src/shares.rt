@@ -5,7 +5,7 @@ ghost use Rattle.replica_identity.specs.Shares.{share_view, is_nothing};
 
 use crate::share::Share;
 
-/// What each subscriber takes of each table, both by their numbers from 0 in the catalog.
+/// What each subscriber gets of each table, both by their numbers from 0 in the catalog.
 #[derive(Debug, Drop)]
 pub struct Plan {
     shares: Vec<Vec<Share>>,
@@ -28,8 +28,8 @@ impl Plan {
         }
     }
 
-    /// What a subscriber takes of a table, by their numbers from 0 in the catalog. Of tables and subscribers that the
-    /// catalog lacks it is nothing.
+    /// What a subscriber gets of a table, by their numbers from 0 in the catalog. It is nothing for tables and
+    /// subscribers that the catalog does not have.
     #[tactic(auto, using(crate::proofs::PlanLemmas::past_the_plan))]
     pub fn share(&self, subscriber: usize, table: usize) -> &Share
         ensures { share_view result.now ≡ share_at (plan_view self.now) subscriber table }

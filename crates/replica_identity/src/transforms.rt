@@ -14,7 +14,7 @@ use crate::shares::Plan;
 use filter_tree::Row;
 
 /// What a subscriber gets of a change, with the change's own rows and tables. The table is the change's. `Truncate` has
-/// all tables of the change, also those of which the subscriber takes nothing.
+/// all tables of the change, including those from which the subscriber gets nothing.
 ///
 /// PostgreSQL 15, "Logical Replication", 31.3.3 UPDATE Transformations.
 #[derive(Clone, Copy, Debug, PartialEq, Eq)]
@@ -25,8 +25,8 @@ pub enum Out<'a> {
     Truncate(&'a [usize]),
 }
 
-/// Whether a subscriber takes anything of a table, by their numbers from 0 in the catalog. Of tables and subscribers
-/// that the catalog lacks it takes nothing.
+/// Whether a subscriber gets anything from a table, by their numbers from 0 in the catalog. It gets nothing for tables
+/// and subscribers that the catalog does not have.
 ///
 /// PostgreSQL 15, "Logical Replication", 31.2 Subscription.
 pub fn carries(plan: &Plan, subscriber: usize, table: usize) -> bool
@@ -35,7 +35,7 @@ pub fn carries(plan: &Plan, subscriber: usize, table: usize) -> bool
     !matches!(plan.share(subscriber, table), Share::Nothing)
 }
 
-/// Whether it takes anything of one of these tables.
+/// Whether it gets anything from one of these tables.
 fn carries_any(plan: &Plan, subscriber: usize, tables: &[usize]) -> bool
     ensures { result ≡ list_any (takes_any (plan_view plan.now) subscriber) tables.now }
 {
@@ -47,7 +47,7 @@ fn carries_any(plan: &Plan, subscriber: usize, tables: &[usize]) -> bool
     false
 }
 
-/// The old row counts as passing where this row passes: its recorded part, or the new row where nothing is recorded.
+/// The old row counts as passing if this row passes: its recorded part, or the new row if nothing is recorded.
 fn asked<'a>(old: &'a OldPart, new: &'a Row) -> &'a Row
     ensures { result.now ≡ spec.asked (part_view old.now) new.now }
 {
@@ -59,9 +59,9 @@ fn asked<'a>(old: &'a OldPart, new: &'a Row) -> &'a Row
 }
 
 /// What a subscriber gets of a change, by its share of the change's table: an INSERT if the new row passes, a DELETE if
-/// the recorded part of the old row does. Of an UPDATE it gets an INSERT if the new row alone passes, a DELETE if the
-/// old row alone does, and nothing if neither does; where nothing is recorded of the old row, it counts as passing if
-/// the new one does. The subscriber gets a TRUNCATE, whatever the filters, if it takes anything of one of the tables.
+/// the recorded part of the old row does. Of an UPDATE it gets an INSERT if only the new row passes, a DELETE if only
+/// the old row does, and nothing if neither does; if nothing is recorded of the old row, it counts as passing if the
+/// new row does. The subscriber gets a TRUNCATE, whatever the filters, if it gets anything from one of the tables.
 /// Nothing is copied.
 ///
 /// PostgreSQL 15, "Logical Replication", 31.3.1 Row Filter Rules and 31.3.3 UPDATE Transformations.

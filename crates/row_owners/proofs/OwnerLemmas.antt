@@ -1,4 +1,4 @@
--- Which subscribers get something of changes: none that the catalog lacks.
+-- Which subscribers get something from changes: no subscriber that the catalog does not have.
 use Rattle.std.proofs.Common.{◌≡◌, ℕ, ◌+◌, ◌≤◌, Bool, true, false, ◌&&◌, ◌||◌, List, [], ◌∷◌, map, length, refl, sym, ap, ◌∙◌, inl, inr, arith}
 use Rattle.std.specs.Prelude.{◌==◌, nat_lt, Some, None, slice_index_or}
 use Rattle.std.specs.List.{list_any}
@@ -18,7 +18,7 @@ pub any_viewed : {A B : Type 0} (test : B → Bool) (view : A → B) (xs : List 
 any_viewed test view [] = refl
 any_viewed test view (x ∷ xs) = ap (λ b. test (view x) || b) (any_viewed test view xs)
 
--- ---- subscribers that the catalog lacks
+-- ---- subscribers that the catalog does not have
 
 past_plan : (plan : PlanOf) (subscriber table : ℕ) → length plan ≤ subscriber
     → share_at plan subscriber table ≡ Nothing
@@ -79,7 +79,7 @@ below_next test count other =
     or_false true = refl
     or_false false = refl
 
--- of the first subscribers those that pass the test
+-- those of the first subscribers that pass the test
 abbrev pub OwnedBelow : OwnerSet → ℕ → (ℕ → Bool) → Type 0
 OwnedBelow set count test = OwnedWhere set (λ subscriber. nat_lt subscriber count && test subscriber)
 

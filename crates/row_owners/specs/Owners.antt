@@ -12,14 +12,14 @@ use Rattle.row_owners.specs.declared.owner_set.OwnerSet.{OwnerSet}
 abbrev pub owned : OwnerSet → ℕ → Bool
 owned set subscriber = bit_at set.bits subscriber == 1
 
--- It has those of the 32 subscribers that pass the test.
+-- The set has those of the 32 subscribers that pass the test.
 abbrev pub OwnedWhere : OwnerSet → (ℕ → Bool) → Type 0
 OwnedWhere set test = (subscriber : ℕ) → subscriber < 32 → owned set subscriber ≡ test subscriber
 
--- the subscriber gets something of the change
+-- the subscriber gets something from the change
 abbrev pub is_for : PlanOf → ℕ → ChangeOf → Bool
 is_for plan subscriber change = is_some (out_for plan subscriber change)
 
--- it gets something of one of the changes
+-- it gets something from one of the changes
 abbrev pub concerns : PlanOf → List ChangeOf → ℕ → Bool
 concerns plan changes subscriber = list_any (is_for plan subscriber) changes

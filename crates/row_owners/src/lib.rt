@@ -1,4 +1,4 @@
-//! Which subscribers get something of a commit.
+//! Which subscribers get something from a commit.
 #![tactic(auto)]
 
 mod owner_set;

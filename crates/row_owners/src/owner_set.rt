@@ -10,7 +10,7 @@ impl OwnerSet {
     ghost use Rattle.std.specs.Prelude.{◌≡◌, ◌<◌, ◌==◌, ◌&&◌, ◌||◌, ℕ, false};
     ghost use Rattle.row_owners.specs.Owners.{OwnedWhere, owned};
 
-    /// No subscriber.
+    /// The empty set.
     #[tactic(auto, using(crate::proofs::BitLemmas::none_owned))]
     pub fn none() -> OwnerSet
         ensures { OwnedWhere result (λ subscriber. false) }
@@ -18,7 +18,7 @@ impl OwnerSet {
         OwnerSet { bits: 0 }
     }
 
-    /// Puts the subscriber into the set if it is to be there.
+    /// Puts the subscriber into the set if `is_there`.
     #[tactic(auto, using(crate::proofs::BitLemmas::put_owned, crate::proofs::BitLemmas::kept_owned))]
     pub fn put(&mut self, subscriber: usize, is_there: bool)
         requires { subscriber < 32 }

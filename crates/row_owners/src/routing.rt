@@ -1,4 +1,4 @@
-//! Which subscribers get something of the changes of a commit.
+//! Which subscribers get something from the changes of a commit.
 
 ghost use Rattle.std.specs.Prelude.{◌≡◌, map};
 ghost use Rattle.replica_identity.specs.ChangeView.{change_view};
@@ -10,14 +10,14 @@ use crate::owner_set::OwnerSet;
 use replica_identity::{Change, Plan, transform};
 use shard_checker::Checked;
 
-/// Whether the subscriber gets something of the change.
+/// Whether the subscriber gets something from the change.
 fn gets(plan: &Plan, subscriber: usize, change: &Change) -> bool
     ensures { result ≡ is_for (plan_view plan.now) subscriber (change_view change.now) }
 {
     transform(plan, subscriber, change).is_some()
 }
 
-/// Whether it gets something of one of the changes.
+/// Whether it gets something from one of the changes.
 fn gets_any(plan: &Plan, subscriber: usize, changes: &[Change]) -> bool
     ensures { result ≡ concerns (plan_view plan.now) (map change_view changes.now) subscriber }
 {
@@ -29,8 +29,8 @@ fn gets_any(plan: &Plan, subscriber: usize, changes: &[Change]) -> bool
     false
 }
 
-/// The subscribers of the checked catalog that get something of one of these changes: an INSERT, an UPDATE, a DELETE or
-/// a TRUNCATE, as `transform` says. No memory is taken.
+/// The subscribers of the checked catalog that get something from one of these changes: an INSERT, an UPDATE, a DELETE
+/// or a TRUNCATE, as `transform` defines. No memory is allocated.
 ///
 /// PostgreSQL 15, "Logical Replication", 31.3.3 UPDATE Transformations.
 pub fn concerned(checked: &Checked, changes: &[Change]) -> OwnerSet

@@ -1,4 +1,4 @@
-//! Calls that several tests make, and the rows that they make them with.
+//! Calls that several tests make, and the rows that they use.
 
 use filter_tree::{Row, Text, Value};
 use publisher_desk::{Publisher, Publishing, ReadFault, Reading, Seat};
@@ -29,7 +29,7 @@ pub(crate) fn put(alloc: Global, number: i64, text: &str) -> Result<Command, All
     })
 }
 
-/// What a commit of the commands is answered.
+/// The answer to a commit of the commands.
 pub(crate) fn commit<P: Publishing, R: Wait>(
     rt: &R,
     publisher: &Publisher<P>,
@@ -39,7 +39,7 @@ pub(crate) fn commit<P: Publishing, R: Wait>(
     publisher.commit(rt, seat, commands, TIME)
 }
 
-/// What a reading of the row of this number is answered.
+/// The answer to a reading of the row of this number.
 pub(crate) fn read<P: Publishing, R: Wait>(
     rt: &R,
     alloc: Global,

@@ -1,4 +1,4 @@
-//! Tests of a publisher that several sessions share, by its public calls.
+//! Tests of a publisher that several sessions share, through its public calls.
 #![tactic(auto)]
 
 #[cfg(test)]

@@ -35,7 +35,7 @@ fn take(alloc: Global, table: usize, number: i64) -> Result<Command, AllocError>
     })
 }
 
-/// That a commit of this command alone is answered so.
+/// Checks that a commit of this command alone has this answer.
 fn expect_one<P: Publishing, R: Wait + Abort>(
     rt: &R,
     alloc: Global,
@@ -49,7 +49,7 @@ fn expect_one<P: Publishing, R: Wait + Abort>(
     Ok(())
 }
 
-/// That a commit of so many inserts is answered so.
+/// Checks that a commit of this number of inserts has this answer.
 fn expect_many<P: Publishing, R: Wait + Abort>(
     rt: &R,
     alloc: Global,
@@ -62,7 +62,7 @@ fn expect_many<P: Publishing, R: Wait + Abort>(
     Ok(())
 }
 
-/// That one command on a table with the rows 1 to 1,000 has each fault.
+/// Checks that one command on a table with the rows 1 to 1,000 has each fault.
 fn expect_faults<P: Publishing, R: Wait + Abort>(
     rt: &R,
     alloc: Global,
@@ -85,7 +85,7 @@ fn expect_faults<P: Publishing, R: Wait + Abort>(
     Ok(())
 }
 
-/// The number, the count of commands and the time of the seat's first note, where that is a receipt.
+/// The number, the count of commands and the time of the seat's first note, if that is a receipt.
 fn first_receipt<P: Publishing>(seat: &Seat<P>) -> Option<(u32, usize, u64)> {
     match seat.notes().first()? {
         Note::Committed(receipt) => Some((
@@ -97,7 +97,7 @@ fn first_receipt<P: Publishing>(seat: &Seat<P>) -> Option<(u32, usize, u64)> {
     }
 }
 
-/// That rows are read, and that another table's are not.
+/// Checks that rows are read, and that those of another table are not.
 fn expect_readings<P: Publishing, R: Wait + Abort>(
     rt: &R,
     alloc: Global,
@@ -115,7 +115,7 @@ fn expect_readings<P: Publishing, R: Wait + Abort>(
     Ok(())
 }
 
-/// Each answer of a commit and of a reading, where the log may have two commits.
+/// Checks each answer to a commit and to a reading, if the log may have two commits.
 fn expect_answers<P: Publishing, R: Wait + Abort>(
     rt: &R,
     alloc: Global,
@@ -167,7 +167,7 @@ fn wide_catalog(alloc: Global) -> Result<String, AllocError> {
     Ok(text)
 }
 
-/// So many of the longest texts.
+/// This number of the longest texts.
 fn longest(alloc: Global, count: usize) -> Result<Row, AllocError> {
     let mut values = Vec::new(alloc);
     for _ in 0..count {

@@ -13,7 +13,7 @@ use std::alloc::Global;
 use std::sync::Arc;
 use std::test::Fail;
 
-/// The catalog that a text says, whose sharding these certificates show to be sound.
+/// The catalog in a text, whose sharding these certificates show to be sound.
 pub fn accepted(
     alloc: Global,
     text: &str,

@@ -15,7 +15,7 @@ use std::sync::{Arc, Wait};
 use std::test::Fail;
 use tables_log::Book;
 
-/// Counts the slots of a lent book.
+/// Counts the slots of a borrowed book.
 #[derive(Drop)]
 struct Count;
 
@@ -29,7 +29,7 @@ impl SlotUse for Count {
     }
 }
 
-/// What a step is: the number of its commit, or 1,000 and more for the others.
+/// A code for a step: the number of its commit, or 1,000 and more for the others.
 fn code(step: Step) -> u32 {
     match step {
         Step::Entry(commit) => commit.number(),
@@ -40,7 +40,7 @@ fn code(step: Step) -> u32 {
     }
 }
 
-/// What a step is that there may be, or 0.
+/// The code of a step if there is one, or 0.
 fn code_now(step: Option<Step>) -> u32 {
     match step {
         Some(step) => code(step),
@@ -48,7 +48,7 @@ fn code_now(step: Option<Step>) -> u32 {
     }
 }
 
-/// The steps of a sender that tells of the only commit, and of one of no slot; what there is to do now, at the commit
+/// The steps of a sender that reports the only commit, and of one of no slot; what has to be done now, at the commit
 /// and after it; and how many slots there are.
 fn steps<P: Publishing, R: Wait>(
     rt: &R,

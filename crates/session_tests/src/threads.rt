@@ -34,7 +34,7 @@ fn write(alloc: Global, number: i64, text: &str, is_there: bool) -> Result<Comma
     })
 }
 
-/// Whether the reading answers this row.
+/// Whether the reading returns this row.
 pub(crate) fn answers(reading: &Reading, wanted: &Row) -> bool {
     match &reading.answer {
         None => false,
@@ -42,7 +42,7 @@ pub(crate) fn answers(reading: &Reading, wanted: &Row) -> bool {
     }
 }
 
-/// Writes the session's row once. Whether it is then read as it was written; `None` where a call is refused.
+/// Writes the session's row once. Returns whether it is then read as it was written; `None` if a call is refused.
 fn turn<P: Publishing, R: Wait>(
     rt: &R,
     alloc: Global,
@@ -76,7 +76,7 @@ fn session<P: Publishing, R: Wait>(
     true
 }
 
-/// Two sessions in two threads, and how many commits there are then.
+/// Runs two sessions in two threads; returns the number of commits afterwards.
 fn both_sessions<P: Publishing + Sync, R: Threads + Wait + Sync>(
     rt: &R,
     alloc: Global,

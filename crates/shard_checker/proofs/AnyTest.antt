@@ -1,4 +1,4 @@
--- All tests that hold exactly of the terms to which no value is left lead to the same refusals.
+-- All tests that hold exactly for the terms for which no value is left lead to the same refusals.
 use Rattle.std.proofs.Common.{◌≡◌, ℕ, ◌+◌, Bool, List, [], ◌∷◌, ◌++◌, length, refl, sym, ◌∙◌, ap, subst}
 use Rattle.std.specs.Prelude.{Option, Some, None, Result, if◌then◌else◌, slice_get}
 use Rattle.filter_tree.specs.Expr.{Expr, AtomOf}
@@ -22,7 +22,7 @@ use Rattle.shard_checker.specs.declared.error.CheckError.TheVariants.{NotEmpty}
 use Rattle.shard_checker.proofs.EmptyLemmas.{told_by_values}
 use Rattle.filter_tree.proofs.Tests.{by_test}
 
--- two tests that answer alike
+-- two tests that always give the same answer
 abbrev Alike : Test → Test → Type 0
 Alike one other = (columns : List Column) (term : Term) (path : Path) → one columns term path ≡ other columns term path
 
@@ -87,7 +87,7 @@ certificates_alike one other same plan subscriptions number (table ∷ tables) (
     ∙ ap (λ x. first_of (certificate_refusal other plan subscriptions number table tree) x)
     (certificates_alike one other same plan subscriptions (number + 1) tables trees)
 
--- ---- what the code's test finds, each test that tells the same finds
+-- ---- what the program's test finds, each equivalent test finds
 
 pub first_by_any : (test : Test) → IsEmptiness test → (number : ℕ) (table : Table) (shares : List ShareOf) (tree : Tree)
     → first_refusal is_empty number table shares tree ≡ first_refusal test number table shares tree

@@ -1,4 +1,4 @@
--- What atoms and steps are parts of is listed, and only the steps that may have changed are computed again.
+-- The steps of which atoms and steps are parts are listed, and only the steps that may have changed are recomputed.
 use Rattle.std.proofs.Common.{◌≡◌, ◌≢◌, ℕ, zero, suc, ◌+◌, ◌*◌, ◌/◌, ◌<◌, ◌≤◌, ◌⊎◌, inl, inr, Bool, true, false, List, length, get_or, min, replicate, refl, sym, ap, subst, ◌∙◌, arith}
 use Rattle.std.specs.Prelude.{Contains, Some, slice_get, slice_set}
 use Rattle.std.specs.Global.{Vec}
@@ -124,7 +124,7 @@ fresh_before : (old new : List Bool) (blocks : List ℕ) → Marks old new block
 fresh_before old new blocks marks block fresh =
     follows_false (is_stale old block) (is_stale new block) (marks.kept block) fresh
 
--- a part of a step of a fresh block is none that has changed
+-- a part of a step of a fresh block is not the one that has changed
 part_same : (lists : List (Vec ℕ)) (old new : List Bool) (number part block : ℕ) → IsListed lists part block
     → number < length lists → Marks old new (blocks_in lists number)
     → is_stale new block ≡ false → (masks : List Mask) (mask : Mask)
@@ -170,7 +170,7 @@ module _ (users : Users) (old new : List Bool) (number block : ℕ) (fresh : is_
         ∙ ap (lift_two or_of (mask_in masks left)) (same right listed.1)
     step_changed (Is test part) listed = ap (lift_one (is_of test)) (same part listed)
 
--- ---- a step is computed again
+-- ---- a step is recomputed
 
 module _ (count : ℕ) (steps : List Step) (atoms : List Mask) (old : Masks) (step : Step) (mask : Mask)
     (ordered : IsOrdered steps) (before : IsSettledBut count steps atoms old)
@@ -242,7 +242,7 @@ module _ (count : ℕ) (steps : List Step) (atoms : List Mask) (old : Masks) (st
           ]);
     }
 
--- ---- a block is computed again
+-- ---- a block is recomputed
 
 in_block : (number block : ℕ) → number / 8 ≡ block → number < (block + 1) * 8
 in_block number block h = (div-lt_iff_lt-mul {k = 8} {x = number} {y = block + 1} (omega arith)).0 (omega (arith, h))

@@ -1,4 +1,4 @@
--- A term has a value left, null among them, exactly if one of its candidates remains.
+-- A term has a value left, including null, exactly if one of its candidates remains.
 use Rattle.std.proofs.Common.{◌≡◌, ℕ, zero, suc, ℤ, pos, ◌+ℤ◌, Bool, true, false, not, ◌&&◌, ◌||◌, List, [], ◌∷◌, ◌++◌, refl, sym, ap, ◌∙◌}
 use Rattle.std.specs.Prelude.{Option, Some, None, slice_get, if◌then◌else◌, int_le, flat_map}
 use Rattle.std.specs.List.{list_any}
@@ -64,7 +64,7 @@ any_of_term test term wanted (first ∷ rest) h =
     ∙ ap (λ (b : Bool). (test first && same_term term wanted) || b) (any_of_term test term wanted rest h.1)
     ∙ and_or (test first) (list_any test rest) (same_term term wanted)
 
--- one term of several
+-- one of several terms
 any_here : (test : Term → Bool) (terms : List Term) (number : ℕ) (term : Term) → slice_get terms number ≡ Some term
     → test term ≡ true → list_any (λ other. test other && same_term other term) terms ≡ true
 any_here test [] number term there h = absurd cc
@@ -147,7 +147,7 @@ values_first BigInt term = let range = range_of BigInt term in
 values_first Boolean term = ((Some (Truth true), refl), ((Some (Truth false), refl), tt))
 values_first Text term = ((None, refl), tt)
 
--- the values that are tried of a term
+-- the values that are tried for a term
 abbrev values_of : ColType → List AtomOf → Term → List Candidate
 values_of kind atoms term = first_of kind term ++ flat_map (named_in kind term) atoms
 
@@ -157,7 +157,7 @@ are_values kind atoms term =
     (values_each term (named_in kind term)
     (λ atom. values_named_if (is_about term atom) kind term (constants_of atom)) atoms)
 
--- a candidate is a value that is left to its term, whatever says that it is null
+-- a candidate is a value that is left for its term, even if something says that the column is null
 abbrev may_be_value : Path → Term → Option (Option Constant) → Bool
 may_be_value path term None = false
 may_be_value path term (Some value) = may_be term path value
@@ -210,7 +210,7 @@ if_any : {X : Type 0} (test : X → Bool) (b : Bool) (xs : List X)
 if_any test true xs = refl
 if_any test false xs = refl
 
--- what is named by atoms, from what is named by a constant
+-- what is named by atoms, given what is named by a constant
 module _ (path : Path) (kind : ColType) (term : Term) (test : Constant → Bool)
     (one : (constant : Constant) → list_any (is_left path) (named_by kind term constant) ≡ test constant) where
   named_left : (atom : AtomOf)
@@ -300,7 +300,7 @@ named_value kind range term path domain (atom ∷ atoms) h =
     (both_true (is_about term atom) (list_any (gives_number range term path) (constants_of atom)) here).1)
     (named_value kind range term path domain atoms)
 
--- numbers of the atoms of the table, and of those of the path
+-- numbers of the atoms of the table, and of the atoms of the path
 numbers_left : (kind : ColType) (range : Range) (term : Term) (path : Path) (atoms : List AtomOf) → AreAmong atoms path
     → ((number : ℤ) → IsIn range number → IsInDomain kind term (Number number))
     → has_value kind term path ≡ has_number range term path

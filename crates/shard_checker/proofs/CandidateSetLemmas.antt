@@ -146,7 +146,7 @@ zip_push R [] (held ∷ ys) x y h here = absurd h
 zip_push R (first ∷ xs) [] x y h here = absurd h
 zip_push R (first ∷ xs) (held ∷ ys) x y h here = (h.0, zip_push R xs ys x y h.1 here)
 
--- an element is the same whatever comes where there is none
+-- an element is the same whatever the default is
 same_item : {X : Type 0} (xs : List X) (index : ℕ) (default other : X) → index < length xs
     → get_or xs index default ≡ get_or xs index other
 same_item [] index default other low = absurd (omega (arith, low))

@@ -1,5 +1,5 @@
--- What a refusal of a catalog says is so: an operation that is not published, a row that is not told apart from others,
--- or a column that is not covered.
+-- What a refusal of a catalog says is true: an operation that is not published, a row that is not distinguished from
+-- others, or a column that is not covered.
 use Rattle.std.proofs.Common.{◌≡◌, ℕ, zero, suc, ◌+◌, ◌<◌, Bool, true, false, List, [], ◌∷◌, All, length, refl, sym, ◌∙◌, ap, subst, inl, inr, arith}
 use Rattle.std.specs.Prelude.{Option, Some, None, if◌then◌else◌, ◌==◌, ◌⊎◌, Contains, slice_get}
 use Rattle.std.proofs.lemmas.List.Elements.{All-head, All-tail}
@@ -23,7 +23,7 @@ use Rattle.shard_checker.specs.declared.error.Operation.TheVariants.{Insert, Upd
 use Rattle.shard_checker.proofs.TruthLemmas.{same_some, failed}
 use Rattle.table_changes.proofs.TableLemmas.{at_zero, at_next}
 
--- what one of two refusals leads to
+-- to what one of two refusals leads
 pub by_first : {P : Type 0} (one next : Option CheckError) (error : CheckError) → first_of one next ≡ Some error
     → (one ≡ Some error → P) → (next ≡ Some error → P) → P
 by_first None next error h at_one at_next = at_next h
@@ -71,7 +71,7 @@ missing_is publishes operation h =
     missing_named publishes operation
     (missing_in publishes.insert publishes.update publishes.delete publishes.truncate operation h)
 
--- a publication of a list whose first has this number
+-- a publication of a list; the first of the list has this number
 pub record IsUnpublished (subscriptions : List Subscription) (number : ℕ) (publications : List (PublicationOf Expr))
     (error : CheckError) : Type 0 where
   pub place : ℕ
@@ -208,7 +208,7 @@ columns_found (first ∷ tables) zero table there = let same : first ≡ table =
     ap (λ (table : Table). table.columns) same
 columns_found (first ∷ tables) (suc number) table there = columns_found tables number table there
 
--- a column that a known entry's filter names is one of its table
+-- a column that a known entry's filter names is one of its table's columns
 named_within : (tables : List Table) (entry : EntryOf Expr) (table : Table) (filter : Expr) (column : ℕ)
     → IsKnownEntry tables entry → slice_get tables entry.table ≡ Some table
     → entry.filter ≡ Some filter → Contains (distinct_columns filter) column → column < length table.columns

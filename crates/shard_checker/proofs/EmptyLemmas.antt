@@ -1,4 +1,4 @@
--- A term is empty exactly if no value is left to it, null among them.
+-- A term is empty exactly if no value, not even null, is left for it.
 use Rattle.std.proofs.Common.{◌≡◌, Bool, true, false, not, ◌&&◌, ◌||◌, List, refl}
 use Rattle.filter_tree.specs.Datum.{Datum, Missing, Known}
 use Rattle.filter_tree.specs.Lists.{column_of}

@@ -1,4 +1,4 @@
--- A value that is found is left to the term.
+-- A value that is found is left for the term.
 use Rattle.std.proofs.Common.{◌≡◌, ℕ, suc, ◌+◌, ◌<◌, ℤ, pos, ◌+ℤ◌, true, false, ◌&&◌, ◌||◌, List, [], ◌∷◌, length, replicate, refl, ◌∙◌, ap, arith}
 use Rattle.std.specs.Prelude.{Some, None, int_le}
 use Rattle.std.specs.List.{list_any}
@@ -20,7 +20,7 @@ use Rattle.shard_checker.proofs.Testing.{two_false, by_either, not_true_false}
 use Rattle.shard_checker.proofs.ValueLemmas.{test_le, has_constant, all_unnamed}
 use Rattle.filter_tree.proofs.Tests.{both_true}
 
--- a constant of the term's domain that is left by all that was found
+-- a constant of the term's domain that all that was found leaves
 pub record HasConstant (kind : ColType) (term : Term) (path : Path) : Type 0 where
   pub value : Constant
   pub in_domain : IsInDomain kind term value
@@ -96,7 +96,7 @@ abbrev path_length : Path → ℕ
 path_length [] = 0
 path_length (entry ∷ path) = constants_length (constants_of entry.0) + path_length path
 
--- a longer text is another
+-- a longer text is a different text
 longer_apart : (text named : List ℕ) → length named < length text → bytes_eq text named ≡ false
 longer_apart text named h = not_true_false (bytes_eq text named)
     (λ same. let e : length text ≡ length named = ap length ((bytes_eq-Decides text named).0 same) in
@@ -112,7 +112,7 @@ longer_constants text (Bytes named ∷ constants) long =
 longer_constants text (Number k ∷ constants) long = longer_constants text constants (omega arith)
 longer_constants text (Truth b ∷ constants) long = longer_constants text constants (omega arith)
 
--- no atom of a path names a text that is longer than all that they name
+-- no atom of a path names a text that is longer than all texts that they name
 longer_path : (text : List ℕ) (path : Path) → path_length path < length text
     → list_any (λ entry. has_constant text entry.0) path ≡ false
 longer_path text [] long = refl

@@ -1,4 +1,4 @@
--- What a path tells of a row is so of each row that agrees with it.
+-- What a path says about a row is true of each row that agrees with it.
 use Rattle.std.proofs.Common.{◌≡◌, ℕ, ℤ, Bool, true, false, not, ◌&&◌, ◌||◌, List, [], ◌∷◌, refl, sym, ◌∙◌, ap, subst}
 use Rattle.std.specs.Prelude.{◌==◌, Option, Some, None, IfSome, if◌then◌else◌, slice_get}
 use Rattle.std.specs.List.{list_any}
@@ -22,7 +22,7 @@ use Rattle.shard_checker.specs.Rows.{MayHold, IsTyped}
 use Rattle.shard_checker.proofs.Testing.{two_true, by_either, clash, same_number}
 use Rattle.filter_tree.proofs.Tests.{both_true}
 
--- ---- what an atom says of a value
+-- ---- what an atom says about a value
 
 known_tri : (b : Bool) → tri_of b ≡ Null → ⊥
 known_tri true h = cc
@@ -166,7 +166,7 @@ null_atom columns row atom valid null h =
     (λ declared. declared_is columns row (column_of (term_of atom)) valid declared
     (term_missing (term_of atom) row (said_null atom (term_value (term_of atom) row) null)))
 
--- no row that fits the columns agrees with a path on which an atom is null that never is
+-- no row that fits the columns agrees with a path on which an atom is null that is never null
 pub never_null_is : (columns : List Column) (row : List Datum) (atom : AtomOf) (path : Path) → IsTyped columns row
     → Agrees row path
     → is_never_null columns atom path ≡ true → ⊥
@@ -185,7 +185,7 @@ tri_false : (b : Bool) → tri_of b ≡ False → not b ≡ true
 tri_false true h = absurd cc
 tri_false false h = refl
 
--- a test that only counts where another passes
+-- a test that counts only if another test passes
 counts_where : (b p : Bool) → (b ≡ true → p ≡ true) → (if b then p else true) ≡ true
 counts_where true p h = h refl
 counts_where false p h = refl
@@ -212,7 +212,7 @@ leaves_found row term value atom False meant is = counts_where (is_about term at
     (λ about. tri_false (holds_of atom (Some value)) (sym (meant_of row term value atom is about) ∙ meant))
 leaves_found row term value atom Null meant is = refl
 
--- the value that a term has on a row is left by what was found
+-- what was found leaves the value that a term has on a row
 pub value_left : (row : List Datum) (term : Term) (value : Constant) (path : Path) → Agrees row path
     → term_value term row ≡ Known value
     → may_be term path (Some value) ≡ true

@@ -1,4 +1,4 @@
--- What is known of atoms as a path grows and shrinks.
+-- What is known about atoms as a path grows and shrinks.
 use Rattle.std.proofs.Common.{◌≡◌, ℕ, zero, suc, Bool, true, false, ◌||◌, List, [], ◌∷◌, ◌++◌, refl, sym, ap, subst, ◌∙◌, append_assoc}
 use Rattle.std.specs.Prelude.{Option, Some, None, slice_get, slice_set, if◌then◌else◌}
 use Rattle.std.specs.List.{list_any}

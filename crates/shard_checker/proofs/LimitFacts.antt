@@ -1,4 +1,4 @@
--- The catalog of a sharding that was accepted is within its limits, and is named, as each catalog is.
+-- The catalog of a sharding that was accepted is within its limits, and has proper names, as each catalog does.
 use Rattle.pub_catalog.specs.CatalogLimits.{IsLimited}
 use Rattle.pub_catalog.specs.CatalogNames.{IsNamedCatalog}
 use Rattle.pub_catalog.proofs.CatalogFacts.{catalog_limited, catalog_named}

@@ -1,4 +1,5 @@
--- The sets of truth values of steps follow from their parts', and are those of the filters that the steps are.
+-- The sets of truth values of steps follow from the sets of their parts, and are those of the filters that the steps
+-- are.
 use Rattle.std.proofs.Common.{◌≡◌, ℕ, ◌<◌, ◌≤◌, List, refl, ap, ◌∙◌, arith}
 use Rattle.std.specs.Prelude.{Some, slice_get, slice_set}
 use Rattle.std.specs.Option.{option_map}
@@ -19,7 +20,7 @@ set_other : (masks : List Mask) (number part : ℕ) (mask : Mask) → part < num
     → mask_in (slice_set masks number mask) part ≡ mask_in masks part
 set_other masks number part mask h = get_or-set_other masks number part mask _ (omega arith)
 
--- a step's set doesn't depend on those from its own on
+-- a step's set does not depend on its own and later sets
 pub step_before : (atoms masks : List Mask) (number : ℕ) (mask : Mask) (step : Step) → PartsBefore number step
     → step_mask atoms (slice_set masks number mask) step ≡ step_mask atoms masks step
 step_before atoms masks number mask (Const known) h = refl

@@ -30,7 +30,7 @@ turned true false = refl
 turned false true = refl
 turned false false = refl
 
--- what a test of the keys says once one more is there
+-- what a test of the keys says after one more key was added
 key_added : {K : Type 0} (test : K → Bool) (old new : List K) (key : K) (added : Bool)
     → MatchBool added (IsPermutation (key ∷ old) new) (new ≡ old)
     → (added ≡ false → test key ≡ true → list_any test old ≡ true)

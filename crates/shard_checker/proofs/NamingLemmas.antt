@@ -1,4 +1,4 @@
--- The numbered atoms of shares are told from one another, and are all that the shares' filters have.
+-- The numbered atoms of shares are distinct, and are all that the shares' filters have.
 use Rattle.std.proofs.Common.{◌≡◌, Bool, true, false, ◌&&◌, List, [], ◌∷◌, ◌++◌, refl, sym, subst, ◌∙◌}
 use Rattle.std.specs.Prelude.{flat_map, fold}
 use Rattle.std.specs.List.{list_any, list_all}
@@ -15,7 +15,7 @@ use Rattle.shard_checker.proofs.KnownLemmas.{none_of, other_way}
 use Rattle.shard_checker.proofs.Testing.{two_true, right_true, left_true}
 use Rattle.filter_tree.proofs.Tests.{by_test}
 
--- ---- no atom is there twice
+-- ---- no atom is numbered twice
 
 differ_then : (atoms : List AtomOf) (atom : AtomOf) → Differ atoms → list_any (same_atom atom) atoms ≡ false
     → Differ (atoms ++ atom ∷ [])
@@ -39,7 +39,7 @@ differ_all atoms (atom ∷ more) h = differ_all (with_item same_atom atoms atom)
 pub numbered_differ : (shares : List ShareOf) → Differ (numbered_atoms shares)
 numbered_differ shares = differ_all [] (flat_map share_atoms shares) tt
 
--- ---- all atoms are there
+-- ---- all atoms are numbered
 
 -- each of some atoms is among others
 abbrev among : List AtomOf → List AtomOf → Bool

@@ -1,4 +1,4 @@
--- That an atom was found to be null is told by its number.
+-- An atom that was found to be null is identified by its number.
 use Rattle.std.proofs.Common.{◌≡◌, ℕ, zero, suc, ◌<◌, true, false, ◌&&◌, ◌||◌, List, [], ◌∷◌, ◌++◌, length, refl, sym, ap, ◌∙◌, arith}
 use Rattle.std.specs.Prelude.{◌==◌, Some, slice_get}
 use Rattle.std.proofs.lemmas.Option.{same_Some}
@@ -15,7 +15,7 @@ use Rattle.shard_checker.proofs.KnownLemmas.{not_there}
 use Rattle.shard_checker.proofs.Testing.{same_number, not_true_false, number_itself, right_true, two_false}
 use Rattle.filter_tree.proofs.Tests.{by_test}
 
--- atoms at two numbers are the same only at one number
+-- atoms at two numbers are the same only if the numbers are equal
 numbers_tell : (atoms : List AtomOf) (one other : ℕ) (first second : AtomOf) → Differ atoms
     → slice_get atoms one ≡ Some first → slice_get atoms other ≡ Some second
     → same_atom first second ≡ true → one ≡ other

@@ -1,4 +1,4 @@
--- The path after a leaf: its last entry has the next value, or goes where it is null.
+-- The path after a leaf: its last entry has the next value, or is removed if it is null.
 use Rattle.std.proofs.Common.{◌≡◌, [], ◌∷◌, ◌++◌, refl, ap}
 use Rattle.std.specs.Prelude.{Some}
 use Rattle.filter_tree.specs.Expr.{AtomOf}

@@ -7,7 +7,7 @@ use Rattle.shard_checker.specs.Owners.{may_take, is_second}
 use Rattle.shard_checker.proofs.Testing.{clash, same_number}
 use Rattle.filter_tree.proofs.Tests.{by_test}
 
--- a share that may take a row, and isn't another's, is the owner's
+-- a share that may take a row, and is not another share's, is the owner's
 pub only_owner : (owner number : ℕ) (share : ShareOf) (path : Path) → is_second owner number share path ≡ false
     → may_take share path ≡ true → number ≡ owner
 only_owner owner number share path h may = by_test (number == owner)

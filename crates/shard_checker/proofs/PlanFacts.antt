@@ -1,4 +1,4 @@
--- Two plans are equal in one way at most, since a test tells filters apart.
+-- Two plans are equal in at most one way, since a test distinguishes filters.
 use Rattle.std.proofs.Common.{◌≡◌, Bool, true, false, ◌&&◌, refl, ◌∙◌, ap, subst}
 use Rattle.std.specs.Bool.{beq}
 use Rattle.std.specs.Cmp.{booleans_Decides}
@@ -31,7 +31,7 @@ same_expr (Or f g) (Or h k) = same_expr f h && same_expr g k
 same_expr (Is s f) (Is t g) = same_test s t && same_expr f g
 same_expr _ _ = false
 
--- ---- the test holds of equal filters only, and of each filter with itself
+-- ---- the test holds for equal filters only, and for each filter with itself
 
 same_test_is : (s t : Test) → same_test s t ≡ true → s ≡ t
 same_test_is True True h = refl

@@ -1,4 +1,4 @@
--- The value of a term on a row that fits the columns is of the term's domain.
+-- The value of a term on a row that fits the columns is in the term's domain.
 use Rattle.std.proofs.Common.{◌≡◌, ℕ, zero, suc, ◌-◌, ◌<◌, ◌≤◌, ℤ, pos, negsuc, neg_ℤ, ◌≤ℤ◌, List, [], ◌∷◌, length, refl, ap, subst, arith}
 use Rattle.std.specs.Prelude.{Option, Some, None, IfSome, slice_get, int_rem, nat_abs}
 use Rattle.std.specs.Int.{int_max, int_min}
@@ -106,7 +106,7 @@ in_range kind column number divisor fits = by_test (int_eq divisor (pos 0))
 
 -- ---- values of terms
 
--- a term's value on a row, of the term's domain
+-- a term's value on a row, in the term's domain
 pub record HasKnown (kind : ColType) (term : Term) (row : List Datum) : Type 0 where
   pub value : Constant
   pub is : term_value term row ≡ Known value

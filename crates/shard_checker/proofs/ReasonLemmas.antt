@@ -1,4 +1,4 @@
--- The first refusal of a sharding says something that is so of what it names.
+-- What the first refusal of a sharding says about what it names is true.
 use Rattle.std.proofs.Common.{◌≡◌, ℕ, suc, ◌+◌, ◌<◌, true, List, [], ◌∷◌, length, refl, sym, ◌∙◌, ap, subst, inl, inr}
 use Rattle.std.specs.Prelude.{Option, Some, None, if◌then◌else◌, ◌==◌, ◌⊎◌, Contains, slice_get}
 use Rattle.std.specs.Cmp.{unsigned_Decides}
@@ -166,7 +166,7 @@ identity_wrong catalog plan trees error h =
     subst (ShardingIsWrong catalog plan trees) (sym is)
     (record { table = found.table; there = found.there; untold = found.untold })
 
--- the publication of this number is taken, and an entry of it is wrong
+-- a subscription names the publication of this number, and an entry of it is wrong
 entry_is_wrong : (catalog : CatalogOf Expr) (plan : PlanOf) (trees : List Tree) (error : CheckError) (number : ℕ)
     (publication : PublicationOf Expr)
     → slice_get catalog.publications number ≡ Some publication → is_taken catalog.subscriptions number ≡ true

@@ -93,7 +93,7 @@ more_known candidates old new path atom value sets remain are keeps =
           (before_more candidates [] old.befores.items path old.places (atom, value) remain.befores remain.places);
     }
 
--- ---- one entry less
+-- ---- one entry fewer
 
 -- what remained before the last entry
 record HadBefore (candidates : List Candidate) (done : Path) (all : List BitSet) (path : Path) : Type 0 where

@@ -182,7 +182,7 @@ all_owned plan subscriptions number (table ∷ tables) (tree ∷ trees) same h (
     subst (λ n. IfSome (slice_get tables k) (HasOwners (λ m. table_shares plan m 0 subscriptions) n))
     (sym (at_next number k)) (all_owned plan subscriptions (number + 1) tables trees (omega arith) both.1 k)
 
--- the share of a subscriber who is there
+-- the share of a subscriber that exists
 share_there : (plan : PlanOf) (table number : ℕ) (subscriptions : List Subscription) (k : ℕ)
     (subscription : Subscription) → slice_get subscriptions k ≡ Some subscription
     → share_in (table_shares plan table number subscriptions) k ≡ share_at plan (number + k) table
@@ -199,7 +199,7 @@ no_share plan table number [] k h = refl
 no_share plan table number (first ∷ subscriptions) zero h = absurd cc
 no_share plan table number (first ∷ subscriptions) (suc k) h = no_share plan table (number + 1) subscriptions k h
 
--- a subscriber takes what passes to it
+-- a subscriber gets what passes to it
 takes_by : (catalog : CatalogOf Expr) (plan : PlanOf) → TakesWhatPasses catalog plan → (table : ℕ)
     → table < length catalog.tables → (row : List Datum)
     (subscriber : ℕ) (found : Option Subscription) → slice_get catalog.subscriptions subscriber ≡ found

@@ -1,4 +1,4 @@
--- A sharding is sound in one way: a row that passes to exactly one subscriber leaves no choice of who that is.
+-- A sharding is sound in only one way: a row that passes to exactly one subscriber leaves no choice of subscriber.
 use Rattle.std.proofs.Common.{ap}
 use Rattle.std.specs.Prelude.{◌≡◌, ℕ, true, List}
 use Rattle.std.proofs.Math.Logic.{∥∥₁_elim}

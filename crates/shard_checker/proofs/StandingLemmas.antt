@@ -1,4 +1,4 @@
--- A sound sharding has what the laws about changes of tables ask of its setting.
+-- A sound sharding has what the laws about changes of tables require of its setting.
 use Rattle.std.proofs.Common.{◌≡◌, ◌≢◌, ℕ, zero, suc, ◌+◌, ◌<◌, Bool, true, false, not, ◌&&◌, ◌||◌, List, [], ◌∷◌, length, refl, sym, ◌∙◌, ap, subst, arith}
 use Rattle.std.specs.Prelude.{Option, Some, None, IfSome, ◌==◌, nat_lt, if◌then◌else◌, is_none, slice_get, filter_map}
 use Rattle.std.specs.List.{list_any, list_all}
@@ -43,7 +43,7 @@ use Rattle.filter_tree.proofs.Tests.{by_test, both_true}
 abbrev has : List ℕ → ℕ → Bool
 has numbers number = list_any (λ n. n == number) numbers
 
--- ---- rows with one identity pass alike
+-- ---- rows with the same identity pass alike
 
 value_alike : (columns : List ℕ) (one other : List Datum) (column : ℕ)
     → values_at columns one ≡ values_at columns other → has columns column ≡ true
@@ -128,7 +128,7 @@ listed_alike catalog number table (n ∷ numbers) one other there e covered =
     (listed_alike catalog number table numbers one other there e
     (λ m h. covered m (right_true (n == m) (has numbers m) h)))
 
--- what a subscription lists is taken
+-- a publication that a subscription lists is subscribed
 listed_is_taken : (subscriptions : List Subscription) (place : ℕ) (subscription : Subscription)
     → slice_get subscriptions place ≡ Some subscription
     → (n : ℕ) → has subscription.publications n ≡ true → is_taken subscriptions n ≡ true
@@ -151,7 +151,8 @@ passes_alike catalog sound subscriber number table (Some subscription) one other
     listed_alike catalog number table subscription.publications one other there e
     (λ n h. sound.covered n (listed_is_taken catalog.subscriptions subscriber subscription at n h))
 
--- under FULL rows with one identity are one row; else they have one value in each column of the identity
+-- under FULL rows with the same identity are the same row; otherwise they have the same value in each column of the
+-- identity
 by_identity : {P : Type 0} (identity : Identity) (table : Table) (one other : List Datum)
     → identity_by (recorded_as identity) table one ≡ identity_by (recorded_as identity) table other
     → (one ≡ other → P) → (values_at (identity_columns table) one ≡ values_at (identity_columns table) other → P) → P
@@ -223,7 +224,7 @@ recorded_is : (found : Option Table) → IfSome found (λ table. tells_rows_apar
 recorded_is None h = λ e. cc
 recorded_is (Some table) h = recorded_some table.identity table h
 
--- who takes a row takes something
+-- a subscriber that gets a row gets something
 takes_some : (given : ShareOf) (row : List Datum) → takes given row ≡ true → not (is_nothing given) ≡ true
 takes_some share.Nothing row h = absurd cc
 takes_some Everything row h = refl
@@ -239,7 +240,7 @@ covered catalog plan sound own = record {
   carried = λ subscriber table row h. takes_some (share_at plan subscriber table) row h;
 }
 
--- ---- a row that fits has no null in columns that take none
+-- ---- a row that fits has no null in NOT NULL columns
 
 no_fault : {A : Type 0} (found : Option A) → is_none found ≡ true → found ≡ None
 no_fault None h = refl
@@ -273,22 +274,22 @@ no_null_in columns row valid (number ∷ numbers) h =
 whole_value : (values : List Datum) → list_any is_null values ≡ false → unless_null values ≡ Some values
 whole_value values h = rw h refl
 
--- ---- identities tell rows apart
+-- ---- identities distinguish rows
 
--- what is known of tables and of what a command without a fault leaves of them
+-- what is known about tables and about what a command without a fault leaves of them
 record Leaves (catalog : CatalogOf Expr) (plan : PlanOf) (tables : Tables) (command : Command) : Type 0 where
   accepted : fault_of (setting_of catalog plan) tables command ≡ None
   before : Stands (setting_of catalog plan).keys tables
   apart : Apart (setting_of catalog plan) tables
 
--- two rows that are there after the command
+-- two rows that exist after the command
 record BothHeld (catalog : CatalogOf Expr) (plan : PlanOf) (tables : Tables) (command : Command) (number : ℕ)
     (one other : List Datum) : Type 0 where
   first : holds (setting_of catalog plan).keys (applied (setting_of catalog plan) tables command) number one ≡ true
   second : holds (setting_of catalog plan).keys (applied (setting_of catalog plan) tables command) number other ≡ true
   same : (setting_of catalog plan).identity number one ≡ (setting_of catalog plan).identity number other
 
--- a row with a null in columns that take none was there before the command
+-- a row with a null in NOT NULL columns existed before the command
 was_there : (catalog : CatalogOf Expr) (plan : PlanOf) (tables : Tables) (command : Command)
     → Leaves catalog plan tables command
     → (number : ℕ) (table : Table) → slice_get catalog.tables number ≡ Some table → (columns : List ℕ)
@@ -336,7 +337,7 @@ apart_by_key catalog plan tables command leaves number table there one other bot
     (keeps_keyed (setting_of catalog plan) tables command leaves.accepted leaves.before)
     number 0 one other (values_at table.key one) both.first both.second (keys one) (keys other ∙ ap Some (sym same))
 
--- by an index that was looked for
+-- by an index that was looked up
 by_found : {P : Type 0} (table : Table) (one other : List Datum) (found : Option UniqueIndex)
     → identifies table.columns found ≡ true
     → values_at (index_columns found) one ≡ values_at (index_columns found) other
@@ -425,7 +426,7 @@ setting_sound catalog plan sound own = record {
       (slice_get catalog.tables table) row refl both.1 (sound.one_owner table);
 }
 
--- ---- of a plan that is the catalog's own
+-- ---- for a plan that is the catalog's own
 
 pub own_covered : (catalog : CatalogOf Expr) (plan : PlanOf) → plan ≡ plan_of catalog → IsSound catalog
     → Covered (setting_of catalog plan)

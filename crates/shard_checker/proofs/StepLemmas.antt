@@ -1,4 +1,4 @@
--- Filters put among steps.
+-- Filters that are added to steps.
 use Rattle.std.proofs.Common.{◌≡◌, ℕ, zero, suc, ◌+◌, ◌<◌, ◌≤◌, Bool, List, [], ◌∷◌, ◌++◌, length, take, get_or, refl, sym, ap, subst, ◌∙◌}
 use Rattle.std.specs.Prelude.{◌⊎◌, Some, slice_get}
 use Rattle.std.proofs.Common.{inl, inr}
@@ -28,7 +28,7 @@ got_last : (old : List Step) (last : Step) → slice_get (old ++ last ∷ []) (l
 got_last [] last = refl
 got_last (first ∷ old) last = got_last old last
 
--- a step was there before, or it is the last
+-- a step existed before, or it is the last one
 got_among : (old : List Step) (last step : Step) (number : ℕ) → slice_get (old ++ last ∷ []) number ≡ Some step
     → (slice_get old number ≡ Some step) ⊎ ((number ≡ length old) × (last ≡ step))
 got_among [] last step zero h = inr (refl, same_Some last step h)

@@ -1,5 +1,5 @@
--- What the result of a check tells: what was found by the code's own test is found by each test that tells the same,
--- memory is wanted where it may be, and what an error says is so.
+-- What the result of a check means: what the program's own test found, each equivalent test finds; memory runs out only
+-- when it may; and what an error says is true.
 use Rattle.std.proofs.Common.{◌≡◌, ◌≢◌, ℕ, List, Result, Ok, Err, sym, subst}
 use Rattle.std.specs.Prelude.{Option, Some, OnOk}
 use Rattle.filter_tree.specs.Datum.{Datum}

@@ -1,4 +1,4 @@
--- What is left to a term at the end of a walk's path.
+-- What is left for a term at the end of a walk's path.
 use Rattle.std.proofs.Common.{◌≡◌, ℕ, Bool, true, false, not, List, [], ◌∷◌, ◌++◌, get_or, refl, ap, ◌∙◌}
 use Rattle.std.specs.Prelude.{Option, Some, None, IfSome, slice_get}
 use Rattle.std.specs.List.{list_any}

@@ -1,4 +1,4 @@
--- A sharding is refused by the texts of its certificates as it is by their trees.
+-- A sharding is refused by the texts of its certificates just as by their trees.
 use Rattle.std.proofs.Common.{◌≡◌, ◌≢◌, ℕ, ◌+◌, List, [], ◌∷◌, ◌++◌, map, Result, Ok, Err, refl, sym, ap, subst, ◌∙◌}
 use Rattle.std.specs.Prelude.{Option, Some, None}
 use Rattle.std.specs.Borrow.{Bor}
@@ -80,14 +80,14 @@ sharding_by_texts test catalog plan texts h =
     ap (refusal_by_nodes test catalog plan) (nodes_of_read 1 texts h)
     ∙ sharding_by_nodes test catalog plan (trees_in (texts_view texts))
 
--- ---- what is answered
+-- ---- what is returned
 
 pub text_first : (test : Test) (catalog : CatalogOf Expr) (plan : PlanOf) (texts : List (List ℕ)) (error : TextError)
     → text_fault 1 texts ≡ Some error → text_refusal test catalog plan texts ≡ Some error
 text_first test catalog plan texts error h =
     ap (λ fault. first_fault fault (option_map Check (sharding_refusal test catalog plan (trees_in texts)))) h
 
--- by any test, where all are read
+-- by any test, if all texts are read
 pub text_by_any : (test : Test) → IsEmptiness test
     → (catalog : CatalogOf Expr) (plan : PlanOf) (texts : List (List ℕ)) (found : Option CheckError)
     → text_fault 1 texts ≡ None
@@ -118,7 +118,7 @@ some_fault texts line (text ∷ left) error h first =
     one_fault texts line (certificate_of text) (text_fault (line + 1) left) error h
     (some_fault texts (line + 1) left error) first
 
--- it tells the text, and so it is no refusal
+-- it names the text, and so it is not a refusal
 fault_is : (texts : List (List ℕ)) (error : TextError) → text_fault 1 texts ≡ Some error → OfFault texts error
 fault_is texts (Text line fault) h = h
 fault_is texts (Check refusal) h = some_fault texts 1 texts (Check refusal) h h

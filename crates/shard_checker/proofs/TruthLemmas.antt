@@ -1,4 +1,4 @@
--- The first refusal says something that is so of the node that it names.
+-- What the first refusal says about the node that it names is true.
 use Rattle.std.proofs.Common.{◌≡◌, ℕ, zero, suc, ◌+◌, ◌<◌, Bool, true, false, not, List, [], ◌∷◌, ◌++◌, refl, ◌∙◌, subst, inl, inr, arith}
 use Rattle.std.specs.Prelude.{Option, Some, None, if◌then◌else◌, ◌==◌, ◌⊎◌, slice_get}
 use Rattle.std.specs.Cmp.{unsigned_Decides}

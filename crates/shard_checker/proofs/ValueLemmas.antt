@@ -1,4 +1,4 @@
--- The values that are tried decide whether a value is left to a term.
+-- The values that are tried decide whether a value is left for a term.
 use Rattle.std.proofs.Common.{◌≡◌, ℕ, zero, suc, ◌+◌, ◌-◌, ℤ, pos, negsuc, ◌+ℤ◌, ◌≤ℤ◌, Bool, true, false, not, ◌&&◌, ◌||◌, List, [], ◌∷◌, refl, sym, ◌∙◌, ap, subst, arith}
 use Rattle.std.specs.Prelude.{Option, Some, None, int_le}
 use Rattle.std.specs.Int.Signed.{le_z_yes}
@@ -25,9 +25,9 @@ use Rattle.shard_checker.specs.declared.domain.Range.{Range}
 use Rattle.shard_checker.proofs.Testing.{two_true, two_false, both_false, left_true, right_true, clash, not_true_false}
 use Rattle.filter_tree.proofs.Tests.{by_test, from_test}
 
--- ---- two values of which atoms say the same
+-- ---- two values about which atoms say the same
 
--- each comparison with one of the constants says the same of both values
+-- each comparison with one of the constants says the same about both values
 abbrev AreAlike : Option Constant → Option Constant → List Constant → Type 0
 AreAlike one other [] = Unit {0}
 AreAlike one other (constant ∷ constants) = ((op : Op) → compares op one constant ≡ compares op other constant)
@@ -39,7 +39,7 @@ among_alike one other [] alike = refl
 among_alike one other (constant ∷ constants) alike = let here = alike.0 Eq in let there =
     among_alike one other constants alike.1 in cc
 
--- an atom says the same of both if each comparison with its constants does
+-- an atom says the same about both if each comparison with its constants does
 holds_alike : (one other : Option Constant) (atom : AtomOf) → AreAlike one other (constants_of atom)
     → holds_of atom one ≡ holds_of atom other
 holds_alike one other (Cmp term op constant) alike = alike.0 op
@@ -59,7 +59,8 @@ leaves_alike term one other atom False alike = by_test (is_about term atom)
     (λ apart. rw apart refl)
 leaves_alike term one other atom Null alike = refl
 
--- a path of atoms that a test takes none of leaves both values or neither, if each such atom says the same of both
+-- if a test holds for no atom of a path, the path leaves both values or neither, provided that each atom for which the
+-- test does not hold says the same about both
 all_alike : (term : Term) (one other : Option Constant) (test : AtomOf → Bool)
     → ((atom : AtomOf) → test atom ≡ false → is_about term atom ≡ true → holds_of atom one ≡ holds_of atom other)
     → (part : Path) → list_any (λ entry. test entry.0) part ≡ false → may_be term part one ≡ may_be term part other
@@ -86,7 +87,7 @@ serves_when range term path number inside left =
     (two_true (int_le number range.greatest) (may_be term path (Some (Number number)))
     (le_test number range.greatest inside.below_greatest) left)
 
--- a number and the one before compare alike with each other number
+-- a number and the number before it compare alike with each other number
 same_side : (op : Op) (before number constant : ℤ) → number ≡ before +ℤ pos 1 → (constant ≡ number → ⊥)
     → (constant ≡ before → ⊥)
     → compare_numbers_of op number constant ≡ compare_numbers_of op before constant
@@ -97,8 +98,8 @@ same_side Le before number constant e above below = grind (arith, ints)
 same_side Gt before number constant e above below = grind (arith, ints)
 same_side Ge before number constant e above below = grind (arith, ints)
 
--- the constants that neither serve nor come before a number that does tell a number that serves from the one before
--- as little as others do
+-- constants that do not serve, and do not come before a number that serves, do not distinguish a number that serves
+-- from the number before it
 numbers_alike : (range : Range) (term : Term) (path : Path) (before number : ℤ) → number ≡ before +ℤ pos 1
     → serves range term path number ≡ true
     → (constants : List Constant) → list_any (gives_number range term path) constants ≡ false
@@ -119,12 +120,12 @@ numbers_alike range term path before number e here (Truth b ∷ constants) none 
 numbers_alike range term path before number e here (Bytes s ∷ constants) none =
     ((λ op. refl), numbers_alike range term path before number e here constants none)
 
--- what is known to be false where another is true
+-- a test that is known to be false if another is true
 under : (p q : Bool) → (p && q) ≡ false → p ≡ true → q ≡ false
 under true q h e = h
 under false q h e = absurd cc
 
--- what leaves a number that is not named, nor comes after one that is, leaves the one before
+-- what leaves a number that is not named, nor comes after a named one, leaves the number before it
 all_before : (range : Range) (term : Term) (path : Path) (before number : ℤ) → number ≡ before +ℤ pos 1
     → serves range term path number ≡ true
     → list_any (λ entry. names_number range term path entry.0) path ≡ false
@@ -136,7 +137,7 @@ all_before range term path before number e here none =
     (under (is_about term atom) (list_any (gives_number range term path) (constants_of atom)) unnamed about)))
     path none
 
--- down from a number that serves, to one that is tried
+-- down from a number that serves to a number that is tried
 descend : (range : Range) (term : Term) (path : Path) (steps : ℕ) (number : ℤ) → number ≡ range.least +ℤ pos steps
     → IsIn range number
     → may_be term path (Some (Number number)) ≡ true → has_number range term path ≡ true
@@ -178,7 +179,7 @@ text_apart term path text named left gone = not_true_false (bytes_eq text named)
     (λ same. let e : text ≡ named = (bytes_eq-Decides text named).0 same in
     clash (may_be term path (Some (Bytes named))) (subst (λ t. may_be term path (Some (Bytes t)) ≡ true) e left) gone)
 
--- a text that isn't the constant compares as any other such text
+-- a text that isn't the constant compares like any other such text
 unnamed_text : (op : Op) (text : List ℕ) (constant : Constant) → compares Eq (Some (Bytes text)) constant ≡ false
     → compares op (Some (Bytes text)) constant ≡ compares op None constant
 unnamed_text Eq text (Number k) apart = refl

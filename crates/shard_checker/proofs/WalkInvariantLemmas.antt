@@ -1,4 +1,4 @@
--- What a walk keeps of the path, as it enters branches and leaves them, and what it tells of owners.
+-- What a walk preserves about the path, as it enters branches and leaves them, and what it says about owners.
 use Rattle.std.proofs.Common.{◌≡◌, ℕ, ◌+◌, ◌<◌, get_or, true, false, not, ◌&&◌, List, [], ◌∷◌, ◌++◌, length, refl, sym, ap, subst, ◌∙◌, arith, length-append}
 use Rattle.std.specs.Prelude.{◌==◌, if◌then◌else◌, Option, Some, None, Result, slice_get, slice_set, map}
 use Rattle.std.specs.Option.{option_map}

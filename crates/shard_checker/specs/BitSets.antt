@@ -11,11 +11,11 @@ has_bit words number = bit_at (slice_index words (number / 64)) (number % 64) ==
 abbrev pub has : BitSet → ℕ → Bool
 has set number = has_bit set.words.items number
 
--- there is a word for the number
+-- a word for the number exists
 abbrev pub HasRoom : BitSet → ℕ → Type 0
 HasRoom set number = number / 64 < length set.words.items
 
--- the number is put into the set if it is to be there
+-- the number is put into the set if `is_there`
 pub record Puts (old new : BitSet) (number : ℕ) (is_there : Bool) : Type 0 where
   pub each : (other : ℕ) → has new other ≡ (has old other || ((other == number) && is_there))
 

@@ -1,6 +1,6 @@
--- Which steps have to be computed again once an atom or a step may be something else: those that it is a part of.
--- Steps are computed again by blocks of eight. Certificates are this project's own, and restate no section of
--- PostgreSQL's documentation.
+-- Which steps must be recomputed when an atom or a step may be something else: those of which it is a part. Steps are
+-- recomputed in blocks of eight. Certificates are specific to this project, and no section of PostgreSQL's
+-- documentation describes them.
 use Rattle.std.specs.Prelude.{◌≡◌, ℕ, ◌/◌, ◌<◌, ◌⊎◌, Bool, true, false, List, [], length, Option, Some, None, Contains, slice_get, slice_index_or}
 use Rattle.std.specs.Global.{Vec}
 use Rattle.filter_tree.specs.declared.mask.Mask.{Mask}
@@ -14,7 +14,7 @@ use Rattle.shard_checker.specs.declared.users.Users.{Users}
 abbrev pub block_of : ℕ → ℕ
 block_of number = number / 8
 
--- ---- the steps that a part has
+-- ---- the steps of which something is a part
 
 abbrev pub blocks_at : Option (Vec ℕ) → List ℕ
 blocks_at None = []
@@ -24,7 +24,7 @@ blocks_at (Some blocks) = blocks.items
 abbrev pub blocks_in : List (Vec ℕ) → ℕ → List ℕ
 blocks_in lists number = blocks_at (slice_get lists number)
 
--- the block is in the list of this number, where there is one
+-- the block is in the list of this number, if there is such a list
 abbrev pub IsListed : List (Vec ℕ) → ℕ → ℕ → Type 0
 IsListed lists number block = number < length lists → Contains (blocks_in lists number) block
 
@@ -65,9 +65,9 @@ pub record ListsParts (old new : Users) (block : ℕ) (step : Step) : Type 0 whe
   pub atoms_sized : length new.of_atoms.items ≡ length old.of_atoms.items
   pub steps_sized : length new.of_steps.items ≡ length old.of_steps.items
 
--- ---- what has to be computed again
+-- ---- what must be recomputed
 
--- whether the block has to be computed again; one past the last always
+-- whether the block must be recomputed; a block past the last one always must
 abbrev pub is_stale : List Bool → ℕ → Bool
 is_stale stale block = slice_index_or stale block true
 
@@ -76,7 +76,8 @@ pub record Marks (old new : List Bool) (blocks : List ℕ) : Type 0 where
   pub marked : (block : ℕ) → Contains blocks block → is_stale new block ≡ true
   pub kept : (block : ℕ) → is_stale old block ≡ true → is_stale new block ≡ true
 
--- each step that is before this number, or in a block that isn't stale, has the set that follows from its parts'
+-- each step that is before this number, or in a block that isn't stale, has the set that follows from the sets of its
+-- parts
 pub record IsSettledBut (count : ℕ) (steps : List Step) (atoms : List Mask) (masks : Masks) : Type 0 where
   pub each : (number : ℕ) (step : Step) → slice_get steps number ≡ Some step
       → (number < count) ⊎ (is_stale masks.stale.items (block_of number) ≡ false)

@@ -13,7 +13,7 @@ use Rattle.shard_checker.specs.declared.bit_sets.BitSet.{BitSet}
 use Rattle.shard_checker.specs.declared.candidate_sets.AtomSets.{AtomSets}
 use Rattle.shard_checker.specs.declared.candidate_sets.CandidateSets.{CandidateSets}
 
--- there is a candidate, and it passes the test
+-- the candidate exists, and it passes the test
 abbrev pub passes : (Candidate → Bool) → Option Candidate → Bool
 passes test None = false
 passes test (Some candidate) = test candidate

@@ -1,7 +1,7 @@
--- How the code tells whether a value is left to a term, which no public contract speaks of: it tries the least number
--- of the term's range, the numbers that atoms name and those after them, the texts that atoms name and one that none
--- does, and null. `Emptiness` defines what it tells. Certificates are this project's own, and restate no section of
--- PostgreSQL's documentation.
+-- How the program determines whether a value is left for a term, about which no public contract says anything: it tries
+-- the least number of the term's range, the numbers that atoms name and those after them, the texts that atoms name and
+-- one that none does, and null. `Emptiness` defines what it determines. Certificates are specific to this project, and
+-- no section of PostgreSQL's documentation describes them.
 use Rattle.std.specs.Prelude.{ℤ, pos, ◌+ℤ◌, int_le, Bool, true, false, not, ◌&&◌, ◌||◌, List, [], ◌∷◌, ◌++◌, map, flat_map, if◌then◌else◌, Option, Some, None}
 use Rattle.std.specs.List.{list_any, list_all}
 use Rattle.std.specs.Option.{option_map}
@@ -21,7 +21,7 @@ use Rattle.shard_checker.specs.declared.candidates.Tried.{Tried}
 use Rattle.shard_checker.specs.declared.candidates.Tried.TheVariants as t
 use Rattle.shard_checker.specs.declared.domain.Range.{Range}
 
--- the number is in the range, and left to the term
+-- the number is in the range, and left for the term
 abbrev pub serves : Range → Term → Path → ℤ → Bool
 serves range term path number =
     int_le range.least number && (int_le number range.greatest && may_be term path (Some (Number number)))
@@ -43,7 +43,7 @@ abbrev pub gives_number : Range → Term → Path → Constant → Bool
 gives_number range term path (Number number) = serves_nearby range term path number
 gives_number range term path constant = false
 
--- a number that the atom names for the term serves, or the one after it
+-- a number that the atom names for the term serves, or the next one does
 abbrev pub names_number : Range → Term → Path → AtomOf → Bool
 names_number range term path atom = is_about term atom && list_any (gives_number range term path) (constants_of atom)
 
@@ -59,15 +59,15 @@ abbrev pub is_text : Constant → Bool
 is_text (Bytes text) = true
 is_text constant = false
 
--- the constant is a text that is left to the term
+-- the constant is a text that is left for the term
 abbrev pub gives_text : Term → Path → Constant → Bool
 gives_text term path constant = is_text constant && may_be term path (Some constant)
 
--- a text that the atom names for the term is left to it
+-- a text that the atom names for the term is left for it
 abbrev pub names_text : Term → Path → AtomOf → Bool
 names_text term path atom = is_about term atom && list_any (gives_text term path) (constants_of atom)
 
--- an atom of part of the path names a text that is left to the term
+-- an atom of part of the path names a text that is left for the term
 abbrev pub has_named_text : Term → Path → Path → Bool
 has_named_text term path part = list_any (λ entry. names_text term path entry.0) part
 
@@ -82,7 +82,7 @@ has_value BigInt term path = has_number (range_of BigInt term) term path
 has_value Boolean term path = may_be term path (Some (Truth true)) || may_be term path (Some (Truth false))
 has_value Text term path = has_text term path
 
--- no value is left: the column isn't null, and would have to be, or none of the values that are tried is left
+-- no value is left: the column isn't null, and would have to be, or none of the tried values is left
 abbrev pub is_empty : List Column → Term → Path → Bool
 is_empty columns term path =
     is_present columns (column_of term) path
@@ -90,7 +90,8 @@ is_empty columns term path =
 
 -- ---- the candidates of a table
 
--- a value that a term may have: none is null, and a value that is none a text that differs from each constant
+-- a value that a term may have: `None` is null, and a value that is `Some None` is a text that differs from each
+-- constant
 pub record Candidate : Type 0 where
   pub term : Term
   pub value : Option (Option Constant)
@@ -108,11 +109,11 @@ number_in range term number =
     if int_le range.least number && int_le number range.greatest
     then constant_candidate term (Number number) ∷ [] else []
 
--- the number and the next one, where they are in the range
+-- the number and the next one, if they are in the range
 abbrev pub numbers_nearby : Range → Term → ℤ → List Candidate
 numbers_nearby range term number = number_in range term number ++ number_in range term (number +ℤ pos 1)
 
--- what is tried of a term, whose column has this type, where an atom names the constant
+-- what is tried for a term if an atom names the constant; the term's column has this type
 abbrev pub named_by : ColType → Term → Constant → List Candidate
 named_by SmallInt term (Number number) = numbers_nearby (range_of SmallInt term) term number
 named_by Integer term (Number number) = numbers_nearby (range_of Integer term) term number
@@ -120,11 +121,11 @@ named_by BigInt term (Number number) = numbers_nearby (range_of BigInt term) ter
 named_by Text term (Bytes text) = constant_candidate term (Bytes text) ∷ []
 named_by kind term constant = []
 
--- what is tried of the term because of the atom
+-- what is tried for the term because of the atom
 abbrev pub named_in : ColType → Term → AtomOf → List Candidate
 named_in kind term atom = if is_about term atom then flat_map (named_by kind term) (constants_of atom) else []
 
--- what is tried of the term whatever atoms there are
+-- what is tried for the term whatever atoms there are
 abbrev pub first_of : ColType → Term → List Candidate
 first_of SmallInt term = number_in (range_of SmallInt term) term (range_of SmallInt term).least
 first_of Integer term = number_in (range_of Integer term) term (range_of Integer term).least
@@ -136,24 +137,24 @@ first_of Text term = candidate term (Some None) ∷ []
 abbrev pub null_of : List Column → Term → List Candidate
 null_of columns term = if is_declared columns (column_of term) then [] else candidate term None ∷ []
 
--- what is tried of the term
+-- what is tried for the term
 abbrev pub candidates_of : List Column → List AtomOf → Term → List Candidate
 candidates_of columns atoms term =
     null_of columns term
     ++ (first_of (kind_at columns (column_of term)) term
     ++ flat_map (named_in (kind_at columns (column_of term)) term) atoms)
 
--- what is tried of the terms
+-- what is tried for the terms
 abbrev pub candidates_in : List Column → List AtomOf → List Term → List Candidate
 candidates_in columns atoms terms = flat_map (candidates_of columns atoms) terms
 
 -- ---- which candidates remain
 
--- the atom with this value leaves null to the term
+-- the atom with this value leaves null for the term
 abbrev pub leaves_null : Term → AtomOf → Tri → Bool
 leaves_null term atom found = not (says_present (column_of term) atom found)
 
--- the atom with this value leaves the value to the term
+-- the atom with this value leaves the value for the term
 abbrev pub leaves_value : Term → Option Constant → AtomOf → Tri → Bool
 leaves_value term value atom found = not (says_null (column_of term) atom found) && leaves term value atom found
 
@@ -165,11 +166,11 @@ leaves_to term (Some value) atom found = leaves_value term value atom found
 abbrev pub leaves_candidate : Candidate → AtomOf → Tri → Bool
 leaves_candidate candidate atom found = leaves_to candidate.term candidate.value atom found
 
--- all that was found does
+-- all that was found leaves the candidate
 abbrev pub remains : Path → Candidate → Bool
 remains path candidate = list_all (λ entry. leaves_candidate candidate entry.0 entry.1) path
 
--- ---- the code's candidates
+-- ---- the program's candidates
 
 abbrev pub tried_view : Tried → Option Constant
 tried_view (t.Int number) = Some (Number number)

@@ -1,7 +1,7 @@
--- Why a sharding is refused, of several reasons the first: a publication that is taken and doesn't publish an
--- operation, a table whose replica identity doesn't tell its rows apart, a publication that is taken and has a filter
--- that names a column outside the replica identity, too few or too many certificates, and then the certificates,
--- table by table. PostgreSQL 15, "Logical Replication", 31.1 Publication.
+-- The first reason why a sharding is refused: a subscribed publication that does not publish an operation, a table
+-- whose replica identity does not distinguish its rows, a subscribed publication with a filter that names a column
+-- outside the replica identity, too few or too many certificates, and then the certificates, table by table. PostgreSQL
+-- 15, "Logical Replication", 31.1 Publication.
 use Rattle.std.specs.Prelude.{ℕ, ◌+◌, ◌==◌, if◌then◌else◌, List, [], ◌∷◌, length, Option, Some, None, slice_get}
 use Rattle.filter_tree.specs.Expr.{Expr}
 use Rattle.filter_tree.specs.Lists.{distinct_columns}
@@ -40,7 +40,7 @@ abbrev pub publication_refusal : List Subscription → ℕ → Operations → Op
 publication_refusal subscriptions number publishes = if is_taken subscriptions number then
     missing_by number (missing_operation publishes) else None
 
--- of the publications that begin at this number
+-- the refusal of publications, the first of which has this number
 abbrev pub publishing_refusal : List Subscription → ℕ → List (PublicationOf Expr) → Option CheckError
 publishing_refusal subscriptions number [] = None
 publishing_refusal subscriptions number (publication ∷ publications) =
@@ -52,7 +52,7 @@ publishing_refusal subscriptions number (publication ∷ publications) =
 abbrev pub table_refusal : ℕ → Table → Option CheckError
 table_refusal number table = if tells_rows_apart table then None else Some (NoIdentity number)
 
--- of the tables that begin at this number
+-- the refusal of tables, the first of which has this number
 abbrev pub identity_refusal : ℕ → List Table → Option CheckError
 identity_refusal number [] = None
 identity_refusal number (table ∷ tables) = first_of (table_refusal number table) (identity_refusal (number + 1) tables)
@@ -71,7 +71,7 @@ filter_refusal publication number table None = None
 filter_refusal publication number table (Some filter) =
     column_refusal publication number table (distinct_columns filter)
 
--- of the table of this number; the entries of a catalog are for tables that are there
+-- for the table of this number; the entries of a catalog are for tables that exist
 abbrev pub carried_refusal : ℕ → ℕ → Option Table → Option Expr → Option CheckError
 carried_refusal publication number None filter = None
 carried_refusal publication number (Some table) filter = filter_refusal publication number table filter
@@ -89,27 +89,27 @@ abbrev pub taken_refusal : List Table → List Subscription → ℕ → List (En
 taken_refusal tables subscriptions number entries = if is_taken subscriptions number then
     entries_refusal tables number entries else None
 
--- of the publications that begin at this number
+-- the refusal of publications, the first of which has this number
 abbrev pub covering_refusal : List Table → List Subscription → ℕ → List (PublicationOf Expr) → Option CheckError
 covering_refusal tables subscriptions number [] = None
 covering_refusal tables subscriptions number (publication ∷ publications) =
     first_of (taken_refusal tables subscriptions number publication.entries)
     (covering_refusal tables subscriptions (number + 1) publications)
 
--- ---- certificates, where a test tells which terms have no value
+-- ---- certificates; a test determines which terms have no value
 
--- the shares of a table that subscribers take, who begin at this number
+-- the shares of a table that subscribers get; the first subscriber has this number
 abbrev pub table_shares : PlanOf → ℕ → ℕ → List Subscription → List ShareOf
 table_shares plan table number [] = []
 table_shares plan table number (subscription ∷ subscriptions) =
     share_at plan number table ∷ table_shares plan table (number + 1) subscriptions
 
--- of the certificate of the table of this number
+-- the refusal of the certificate of the table of this number
 abbrev pub certificate_refusal : Test → PlanOf → List Subscription → ℕ → Table → Tree → Option CheckError
 certificate_refusal is_empty plan subscriptions number table tree =
     first_refusal is_empty number table (table_shares plan number 0 subscriptions) tree
 
--- of the certificates of the tables that begin at this number
+-- the refusal of the certificates of tables, the first of which has this number
 abbrev pub certificates_refusal : Test → PlanOf → List Subscription → ℕ → List Table → List Tree → Option CheckError
 certificates_refusal is_empty plan subscriptions number (table ∷ tables) (tree ∷ trees) =
     first_of (certificate_refusal is_empty plan subscriptions number table tree)
@@ -121,7 +121,7 @@ count_refusal tables certificates = if certificates == tables then None else Som
 
 -- ---- the first reason
 
--- of those that are told without a look at a filter or a certificate
+-- the reasons that are found without looking at a filter or a certificate
 abbrev pub declared_refusal : CatalogOf Expr → Option CheckError
 declared_refusal catalog =
     first_of (publishing_refusal catalog.subscriptions 0 catalog.publications) (identity_refusal 0 catalog.tables)

@@ -1,4 +1,4 @@
--- What the first refusal of a sharding says of the publication, the table, the column or the certificate that it
+-- What the first refusal of a sharding says about the publication, the table, the column or the certificate that it
 -- names: PostgreSQL 15, "Logical Replication", 31.1 Publication.
 use Rattle.std.specs.Prelude.{◌≡◌, ◌≢◌, ℕ, ◌<◌, Bool, true, false, List, length, Contains, Some, slice_get}
 use Rattle.filter_tree.specs.Expr.{Expr}
@@ -23,21 +23,21 @@ has_operation publishes Update = publishes.update
 has_operation publishes Delete = publishes.delete
 has_operation publishes Truncate = publishes.truncate
 
--- the publication of this number is taken, and doesn't publish the operation
+-- a subscription names the publication of this number, and it does not publish the operation
 pub record DoesNotPublish (catalog : CatalogOf Expr) (number : ℕ) (operation : Operation) : Type 0 where
   pub publication : PublicationOf Expr
   pub there : slice_get catalog.publications number ≡ Some publication
   pub taken : is_taken catalog.subscriptions number ≡ true
   pub missing : has_operation publication.publishes operation ≡ false
 
--- the replica identity of the table of this number doesn't tell its rows apart
+-- the replica identity of the table of this number does not distinguish its rows
 pub record TellsNoRows (catalog : CatalogOf Expr) (number : ℕ) : Type 0 where
   pub table : Table
   pub there : slice_get catalog.tables number ≡ Some table
   pub untold : tells_rows_apart table ≡ false
 
--- the filter of an entry for the table of this number, which is there, names a column of it, and the table's replica
--- identity lacks that
+-- the filter of an entry for the table of this number, which exists, names a column of it that the table's replica
+-- identity lacks
 pub record NamesUncovered (tables : List Table) (entry : EntryOf Expr) (number column : ℕ) : Type 0 where
   pub of_table : entry.table ≡ number
   pub table : Table
@@ -48,7 +48,7 @@ pub record NamesUncovered (tables : List Table) (entry : EntryOf Expr) (number c
   pub within : column < length table.columns
   pub lacks : is_covered table column ≡ false
 
--- the publication of this number is taken, and has such an entry
+-- a subscription names the publication of this number, and it has such an entry
 pub record HasUncovered (catalog : CatalogOf Expr) (number table column : ℕ) : Type 0 where
   pub publication : PublicationOf Expr
   pub there : slice_get catalog.publications number ≡ Some publication
@@ -57,7 +57,7 @@ pub record HasUncovered (catalog : CatalogOf Expr) (number table column : ℕ) :
   pub has_entry : Contains publication.entries entry
   pub uncovered : NamesUncovered catalog.tables entry table column
 
--- the error says something of the certificate of the table of this number that is so
+-- what the error says about the certificate of the table of this number is true
 pub record HasWrongCertificate (catalog : CatalogOf Expr) (plan : PlanOf) (trees : List Tree) (number : ℕ)
     (error : CheckError) : Type 0 where
   pub table : Table
@@ -66,7 +66,7 @@ pub record HasWrongCertificate (catalog : CatalogOf Expr) (plan : PlanOf) (trees
   pub given : slice_get trees number ≡ Some tree
   pub wrong : CertificateIsWrong number table (table_shares plan number 0 catalog.subscriptions) tree error
 
--- what the error says of what it names is so
+-- what the error says about what it names is true
 abbrev pub ShardingIsWrong : CatalogOf Expr → PlanOf → List Tree → CheckError → Type 0
 ShardingIsWrong catalog plan trees (PublishMissing publication operation) = DoesNotPublish catalog publication operation
 ShardingIsWrong catalog plan trees (NoIdentity table) = TellsNoRows catalog table

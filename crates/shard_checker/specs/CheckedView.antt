@@ -1,4 +1,4 @@
--- A checked catalog of the code as plain data: a catalog and its plan, whose sharding is known to be sound.
+-- A checked catalog of the program as plain data: a catalog and its plan, whose sharding is known to be sound.
 use Rattle.filter_tree.specs.Expr.{Expr}
 use Rattle.pub_catalog.specs.CatalogView.{catalog_view}
 use Rattle.pub_catalog.specs.Catalogs.{CatalogOf}
@@ -19,6 +19,6 @@ checked_of catalog plan = record { catalog = catalog_view catalog; plan = plan_v
 abbrev pub checked_view : Checked → CheckedOf
 checked_view checked = checked_of checked.catalog checked.plan
 
--- the setting of changes of its tables
+-- the setting for changes of its tables
 abbrev pub setting_in : CheckedOf → Setting
 setting_in checked = setting_of checked.catalog checked.plan

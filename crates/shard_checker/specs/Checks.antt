@@ -1,5 +1,5 @@
--- What a check answers: nothing where there is no reason to refuse, and else the first reason. Certificates are this
--- project's own, and restate no section of PostgreSQL's documentation.
+-- What a check returns: no error if there is no reason to refuse, and otherwise the first reason. Certificates are
+-- specific to this project, and no section of PostgreSQL's documentation describes them.
 use Rattle.std.specs.Prelude.{◌≡◌, ◌≢◌, Option, Some, None, Result, Ok, Err, IfErr}
 use Rattle.shard_checker.specs.declared.error.CheckError.{CheckError}
 use Rattle.shard_checker.specs.declared.error.CheckError.TheVariants.{OutOfMemory}
@@ -9,11 +9,11 @@ abbrev pub Finds : {A : Type 0} → Option CheckError → Result A CheckError �
 Finds refusal (Ok value) = refusal ≡ None
 Finds refusal (Err error) = refusal ≡ Some error
 
--- the result is the refusal, or want of memory, which may come in place of any other
+-- the result is the refusal, or out of memory, which may come in place of any other result
 abbrev pub Checks : {A : Type 0} → Option CheckError → Result A CheckError → Type 0
 Checks refusal (Ok value) = refusal ≡ None
 Checks refusal (Err error) = error ≢ OutOfMemory → refusal ≡ Some error
 
--- a fact about the refusal, where there is one
+-- a fact about the refusal, if there is one
 abbrev pub IfRefused : {A : Type 0} → Result A CheckError → (CheckError → Type 0) → Type 0
 IfRefused result Fact = IfErr result (λ error. error ≢ OutOfMemory → Fact error)

@@ -30,7 +30,7 @@ greatest_remainder (negsuc n) = pos n
 abbrev pub whole_range : ColType → Range
 whole_range kind = record { least = least_of kind; greatest = greatest_of kind }
 
--- the numbers of the type that are at most so far from 0
+-- the numbers of the type that are at most `far` from 0
 abbrev pub range_within : ColType → ℤ → Range
 range_within kind far =
     record { least = int_max (least_of kind) (neg_ℤ far); greatest = int_min (greatest_of kind) far }
@@ -45,7 +45,7 @@ pub record IsIn (range : Range) (number : ℤ) : Type 0 where
   pub above_least : range.least ≤ℤ number
   pub below_greatest : number ≤ℤ range.greatest
 
--- the constant is a value of the term of a column of this type
+-- the constant is a value of the term; the term's column has this type
 abbrev pub IsInDomain : ColType → Term → Constant → Type 0
 IsInDomain SmallInt term (Number number) = IsIn (range_of SmallInt term) number
 IsInDomain Integer term (Number number) = IsIn (range_of Integer term) number

@@ -1,6 +1,5 @@
--- When a term has no value left at the end of a path, so that no row is there: "9.2 Comparison Functions and
--- Operators", by which a comparison is null where its column is, and only there, and `IS DISTINCT FROM` is never
--- null.
+-- When a term has no value left at the end of a path, so that there is no row there: "9.2 Comparison Functions and
+-- Operators". A comparison is null if its column is null, and only then, and `IS DISTINCT FROM` is never null.
 use Rattle.std.specs.Prelude.{◌≡◌, Bool, true, false, ◌↔◌, List, Some}
 use Rattle.filter_tree.specs.Datum.{Constant, Datum, Missing, Known}
 use Rattle.filter_tree.specs.Lists.{column_of}
@@ -10,35 +9,35 @@ use Rattle.filter_tree.specs.declared.table.Column.{Column}
 use Rattle.shard_checker.specs.Domain.{kind_at, IsInDomain}
 use Rattle.shard_checker.specs.Facts.{is_null, is_present, may_be}
 
--- the constant is left to the term: it is of the term's domain, nothing says that the column is null, and each test
--- of the term that was found true or false is so of it
+-- the constant is left for the term: it is in the term's domain, nothing says that the column is null, and each test of
+-- the term that was found true or false is so for it
 pub record IsConstantLeft (columns : List Column) (term : Term) (path : Path) (constant : Constant) : Type 0 where
   pub in_domain : IsInDomain (kind_at columns (column_of term)) term constant
   pub may_be_known : is_null (column_of term) path ≡ false
   pub agrees : may_be term path (Some constant) ≡ true
 
--- the value is left to the term; null is where nothing says that the column isn't null
+-- the value is left for the term; null is left if nothing says that the column is not null
 abbrev pub IsLeft : List Column → Term → Path → Datum → Type 0
 IsLeft columns term path Missing = is_present columns (column_of term) path ≡ false
 IsLeft columns term path (Known constant) = IsConstantLeft columns term path constant
 
--- some value is left to the term
+-- some value is left for the term
 pub record HasValue (columns : List Column) (term : Term) (path : Path) : Type 0 where
   pub value : Datum
   pub left : IsLeft columns term path value
 
--- a test of a term at the end of a path, for which columns
+-- a test for a term at the end of a path, for a table with these columns
 abbrev pub Test : Type 0
 Test = List Column → Term → Path → Bool
 
--- the test holds exactly of the terms that have no value left
+-- the test holds exactly for the terms that have no value left
 pub record IsEmptiness (test : Test) : Type 0 where
   pub empty : (columns : List Column) (term : Term) (path : Path) → (test columns term path ≡ true)
       ↔ (HasValue columns term path → ⊥)
   pub others : (columns : List Column) (term : Term) (path : Path) → (test columns term path ≡ false)
       ↔ HasValue columns term path
 
--- there is such a test
+-- such a test exists
 pub record CanBeTold : Type 0 where
   pub test : Test
   pub tells : IsEmptiness test

@@ -1,4 +1,5 @@
--- What a path says of each atom of a table: the value that it has first on the path, and else any that it may have.
+-- What a path says about each atom of a table: the value that it has first on the path, or otherwise any value that it
+-- may have.
 use Rattle.std.specs.Prelude.{◌≡◌, ℕ, ◌==◌, Bool, false, ◌&&◌, if◌then◌else◌, List, [], ◌∷◌, ◌++◌, map, Option, Some, slice_get, slice_set}
 use Rattle.std.specs.List.{list_any}
 use Rattle.filter_tree.specs.Expr.{AtomOf}
@@ -12,7 +13,7 @@ use Rattle.shard_checker.specs.declared.known.Before.{Before}
 use Rattle.shard_checker.specs.declared.known.Known.{Known}
 use Rattle.shard_checker.specs.Steps.{mask_in}
 
--- the atoms are told from one another
+-- the atoms are distinct
 abbrev pub Differ : List AtomOf → Type 0
 Differ [] = Unit {0}
 Differ (atom ∷ atoms) = (list_any (same_atom atom) atoms ≡ false) × Differ atoms
@@ -24,14 +25,14 @@ atom_mask path atom = known_or_open (first_value atom path) atom
 abbrev pub atom_masks : List AtomOf → Path → List Mask
 atom_masks atoms path = map (atom_mask path) atoms
 
--- what an atom may be once it was found to have the value: the value, unless it had one before
+-- what an atom may be after it was found to have the value: the value, unless it had one before
 abbrev pub met : Mask → Tri → Mask
 met mask value = if mask.truth && mask.falsity then single_of value else mask
 
 abbrev pub before_of : ℕ → Mask → Before
 before_of number mask = record { number = number; mask = mask }
 
--- for each entry of a path after another, the number of its atom and what that might be before it
+-- for each entry of a path, one after another, the number of its atom and what that atom might be before the entry
 abbrev pub AreBefore : List AtomOf → Path → List Before → Path → Type 0
 AreBefore atoms done [] [] = Unit {0}
 AreBefore atoms done (before ∷ befores) (entry ∷ path) =
@@ -54,7 +55,7 @@ pub record Learns (old new : Known) (number : ℕ) (value : Tri) : Type 0 where
   pub masks : new.atoms.items ≡ slice_set old.atoms.items number (met (mask_in old.atoms.items number) value)
   pub befores : new.befores.items ≡ old.befores.items ++ before_of number (mask_in old.atoms.items number) ∷ []
 
--- what was found last is taken back
+-- what was found last is undone
 pub record TakesBack (old new : Known) (before : Before) : Type 0 where
   pub masks : new.atoms.items ≡ slice_set old.atoms.items before.number before.mask
   pub befores : old.befores.items ≡ new.befores.items ++ before ∷ []

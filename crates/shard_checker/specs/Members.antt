@@ -25,7 +25,7 @@ pub record Adds (old new : Members) (constant : Constant) : Type 0 where
 pub record AreMembers (constants : List Constant) (members : Members) : Type 0 where
   pub each : (value : Option Constant) → has members value ≡ list_any (compares Eq value) constants
 
--- they are those of the list, if the atom has one
+-- the members are those of the atom's list, if it has one
 abbrev pub AreMembersOf : AtomOf → Members → Type 0
 AreMembersOf (Cmp term op constant) members = Unit {0}
 AreMembersOf (IsNull column) members = Unit {0}

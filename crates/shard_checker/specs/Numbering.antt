@@ -1,5 +1,6 @@
--- How the certificates of a table number its atoms and terms: from 0, in the order in which the filters of the shares
--- have them first. Certificates are this project's own, and restate no section of PostgreSQL's documentation.
+-- How the certificates of a table number its atoms and terms: from 0, in the order in which they first appear in the
+-- filters of the shares. Certificates are specific to this project, and no section of PostgreSQL's documentation
+-- describes them.
 use Rattle.std.specs.Prelude.{List, [], flat_map}
 use Rattle.filter_tree.specs.Expr.{AtomOf}
 use Rattle.filter_tree.specs.Lists.{distinct, distinct_atoms, distinct_terms}
@@ -21,6 +22,6 @@ share_terms Nothing = []
 share_terms Everything = []
 share_terms (Where filter) = distinct_terms filter
 
--- share by share, each term where it first appears; `IS NULL` of a column is an appearance of the column
+-- share by share, each term where it first appears; `IS NULL` of a column counts as an appearance of the column
 abbrev pub numbered_terms : List ShareOf → List Term
 numbered_terms shares = distinct same_term (flat_map share_terms shares)

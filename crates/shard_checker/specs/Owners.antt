@@ -1,4 +1,4 @@
--- What it is for a row to have one owner among the shares of a table, and what a path tells of a share: PostgreSQL
+-- What it means that a row has one owner among the shares of a table, and what a path says about a share: PostgreSQL
 -- 15, "Logical Replication", 31.3 Row Filters.
 use Rattle.std.specs.Prelude.{◌≡◌, ℕ, ◌+◌, ◌==◌, Bool, true, false, not, ◌&&◌, if◌then◌else◌, List, [], ◌∷◌, map, Option, Some, None, slice_index_or}
 use Rattle.std.specs.Borrow.{Bor}
@@ -12,7 +12,7 @@ use Rattle.replica_identity.specs.declared.share.Share.{Share}
 abbrev pub shares_view : {A : _} → List (Bor (Share A)) → List ShareOf
 shares_view shares = map (λ share. share_view share.now) shares
 
--- the share of this number; of others nothing
+-- the share of this number; nothing for others
 abbrev pub share_in : List ShareOf → ℕ → ShareOf
 share_in shares number = slice_index_or shares number Nothing
 
@@ -38,11 +38,11 @@ may_take Nothing path = false
 may_take Everything path = true
 may_take (Where filter) path = (possible_of filter path).truth
 
--- the share of this number is another than the owner's, and may take a row
+-- the share of this number is not the owner's, and may take a row
 abbrev pub is_second : ℕ → ℕ → ShareOf → Path → Bool
 is_second owner number share path = not (number == owner) && may_take share path
 
--- the least number of such a share, where the first share has this number
+-- the least number of such a share; the first share has this number
 abbrev pub second_owner : ℕ → ℕ → List ShareOf → Path → Option ℕ
 second_owner owner number [] path = None
 second_owner owner number (share ∷ shares) path =

@@ -1,5 +1,5 @@
--- The first node, in the order in which a certificate is written, at which it says something that isn't so.
--- Certificates are this project's own, and restate no section of PostgreSQL's documentation.
+-- The first node, in the order in which a certificate is written, at which it says something that is not true.
+-- Certificates are specific to this project, and no section of PostgreSQL's documentation describes them.
 use Rattle.std.specs.Prelude.{ℕ, ◌+◌, ◌-◌, ◌^◌, min, if◌then◌else◌, List, [], ◌∷◌, ◌++◌, Option, Some, None, slice_get}
 use Rattle.filter_tree.specs.Datum.{Datum}
 use Rattle.filter_tree.specs.Expr.{AtomOf}
@@ -20,7 +20,7 @@ use Rattle.shard_checker.specs.declared.error.CheckError.TheVariants.{BadIndex, 
 use Rattle.filter_tree.specs.Shape.{atoms_view}
 use Rattle.shard_checker.specs.declared.subject.Subject as d
 
--- what a certificate speaks of: a table, by its number, its columns, the share of each subscriber, and the atoms and
+-- what a certificate is about: a table, by its number, its columns, the share of each subscriber, and the atoms and
 -- terms that the certificate names by their numbers
 pub record Subject : Type 0 where
   pub table : ℕ
@@ -36,7 +36,7 @@ numbered_subject table columns shares atoms terms =
 abbrev pub subject_of : ℕ → List Column → List ShareOf → Subject
 subject_of table columns shares = numbered_subject table columns shares (numbered_atoms shares) (numbered_terms shares)
 
--- a subject of the code
+-- a subject of the program
 abbrev pub subject_view : {A : _} → d.Subject A → Subject
 subject_view subject =
     record {
@@ -48,7 +48,7 @@ subject_view subject =
       terms = subject.terms.now;
     }
 
--- the number of a node that comes so many nodes later; the numbers end at the greatest of 64 bits, which all later
+-- the number of a node that comes `count` nodes later; numbers stop at the greatest number of 64 bits, which all later
 -- nodes have
 abbrev pub later : ℕ → ℕ → ℕ
 later node count = min (node + count) (2 ^ 64 - 1)
@@ -69,7 +69,7 @@ owner_refusal subject path node owner None = Some (BadIndex subject.table node)
 owner_refusal subject path node owner (Some share) =
     if must_take share path then others_refusal subject path node owner else Some (NotOwner subject.table node)
 
--- no value is left to the term, as a test tells
+-- no value is left for the term, as a test determines
 abbrev pub empty_refusal : Test → Subject → Path → ℕ → Option Term → Option CheckError
 empty_refusal is_empty subject path node None = Some (BadIndex subject.table node)
 empty_refusal is_empty subject path node (Some term) = if is_empty subject.columns term path then
@@ -86,7 +86,7 @@ abbrev pub first_of : Option CheckError → Option CheckError → Option CheckEr
 first_of None next = next
 first_of (Some error) next = Some error
 
--- the refusal of a split, from those of its branches, each with the path that it has by the value of the atom
+-- the refusal of a split, from those of its branches, each with its path by the value of the atom
 abbrev pub split_refusal : Subject → Path → ℕ → Option AtomOf → (Path → Option CheckError)
     → (Path → Option CheckError) → (Path → Option CheckError) → Option CheckError
 split_refusal subject path node None if_true if_false if_null = Some (BadIndex subject.table node)
@@ -94,7 +94,7 @@ split_refusal subject path node (Some atom) if_true if_false if_null =
     first_of (if_true (path ++ (atom, True) ∷ []))
     (first_of (if_false (path ++ (atom, False) ∷ [])) (if_null (path ++ (atom, Null) ∷ [])))
 
--- the first refusal in a tree at the end of a path, whose first node has this number, where a test tells which terms
+-- the first refusal in a tree at the end of a path; its first node has this number, and a test determines which terms
 -- have no value
 abbrev pub refusal : Test → Subject → Tree → Path → ℕ → Option CheckError
 refusal is_empty subject (Split index if_true if_false if_null) path node =

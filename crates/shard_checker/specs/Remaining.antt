@@ -9,7 +9,7 @@ use Rattle.shard_checker.specs.declared.bit_sets.BitSet.{BitSet}
 use Rattle.shard_checker.specs.declared.candidate_sets.AtomSets.{AtomSets}
 use Rattle.shard_checker.specs.declared.remaining.Remaining.{Remaining}
 
--- all of so many candidates remain
+-- the first `count` candidates remain
 pub record IsAll (count : ℕ) (remaining : Remaining) : Type 0 where
   pub each : (place : ℕ) → has remaining.places place ≡ nat_lt place count
   pub befores : remaining.befores.items ≡ []
@@ -24,7 +24,7 @@ pub record Restores (old new : Remaining) : Type 0 where
   pub each : (befores : List BitSet) (before : BitSet) → old.befores.items ≡ befores ++ before ∷ []
       → (new.places ≡ before) × (new.befores.items ≡ befores)
 
--- for each entry of a path after another, what remained before it
+-- for each entry of a path, one after another, what remained before it
 abbrev pub AreBefore : List Candidate → Path → List BitSet → Path → Type 0
 AreBefore candidates done [] [] = Unit {0}
 AreBefore candidates done (before ∷ befores) (entry ∷ path) =

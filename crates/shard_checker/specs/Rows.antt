@@ -1,5 +1,5 @@
--- Which rows may be in a table: as wide as it, with a null only where the column takes one and otherwise a value of
--- the column's type. A text may be of any length, also longer than those that are read. "8.1 Numeric Types" and "5.4
+-- Which rows may be in a table: as wide as it, with a null only if the column accepts null and otherwise a value of the
+-- column's type. A text may be of any length, even longer than texts that are read. "8.1 Numeric Types" and "5.4
 -- Constraints".
 use Rattle.std.specs.Prelude.{◌≡◌, ℕ, false, List, length, IfSome, slice_get}
 use Rattle.filter_tree.specs.Datum.{Constant, Number, Truth, Bytes, Datum, Missing, Known, value_at}

@@ -15,7 +15,7 @@ use Rattle.shard_checker.specs.declared.steps.Step.TheVariants.{Const, Atom, Not
 
 -- ---- filters
 
--- the filter has none but these atoms
+-- the filter has no atoms but these
 abbrev pub names_only : List AtomOf → Expr → Bool
 names_only atoms (e.Const known) = true
 names_only atoms (e.Atom atom) = list_any (same_atom atom) atoms
@@ -58,17 +58,17 @@ PartsBefore number (Is test part) = part < number
 pub record IsOrdered (steps : List Step) : Type 0 where
   pub each : (number : ℕ) (step : Step) → slice_get steps number ≡ Some step → PartsBefore number step
 
--- the steps are there with the same numbers among more
+-- the steps exist with the same numbers among more steps
 pub record Extends (old new : List Step) : Type 0 where
   pub each : (number : ℕ) (step : Step) → slice_get old number ≡ Some step → slice_get new number ≡ Some step
 
--- the step is put among others, or there already
+-- the step is added to the others, or exists already
 pub record Adds (old new : List Step) (number : ℕ) (step : Step) : Type 0 where
   pub there : slice_get new number ≡ Some step
   pub extends : Extends old new
   pub ordered : IsOrdered old → PartsBefore (length old) step → IsOrdered new
 
--- the filter is put among others
+-- the filter is added to the others
 pub record Compiles (atoms : List AtomOf) (old new : List Step) (number : ℕ) (filter : Expr) : Type 0 where
   pub there : IsFilter atoms new number filter
   pub extends : Extends old new
@@ -76,7 +76,7 @@ pub record Compiles (atoms : List AtomOf) (old new : List Step) (number : ℕ) (
 
 -- ---- sets of truth values
 
--- the set at a number; past the end none
+-- the set at a number; empty past the end
 abbrev pub mask_in : List Mask → ℕ → Mask
 mask_in masks number = slice_index_or masks number (mask_where (λ value. false))
 
@@ -89,7 +89,7 @@ step_mask atoms masks (And left right) = lift_two and_of (mask_in masks left) (m
 step_mask atoms masks (Or left right) = lift_two or_of (mask_in masks left) (mask_in masks right)
 step_mask atoms masks (Is test part) = lift_one (is_of test) (mask_in masks part)
 
--- each step has the set that follows from its parts'
+-- each step has the set that follows from the sets of its parts
 pub record IsSettled (steps : List Step) (atoms masks : List Mask) : Type 0 where
   pub each : (number : ℕ) (step : Step) → slice_get steps number ≡ Some step
       → mask_in masks number ≡ step_mask atoms masks step
@@ -102,7 +102,7 @@ filter_of Nothing = e.Const false
 filter_of Everything = e.Const true
 filter_of (Where filter) = filter
 
--- the filters of the shares have none but these atoms
+-- the filters of the shares have no atoms but these
 abbrev pub all_name_only : List AtomOf → List ShareOf → Bool
 all_name_only atoms [] = true
 all_name_only atoms (share ∷ shares) = names_only atoms (filter_of share) && all_name_only atoms shares

@@ -1,5 +1,5 @@
--- What the first refusal in a certificate says of the node that it names. Certificates are this project's own, and
--- restate no section of PostgreSQL's documentation.
+-- What the first refusal in a certificate says about the node that it names. Certificates are specific to this project,
+-- and no section of PostgreSQL's documentation describes them.
 use Rattle.std.specs.Prelude.{◌≡◌, ◌≢◌, ℕ, ◌<◌, true, false, ◌⊎◌, List, [], ◌∷◌, ◌++◌, Option, Some, None, slice_get}
 use Rattle.filter_tree.specs.Expr.{AtomOf}
 use Rattle.filter_tree.specs.Paths.{Path}
@@ -15,14 +15,14 @@ use Rattle.shard_checker.specs.Refusal.{Subject, subject_of, later}
 use Rattle.shard_checker.specs.declared.error.CheckError.{CheckError}
 use Rattle.shard_checker.specs.declared.error.CheckError.TheVariants.{BadIndex, NotEmpty, MayBeNull, NotOwner, SecondOwner}
 
--- the share of this number, which isn't the owner's, may take a row, and no other such share has a lesser number
+-- the share of this number, which isn't the owner's, may take a row, and no such share has a smaller number
 pub record IsLeastOther (shares : List ShareOf) (path : Path) (owner second : ℕ) : Type 0 where
   pub other : second ≢ owner
   pub may : may_take (share_in shares second) path ≡ true
   pub least : (number : ℕ) → number < second → may_take (share_in shares number) path ≡ true → number ≡ owner
 
--- what the error says of a node is so: it names the node, and the atom, the term or the share isn't there, or isn't
--- as the node says
+-- what the error says about a node is true: it names the node, and the atom, the term or the share does not exist, or
+-- is not as the node says
 
 abbrev pub EmptyIsWrong : Subject → Path → ℕ → Option Term → CheckError → Type 0
 EmptyIsWrong subject path node None error = error ≡ BadIndex subject.table node
@@ -51,7 +51,7 @@ SplitIsWrong subject path node None if_true if_false if_null error = error ≡ B
 SplitIsWrong subject path node (Some atom) if_true if_false if_null error =
     if_true (path ++ (atom, True) ∷ []) ⊎ (if_false (path ++ (atom, False) ∷ []) ⊎ if_null (path ++ (atom, Null) ∷ []))
 
--- the error says something of a node of the tree that is so
+-- what the error says about a node of the tree is true
 abbrev pub IsWrong : Subject → Tree → Path → ℕ → CheckError → Type 0
 IsWrong subject (Split index if_true if_false if_null) path node error =
     SplitIsWrong subject path node (slice_get subject.atoms index)
@@ -65,6 +65,6 @@ IsWrong subject (Empty term) path node error = EmptyIsWrong subject path node (s
 IsWrong subject (NeverNull index) path node error =
     NeverNullIsWrong subject path node (slice_get subject.atoms index) error
 
--- the error says something of the certificate of the table of this number that is so
+-- what the error says about the certificate of the table of this number is true
 abbrev pub CertificateIsWrong : ℕ → Table → List ShareOf → Tree → CheckError → Type 0
 CertificateIsWrong number table shares tree error = IsWrong (subject_of number table.columns shares) tree [] 0 error

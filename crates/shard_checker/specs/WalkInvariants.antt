@@ -1,5 +1,5 @@
--- What the walk over a certificate keeps of what the path says. Certificates are this project's own, and restate no
--- section of PostgreSQL's documentation.
+-- What the walk over a certificate preserves of what the path says. Certificates are specific to this project, and no
+-- section of PostgreSQL's documentation describes them.
 use Rattle.std.specs.Prelude.{◌≡◌, ℕ, List, [], ◌∷◌, ◌++◌, length, Some, slice_get}
 use Rattle.filter_tree.specs.Expr.{AtomOf}
 use Rattle.filter_tree.specs.Paths.{Path, path_view}
@@ -25,8 +25,8 @@ use Rattle.shard_checker.specs.declared.walk.Walk.{Walk}
 abbrev pub candidates_of_table : r.Subject → List Candidate
 candidates_of_table subject = candidates_in subject.columns subject.atoms subject.terms
 
--- the atoms are told from one another, the steps are the shares' filters, what each atom and each step is a part of is
--- listed, and what each atom leaves of the candidates
+-- the atoms are distinct, the steps are the shares' filters, the steps of which each atom and each step is a part are
+-- listed, and so is what each atom leaves of the candidates
 pub record IsPrepared (subject : r.Subject) (formulas : Formulas) (users : Users) (sets : CandidateSets) : Type 0 where
   pub differ : Differ subject.atoms
   pub compiled : IsCompiled subject.atoms subject.shares formulas
@@ -34,7 +34,7 @@ pub record IsPrepared (subject : r.Subject) (formulas : Formulas) (users : Users
   pub sized : length users.of_atoms.items ≡ length subject.atoms
   pub tried : AreCandidateSets (candidates_of_table subject) subject.atoms subject.terms sets
 
--- what is known is what the path says, each step that need not be computed again has its set, and the candidates that
+-- what is known is what the path says, each step that need not be recomputed has its set, and the candidates that
 -- remain are those that the path leaves
 pub record AgreesWithPath (subject : r.Subject) (formulas : Formulas) (users : Users) (sets : CandidateSets)
     (known : Known) (masks : Masks) (remaining : Remaining) (path : Path) : Type 0 where
@@ -43,7 +43,7 @@ pub record AgreesWithPath (subject : r.Subject) (formulas : Formulas) (users : U
   pub settled : IsSettledBut 0 formulas.steps.list.items known.atoms.items masks
   pub left : Remain (candidates_of_table subject) remaining path
 
--- ---- the code's
+-- ---- the program's
 
 abbrev pub Prepared : {A : _} → Subject A → Type 0
 Prepared subject = IsPrepared (subject_view subject) subject.formulas.now subject.users.now subject.candidates.now
@@ -53,7 +53,7 @@ WalkAgrees subject walk =
     AgreesWithPath (subject_view subject) subject.formulas.now subject.users.now subject.candidates.now walk.known
     walk.masks walk.remaining (path_view walk.path.items)
 
--- the last entry was taken off the path
+-- the last entry was removed from the path
 pub record GoesBack (atoms : List AtomOf) (old new : Path) (number : ℕ) (value : Tri) : Type 0 where
   pub atom : AtomOf
   pub path : old ≡ new ++ (atom, value) ∷ []

@@ -1,6 +1,6 @@
--- The check of a certificate node by node, in the order in which it is written. What is still to come follows from
--- the path: after a leaf, its last entry that isn't null has the next of its values. Certificates are this project's
--- own, and restate no section of PostgreSQL's documentation.
+-- The check of a certificate node by node, in the order in which it is written. What still follows is determined by the
+-- path: after a leaf, its last entry that isn't null has the next of its values. Certificates are specific to this
+-- project, and no section of PostgreSQL's documentation describes them.
 use Rattle.std.specs.Prelude.{◌≡◌, ◌≢◌, ℕ, ◌+◌, Bool, true, false, List, [], ◌∷◌, ◌++◌, length, Option, Some, None, Result, Ok, Err, slice_get}
 use Rattle.std.specs.Option.{option_map}
 use Rattle.filter_tree.specs.Expr.{Expr, AtomOf}
@@ -56,7 +56,7 @@ abbrev pub known_atom : Subject → ℕ → Option AtomOf → Option CheckError
 known_atom subject node None = Some (BadIndex subject.table node)
 known_atom subject node (Some atom) = None
 
--- what is wrong with a node at the end of a path, a split's branches apart
+-- what is wrong with a node at the end of a path, without a split's branches
 abbrev pub node_refusal : Test → Subject → Node → Path → ℕ → Option CheckError
 node_refusal is_empty subject (Split index) path node = known_atom subject node (slice_get subject.atoms index)
 node_refusal is_empty subject (Owner subscriber) path node =
@@ -91,21 +91,21 @@ abbrev pub nodes_refusal : Test → ℕ → Table → List ShareOf → List Node
 nodes_refusal is_empty number table shares nodes =
     walk is_empty (subject_of number table.columns shares) nodes (Some []) 0
 
--- the first refusal in the nodes of the certificates of the tables that begin at this number
+-- the first refusal in the nodes of the certificates of tables, the first of which has this number
 abbrev pub tables_refusal : Test → PlanOf → List Subscription → ℕ → List Table → List (List Node) → Option CheckError
 tables_refusal is_empty plan subscriptions number (table ∷ tables) (nodes ∷ certificates) =
     first_of (nodes_refusal is_empty number table (table_shares plan number 0 subscriptions) nodes)
     (tables_refusal is_empty plan subscriptions (number + 1) tables certificates)
 tables_refusal is_empty plan subscriptions number tables certificates = None
 
--- the first reason to refuse a sharding, where the certificates are given by their nodes
+-- the first reason to refuse a sharding; the certificates are given by their nodes
 abbrev pub refusal_by_nodes : Test → CatalogOf Expr → PlanOf → List (List Node) → Option CheckError
 refusal_by_nodes is_empty catalog plan certificates =
     first_of (catalog_refusal catalog)
     (first_of (count_refusal (length catalog.tables) (length certificates))
     (tables_refusal is_empty plan catalog.subscriptions 0 catalog.tables certificates))
 
--- ---- the code's walk
+-- ---- the program's walk
 
 abbrev pub path_unless : Bool → Path → Option Path
 path_unless true path = None
@@ -117,7 +117,7 @@ path_of walk = path_unless walk.is_over (path_view walk.path.items)
 abbrev pub place_of : {A : _} → Walk A → Place
 place_of walk = place_at (path_of walk) walk.node
 
--- from one place nodes are refused as those that are left are from another, whatever comes after them
+-- the nodes are refused from one place as the nodes that are left are refused from another, whatever comes after them
 pub record Passes (is_empty : Test) (subject : Subject) (nodes : List Node) (old : Place) (left : List Node)
     (new : Place) : Type 0 where
   pub each : (more : List Node)
@@ -128,7 +128,7 @@ pub record Stops (is_empty : Test) (subject : Subject) (nodes : List Node) (old 
   where
     pub each : (more : List Node) → walk_from is_empty subject (nodes ++ more) old ≡ Some error
 
--- the result of a walk over nodes from one place to another; want of memory may come in place of any other error
+-- the result of a walk over nodes from one place to another; out of memory may come in place of any other error
 abbrev pub Walks : {A : Type 0} → Test → Subject → List Node → Place → Place → Result A CheckError → Type 0
 Walks is_empty subject nodes old new (Ok value) = Passes is_empty subject nodes old [] new
 Walks is_empty subject nodes old new (Err error) = error ≢ OutOfMemory → Stops is_empty subject nodes old error

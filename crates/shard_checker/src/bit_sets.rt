@@ -8,13 +8,13 @@ use std::alloc::{AllocError, Global};
 /// How many bits a word has.
 const WORD: usize = 64;
 
-/// A set of numbers, in which each number is one bit; past the last word there are none.
+/// A set of numbers, in which each number is one bit; there are no numbers past the last word.
 #[derive(Drop)]
 pub struct BitSet {
     words: Vec<u64>,
 }
 
-/// Sets the bit of the number, for which there is a word.
+/// Sets the bit of the number; a word for the number exists.
 fn set_bit(words: &mut [u64], number: usize)
     requires { number / 64 < length words.old }
     ensures { (other : ℕ) → spec.has_bit words.new other ≡ (spec.has_bit words.old other || (other == number)) }
@@ -23,7 +23,7 @@ fn set_bit(words: &mut [u64], number: usize)
 }
 
 impl BitSet {
-    /// No numbers.
+    /// The empty set.
     pub fn new(alloc: Global) -> BitSet
         ensures { (number : ℕ) → spec.has result number ≡ false }
     {
@@ -44,7 +44,7 @@ impl BitSet {
         Ok(())
     }
 
-    /// Puts the number into the set if it is to be there.
+    /// Puts the number into the set if `is_there`.
     pub fn put(&mut self, number: usize, is_there: bool) -> Result<(), AllocError>
         ensures { OnOk result (spec.Puts self.old self.new number is_there) }
     {

@@ -1,4 +1,5 @@
-//! Which candidates an atom with a value leaves, told once for a table, so that a walk looks at no constants.
+//! Which candidates an atom with a value leaves. This is computed once for a table, so that a walk looks at no
+//! constants.
 
 ghost use Rattle.std.specs.Prelude.{◌≡◌, Some, IfOk, OnOk};
 ghost use Rattle.filter_tree.specs.Mask.{mask_where};
@@ -35,7 +36,7 @@ pub struct CandidateSets {
     pub of_terms: Vec<BitSet>,
 }
 
-/// The values of the atom that leave null to its term.
+/// The values of the atom that leave null for its term.
 fn mask_of_null<A: Allocator>(term: Term, atom: &Atom<A>) -> Mask
     ensures { result ≡ mask_where (candidates_spec.leaves_null term (atom_view atom.now)) }
 {
@@ -47,7 +48,7 @@ fn mask_of_null<A: Allocator>(term: Term, atom: &Atom<A>) -> Mask
     }
 }
 
-/// The values of the atom that leave the value to the term.
+/// The values of the atom that leave the value for the term.
 fn mask_of_value<A: Allocator>(
     term: Term,
     value: Tried<'_>,
@@ -190,7 +191,7 @@ fn sets_of_terms(
 }
 
 impl CandidateSets {
-    /// The sets of a table with these columns, atoms and terms. The only error is want of memory.
+    /// The sets for a table with these columns, atoms and terms. The only error is out of memory.
     pub fn new<A: Allocator>(
         alloc: Global,
         columns: &[Column],

@@ -1,5 +1,5 @@
-//! The values that are tried for the terms of a table. Atoms tell no other values of a term apart, so these speak for
-//! all.
+//! The values that are tried for the terms of a table. Atoms do not distinguish other values of a term from these, so
+//! these stand for all.
 
 ghost use Rattle.std.specs.Prelude.{◌≡◌, ◌++◌, ◌∷◌, [], ◌+ℤ◌, pos, None, Some, flat_map, map, IfOk, OnOk};
 ghost use Rattle.std.specs.Option.{option_map};
@@ -77,7 +77,7 @@ fn add_next(
     Ok(())
 }
 
-/// Adds the number and the next one, where they are in the range.
+/// Adds the number and the next one, if they are in the range.
 fn add_nearby(
     candidates: &mut Vec<Candidate<'_>>,
     range: Range,
@@ -92,7 +92,7 @@ fn add_nearby(
     Ok(())
 }
 
-/// Adds what is tried of a term, whose column has this type, where an atom names the number.
+/// Adds what is tried for a term if an atom names the number; the term's column has this type.
 fn add_named(
     candidates: &mut Vec<Candidate<'_>>,
     kind: ColType,
@@ -111,7 +111,7 @@ fn add_named(
     Ok(())
 }
 
-/// Adds what is tried where an atom names the constant.
+/// Adds what is tried if an atom names the constant.
 fn add_constant<'a, A: Allocator>(
     candidates: &mut Vec<Candidate<'a>>,
     kind: ColType,
@@ -131,7 +131,7 @@ fn add_constant<'a, A: Allocator>(
     Ok(())
 }
 
-/// Adds what is tried where an atom names the constants.
+/// Adds what is tried if an atom names the constants.
 fn add_constants<'a, A: Allocator>(
     candidates: &mut Vec<Candidate<'a>>,
     kind: ColType,
@@ -147,7 +147,7 @@ fn add_constants<'a, A: Allocator>(
     Ok(())
 }
 
-/// Adds what is tried where an atom names the two numbers.
+/// Adds what is tried if an atom names the two numbers.
 fn add_ends(
     candidates: &mut Vec<Candidate<'_>>,
     kind: ColType,
@@ -184,7 +184,7 @@ fn add_constants_of<'a, A: Allocator>(
     Ok(())
 }
 
-/// Adds what is tried of the term because of the atom.
+/// Adds what is tried for the term because of the atom.
 fn add_atom<'a, A: Allocator>(
     candidates: &mut Vec<Candidate<'a>>,
     kind: ColType,
@@ -200,7 +200,7 @@ fn add_atom<'a, A: Allocator>(
     Ok(())
 }
 
-/// Adds what is tried of the term because of the atoms.
+/// Adds what is tried for the term because of the atoms.
 fn add_atoms<'a, A: Allocator>(
     candidates: &mut Vec<Candidate<'a>>,
     kind: ColType,
@@ -216,7 +216,7 @@ fn add_atoms<'a, A: Allocator>(
     Ok(())
 }
 
-/// Adds what is tried of the term whatever atoms there are.
+/// Adds what is tried for the term whatever atoms there are.
 fn add_first(
     candidates: &mut Vec<Candidate<'_>>,
     kind: ColType,
@@ -254,7 +254,7 @@ fn add_null(
     Ok(())
 }
 
-/// Adds what is tried of the term.
+/// Adds what is tried for the term.
 fn add_term<'a, A: Allocator>(
     candidates: &mut Vec<Candidate<'a>>,
     columns: &[Column],
@@ -271,7 +271,7 @@ fn add_term<'a, A: Allocator>(
     Ok(())
 }
 
-/// What is tried of the terms. The only error is want of memory.
+/// What is tried for the terms. The only error is out of memory.
 pub fn candidates_in<'a, A: Allocator>(
     alloc: Global,
     columns: &[Column],

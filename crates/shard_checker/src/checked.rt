@@ -9,10 +9,10 @@ use pub_catalog::Catalog;
 use replica_identity::Plan;
 
 /// A catalog and its own plan that the check accepted. Whoever holds one knows that the catalog's sharding is sound. It
-/// also has what the laws about changes of tables ask: a row's replica identity tells who gets the row, commands that
-/// are accepted leave no two rows of a table with one identity, and each row that fits its table passes to exactly one
-/// subscriber. Like each catalog it is within its limits, and its publications and subscriptions have names of their
-/// own.
+/// also has what the laws about changes of tables require: a row's replica identity determines who gets the row,
+/// commands that are accepted leave no two rows of a table with the same identity, and each row that fits its table
+/// passes to exactly one subscriber. Like each catalog it is within its limits, and its publications and subscriptions
+/// each have their own name.
 ///
 /// PostgreSQL 15, "Logical Replication", 31.3 Row Filters.
 #[derive(Drop)]
@@ -42,10 +42,10 @@ impl Checked {
         Checked { catalog, plan }
     }
 
-    /// The catalog. It is within its limits (`limits`), its publications and subscriptions have names of their own
-    /// (`names`), and its sharding is sound. In the setting that it makes with its plan a row's replica identity tells
-    /// who gets the row (`covered`), commands that are accepted leave no two rows of a table with one identity
-    /// (`apart`), and each row that fits its table passes to exactly one subscriber (`divided`).
+    /// The catalog. It is within its limits (`limits`), its publications and subscriptions each have their own name
+    /// (`names`), and its sharding is sound. In the setting that it makes with its plan a row's replica identity
+    /// determines who gets the row (`covered`), commands that are accepted leave no two rows of a table with the same
+    /// identity (`apart`), and each row that fits its table passes to exactly one subscriber (`divided`).
     #[tactic(auto, using(crate::proofs::LimitFacts::checked_limited))]
     pub fn catalog(&self) -> &Catalog
         ensures shows { catalog_view result.now ≡ (checked_view self.now).catalog }

@@ -1,4 +1,4 @@
-//! What replica identities record, and which columns the publications that are taken name.
+//! What replica identities record, and which columns the subscribed publications name.
 
 ghost use Rattle.std.specs.Prelude.{◌≢◌, IfErr, Some, map};
 ghost use Rattle.std.specs.Option.{option_map};
@@ -25,7 +25,7 @@ fn check_identity(number: usize, table: &Table) -> Result<(), CheckError>
     }
 }
 
-/// Checks that each table's replica identity tells its rows apart.
+/// Checks that each table's replica identity distinguishes its rows.
 pub fn check_identities(tables: &[Table]) -> Result<(), CheckError>
     ensures exact { Finds (spec.identity_refusal 0 tables.now) result }
     ensures told { IfErr result (λ error. error ≢ CheckError.OutOfMemory) }
@@ -136,8 +136,8 @@ fn check_taken(
     }
 }
 
-/// Checks that each publication that is taken carries only tables that are there, and that its filters name only
-/// columns of their replica identities.
+/// Checks that each subscribed publication carries only tables that exist, and that its filters name only columns of
+/// their replica identities.
 pub fn check_covering(
     alloc: Global,
     tables: &[Table],

@@ -65,7 +65,7 @@ fn lesser(one: i64, other: i64) -> i64
     if other < one { other } else { one }
 }
 
-/// The numbers of the type that are at most so far from 0.
+/// The numbers of the type that are at most `far` from 0.
 fn range_within(kind: ColType, far: i64) -> Range
     requires { pos 0 ≤ℤ far }
     ensures { result ≡ spec.range_within kind far }

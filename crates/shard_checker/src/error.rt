@@ -18,25 +18,25 @@ pub enum Operation {
     Truncate,
 }
 
-/// Why a sharding is refused. Publications, tables, columns and subscribers are named by their numbers in the catalog,
-/// from 0, and the nodes of a table's certificate by their numbers in the order in which it is written, from 0: a
-/// split, and then its branches.
+/// Why a sharding is refused. Publications, tables, columns and subscribers are identified by their numbers in the
+/// catalog, from 0, and the nodes of a table's certificate by their numbers in the order in which it is written, from
+/// 0: a split, and then its branches.
 #[derive(Clone, Copy, Debug, PartialEq, Eq, Error)]
 pub enum CheckError {
-    /// A subscription takes the publication, which doesn't publish the operation.
+    /// A subscription names the publication, which does not publish the operation.
     #[error("publication {publication} is taken, but does not publish {operation}")]
     PublishMissing {
         publication: usize,
         operation: Operation,
     },
-    /// The table's replica identity doesn't tell its rows apart: it is NOTHING, or a unique index that the table
-    /// doesn't have or that has a column which may be null. No catalog that `read_catalog` gives has such an index.
+    /// The table's replica identity does not distinguish its rows: it is NOTHING, or a unique index that the table does
+    /// not have or that has a column which may be null. No catalog that `read_catalog` returns has such an index.
     #[error("the replica identity of table {table} does not tell its rows apart")]
     NoIdentity {
         table: usize,
     },
-    /// A subscription takes the publication, whose filter of the table names a column of it that is outside the replica
-    /// identity.
+    /// A subscription names the publication, whose filter for the table names a column of it that is outside the
+    /// replica identity.
     #[error("a filter of publication {publication} names column {column} of table {table}, which is not in the replica identity")]
     NotCovered {
         publication: usize,
@@ -46,7 +46,7 @@ pub enum CheckError {
     /// There are fewer or more certificates than tables.
     #[error("the number of certificates is not the number of tables")]
     CertCount,
-    /// The node names an atom, a term or a subscriber that isn't there.
+    /// The node names an atom, a term or a subscriber that does not exist.
     #[error("node {node} of the certificate of table {table} has a number that is out of range")]
     BadIndex {
         table: usize,
@@ -64,13 +64,13 @@ pub enum CheckError {
         table: usize,
         node: usize,
     },
-    /// The subscriber that the node names may not take the rows.
+    /// The subscriber that the node names might not take the rows.
     #[error("at node {node} of the certificate of table {table} the subscriber may not take the row")]
     NotOwner {
         table: usize,
         node: usize,
     },
-    /// A subscriber may take the rows of the one that the node names.
+    /// Another subscriber might take the rows of the one that the node names.
     #[error("at node {node} of the certificate of table {table} subscriber {subscriber} may take the row too")]
     SecondOwner {
         table: usize,

@@ -1,4 +1,4 @@
-//! What the atoms on a path tell of the rows there: the path of a node has each atom that was split by on the way to
+//! What the atoms on a path say about the rows there. The path of a node has each atom that was split by on the way to
 //! it, with its value there.
 
 ghost use Rattle.std.specs.Prelude.{◌≡◌, ◌||◌};
@@ -10,7 +10,7 @@ ghost use Rattle.shard_checker.specs.Facts as spec;
 use filter_tree::{Atom, Column, Tri};
 use std::alloc::Allocator;
 
-/// Whether the atom has this value only where its column is null.
+/// Whether the atom has this value only if its column is null.
 fn tells_null<A: Allocator>(atom: &Atom<A>, value: Tri) -> bool
     ensures { result ≡ spec.tells_null (atom_view atom.now) value }
 {
@@ -21,7 +21,7 @@ fn tells_null<A: Allocator>(atom: &Atom<A>, value: Tri) -> bool
     }
 }
 
-/// Whether the atom has this value only where its column isn't null.
+/// Whether the atom has this value only if its column is not null.
 fn tells_present<A: Allocator>(atom: &Atom<A>, value: Tri) -> bool
     ensures { result ≡ spec.tells_present (atom_view atom.now) value }
 {
@@ -57,7 +57,7 @@ pub fn is_declared(columns: &[Column], column: usize) -> bool
     }
 }
 
-/// Whether the atom is true or false of each value, and of null.
+/// Whether the atom is true or false for each value, and for null.
 fn is_always_known<A: Allocator>(atom: &Atom<A>) -> bool
     ensures { result ≡ spec.is_always_known (atom_view atom.now) }
 {

@@ -36,7 +36,7 @@ fn compile_share<A: Allocator>(
     }
 }
 
-/// Puts one more share after those that are there.
+/// Adds one more share after the existing ones.
 #[tactic(auto, using(crate::proofs::StepLemmas::filters_more))]
 fn add_share<A: Allocator>(
     atoms: &[&Atom<A>],
@@ -59,7 +59,7 @@ pub fn root_at(roots: &[usize], number: u32) -> Option<usize>
     roots.get(number as usize).copied()
 }
 
-/// The filters of the shares as steps. The only error is want of memory.
+/// The filters of the shares as steps. The only error is out of memory.
 #[tactic(auto, using(crate::proofs::StepLemmas::sharing))]
 pub fn formulas_of<A: Allocator>(
     alloc: Global,

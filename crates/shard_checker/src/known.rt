@@ -1,4 +1,4 @@
-//! What a path says of the atoms of a table.
+//! What a path says about the atoms of a table.
 
 ghost use Rattle.std.specs.Prelude.{◌≡◌, [], IfOk, OnOk, MatchOption};
 ghost use Rattle.filter_tree.specs.Shape.{atom_view, atoms_view};
@@ -22,7 +22,7 @@ pub struct Known {
     pub befores: Vec<Before>,
 }
 
-/// What an atom may be while nothing is known of it.
+/// What an atom may be while nothing is known about it.
 fn open_mask<A: Allocator>(atom: &Atom<A>) -> Mask
     ensures { result ≡ spec.atom_mask [] (atom_view atom.now) }
 {
@@ -37,7 +37,7 @@ fn open_mask<A: Allocator>(atom: &Atom<A>) -> Mask
     }
 }
 
-/// What an atom may be once it was found to have the value.
+/// What an atom may be after it was found to have the value.
 fn met(mask: Mask, value: Tri) -> Mask
     ensures { result ≡ spec.met mask value }
 {
@@ -63,7 +63,7 @@ impl Known {
         })
     }
 
-    /// Tells that the atom of this number was found to have the value.
+    /// Records that the atom of this number was found to have the value.
     pub fn learn(&mut self, number: u32, value: Tri) -> Result<(), AllocError>
         ensures { OnOk result (spec.Learns self.old self.new number value) }
     {
@@ -73,7 +73,7 @@ impl Known {
         Ok(())
     }
 
-    /// Takes back what was found last.
+    /// Undoes what was found last.
     pub fn take_back(&mut self) -> Option<Before>
         ensures { MatchOption result (self.old.befores.items ≡ []) (λ before. spec.TakesBack self.old self.new before) }
     {

@@ -1,7 +1,8 @@
 ghost use Rattle.shard_checker.specs.Emptiness.{CanBeTold};
 
-/// A law, and no code, of what makes a node `Empty` right: some test holds exactly of the terms that what is known on
-/// the path leaves no value, not even null. `check` and `check_one` answer as each such test has it.
+/// A law about what makes a node `Empty` right: a function without an effect whose contract states it. Some test holds
+/// exactly for the terms for which what is known on the path leaves no value, not even null. `check` and `check_one`
+/// return the result that each such test gives.
 #[tactic(auto, using(crate::proofs::EmptyLemmas::can_be_told))]
 pub fn emptiness_can_be_told()
     ensures { CanBeTold }

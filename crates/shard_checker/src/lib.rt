@@ -1,5 +1,5 @@
-//! Tells whether a sharding is sound: whether each row that fits a table passes to exactly one subscriber. Certificates
-//! say why, and the check relies on nothing else that their maker says.
+//! Checks whether a sharding is sound: whether each row that fits a table passes to exactly one subscriber.
+//! Certificates give the reason, and the check relies on nothing else that their maker says.
 #![tactic(auto)]
 
 mod bit_sets;

@@ -1,4 +1,4 @@
-//! The sets of truth values that steps may have. Only sets that may have changed are computed again.
+//! The sets of truth values that steps may have. Only sets that may have changed are recomputed.
 
 ghost use Rattle.std.specs.Prelude.{◌≡◌, ◌+◌, ◌*◌, ◌≤◌, ◌<◌, ◌/◌, length, replicate, true, false, slice_set, IfOk, IsTrue};
 ghost use Rattle.filter_tree.specs.Logic.{and_of, or_of};
@@ -11,14 +11,14 @@ use crate::users::{BLOCK, Users, blocks_in};
 use filter_tree::{Mask, Tri};
 use std::alloc::{AllocError, Allocator, Global};
 
-/// The set of no truth value.
+/// The set of no truth values.
 pub const NONE: Mask = Mask {
     truth: false,
     falsity: false,
     null: false,
 };
 
-/// The set at a number; past the end none.
+/// The set at a number; empty past the end.
 pub fn mask_at(masks: &[Mask], number: usize) -> Mask
     ensures { result ≡ spec.mask_in masks.now number }
 {
@@ -44,7 +44,7 @@ pub fn put(masks: &mut [Mask], number: usize, mask: Mask)
     }
 }
 
-/// As `Mask::and`, with no branch.
+/// As `Mask::and`, without a branch.
 fn both(left: Mask, right: Mask) -> Mask
     ensures { result ≡ lift_two and_of left right }
 {
@@ -57,7 +57,7 @@ fn both(left: Mask, right: Mask) -> Mask
     }
 }
 
-/// As `Mask::or`, with no branch.
+/// As `Mask::or`, without a branch.
 fn either(left: Mask, right: Mask) -> Mask
     ensures { result ≡ lift_two or_of left right }
 {
@@ -84,21 +84,21 @@ fn mask_of(step: Step, atoms: &[Mask], masks: &[Mask]) -> Mask
     }
 }
 
-/// What each step may be, by its number, and which blocks of steps have to be computed again.
+/// What each step may be, by its number, and which blocks of steps must be recomputed.
 #[derive(Drop)]
 pub struct Masks {
     pub list: Vec<Mask>,
     pub stale: Vec<bool>,
 }
 
-/// Whether the block has to be computed again; one past the last always.
+/// Whether the block must be recomputed; a block past the last one always must.
 fn is_stale(stale: &[bool], block: usize) -> bool
     ensures { result ≡ stale_spec.is_stale stale.now block }
 {
     stale.get(block).copied().unwrap_or(true)
 }
 
-/// Notes whether the block, if it is there, has to be computed again.
+/// Notes whether the block, if it exists, must be recomputed.
 fn note(stale: &mut [bool], block: usize, is_stale: bool)
     ensures { stale.new ≡ slice_set stale.old block is_stale }
 {
@@ -107,7 +107,7 @@ fn note(stale: &mut [bool], block: usize, is_stale: bool)
     }
 }
 
-/// Notes that these blocks have to be computed again.
+/// Notes that these blocks must be recomputed.
 fn mark(stale: &mut [bool], blocks: &[usize])
     ensures { stale_spec.Marks stale.old stale.new blocks.now }
 {
@@ -117,7 +117,7 @@ fn mark(stale: &mut [bool], blocks: &[usize])
 }
 
 impl Masks {
-    /// Places for so many steps, each of them still to be computed.
+    /// Places for this number of steps, each of them still to be computed.
     pub fn new(alloc: Global, steps: usize) -> Result<Masks, AllocError>
         ensures sized { IfOk result (λ masks. length masks.list.items ≡ steps) }
         ensures stale { IfOk result (λ masks. masks.stale.items ≡ replicate (steps / 8 + 1) true) }
@@ -136,7 +136,7 @@ impl Masks {
         put(&mut self.list, number, mask);
     }
 
-    /// Notes that these blocks have to be computed again.
+    /// Notes that these blocks must be recomputed.
     pub fn mark(&mut self, blocks: &[usize])
         ensures list { self.new.list ≡ self.old.list }
         ensures stale { stale_spec.Marks self.old.stale.items self.new.stale.items blocks.now }
@@ -153,8 +153,7 @@ impl Masks {
     }
 }
 
-/// Computes again what a step may be, and where that is new notes that the steps that it is a part of have to be
-/// computed again.
+/// Recomputes what a step may be. If that is new, notes that the steps of which it is a part must be recomputed.
 #[tactic(auto, using(crate::proofs::BlockLemmas::telling))]
 fn tell(steps: &[Step], users: &Users, atoms: &[Mask], masks: &mut Masks, number: usize)
     requires there { number < length steps.now }
@@ -170,7 +169,7 @@ fn tell(steps: &[Step], users: &Users, atoms: &[Mask], masks: &mut Masks, number
     }
 }
 
-/// Computes again what the steps of a block may be.
+/// Recomputes what the steps of a block may be.
 #[tactic(auto, using(crate::proofs::BlockLemmas::telling))]
 fn tell_block(steps: &[Step], users: &Users, atoms: &[Mask], masks: &mut Masks, block: usize)
     requires there { block * 8 ≤ length steps.now }
@@ -186,7 +185,7 @@ fn tell_block(steps: &[Step], users: &Users, atoms: &[Mask], masks: &mut Masks, 
     masks.unmark(block);
 }
 
-/// Computes again what the steps of a block may be, if they have to be computed again.
+/// Recomputes what the steps of a block may be, if they must be recomputed.
 #[tactic(auto, using(crate::proofs::BlockLemmas::telling))]
 fn refresh_block(steps: &[Step], users: &Users, atoms: &[Mask], masks: &mut Masks, block: usize)
     requires there { block * 8 ≤ length steps.now }
@@ -200,7 +199,7 @@ fn refresh_block(steps: &[Step], users: &Users, atoms: &[Mask], masks: &mut Mask
     }
 }
 
-/// Tells of each step what it may be.
+/// Determines for each step what it may be.
 #[tactic(auto, using(crate::proofs::BlockLemmas::telling))]
 pub fn refresh(steps: &[Step], users: &Users, atoms: &[Mask], masks: &mut Masks)
     requires ordered { spec.IsOrdered steps.now }

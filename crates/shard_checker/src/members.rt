@@ -71,7 +71,7 @@ impl<'a> Members<'a> {
         }
     }
 
-    /// The constants of a list. The only error is want of memory.
+    /// The constants of a list. The only error is out of memory.
     pub fn of_list<A: Allocator>(
         alloc: Global,
         constants: &'a [Literal<A>],

@@ -1,4 +1,4 @@
-//! What a node that isn't a split says of the rows at the end of its path.
+//! What a node that isn't a split says about the rows at the end of its path.
 
 ghost use Rattle.std.specs.Prelude.{◌≡◌, ◌<◌, length, map, slice_get, IfSome};
 ghost use Rattle.filter_tree.specs.Paths.{path_view};
@@ -19,7 +19,7 @@ use crate::walk::Walk;
 use split_cert::Node;
 use std::alloc::Allocator;
 
-/// Whether no value, not even null, is left at the end of the path to the term of this number.
+/// Whether no value, not even null, is left for the term of this number at the end of the path.
 fn is_empty<A: Allocator>(subject: &Subject<'_, A>, walk: &Walk<'_, A>, number: u32) -> bool
     requires agrees { WalkAgrees subject.now walk.now }
     requires there { number < length subject.now.terms.now }
@@ -30,7 +30,7 @@ fn is_empty<A: Allocator>(subject: &Subject<'_, A>, walk: &Walk<'_, A>, number: 
     !walk.remaining.places.meets(places)
 }
 
-/// Checks that the atom by which a node splits is there.
+/// Checks that the atom by which a node splits exists.
 pub fn check_split<A: Allocator>(
     subject: &Subject<'_, A>,
     node: usize,
@@ -48,7 +48,7 @@ pub fn check_split<A: Allocator>(
     }
 }
 
-/// Checks a node that says that no row is there, since the term has no value.
+/// Checks a node that says that there are no rows there, since the term has no value.
 pub fn check_empty<A: Allocator>(
     subject: &Subject<'_, A>,
     walk: &Walk<'_, A>,
@@ -68,7 +68,7 @@ pub fn check_empty<A: Allocator>(
     }
 }
 
-/// Checks a node that says that no row is there, since the atom is never null.
+/// Checks a node that says that there are no rows there, since the atom is never null.
 pub fn check_never_null<A: Allocator>(
     subject: &Subject<'_, A>,
     walk: &Walk<'_, A>,

@@ -48,7 +48,7 @@ fn has_null<A: Allocator>(
     false
 }
 
-/// Whether the path has the atom of this number with the value null, which it can't have.
+/// Whether the path has the atom of this number with the value null, which it cannot have.
 pub fn is_never_null<A: Allocator>(
     subject: &Subject<'_, A>,
     walk: &Walk<'_, A>,

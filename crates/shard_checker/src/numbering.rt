@@ -40,7 +40,7 @@ fn add_share_atoms<'a, A: Allocator>(
 }
 
 /// The atoms of the shares' filters, in the order of the numbers by which certificates name them: share by share, each
-/// where it first appears. The only error is want of memory.
+/// where it first appears. The only error is out of memory.
 pub fn numbered_atoms<'a, A: Allocator>(
     alloc: Global,
     shares: &[&'a Share<A>],
@@ -78,7 +78,8 @@ fn add_share_terms<A: Allocator>(
 }
 
 /// The terms of the shares' filters, in the order of the numbers by which certificates name them: share by share, each
-/// where it first appears; `IS NULL` of a column is an appearance of that column. The only error is want of memory.
+/// where it first appears; `IS NULL` of a column counts as an appearance of that column. The only error is out of
+/// memory.
 pub fn numbered_terms<A: Allocator>(
     alloc: Global,
     shares: &[&Share<A>],

@@ -87,15 +87,15 @@ fn check_tree<A: Allocator, B: Allocator>(
 }
 
 /// Checks that each row that may be in the table, with texts of any length, is taken by exactly one of the shares, as
-/// the certificate says it is. Any certificate is answered. Its depth takes stack.
+/// the certificate says. Any certificate can be checked. Its depth uses stack.
 ///
-/// Atoms and terms are numbered from 0 in the order in which the shares' filters have them first, share by share, and
-/// `IS NULL` of a column is an appearance of that column. Subscribers are the shares' numbers.
+/// Atoms and terms are numbered from 0 in the order in which they first appear in the shares' filters, share by share;
+/// `IS NULL` of a column counts as an appearance of that column. Subscribers are the shares' numbers.
 ///
 /// # Errors
 ///
-/// That of the first node, in the order in which a certificate is written, that says something that isn't so, with 0 as
-/// the table's number; or `OutOfMemory`.
+/// The error of the first node, in the order in which a certificate is written, that says something that is not true,
+/// with 0 as the table's number; or `OutOfMemory`.
 #[tactic(auto, using(crate::proofs::SoundLemmas::certificate_sound, crate::proofs::TruthLemmas::certificate_wrong, crate::proofs::AnyTest::checks_by_any))]
 pub fn check_one<A: Allocator, B: Allocator>(
     alloc: Global,

@@ -1,4 +1,4 @@
-//! What the sets of truth values that the filters of shares may have tell of the shares.
+//! What the sets of truth values of the shares' filters say about the shares.
 
 ghost use Rattle.std.specs.Prelude.{◌≡◌, ◌&&◌, ◌==◌, not, map};
 ghost use Rattle.shard_checker.specs.Owners as spec;
@@ -7,7 +7,7 @@ ghost use Rattle.shard_checker.specs.Steps.{mask_in, second_among};
 use crate::masks::mask_at;
 use filter_tree::Mask;
 
-/// Whether the set has true alone.
+/// Whether the set has only true.
 pub fn is_surely_true(mask: Mask) -> bool
     ensures { result ≡ spec.is_surely_true mask }
 {
@@ -20,8 +20,8 @@ fn is_second(owner: usize, number: usize, mask: Mask) -> bool
     number != owner && mask.truth
 }
 
-/// The least number of a share, other than the owner's, that may take a row: the share's filter, whose step has the
-/// number that the roots give, may be true.
+/// The least number of a share, other than the owner's, that may take a row: the share's filter may be true. The roots
+/// give the number of the filter's step.
 pub fn second_owner(owner: usize, roots: &[usize], masks: &[Mask]) -> Option<usize>
     ensures { result ≡ second_among owner 0 (map (mask_in masks.now) roots.now) }
 {

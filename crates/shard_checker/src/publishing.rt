@@ -1,4 +1,4 @@
-//! What the publications that are taken publish.
+//! What the subscribed publications publish.
 
 ghost use Rattle.std.specs.Prelude.{◌≡◌, ◌≢◌, IfErr, map};
 ghost use Rattle.pub_catalog.specs.CatalogView.{publication_view};
@@ -9,14 +9,14 @@ ghost use Rattle.shard_checker.specs.Sound as sound;
 use crate::error::{CheckError, Operation};
 use pub_catalog::{Operations, Publication, Subscription};
 
-/// Whether the subscription takes the publication of this number.
+/// Whether the subscription names the publication of this number.
 fn is_listed(publication: usize, subscription: &Subscription) -> bool
     ensures { result ≡ sound.is_listed publication subscription.now }
 {
     subscription.publications.as_slice().contains(&publication)
 }
 
-/// Whether some subscription takes the publication of this number.
+/// Whether some subscription names the publication of this number.
 pub fn is_taken(subscriptions: &[Subscription], publication: usize) -> bool
     ensures { result ≡ sound.is_taken subscriptions.now publication }
 {
@@ -73,7 +73,7 @@ fn check_publication(
     }
 }
 
-/// Checks that each publication that is taken publishes insert, update, delete and truncate.
+/// Checks that each subscribed publication publishes insert, update, delete and truncate.
 pub fn check_publishing(
     subscriptions: &[Subscription],
     publications: &[Publication],

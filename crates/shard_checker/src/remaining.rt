@@ -18,7 +18,7 @@ pub struct Remaining {
 }
 
 impl Remaining {
-    /// All of so many candidates, before any atom is tested.
+    /// The first `count` candidates, before any atom is tested.
     pub fn new(alloc: Global, count: usize) -> Result<Remaining, AllocError>
         ensures { IfOk result (λ remaining. spec.IsAll count remaining) }
     {
@@ -29,7 +29,7 @@ impl Remaining {
         })
     }
 
-    /// Keeps what an atom that was found to have the value leaves.
+    /// Keeps what is left by an atom that was found to have the value.
     pub fn keep(&mut self, sets: &AtomSets, value: Tri) -> Result<(), AllocError>
         ensures { OnOk result (spec.Keeps self.old self.new sets.now value) }
     {

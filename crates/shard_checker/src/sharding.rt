@@ -29,7 +29,8 @@ use replica_identity::{Plan, Share};
 use split_cert::Cert;
 use std::alloc::{AllocError, Allocator, Global};
 
-/// What the subscribers take of the table of this number, as `check_one` has it. The only error is want of memory.
+/// The shares of the subscribers in the table of this number, as `check_one` takes them. The only error is out of
+/// memory.
 pub fn shares_in<'a>(
     alloc: Global,
     plan: &'a Plan,
@@ -93,7 +94,7 @@ fn check_count(tables: usize, certificates: usize) -> Result<(), CheckError>
     }
 }
 
-/// Checks what the catalog says of publications and replica identities.
+/// Checks what the catalog says about publications and replica identities.
 fn check_catalog(alloc: Global, catalog: &Catalog) -> Result<(), CheckError>
     ensures exact { Checks (spec.catalog_refusal (catalog_view catalog.now)) result }
     ensures declared { OnOk result (spec.declared_refusal (catalog_view catalog.now) ≡ None) }
@@ -142,25 +143,24 @@ fn check_sharding<A: Allocator>(
     Ok(())
 }
 
-/// Checks that the sharding of the catalog is sound. Each row that may be in its table, with texts of any length, has
-/// to pass to exactly one subscriber, as the certificates of the tables, in their order, say it does. Each publication
-/// that a subscription takes has to publish insert, update, delete and truncate, and to carry only tables that are
-/// there, by filters that name only columns of their replica identities. Each table's replica identity has to tell its
-/// rows apart; NOTHING doesn't, nor does an index that isn't there or has a column which may be null. The plan is the
-/// catalog's own.
+/// Checks that the sharding of the catalog is sound. Each row that may be in its table, with texts of any length, must
+/// pass to exactly one subscriber, as the certificates of the tables, in their order, say. Each subscribed publication
+/// must publish insert, update, delete and truncate, and must carry only tables that exist, by filters that name only
+/// columns of their replica identities. Each table's replica identity must distinguish its rows; NOTHING does not, nor
+/// does an index that does not exist or that has a column which may be null. The plan is the catalog's own.
 ///
-/// In the setting of a catalog that is accepted and its plan a row's replica identity tells who gets the row
-/// (`covered`), commands that are accepted leave no two rows of a table with one identity (`apart`), and each row that
-/// fits its table passes to exactly one subscriber (`divided`). A `Checked` keeps that.
+/// In the setting of a catalog that is accepted and its plan, a row's replica identity determines who gets the row
+/// (`covered`), commands that are accepted leave no two rows of a table with the same identity (`apart`), and each row
+/// that fits its table passes to exactly one subscriber (`divided`). A `Checked` preserves this.
 ///
 /// # Errors
 ///
-/// The first of these: an operation that a publication which is taken doesn't publish, by publications; a table whose
-/// replica identity doesn't tell its rows apart; a column that a filter names and the replica identity lacks, by
-/// publications that are taken, their entries, and columns in the order of first appearance;
-/// another number of certificates than of tables; and then the error of the first certificate that has one, as
-/// `check_one` has it, with the table's number. `OutOfMemory` may come in place of these, but not of the first two
-/// (`memory`). What an error says of what it names is so (`wrong`). With an error the catalog and the plan are dropped.
+/// The first of these: an operation that a subscribed publication does not publish, by publications; a table whose
+/// replica identity does not distinguish its rows; a column that a filter names and the replica identity lacks, by
+/// subscribed publications, their entries, and columns in the order of first appearance; a number of certificates that
+/// is not the number of tables; and then the error of the first certificate that has one, as `check_one` returns it,
+/// with the table's number. `OutOfMemory` may come in place of these, but not of the first two (`memory`). What an
+/// error says about what it names is true (`wrong`). On an error the catalog and the plan are dropped.
 ///
 /// PostgreSQL 15, "Logical Replication", 31.3 Row Filters.
 #[tactic(auto, using(crate::proofs::StandingLemmas::standing, crate::proofs::ReasonLemmas::sharding_wrong))]

@@ -9,7 +9,7 @@ ghost use Rattle.shard_checker.specs.Steps as spec;
 use filter_tree::{Atom, Filter, Test, same_atom};
 use std::alloc::{AllocError, Allocator, Global};
 
-/// A filter whose parts are named by the numbers of their steps, and whose atom is named by its own number.
+/// A filter whose parts are identified by the numbers of their steps, and whose atom is identified by its own number.
 #[derive(Clone, Copy, Debug, PartialEq, Eq)]
 pub enum Step {
     Const(bool),
@@ -33,20 +33,20 @@ fn number_of<A: Allocator>(atoms: &[&Atom<A>], atom: &Atom<A>) -> usize
     unreachable!()
 }
 
-/// Steps, each of them once, and what finds them again.
+/// Steps, each of them once, and an index by which they are found again.
 #[derive(Drop)]
 pub struct Steps {
     pub list: Vec<Step>,
     /// For each key, the last step with that key.
     latest: Vec<usize>,
-    /// For each step, the last one before it with its key.
+    /// For each step, the last step before it with the same key.
     earlier: Vec<usize>,
 }
 
-/// The number that means that there is none.
+/// The number that means that there is no step.
 const NO_STEP: usize = usize::MAX;
 
-/// The number at a place, or none.
+/// The number at a place, or `NO_STEP`.
 fn number_at(numbers: &[usize], place: usize) -> usize {
     numbers.get(place).copied().unwrap_or(NO_STEP)
 }
@@ -61,7 +61,7 @@ fn is_at(list: &[Step], number: usize, step: Step) -> bool
     }
 }
 
-/// A number that equal steps share, and few others: that of the atom, or of the last part.
+/// A number that equal steps share, and few others: the number of the atom, or of the last part.
 fn key_of(step: Step) -> usize {
     match step {
         Step::Const(_) => 0,
@@ -71,7 +71,7 @@ fn key_of(step: Step) -> usize {
 }
 
 impl Steps {
-    /// No steps, for filters that have so many atoms.
+    /// No steps, for filters that have this number of atoms.
     pub fn new(alloc: Global, atoms: usize) -> Result<Steps, AllocError>
         ensures { IfOk result (λ steps. steps.list.items ≡ []) }
     {
@@ -82,7 +82,7 @@ impl Steps {
         })
     }
 
-    /// The number of the step, if it is there.
+    /// The number of the step, if it exists.
     fn find(&self, step: Step) -> Option<usize>
         ensures { IfSome result (λ number. slice_get self.now.list.items number ≡ Some step) }
     {
@@ -100,7 +100,7 @@ impl Steps {
         None
     }
 
-    /// Puts the step after the others.
+    /// Adds the step at the end.
     #[tactic(auto, using(crate::proofs::StepLemmas::adding))]
     fn push(&mut self, step: Step) -> Result<usize, AllocError>
         ensures { IfOk result (λ number. spec.Adds self.old.list.items self.new.list.items number step) }
@@ -116,7 +116,7 @@ impl Steps {
         Ok(number)
     }
 
-    /// Puts the step among the others, unless it is there, and gives its number.
+    /// Adds the step to the others, unless it exists, and returns its number.
     #[tactic(auto, using(crate::proofs::StepLemmas::adding))]
     pub fn add(&mut self, step: Step) -> Result<usize, AllocError>
         ensures { IfOk result (λ number. spec.Adds self.old.list.items self.new.list.items number step) }
@@ -128,7 +128,7 @@ impl Steps {
     }
 }
 
-/// Puts the parts of the filter among the steps, and gives the number of the filter's own step.
+/// Adds the parts of the filter to the steps, and returns the number of the filter's own step.
 #[tactic(auto, using(crate::proofs::StepLemmas::compiling))]
 pub fn compile<A: Allocator>(
     atoms: &[&Atom<A>],

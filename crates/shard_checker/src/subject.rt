@@ -1,4 +1,4 @@
-//! What a certificate speaks of.
+//! What a certificate is about.
 
 ghost use Rattle.std.specs.Prelude.{◌≡◌, slice_get};
 ghost use Rattle.std.specs.Option.{option_map};
@@ -22,7 +22,7 @@ pub struct Subject<'a, A: Allocator> {
     pub terms: &'a [Term],
     /// The shares' filters.
     pub formulas: &'a Formulas,
-    /// What the atoms and the filters' steps are parts of.
+    /// The steps of which the atoms and the filters' steps are parts.
     pub users: &'a Users,
     /// What is tried for the terms.
     pub candidates: &'a CandidateSets,

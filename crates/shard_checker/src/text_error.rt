@@ -1,4 +1,4 @@
-//! Why a sharding is refused by the texts of its certificates.
+//! Why a sharding is refused because of the texts of its certificates.
 
 ghost use Rattle.std.specs.Prelude.{◌≡◌};
 ghost use Rattle.shard_checker.specs.declared.text_error.TextError.TheVariants.{Check};
@@ -7,10 +7,10 @@ use crate::error::CheckError;
 use split_cert::CertError;
 use thiserror::Error;
 
-/// Why a sharding is refused by the texts of its certificates.
+/// Why a sharding is refused because of the texts of its certificates.
 #[derive(Clone, Copy, Debug, PartialEq, Eq, Error)]
 pub enum TextError {
-    /// The text of this line, counted from 1, is no certificate.
+    /// The text of this line, counted from 1, is not a certificate.
     #[error("line {0} is no certificate: {1}")]
     Text(usize, CertError),
     /// All texts are certificates, and the sharding is refused.

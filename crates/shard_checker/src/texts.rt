@@ -46,7 +46,7 @@ fn read_texts(texts: &[&str]) -> Result<(), TextError>
     Ok(())
 }
 
-/// Checks a sharding by texts, where all are read.
+/// Checks a sharding by texts, if all of them are read.
 fn check_texts(
     alloc: Global,
     catalog: &Catalog,
@@ -62,15 +62,15 @@ fn check_texts(
     Ok(())
 }
 
-/// Checks that the sharding of the catalog is sound, as `check` does, by the texts of the certificates, and builds no
+/// Checks that the sharding of the catalog is sound, as `check` does, by the texts of the certificates. It builds no
 /// tree of a text. The plan is the catalog's own.
 ///
 /// # Errors
 ///
-/// The first text that `read_in` doesn't read, with its line, counted from 1, and its fault; where all are read, what
-/// `check` answers for the certificates (`read`). So each text is read to its end before a node of any is checked. Want
-/// of memory is `Check(OutOfMemory)`, and comes only where all texts are read. What a refusal says of what it names is
-/// so (`wrong`). With an error the catalog and the plan are dropped.
+/// The first text that `read_in` does not read, with its line, counted from 1, and its fault; if all are read, what
+/// `check` returns for the certificates (`read`). So each text is read to its end before a node of any text is checked.
+/// Out of memory is `Check(OutOfMemory)`, and comes only if all texts are read. What a refusal says about what it names
+/// is true (`wrong`). On an error the catalog and the plan are dropped.
 ///
 /// PostgreSQL 15, "Logical Replication", 31.3 Row Filters.
 #[tactic(auto, using(crate::proofs::StandingLemmas::standing))]

@@ -1,4 +1,4 @@
-//! What atoms and steps are parts of.
+//! The steps of which atoms and steps are parts.
 
 ghost use Rattle.std.specs.Prelude.{◌≡◌, IfOk, OnOk, length};
 ghost use Rattle.shard_checker.specs.Blocks as spec;
@@ -9,14 +9,14 @@ use std::alloc::{AllocError, Allocator, Global};
 /// How many steps there are in a block.
 pub const BLOCK: usize = 8;
 
-/// For each atom and for each step, by its number, the blocks of the steps that it is a part of.
+/// For each atom and for each step, by its number, the blocks of the steps of which it is a part.
 #[derive(Drop)]
 pub struct Users {
     pub of_atoms: Vec<Vec<usize>>,
     pub of_steps: Vec<Vec<usize>>,
 }
 
-/// So many empty lists.
+/// Empty lists, `count` of them.
 fn empty_lists(alloc: Global, count: usize) -> Result<Vec<Vec<usize>>, AllocError>
     ensures { IfOk result (λ lists. length lists.items ≡ count) }
 {
@@ -27,7 +27,7 @@ fn empty_lists(alloc: Global, count: usize) -> Result<Vec<Vec<usize>>, AllocErro
     Ok(lists)
 }
 
-/// The blocks in the list of this number; past the last list none.
+/// The blocks in the list of this number; none past the last list.
 pub fn blocks_in(lists: &[Vec<usize>], number: usize) -> &[usize]
     ensures { result.now ≡ spec.blocks_in lists.now number }
 {
@@ -37,7 +37,7 @@ pub fn blocks_in(lists: &[Vec<usize>], number: usize) -> &[usize]
     }
 }
 
-/// Puts the block in the list of this number, if there is one, unless it is the last one there.
+/// Puts the block in the list of this number, if there is one, unless it is the last block there.
 fn list(lists: &mut [Vec<usize>], number: usize, block: usize) -> Result<(), AllocError>
     ensures { OnOk result (spec.Lists lists.old lists.new number block) }
 {
@@ -65,7 +65,7 @@ impl Users {
         Ok(())
     }
 
-    /// What so many atoms and these steps are parts of. The only error is want of memory.
+    /// The steps of which this number of atoms and these steps are parts. The only error is out of memory.
     pub fn new(alloc: Global, atoms: usize, steps: &[Step]) -> Result<Users, AllocError>
         ensures used { IfOk result (λ users. spec.AreUsers steps.now users) }
         ensures atoms { IfOk result (λ users. length users.of_atoms.items ≡ atoms) }

@@ -1,4 +1,4 @@
-//! Whether an atom is true of a value.
+//! Whether an atom is true for a value.
 
 ghost use Rattle.std.specs.Prelude.{◌≡◌, ◌&&◌, Some};
 ghost use Rattle.filter_tree.specs.Datum.{Number, Bytes};
@@ -14,7 +14,7 @@ use crate::members::Members;
 use filter_tree::{Atom, Literal, Op, Term, compare_literals, same_term};
 use std::alloc::{Allocator, Global};
 
-/// Whether the comparison holds of the text.
+/// Whether the comparison holds for the text.
 fn compares_text<A: Allocator>(op: Op, text: &str, constant: &Literal<A>) -> bool
     ensures { result ≡ spec.compares op (Some (Bytes text.now)) (constant_view constant.now) }
 {
@@ -25,7 +25,7 @@ fn compares_text<A: Allocator>(op: Op, text: &str, constant: &Literal<A>) -> boo
     }
 }
 
-/// Whether the comparison holds of the value.
+/// Whether the comparison holds for the value.
 fn compares<A: Allocator>(op: Op, value: Tried<'_>, constant: &Literal<A>) -> bool
     ensures { result ≡ spec.compares op (tried_view value.entry) (constant_view constant.now) }
 {
@@ -37,7 +37,7 @@ fn compares<A: Allocator>(op: Op, value: Tried<'_>, constant: &Literal<A>) -> bo
     }
 }
 
-/// Whether the value is a number from the low one to the high one.
+/// Whether the value is a number from the low number to the high number.
 fn is_between(value: Tried<'_>, low: i64, high: i64) -> bool
     ensures { result ≡ (spec.compares Ge (tried_view value.entry) (Number low)
         && spec.compares Le (tried_view value.entry) (Number high)) }
@@ -48,7 +48,7 @@ fn is_between(value: Tried<'_>, low: i64, high: i64) -> bool
     }
 }
 
-/// Whether the atom is true of the value, where the members are those of its list.
+/// Whether the atom is true for the value; the members are those of the atom's list.
 pub fn holds<A: Allocator>(atom: &Atom<A>, members: &Members<'_>, value: Tried<'_>) -> bool
     requires { AreMembersOf (atom_view atom.now) members.now }
     ensures { result ≡ spec.holds_of (atom_view atom.now) (tried_view value.entry) }
@@ -62,7 +62,7 @@ pub fn holds<A: Allocator>(atom: &Atom<A>, members: &Members<'_>, value: Tried<'
     }
 }
 
-/// Whether the atom is a test of the values of the term, as all are but `IS NULL`.
+/// Whether the atom is a test of the values of the term. All atoms on the term but `IS NULL` are.
 pub fn is_about<A: Allocator>(term: Term, atom: &Atom<A>) -> bool
     ensures { result ≡ spec.is_about term (atom_view atom.now) }
 {

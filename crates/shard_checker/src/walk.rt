@@ -25,18 +25,18 @@ use split_cert::{Cert, Node, NodeReader};
 use std::alloc::{AllocError, Allocator, Global};
 
 /// Where the next node of a certificate comes: the atoms that were split by on the way to it, each with its value
-/// there, and the node's number. Numbers end at the greatest.
+/// there, and the node's number. Numbers stop at the greatest number.
 #[derive(Drop)]
 pub struct Walk<'a, A: Allocator> {
     pub path: Vec<(&'a Atom<A>, Tri)>,
-    /// What the path says of the atoms.
+    /// What the path says about the atoms.
     pub known: Known,
-    /// What each step of the filters may be, and which of them have to be computed again.
+    /// What each step of the filters may be, and which of them must be recomputed.
     pub masks: Masks,
-    /// What is left to the terms.
+    /// What is left for the terms.
     pub remaining: Remaining,
     pub node: usize,
-    /// Whether no node is due.
+    /// Whether no node is expected.
     pub is_over: bool,
 }
 
@@ -59,7 +59,7 @@ pub fn begin<'a, A: Allocator>(
     })
 }
 
-/// The number of the node after this one; numbers end at the greatest.
+/// The number of the node after this one; numbers stop at the greatest number.
 fn next(node: usize) -> usize
     ensures { result ≡ refusal.later node 1 }
 {
@@ -77,7 +77,7 @@ fn extend<'a, A: Allocator>(
     Ok(())
 }
 
-/// Enters the branch of a split by the atom of this number where the atom has the value.
+/// Enters the branch of a split by the atom of this number in which the atom has the value.
 #[tactic(auto, using(crate::proofs::WalkInvariantLemmas::entering))]
 fn enter<'a, A: Allocator>(
     subject: &Subject<'a, A>,
@@ -107,7 +107,7 @@ fn enter<'a, A: Allocator>(
     Ok(())
 }
 
-/// Takes the last entry off the path, and gives its atom's number and its value.
+/// Removes the last entry from the path, and returns its atom's number and its value.
 #[tactic(auto, using(crate::proofs::WalkInvariantLemmas::returning))]
 fn go_back<'a, A: Allocator>(subject: &Subject<'a, A>, walk: &mut Walk<'a, A>) -> Option<(u32, Tri)>
     requires { WalkAgrees subject.now walk.old }
@@ -126,7 +126,7 @@ fn go_back<'a, A: Allocator>(subject: &Subject<'a, A>, walk: &mut Walk<'a, A>) -
     Some((before.number, value))
 }
 
-/// Leaves a node that isn't a split: goes to the next branch of the last split that has one, or ends where none has.
+/// Leaves a node that isn't a split: goes to the next branch of the last split that has one, or ends if none has.
 #[tactic(auto, using(crate::proofs::WalkInvariantLemmas::leaving))]
 fn leave<'a, A: Allocator>(
     subject: &Subject<'a, A>,
@@ -149,7 +149,7 @@ fn leave<'a, A: Allocator>(
     Ok(())
 }
 
-/// Takes the walk to the node after this one.
+/// Moves the walk to the node after this one.
 fn step<'a, A: Allocator>(
     subject: &Subject<'a, A>,
     walk: &mut Walk<'a, A>,
@@ -168,7 +168,7 @@ fn step<'a, A: Allocator>(
     }
 }
 
-/// Tells of each step of the filters what it may be at the end of the path.
+/// Determines for each step of the filters what it may be at the end of the path.
 fn settle<A: Allocator>(subject: &Subject<'_, A>, walk: &mut Walk<'_, A>)
     requires { WalkAgrees subject.now walk.old }
     ensures settled { IsSettled subject.now.formulas.now.steps.list.items walk.new.known.atoms.items
@@ -186,7 +186,7 @@ fn settle<A: Allocator>(subject: &Subject<'_, A>, walk: &mut Walk<'_, A>)
     );
 }
 
-/// Checks a node at the end of a path, a split's branches apart.
+/// Checks a node at the end of a path, without a split's branches.
 fn check_node<A: Allocator>(
     subject: &Subject<'_, A>,
     walk: &mut Walk<'_, A>,
@@ -211,7 +211,7 @@ fn check_node<A: Allocator>(
     }
 }
 
-/// Checks the node that is due, and takes the walk to the one after it.
+/// Checks the node that is expected, and moves the walk to the one after it.
 #[tactic(auto, using(crate::proofs::WalkLemmas::steps))]
 fn visit<'a, A: Allocator>(
     subject: &Subject<'a, A>,
@@ -279,7 +279,7 @@ pub fn visit_tree<'a, A: Allocator, B: Allocator>(
     }
 }
 
-/// The next node of a text, or none where no node is to come.
+/// The next node of a text; `None` if no node follows.
 fn next_node(reader: &mut NodeReader<'_>) -> Option<Node>
     ensures { MatchOption result (reader.old.nodes ≡ [])
         (λ node. reader.old.nodes ≡ node ∷ reader.new.nodes) }

@@ -1,5 +1,5 @@
--- In the world a stream has started, or the command that asks for it is still to be heard whole; so each subscriber
--- can be brought up to the end of the log.
+-- In the world a stream has started, or the command that requests it is still to be heard whole; so each subscriber can
+-- be brought up to the end of the log.
 use Rattle.std.proofs.Common.{◌≡◌, ℕ, ◌+◌, ◌<◌, ◌≤◌, Bool, true, false, List, [], ◌∷◌, length, refl, sym, ◌∙◌, ap, subst, arith, inl, inr}
 use Rattle.std.specs.Prelude.{Option, Some, None, ◌==◌, nat_le, nat_lt, if◌then◌else◌}
 use Rattle.std.specs.Cmp.{unsigned_Decides}
@@ -19,7 +19,7 @@ use Rattle.shard_world.proofs.WorldSteps.{peer_good}
 use Rattle.shard_world.proofs.WorldLemmas.{all_timed, can_be_said, good_at, published}
 use Rattle.filter_tree.proofs.Tests.{by_test}
 
--- the command that asks for the stream is still to be heard whole, or the stream has started
+-- the command that requests the stream is still to be heard whole, or the stream has started
 abbrev pub IsAskedAt : CheckedOf → ℕ → ℕ → Option Connection → Type 0
 IsAskedAt checked subscriber position None = Unit {0}
 IsAskedAt checked subscriber position (Some c) = c.start ≡ None
@@ -145,7 +145,7 @@ leads_asked checked most (event ∷ events) world last leads all =
     leads_asked checked most events leads.1 last leads.3
     (step_asked checked most world event.0 event.1 leads.0 leads.1 leads.2 all)
 
--- a position that counts so many commits, and isn't 0, is where the last of them ends
+-- a position that counts this number of commits, and isn't 0, is where the last of them ends
 pub end_of_count : (position count : ℕ) → IsEnd position → count_before position ≡ count → 1 ≤ position
     → position ≡ end_of count
 end_of_count position count ends counts some = elim ends [

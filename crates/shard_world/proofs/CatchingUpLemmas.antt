@@ -36,7 +36,7 @@ pub record HasStart (start : Option ℕ) : Type 0 where
   pub at : ℕ
   pub is : start ≡ Some at
 
--- where the first of what is new asks for the stream
+-- if the first of what is new requests the stream
 pub starts_by : (now : ℕ) (position : ℕ) (ups : List Up) (session : Session)
     → HasStart (fold (hear_up now) session (Asks position ∷ ups)).start
 starts_by now position ups session = by_start session.start refl
@@ -86,7 +86,7 @@ hears_start source now peer c more still whole = by_start c.start refl
         (map Says c.reports))
         (record { confirmed = peer.confirmed; start = c.start; moves = c.moves })))
 
--- ---- commits are taken up
+-- ---- commits are taken
 
 -- how many commits are counted by what was sent
 module _ (source : Source) (accepted : AreAccepted (setting_in source.checked) no_rows source.transactions) where
@@ -177,7 +177,7 @@ pub record IsRunning (source : Source) (start : ℕ) (peer : Peer) : Type 0 wher
   pub start_is : c.start ≡ Some start
   pub good : IsGood source peer
 
--- so many commits or fewer are left
+-- this number of commits or fewer remain
 pub record IsLeft (source : Source) (start count : ℕ) (peer : Peer) : Type 0 where
   pub running : IsRunning source start peer
   pub left : length (log_in source) ≤ (place_of source start running.c.moves).done + count
@@ -262,7 +262,7 @@ module _ (source : Source) (published : IsPublished source.checked source.transa
       as_step (Deliver (sent_to source peer.connection)) peer c is
       ∙ ap (λ connection. (open_step source now (Deliver (sent_to source connection)) peer c).1) is
 
-  -- after the keepalive all of the stream tells of the end of the log
+  -- after the keepalive the whole stream reports the end of the log
   -- it counts all commits, and isn't 0
   pub record CountsAll (position : ℕ) : Type 0 where
     pub all : length (log_in source) ≤ count_before position

@@ -1,4 +1,4 @@
--- Where all subscribers have applied the same commits, what is shown of them divides the publisher's tables.
+-- If all subscribers have applied the same commits, what is shown of them divides the publisher's tables.
 use Rattle.std.proofs.Common.{◌≡◌, ℕ, zero, suc, ◌<◌, true, List, [], ◌∷◌, length, refl, sym, ap, subst, ◌∙◌, arith}
 use Rattle.std.specs.Prelude.{All, IfSome, Some, slice_get}
 use Rattle.std.specs.Option.{option_map}
@@ -22,7 +22,7 @@ use Rattle.std.proofs.lemmas.Bool.{and_parts}
 
 -- ---- lists
 
--- one is there for each number that is less than their number
+-- one exists for each number that is less than their number
 pub get_there : {X : Type 0} (xs : List X) (number : ℕ) → number < length xs → (x : X) × (slice_get xs number ≡ Some x)
 get_there [] number h = absurd (omega (arith, h))
 get_there (x ∷ xs) zero h = (x, refl)

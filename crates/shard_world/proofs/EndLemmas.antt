@@ -38,9 +38,9 @@ greater_end one other first second = by_test (nat_lt one other)
 pub end_is : (number : ℕ) → IsEnd (end_of number)
 end_is number = inr (omega arith)
 
--- ---- what items tell
+-- ---- what items report
 
--- this is so of where a message says that a commit ends
+-- this holds of the place where a message says that a commit ends
 abbrev pub TellsBy : (ℕ → Type 0) → Msg → Type 0
 TellsBy P (m.Begin final_lsn time xid) = Unit {0}
 TellsBy P (m.Commit lsn end_lsn time) = P end_lsn

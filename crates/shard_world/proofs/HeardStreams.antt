@@ -1,5 +1,5 @@
--- What a connection has said when a piece is heard: its stream starts or goes on, or it still waits. Statuses say no
--- more than what was sent.
+-- What a connection has sent when a piece is heard: its stream starts or continues, or it still waits. Statuses report
+-- no more than what was sent.
 use Rattle.std.proofs.Common.{◌≡◌, ℕ, ◌+◌, ◌<◌, ◌≤◌, ◌^◌, min, false, List, [], ◌∷◌, ◌++◌, length, replicate, take, refl, sym, ap, subst, ◌∙◌, arith, append-nil, length-append}
 use Rattle.std.specs.Prelude.{Option, Some, None, Ok, All, slice_get}
 use Rattle.std.specs.List.{concat}
@@ -49,7 +49,7 @@ log_numbered case is place commit at =
     (entry_at (setting_in case.checked) no_rows 1 case.world.transactions place commit
     (case_published case is).accepted at).is
 
--- ---- statuses say no more than what was sent
+-- ---- statuses report no more than what was sent
 
 module _ (case : Case) (is : IsCase case) (c : Connection) (some : (peer_of case).connection ≡ Some c) where
   pub both : (a b d : ℕ) → a ≤ b → a ≤ d → a ≤ min b d
@@ -61,7 +61,7 @@ module _ (case : Case) (is : IsCase case) (c : Connection) (some : (peer_of case
   pub reached_small : (at : Connected case c) → at.reached < 2 ^ 64
   reached_small at = subst (λ n. n < 2 ^ 64) (sym (reached_is at)) (now_small case is)
 
-  -- what was sent, where the stream started, or will be where it starts now
+  -- what was sent, if the stream started, or will be if it starts now
   pub sent_by : (at : Connected case c) (start : Option ℕ) (sent : ℕ) → c.start ≡ start
       → ((begin : ℕ) → start ≡ Some begin → sent ≡ (place_of (source_of case) begin c.moves).sent)
       → at.reached ≤ min (sent_limit start (peer_of case).position sent) (end_after (length case.world.transactions))
@@ -117,7 +117,7 @@ not_over h goes_on = by_both h.fault h.heard.ended goes_on
     by_both None (Some kind) e = absurd cc
     by_both (Some fault) ended e = absurd cc
 
--- what was said before, and what is said then: the stream that starts or goes on
+-- what was sent before, and what is sent then: the stream that starts or continues
 pub record SpeaksOn (case : Case) (new : Link) (c : Connection) (session : Session) : Type 0 where
   pub within : c.delivered ≤ length (down_bytes (source_of case) session.start session.moves)
   pub same : take c.delivered (down_bytes (source_of case) session.start session.moves)
@@ -163,7 +163,7 @@ module _ (case : Case) (is : IsCase case) (slots : List Slot) (link new : Link) 
     (says : HearSays link new h case.now (Ok heard)) (goes_on : h.heard.ended ≡ None) (session : Session)
     (started : h.started ≡ stream_of case.number session.start)
     (moves_are : session.moves ≡ c.moves ++ replicate h.heard.replies (Keep case.now false)) where
-  -- what is so of a start and moves is so of those of the session
+  -- what holds of a start and moves holds of those of the session
   to_session : (start : Option ℕ) (moves : List Move) → session.start ≡ start → session.moves ≡ moves
       → c.delivered ≤ length (down_bytes (source_of case) start moves)
       → take c.delivered (down_bytes (source_of case) start moves) ≡ take c.delivered (down_of (source_of case) c)
@@ -180,7 +180,7 @@ module _ (case : Case) (is : IsCase case) (slots : List Slot) (link new : Link) 
   abbrev kept : List Move
   kept = replicate h.heard.replies (Keep case.now false)
 
-  -- the stream went on
+  -- the stream continued
   pub went_on : (start : ℕ) → c.start ≡ Some start → session.start ≡ Some start → SpeaksOn case new c session
   went_on start before after =
       let passed = take c.delivered (down_bytes (source_of case) (Some start) c.moves) in

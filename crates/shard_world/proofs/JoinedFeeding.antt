@@ -1,4 +1,4 @@
--- A subscriber is fed what comes to it as in the world.
+-- A subscriber is fed what is delivered to it as in the world.
 use Rattle.std.proofs.Common.{◌≡◌, ℕ, zero, suc, ◌+◌, ◌-◌, ◌≤◌, List, [], ◌++◌, drop, length, take, refl, sym, ap, subst, ◌∙◌, arith, length-drop}
 use Rattle.std.specs.Prelude.{Option, Some, None, min}
 use Rattle.std.proofs.Math.Seq.{take-add}
@@ -81,7 +81,7 @@ module _ (case : Case) (is : IsCase case) (c : Connection) (some : (peer_of case
       (peer_of case).machine (case_good case is).follows c.start c_is.is.started c.moves c_is.is.clocked))
       refl within
 
-  -- what a subscriber makes of a piece that comes after what was delivered
+  -- what a subscriber does with a piece that comes after what was delivered
   pub record Makes (more : ℕ) (subscriber : Subscriber) (heard : Heard) : Type 0 where
     pub fault : heard.fault ≡ None
     pub machine : AlikeBut heard.machine

@@ -65,7 +65,7 @@ ups_are_frames case is c = (
 
 -- ---- what is new in a piece
 
--- some of the statuses, after so many, that are whole in so many bytes
+-- some of the statuses, after a number of others, that are whole in this number of bytes
 abbrev pub some_of : CheckedOf → ℕ → ℕ → ℕ → List Status → List Status
 some_of checked number done count statuses =
     drop done (whole_by (λ status. up_frame checked number (Says status)) count statuses)
@@ -138,7 +138,7 @@ module _ (case : Case) (c : Connection) (more : ℕ) where
       (newly (source_of case) (peer_of case) c more)
   what_is_new asked = new_by c.start asked
 
--- ---- of all statuses some have what all have
+-- ---- what all statuses have, some of them have
 
 if_all : (P : Status → Type 0) (whole : Bool) (status : Status) (others : List Status) → P status → All P others
     → All P (if_whole whole status others)
@@ -161,7 +161,7 @@ some_all checked number P done count statuses all =
 
 -- ---- what the new frames do
 
--- how much of what a status says may be confirmed, before the log's end: what was sent, or where the stream starts now
+-- how far a status may confirm, before the log's end: up to what was sent, or to where the stream starts now
 abbrev pub sent_limit : Option ℕ → ℕ → ℕ → ℕ
 sent_limit None position sent = first_sent position
 sent_limit (Some start) position sent = sent
@@ -238,7 +238,7 @@ module _ (case : Case) (is : IsCase case) (c : Connection) (commits : ℕ) (h : 
         ∙ ap (λ (moves : List Move). record { confirmed = (peer_of case).confirmed; start = c.start; moves = moves })
         (ap (λ n. c.moves ++ replicate n (Keep case.now false)) before.replies ∙ append-nil c.moves)
 
-    -- what comes of the new frames, where they are these
+    -- the result of the new frames, if they are these
     record Comes (ups : List Up) (last : HearingOf) : Type 0 where
       hears : IsHearing case.number last
       session_is : session_of case.number case.now c.moves last ≡ fold (hear_up case.now) first_session ups

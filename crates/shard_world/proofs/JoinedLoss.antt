@@ -17,7 +17,7 @@ use Rattle.shard_world.proofs.SlotLemmas.{others_stay, streams_slot}
 
 -- ---- slots
 
--- the slot is given back, if a stream had it
+-- the slot is released, if a stream used it
 without_slot : (slots : List Slot) (number confirmed : ℕ) (start : Option ℕ)
     → HasSlot slots number confirmed (is_some start)
     → HasSlot (slots_without (stream_of number start) slots) number confirmed false

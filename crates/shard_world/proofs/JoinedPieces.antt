@@ -153,7 +153,7 @@ module _ (case : Case) (is : IsCase case) (before after : Book) (old : PeerOf) (
       (frames_of (after_frames frames (Rest cuts.rest))))) (no_fault_after frames cuts.rest)
       ∙ ap (frames_heard (served_of case is connection commits start_view) start_view) (frames_before frames cuts.rest)
 
-  -- a stream that has started stays so, and one starts where the command is heard
+  -- a stream that has started stays so, and one starts when the command is heard
   start_kept : (start : ℕ) → connection.start ≡ Some start
       → (heard_of (source_of case) case.now (peer_of case) connection more).start ≡ Some start
   start_kept start e = start_stays case.now start (newly (source_of case) (peer_of case) connection more)

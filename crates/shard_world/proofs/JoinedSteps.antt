@@ -201,9 +201,9 @@ reports case is slots old link after want stands some reported_is =
           });
     })
 
--- ---- what is said
+-- ---- what is sent
 
--- the stream goes on
+-- the stream continues
 pub record GrowsBy (before after : List ℕ) : Type 0 where
   pub more : List ℕ
   pub is : after ≡ before ++ more
@@ -230,7 +230,7 @@ same_ear case c old new hears same = record {
   held = same.held ∙ hears.held;
 }
 
--- a move more, and a subscriber that was fed nothing
+-- one more move, and a subscriber that was fed nothing
 moves_linked : (case : Case) (slots : List Slot) (old new : Link) (subscriber : Subscriber) (c : Connection)
     (move : Move) (start : ℕ) → c.start ≡ Some start
     → IsLinked (source_of case) slots old subscriber (peer_of case) c

@@ -1,4 +1,4 @@
--- Where memory is asked for, the step of the world has something to do.
+-- If memory is allocated, the step of the world has something to do.
 use Rattle.std.proofs.Common.{◌≡◌, ℕ, Bool, List, [], ◌∷◌, sym, subst}
 use Rattle.std.specs.Prelude.{Option, Some, None, IsSome, slice_get}
 use Rattle.tables_log.specs.Commits.{CommitOf}

@@ -109,11 +109,11 @@ module _ {X : Type 0} (frame : X → Frame) where
       begin_with (nat_le (length (framed (frame x))) count) x (whole_by frame (count - length (framed (frame x))) xs)
       xs (whole_begin (count - length (framed (frame x))) xs)
 
-  -- what is whole in so many bytes and more, and wasn't before
+  -- what is whole in this number of bytes and more, and wasn't before
   abbrev pub new_in : List X → ℕ → ℕ → List X
   new_in all done more = drop (length (whole_by frame done all)) (whole_by frame (done + more) all)
 
-  -- so many of the first frames of a piece are those of a smaller piece
+  -- this number of the first frames of a piece are those of a smaller piece
   pub record IsPart (all : List X) (done more count : ℕ) : Type 0 where
     pub some : ℕ
     pub within : some ≤ more

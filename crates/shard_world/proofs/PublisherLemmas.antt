@@ -1,4 +1,4 @@
--- A catalog that was checked, with its own plan, is a publisher, as the laws of the world ask.
+-- A catalog that was checked, with its own plan, is a publisher, as the laws of the world require.
 use Rattle.pub_catalog.specs.CatalogView.{catalog_view}
 use Rattle.replica_identity.specs.Plans.{plan_view}
 use Rattle.shard_checker.proofs.LimitFacts.{checked_limited, checked_named}

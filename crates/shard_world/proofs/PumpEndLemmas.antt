@@ -23,7 +23,7 @@ use Rattle.shard_world.proofs.WorldPeers.{IsGood}
 
 -- ---- all that waits
 
--- fewer bytes than were asked for are all of them
+-- fewer bytes than were requested are all of them
 all_waiting : (total done : ℕ) → as_many all_bytes total done < 2 ^ 63
     → as_many all_bytes total done ≡ as_many total total done
 all_waiting total done few = omega (arith, few)
@@ -114,9 +114,9 @@ module _ (source : Source) (published : IsPublished source.checked source.transa
       let one = one_answer source now (Hear all_bytes) answers peer last runs goes in
       subst IsStarted (sym one.1) (started_by peer peer.connection refl asked good one.0)
 
-  -- ---- commits are taken up
+  -- ---- commits are taken
 
-  -- as many as there are left, or more
+  -- as many as remain, or more
   takes_many : (start count times : ℕ) (answers : List Answer) (peer last : Peer)
       → PeerRuns source now (replicate times Take) answers peer last
       → Left start (count + times) peer → Left start count last
@@ -181,12 +181,12 @@ module _ (source : Source) (published : IsPublished source.checked source.transa
         (record { running = left.running; left = omega (arith, many, left.left) })
   ]
 
-  -- ---- all is told
+  -- ---- all is reported
 
   abbrev PastAll : ℕ → Type 0
   PastAll position = CountsAll source published sayable now timed position
 
-  -- after the keepalive all is delivered, and a status is said and heard
+  -- after the keepalive all is delivered, and a status is sent and heard
   tells_with : (start : ℕ) (peer : Peer) (c : Connection) → peer.connection ≡ Some c → c.start ≡ Some start
       → IsGood source peer
       → length (log_in source) ≤ (place_of source start c.moves).done + 0

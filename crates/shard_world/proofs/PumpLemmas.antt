@@ -12,7 +12,7 @@ use Rattle.shard_world.specs.WorldCalls.{IsWorld, StepsOn, Runs, RunsInto, RunsO
 use Rattle.shard_world.specs.declared.world.World.{World}
 use Rattle.shard_world.proofs.RunLemmas.{runs_none, runs_more}
 
--- ---- runs after one another
+-- ---- runs one after another
 
 runs_append : (checked : CheckedOf) (most : ℕ) (asked more : List (ℕ × Event)) (answers later : List Answer)
     (world between next : w.World) → Runs checked most asked answers world between

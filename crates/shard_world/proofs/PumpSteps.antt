@@ -27,7 +27,7 @@ record IsMade (checked : CheckedOf) (world : World) (subscriber now : ℕ) (even
   transactions_are : next.transactions ≡ world.transactions
   peer_is : next.peers subscriber ≡ next_peer (source_in checked world subscriber) now event (world.peers subscriber)
 
--- so many answers, each of the peer's own step
+-- this number of answers, each of the peer's own step
 abbrev pub PeerRuns : Source → ℕ → List PeerEvent → List Answer → Peer → Peer → Type 0
 PeerRuns source now [] [] peer last = last ≡ peer
 PeerRuns source now (event ∷ events) (answer ∷ answers) peer last =
@@ -40,7 +40,7 @@ pub record RunsAs (source : Source) (now : ℕ) (events : List PeerEvent) (answe
   pub transactions_are : next.transactions ≡ source.transactions
   pub runs : PeerRuns source now events answers peer (next.peers source.number)
 
--- ---- a connection that is there goes on
+-- ---- a connection that exists continues
 
 record HasConnection (peer : Peer) : Type 0 where
   c : Connection
@@ -82,7 +82,7 @@ module _ (source : Source) (now : ℕ) where
       subst (λ connection. HasConnection (peer_step source now event peer connection).1) (sym has.is)
       (open_keeps event peer has.c keeps has)
 
-  -- no answer of its own says that there is none
+  -- none of its own answers reports that there is none
   took_on : (number : ℕ) (messages : List Msg) → EndsWalk (took number messages) → ⊥
   took_on number [] ends = ends
   took_on number (message ∷ messages) ends = ends
@@ -157,7 +157,7 @@ module _ (checked : CheckedOf) (most subscriber now : ℕ) (there : subscriber <
   runs_as [] (answer ∷ answers) world next goes runs = absurd runs
   runs_as (event ∷ events) [] world next goes runs = absurd runs
 
-  -- where memory was there for all but the last
+  -- if there was memory for all but the last
   pub last_answer : (events : List PeerEvent) (answers : List Answer) (answer : Answer) (world next : World)
       → All KeepsOpen events → All GoesOn answers → EndsWalk answer
       → Runs checked most (map (on_clock now subscriber) events) (answers ++ answer ∷ []) world next

@@ -1,4 +1,4 @@
--- A pump of a program's world ends where the log does, or for want of memory.
+-- A pump of a program's world ends where the log does, or because memory ran out.
 use Rattle.std.proofs.Common.{◌≡◌, ℕ, zero, suc, ◌<◌, ◌≤◌, ◌^◌, List, [], ◌∷◌, ◌++◌, length, map, replicate, refl, sym, ap, subst, ◌∙◌, arith, inl, inr}
 use Rattle.std.specs.Prelude.{All, ◌⊎◌, false, Result, Ok, Err}
 use Rattle.std.proofs.lemmas.List.{length-map}
@@ -24,7 +24,7 @@ use Rattle.shard_world.proofs.WorldLemmas.{all_timed, can_be_said, good_at, publ
 use Rattle.shard_world.proofs.WorldPeers.{good_follows}
 use Rattle.shard_world.proofs.WorldStepLemmas.{log_there}
 
--- ---- want of memory
+-- ---- out of memory
 
 takes_open : (takes : ℕ) (more : List PeerEvent) → All KeepsOpen more → All KeepsOpen (replicate takes Take ++ more)
 takes_open zero more all = all
@@ -109,7 +109,7 @@ module _ (before between later after : World) (now subscriber : ℕ) (timed : no
   abbrev telling : List (ℕ × Event)
   telling = on last_events
 
-  -- the takes go on until there is no commit, or there are more of them than commits
+  -- the takes continue until there is no commit, or there are more of them than commits
   enough : (most : ℕ) (events : List (ℕ × Event)) (world : w.World) → IsWorld between most events world
       → (transactions : List Transaction) → world.transactions ≡ transactions
       → EndsIdle takes.walks.answers ⊎ (length transactions < takes.takes)

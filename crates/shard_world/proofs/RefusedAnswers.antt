@@ -1,4 +1,4 @@
--- What the calls on a connection answer is no fault.
+-- What the calls on a connection return is not a fault.
 use Rattle.std.proofs.Common.{◌≡◌, ℕ, true, false, List, take, refl, sym, ap, subst, ◌∙◌}
 use Rattle.std.specs.Prelude.{Option, Some, None, Result, slice_get}
 use Rattle.filter_tree.specs.Memory.{TellsFault}
@@ -122,7 +122,7 @@ hears_are_answered case is book old link count log stands some =
           ∙ ap answer_of (heard_is case is book book old link count log stands some) ∙ not_over all known.hears.goes_on;
     }
 
--- an error says that memory was refused
+-- an error means that memory was refused
 pub only_memory : {A : Type 0} (error : LinkFault) (answer : Result A LinkFault)
     → TellsFault (told_fault error) answer → IsAnswered answer → error ≡ fault.OutOfMemory
 only_memory fault.OutOfMemory answer tells good = refl

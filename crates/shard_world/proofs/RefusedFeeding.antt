@@ -1,4 +1,4 @@
--- A subscriber that meets want of memory as it is fed is as in the world after some of the bytes.
+-- A subscriber that runs out of memory when it is fed is as in the world after some of the bytes.
 use Rattle.std.proofs.Common.{◌≡◌, ℕ, ◌+◌, ◌≤◌, List, [], ◌∷◌, ◌++◌, drop, length, map, take, refl, sym, ap, subst, ◌∙◌, arith, length-drop}
 use Rattle.std.specs.Prelude.{Option, Some, None, Ok, Err, min}
 use Rattle.std.proofs.lemmas.List.{take_at}

@@ -1,5 +1,5 @@
--- The publisher's end of a connection that meets want of memory as it hears a piece has heard some of the bytes, as
--- in the world.
+-- The publisher's end of a connection that runs out of memory when it hears a piece has heard some of the bytes, as in
+-- the world.
 use Rattle.std.proofs.Common.{◌≡◌, ℕ, ◌≤◌, false, List, [], ◌∷◌, ◌++◌, length, map, replicate, take, refl, sym, ap, subst, ◌∙◌, append_assoc, append-nil}
 use Rattle.std.specs.Prelude.{Option, Some, None, Err, is_some, slice_get}
 use Rattle.std.proofs.lemmas.List.{take-append-le, take-map}
@@ -57,7 +57,7 @@ streams_grow case start moves (move ∷ extra) =
           ∙ append_assoc (down_bytes (source_of case) start moves) first.more later.more;
     }
 
--- where the stream goes on, or starts
+-- if the stream continues, or starts
 same_down : (case : Case) (c : Connection) (session : Session) (extra : List Move)
     → c.delivered ≤ length (down_of (source_of case) c)
     → ((start : ℕ) → c.start ≡ Some start → session.start ≡ Some start) → session.moves ≡ c.moves ++ extra
@@ -117,7 +117,7 @@ module _ (case : Case) (is : IsCase case) (before after : Book) (old : PeerOf) (
       ∙ frames_before (map (up_frame case.checked case.number) (newly (source_of case) (peer_of case) c more))
       cuts.rest
 
-  -- so many of the first frames are those of so many bytes
+  -- this number of the first frames are those of a number of bytes
   part : (frames : ℕ) → IsPart (up_frame case.checked case.number) (ups_of (peer_of case) c) c.heard more frames
   part frames = first_part (up_frame case.checked case.number) (ups_of (peer_of case) c) c.heard more frames
 

@@ -1,4 +1,4 @@
--- Where memory is refused to a call on a connection, what is left is what the world leaves, and the connection is lost.
+-- If memory is refused to a call on a connection, what is left is what the world leaves, and the connection is lost.
 use Rattle.std.proofs.Common.{◌≡◌, ℕ, ◌≢◌, true, false, List, refl, sym, ap, subst, ◌∙◌}
 use Rattle.std.specs.Prelude.{Option, Some, None, is_some, slice_get}
 use Rattle.tables_log.specs.BookView.{book_slots}
@@ -22,7 +22,7 @@ use Rattle.shard_world.proofs.CaseLemmas.{is_open, is_shut}
 use Rattle.shard_world.proofs.JoinedSteps.{still_named}
 use Rattle.shard_world.proofs.SlotLemmas.{others_stay, streams_slot}
 
--- ---- what stays over connections
+-- ---- what stays across connections
 
 pub stays_lost : (old new : Subscriber) (machine : Machine) → StaysAlike (sub_machine old) machine → Loses old new
     → StaysAlike (sub_machine new) machine
@@ -173,7 +173,7 @@ module _ (number : ℕ) (slots : List Slot) where
 
 module _ (case : Case) (event : PeerEvent) (some : ℕ) (before after : List Slot) (link : Option Link)
     (old new : Subscriber) (loses : Loses old new) where
-  -- what was there before the loss, its slot is given back
+  -- what existed before the loss; its slot is released
   peer_lost : (connection : Option Connection) → (peer_of case).connection ≡ connection
       → IsHalf case before link old (before_loss case event some (peer_of case) connection)
       → HasSlot after case.number (before_loss case event some (peer_of case) connection).confirmed false

@@ -1,4 +1,4 @@
--- A subscriber reaches no more than the sent position, and that is within the log.
+-- A subscriber reaches at most the sent position, and that is within the log.
 use Rattle.std.proofs.Common.{◌≡◌, ℕ, ◌+◌, ◌-◌, ◌≤◌, Bool, true, false, List, [], ◌∷◌, ◌++◌, length, map, refl, sym, ap, subst, arith, eqb-true, le_trans}
 use Rattle.std.specs.Prelude.{Option, Some, None, All, ◌==◌, nat_le, slice_get, if◌then◌else◌}
 use Rattle.std.proofs.lemmas.List.Elements.{All-nil, All-cons, All-head, All-tail}
@@ -17,7 +17,7 @@ use Rattle.stream_laws.specs.Following.{raised_by_message, raised_by, position_a
 use Rattle.shard_world.proofs.EndLemmas.{TellsBy, messages_tell}
 use Rattle.filter_tree.proofs.Tests.{by_test}
 
--- ---- items that tell of no more than a position
+-- ---- items that report no more than a position
 
 abbrev pub IsWithinItem : ℕ → Item → Type 0
 IsWithinItem most Response = Unit {0}
@@ -61,7 +61,7 @@ whole_within P count (item ∷ items) all =
 
 -- ---- places
 
--- no more was sent than where the last commit that is done ends
+-- no more was sent than up to where the last commit that is done ends
 abbrev pub IsSentPlace : Place → Type 0
 IsSentPlace place = place.sent ≤ end_of place.done
 
@@ -177,7 +177,7 @@ done_within checked log (s.Take clock ∷ moves) place there low =
     taken (Some commit) = omega (arith, there.0)
 done_within checked log (s.Keep clock want ∷ moves) place there low = done_within checked log moves place there.1 low
 
--- no more is sent than where the log ends
+-- no more is sent than up to where the log ends
 pub sent_is_there : (checked : CheckedOf) (log : List CommitOf)
     → ((place : ℕ) (commit : CommitOf) → slice_get log place ≡ Some commit → commit.number ≡ 1 + place)
     → (subscriber position : ℕ) (moves : List Move)

@@ -1,4 +1,4 @@
--- Where memory is refused to a call on a subscriber and its connection, the connection is lost as in the world.
+-- If memory is refused to a call on a subscriber and its connection, the connection is lost as in the world.
 use Rattle.std.proofs.Common.{◌≡◌, ℕ, Bool, List, refl, sym, ap, subst, ◌∙◌}
 use Rattle.std.proofs.Common.{inl, inr}
 use Rattle.std.specs.Prelude.{Option, Some, None, Err, slice_get}
@@ -131,7 +131,7 @@ deliver_stops checked now book old link after count error piece some is fed case
 
 -- ---- the connection is dropped
 
--- the subscriber without a connection loses what it has not
+-- a subscriber without a connection loses nothing
 module _ (case : Case) (slots : List Slot) (old new : Subscriber) (loses : Loses old new) where
   at_apart : (peer : w.Peer) (connection : Option Connection) → IsAt (source_of case) slots None old peer connection
       → IsAt (source_of case) slots None new peer connection

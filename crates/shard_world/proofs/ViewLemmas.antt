@@ -239,7 +239,7 @@ module _ (checked : CheckedOf) (most : ℕ) (book : Book) (peers : List PeerOf) 
             rows.items are);
       }
 
-  -- a subscriber that is shown is there
+  -- a subscriber that is shown exists
   shows_at : (tables number : ℕ) → tables ≡ length checked.catalog.tables → (shown : SubscriberView)
       → number < length checked.plan → (code : Option PeerOf) → slice_get peers number ≡ code
       → PeerAt (source_in checked world number) (book_slots book) (world.peers number) code

@@ -1,4 +1,4 @@
--- Whether a status is wanted has no part in what a subscriber does with frames.
+-- Whether a status is wanted does not affect what a subscriber does with frames.
 use Rattle.std.proofs.Common.{◌≡◌, ℕ, Bool, List, [], ◌∷◌, length, refl, sym, ap, ◌∙◌, subst}
 use Rattle.std.specs.Prelude.{Option, Some, None, Result, Ok, Err, ◌==◌, slice_index}
 use Rattle.std.specs.Str.{bytes_eq}

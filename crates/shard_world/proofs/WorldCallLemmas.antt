@@ -27,7 +27,7 @@ use Rattle.shard_world.proofs.WorldHearing.{down_longer}
 use Rattle.shard_world.proofs.WorldItems.{log_goes_on, with_more}
 use Rattle.shard_world.proofs.WorldPeers.{StartsAt, IsConnected, IsConnectedAt, IsGood}
 
--- ---- one event more
+-- ---- one more event
 
 pub leads_one_more : (checked : CheckedOf) (most : ℕ) (events : List (ℕ × Event)) (first world : w.World) (now : ℕ)
     (event : Event) (answer : Answer) (next : w.World)

@@ -20,7 +20,7 @@ use Rattle.shard_world.proofs.WorldPeers.{StartsAt, IsReported, IsConnected, IsC
 
 -- ---- what the subscriber sends
 
--- it asks for its own position, and says no more than what it reached
+-- it requests its own position, and reports no more than what it reached
 abbrev pub IsFair : ℕ → ℕ → Up → Type 0
 IsFair position reached (Asks asked) = asked ≡ position
 IsFair position reached (Says status) = status.flushed ≤ reached
@@ -132,7 +132,7 @@ module _ (source : Source) (position reached now : ℕ) (timed : now < 2 ^ 64) (
       ups_connected ups (hear_up now session up) (All-tail (IsFair position reached) up ups fair)
       (up_connected session up (All-head (IsFair position reached) up ups fair) connected)
 
--- where a connection hears more bytes
+-- when a connection hears more bytes
 heard_connected : (source : Source) (now : ℕ) → now < 2 ^ 64 → (peer : Peer) (c : Connection) (more : ℕ)
     → (good : IsGood source (record peer { connection = Some c }))
     → IsConnected source peer.position (heard_of source now peer c more).confirmed good.connected.0

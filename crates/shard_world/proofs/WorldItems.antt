@@ -1,4 +1,4 @@
--- Which items are whole as bytes come and streams grow, and the position that they tell.
+-- Which items are whole when bytes come and streams grow, and the position that they report.
 use Rattle.std.proofs.Common.{◌≡◌, ℕ, suc, ◌+◌, ◌-◌, ◌≤◌, List, [], ◌∷◌, ◌++◌, length, refl, sym, ◌∙◌, ap, subst, arith, length-append, add-zero}
 use Rattle.std.specs.Prelude.{fold, nat_le, slice_get}
 use Rattle.std.specs.List.{flat_map}
@@ -33,7 +33,7 @@ none_in_nothing (item ∷ items) = by_test (nat_le (length (spelled item)) 0)
     absurd (omega (arith, short, long_item item)))
     (λ over. ap (λ b. if_whole b item (whole_in (0 - length (spelled item)) items)) over)
 
--- more items change nothing of the bytes of those that are there
+-- more items do not change the bytes of the existing ones
 pub whole_more : (count : ℕ) (items more : List Item) → count ≤ length (flat_map spelled items)
     → whole_in count (items ++ more) ≡ whole_in count items
 whole_more count [] more h = subst (λ n. whole_in n more ≡ []) (sym nothing) (none_in_nothing more)
@@ -110,7 +110,7 @@ entries_append setting tables number (transaction ∷ transactions) more =
     at_later : (n count : ℕ) → n + 1 + count ≡ n + suc count
     at_later n count = omega arith
 
--- the log of more transactions goes on after that of the first ones
+-- the log of more transactions continues that of the first ones
 pub record GoesOn (checked : CheckedOf) (transactions more : List Transaction) : Type 0 where
   pub others : List CommitOf
   pub is : log_of checked (transactions ++ more) ≡ log_of checked transactions ++ others
@@ -122,7 +122,7 @@ log_goes_on checked transactions more = record {
   is = entries_append (setting_in checked) no_rows 1 transactions more;
 }
 
--- what can be said of more transactions can be said of the first ones
+-- if more transactions fit the layouts, so do the first ones
 pub sayable_first : (checked : CheckedOf) (transactions more : List Transaction)
     → FitsLayouts checked (transactions ++ more) → FitsLayouts checked transactions
 sayable_first checked transactions more h =

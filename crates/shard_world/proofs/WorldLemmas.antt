@@ -1,4 +1,4 @@
--- In each world that events lead to each subscriber has its shard, and together they have the tables.
+-- In each world that events lead to, each subscriber has its shard, and together they have the tables.
 use Rattle.std.proofs.Common.{◌≡◌, ℕ, ◌<◌, ◌≤◌, ◌^◌, Bool, true, false, ◌&&◌, List, [], ◌∷◌, ◌++◌, length, take, refl, sym, ◌∙◌, ap, subst, arith, append_assoc, length-append}
 use Rattle.std.specs.Prelude.{All, ◌==◌, nat_lt, slice_index_or, if◌then◌else◌, Option, Some, None}
 use Rattle.std.specs.Cmp.{unsigned_Decides}
@@ -81,7 +81,7 @@ leads_grow checked most (event ∷ events) world last leads =
           ∙ append_assoc world.transactions first.more later.more;
     }
 
--- ---- what is so of the world
+-- ---- what holds of the world
 
 pub record IsGoodWorld (checked : CheckedOf) (world : World) : Type 0 where
   pub accepted : AreAccepted (setting_in checked) no_rows world.transactions
@@ -176,9 +176,9 @@ module _ (checked : CheckedOf) (covered : Covered (setting_in checked)) (keeps :
       right_at checked keeps no_rows world.transactions count (good_at most events timed world leads sayable).accepted
       (record { stands = begins.keyed; fit = begins.fit; apart = begins.apart })
 
--- ---- what is told of the log has room
+-- ---- what is sent of the log has room
 
--- transactions that were accepted, whose times have 64 bits, at most so many
+-- transactions that were accepted, whose times have 64 bits, at most this number
 record IsTimedLog (checked : CheckedOf) (most : ℕ) (transactions : List Transaction) : Type 0 where
   accepted : AreAccepted (setting_in checked) no_rows transactions
   timed : All IsTimedTransaction transactions

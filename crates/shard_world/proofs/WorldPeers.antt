@@ -1,4 +1,4 @@
--- A subscriber and its connection in the world: what stays so as they move.
+-- A subscriber and its connection in the world: what keeps holding when they move.
 use Rattle.std.proofs.Common.{◌≡◌, ℕ, ◌+◌, ◌≤◌, List, [], ◌∷◌, ◌++◌, length, take, drop, refl, sym, ◌∙◌, ap, subst, arith, length-append}
 use Rattle.std.specs.Prelude.{Option, Some, None, All}
 use Rattle.std.specs.List.{flat_map}
@@ -26,17 +26,17 @@ use Rattle.shard_world.proofs.WorldItems.{whole_more, more_raise}
 use Rattle.stream_laws.specs.LayoutRoom.{IsClocked}
 use Rattle.stream_laws.proofs.SentItems.{stream_sent}
 
--- ---- what is so of a connection
+-- ---- what holds of a connection
 
 abbrev pub FollowsIn : Source → ℕ → Machine → Type 0
 FollowsIn source position machine = Follows source.checked source.transactions source.number position machine
 
--- it says no more than what it reached
+-- it reports no more than what it reached
 abbrev pub IsReported : ℕ → Status → Type 0
 IsReported reached status = status.flushed ≤ reached
 
--- Its stream starts where it was opened, takes commits that are there, and was delivered so far; it reached this
--- position, and nothing beyond it was reported or confirmed.
+-- Its stream starts where it was opened, takes commits that exist, and was delivered so far; it reached this position,
+-- and nothing beyond it was reported or confirmed.
 pub record IsConnected (source : Source) (position confirmed reached : ℕ) (c : Connection) : Type 0 where
   pub started : StartsAt position c.start
   pub there : AllThere (telling_of source.checked) (log_in source)
@@ -62,7 +62,7 @@ IsFollowedIn source position heard = IsFollowed source.checked source.transactio
 
 module _ (source : Source) (published : IsPublished source.checked source.transactions)
     (sayable : FitsLayouts source.checked source.transactions) where
-  -- what it sends can be said
+  -- what it is sent can be spelled
   pub down_sent : (position : ℕ) (machine : Machine) → FollowsIn source position machine → (start : Option ℕ)
       → StartsAt position start
       → (moves : List Move) → All IsClocked moves → All IsSentItem (down_items source start moves)
@@ -147,7 +147,7 @@ module _ (source : Source) (published : IsPublished source.checked source.transa
     connected = confirmed_below peer peer.connection good.connected;
   }
 
--- ---- one move more
+-- ---- one more move
 
 spelled_longer : (xs ys : List Item) → length (flat_map spelled xs) ≤ length (flat_map spelled (xs ++ ys))
 spelled_longer xs ys =

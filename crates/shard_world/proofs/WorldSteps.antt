@@ -1,4 +1,4 @@
--- Each step of the world keeps what is so of it, and so each subscriber has its shard.
+-- Each step of the world keeps what holds of it, and so each subscriber has its shard.
 use Rattle.std.proofs.Common.{◌≡◌, ℕ, ◌+◌, ◌<◌, ◌≤◌, ◌^◌, Bool, length, refl, sym, ◌∙◌, ap, subst, arith}
 use Rattle.std.specs.Prelude.{Option, Some, None, min, slice_get}
 use Rattle.std.proofs.lemmas.List.Elements.{All-nil}
@@ -132,7 +132,7 @@ module _ (source : Source) (published : IsPublished source.checked source.transa
   peer_good event peer None is good = shut_good event peer is good
   peer_good event peer (Some c) is good = open_good event peer c is good
 
-  -- where memory was refused
+  -- if memory was refused
   pub in_part_good : (event : PeerEvent) (peer : Peer) (some : ℕ) (c : Connection) → peer.connection ≡ Some c
       → IsGood source peer → IsGood source (in_part source now event peer some c)
   in_part_good (Hear count) peer some c is good =

@@ -1,5 +1,5 @@
--- That a subscriber can be brought up to the end of the log: what it sends is heard, the commits that are left are
--- taken up, a keepalive is sent, and all is delivered: PostgreSQL 15, 55.4. Streaming Replication Protocol.
+-- That a subscriber can be brought up to the end of the log: what it sends is heard, the remaining commits are taken, a
+-- keepalive is sent, and all is delivered: PostgreSQL 15, 55.4. Streaming Replication Protocol.
 use Rattle.std.specs.Prelude.{◌≡◌, ◌<◌, ◌^◌, ℕ, zero, suc, false, List, All, length, Option, Some, None}
 use Rattle.shard_checker.specs.CheckedView.{CheckedOf}
 use Rattle.copy_both.specs.Streams.{end_of}
@@ -19,7 +19,7 @@ abbrev pub sent_to : Source → Option Connection → ℕ
 sent_to source None = 0
 sent_to source (Some c) = length (down_of source c)
 
--- after so many commits were to be taken up
+-- after this number of commits were to be taken
 abbrev pub take_many : Source → ℕ → ℕ → Peer → Peer
 take_many source now zero peer = peer
 take_many source now (suc count) peer = take_many source now count (next_peer source now Take peer)
@@ -33,8 +33,8 @@ caught_up source now peer =
     (take_many source now (length source.transactions)
     (next_peer source now (Hear (sent_by source peer peer.connection)) peer)))
 
--- Each subscriber with a connection, in each world that events lead to, is where the last commit of the log ends
--- afterwards, so that it has applied all of them.
+-- Each subscriber with a connection, in each world that events lead to, is afterwards where the last commit of the log
+-- ends, so that it has applied all of them.
 abbrev pub SubscribersCatchUp : Type 0
 SubscribersCatchUp = (checked : CheckedOf) (most : ℕ) → IsPublisher checked most → (events : List (ℕ × Event))
     → All IsTimedEvent events

@@ -18,11 +18,11 @@ use Rattle.shard_world.specs.PeerSteps.{Case, ChangesOwn, HasLog, IsCase, Stands
 use Rattle.shard_world.specs.World.{Answer, Delivered, Idle, Kept, Lost, NotStarted, Opened, Reported, Sent, Skipped, Open, Hear, Take, Keep, Deliver, Report, Lose, log_in}
 use Rattle.shard_world.specs.World as w
 
--- the first bytes that wait, at most so many
+-- the first bytes that wait, at most this number
 abbrev pub front_of : ℕ → List ℕ → List ℕ
 front_of count bytes = take (min count (length bytes)) bytes
 
--- what is answered of a commit that is to be taken up, and of a keepalive
+-- the answer when a commit is to be taken, and that for a keepalive
 abbrev pub answer_of : Taken → Answer
 answer_of taken.NotStarted = NotStarted
 answer_of taken.Idle = Idle
@@ -42,7 +42,7 @@ OpensStep = (case : Case) → IsCase case → (slots : List Slot) (old : PeerOf)
 
 -- ---- with a connection
 
--- some of what the subscriber sent is heard, and no slot changes but its own
+-- some of what the subscriber sent is heard, and only its own slot changes
 pub record HearsOn (case : Case) (count heard : ℕ) (before after : Book) (code : PeerOf) : Type 0 where
   pub steps : StepsTo case (Hear count) (w.Heard heard) (book_slots after) code
   pub own : ChangesOwn case.number before after
@@ -59,7 +59,7 @@ HearsStep = (case : Case) → IsCase case → (before after : Book) (old : PeerO
     → HearsOn case count (length (front_of count (sub_output old.subscriber))) before after
     (record { link = Some new; subscriber = subscriber })
 
--- the next commit is taken up
+-- the next commit is taken
 abbrev pub TakesStep : Type 0
 TakesStep = (case : Case) (slots : List Slot) (old : PeerOf) (link new : Link) → StandsIn case slots old
     → old.link ≡ Some link
@@ -68,7 +68,7 @@ TakesStep = (case : Case) (slots : List Slot) (old : PeerOf) (link new : Link) �
     → (found : Taken) → Ok found ≡ next_answer (link_checked link) (link_stage link) (log_in (source_of case))
     → StepsTo case Take (answer_of found) slots (record { link = Some new; subscriber = old.subscriber })
 
--- a keepalive is said
+-- a keepalive is sent
 abbrev pub KeepsStep : Type 0
 KeepsStep = (case : Case) (slots : List Slot) (old : PeerOf) (link new : Link) (want : Bool) → StandsIn case slots old
     → old.link ≡ Some link
@@ -76,7 +76,7 @@ KeepsStep = (case : Case) (slots : List Slot) (old : PeerOf) (link new : Link) (
     → Ok said ≡ keep_answer (link_stage link)
     → StepsTo case (Keep want) (kept_or_not said) slots (record { link = Some new; subscriber = old.subscriber })
 
--- some of what waits at the publisher's end comes to the subscriber
+-- some of what waits at the publisher's end is delivered to the subscriber
 abbrev pub DeliversStep : Type 0
 DeliversStep = (case : Case) → IsCase case
     → (slots : List Slot) (old : PeerOf) (link new : Link) (after : Subscriber) (count : ℕ) → StandsIn case slots old
@@ -86,7 +86,7 @@ DeliversStep = (case : Case) → IsCase case
     → StepsTo case (Deliver count) (Delivered (length (front_of count (link_output link)))) slots
     (record { link = Some new; subscriber = after })
 
--- the subscriber says how far it is
+-- the subscriber reports its position
 abbrev pub ReportsStep : Type 0
 ReportsStep = (case : Case) → IsCase case
     → (slots : List Slot) (old : PeerOf) (link : Link) (after : Subscriber) (want : Bool) → StandsIn case slots old

@@ -23,7 +23,7 @@ use Rattle.shard_world.specs.World.{Connection, down_bytes, machine_in, Source, 
 
 -- ---- machines
 
--- the same but for whether a status is wanted
+-- the same except for whether a status is wanted
 pub record AlikeBut (one other : Machine) : Type 0 where
   pub phase : one.phase ≡ other.phase
   pub position : one.position ≡ other.position
@@ -32,7 +32,7 @@ pub record AlikeBut (one other : Machine) : Type 0 where
   pub rows : (oid : ℕ) (key : List Datum) → one.rows oid key ≡ other.rows oid key
   pub work : (oid : ℕ) (key : List Datum) → one.work oid key ≡ other.work oid key
 
--- the same position, Relations and rows, which stay over connections
+-- the same position, Relations and rows, which stay across connections
 pub record StaysAlike (one other : Machine) : Type 0 where
   pub position : one.position ≡ other.position
   pub kept : (oid : ℕ) → one.kept oid ≡ other.kept oid
@@ -47,7 +47,7 @@ pub record IsNamed (checked : CheckedOf) (number : ℕ) (subscriber : Subscriber
       ≡ map (λ publication. w.publication_name (slice_get checked.catalog.publications publication))
       (w.publications_taken (slice_get checked.catalog.subscriptions number))
 
--- its slot is confirmed up to here, and a stream has it or not
+-- its slot is confirmed up to here, and is in use by a stream or not
 abbrev pub HasSlot : List Slot → ℕ → ℕ → Bool → Type 0
 HasSlot slots number confirmed taken = slice_get slots number ≡ Some (record { confirmed = confirmed; taken = taken })
 
@@ -56,13 +56,13 @@ pub record IsApart (number : ℕ) (slots : List Slot) (subscriber : Subscriber) 
   pub machine : StaysAlike (sub_machine subscriber) peer.machine
   pub slot : HasSlot slots number peer.confirmed false
 
--- the publisher's end: nothing was said before the start
+-- the publisher's end: nothing was sent before the start
 pub record IsSilent (link : Link) (moves : List Move) : Type 0 where
   pub stage_is : link_stage link ≡ voices.NotStarted
   pub output : link_output link ≡ []
   pub none : moves ≡ []
 
--- and then the stream, so much of which was delivered
+-- and then the stream, of which this number of bytes was delivered
 abbrev pub run_of : Source → ℕ → List Move → ℕ → Run
 run_of source start moves delivered = record {
   checked = source.checked;
@@ -81,12 +81,12 @@ abbrev pub stream_of : ℕ → Option ℕ → Option (ℕ × ℕ)
 stream_of number None = None
 stream_of number (Some start) = Some (number, start)
 
--- the command was heard whole where a stream started, and there only
+-- the command was heard whole if, and only if, a stream started
 abbrev pub IsAsked : ℕ → ℕ → Option ℕ → Type 0
 IsAsked heard asking None = heard < asking
 IsAsked heard asking (Some start) = asking ≤ heard
 
--- all of it is one position
+-- all its positions are the same
 pub record IsOneStatus (status : Status) : Type 0 where
   pub written : status.written ≡ status.flushed
   pub applied : status.applied ≡ status.flushed
@@ -101,7 +101,7 @@ pub record Hears (source : Source) (link : Link) (peer : w.Peer) (c : Connection
   pub statuses : All IsOneStatus c.reports
   pub held : ear_held (link_ear link) ≡ rest_of (cut 65536 (take c.heard (up_bytes source peer c)))
 
--- with a connection: what waits is what was not heard and not delivered, and what is held is no whole frame
+-- with a connection: what waits is what was not heard and not delivered, and what is held is not a whole frame
 pub record IsLinked (source : Source) (slots : List Slot) (link : Link) (subscriber : Subscriber) (peer : w.Peer)
     (c : Connection) : Type 0 where
   pub heard : c.heard ≤ length (up_bytes source peer c)

@@ -24,7 +24,7 @@ pub record Stands (checked : CheckedOf) (now : ℕ) (book : Book) (code : PeerOf
   pub log : HasLog case book
   pub peer : StandsIn case (book_slots book) code
 
--- the step of the world is made, and no slot changes but its own
+-- the step of the world is made, and only its own slot changes
 pub record Made (case : Case) (event : PeerEvent) (answer : Answer) (before after : Book) (new : PeerOf) : Type 0 where
   pub steps : StepsTo case event answer (book_slots after) new
   pub own : ChangesOwn case.number before after
@@ -35,7 +35,7 @@ Makes checked now event before after old new answer = (case : Case) → Stands c
 
 -- ---- memory is refused
 
--- some of the bytes were heard or delivered; where there is no connection yet there is none
+-- some of the bytes were heard or delivered; if there was no connection yet, there is none
 abbrev pub IsStopped : Case → PeerEvent → Book → Book → PeerOf → Option Link → Type 0
 IsStopped case event before after new None = BreaksOn case event before after new
 IsStopped case event before after new (Some link) = HaltsOn case event before after new
@@ -58,13 +58,13 @@ abbrev pub LosesIfThere : Option Link → Book → Book → Type 0
 LosesIfThere None before after = IsKept before after
 LosesIfThere (Some link) before after = LosesLink link before after
 
--- there is no connection any more
+-- there is no longer a connection
 pub record Drops (old new : PeerOf) (before after : Book) : Type 0 where
   pub none : new.link ≡ None
   pub subscriber : Loses old.subscriber new.subscriber
   pub link : LosesIfThere old.link before after
 
--- ---- the step of the world, or what want of memory leaves
+-- ---- the step of the world, or what out of memory leaves
 
 pub record Breaks (case : Case) (event : PeerEvent) (answer : Answer) (before after : Book) (new : PeerOf) : Type 0
   where
@@ -79,7 +79,7 @@ Moves checked now event before after old new answer =
 
 -- ---- how many bytes can be heard or delivered at once
 
--- no list of bytes is as long
+-- no list of bytes is this long
 abbrev pub IsCounted : Answer → Type 0
 IsCounted (Heard bytes) = bytes < 2 ^ 63
 IsCounted (Delivered bytes) = bytes < 2 ^ 63
@@ -87,7 +87,7 @@ IsCounted answer = Unit {0}
 
 -- ---- a call that memory may be refused to
 
--- its step is made, and answered so, or the connection can't go on
+-- its step is made, with this answer, or the connection can't continue
 pub record Tries (checked : CheckedOf) (now : ℕ) (event : PeerEvent) (before after : Book) (old : PeerOf)
     (result : Result Answer Halted) (new : PeerOf) : Type 0 where
   pub made : IfOk result (λ answer. Makes checked now event before after old new answer)

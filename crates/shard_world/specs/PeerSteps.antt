@@ -34,7 +34,7 @@ source_of case = source_in case.checked case.world case.number
 abbrev pub peer_of : Case → w.Peer
 peer_of case = case.world.peers case.number
 
--- the subscriber is there
+-- the subscriber exists
 pub record IsCase (case : Case) : Type 0 where
   pub publisher : IsPublisher case.checked case.most
   pub times : All IsTimedEvent case.events
@@ -56,7 +56,7 @@ pub record HasLog (case : Case) (book : Book) : Type 0 where
 abbrev pub stepped : Case → PeerEvent → Answer × w.Peer
 stepped case event = step_in case.checked case.world case.number case.now event
 
--- it answers what the world's step answers, and leaves what matches what that leaves
+-- it returns what the world's step answers, and leaves what matches what that step leaves
 pub record StepsTo (case : Case) (event : PeerEvent) (answer : Answer) (slots : List Slot) (code : PeerOf) : Type 0
   where
     pub answer_is : answer ≡ (stepped case event).0
@@ -67,7 +67,7 @@ pub record ChangesOwn (number : ℕ) (before after : Book) : Type 0 where
   pub book : ChangesSlots before after (book_slots after)
   pub others : (other : ℕ) → other ≢ number → slice_get (book_slots after) other ≡ slice_get (book_slots before) other
 
--- ---- where memory is refused
+-- ---- if memory is refused
 
 -- what was done before the connection is lost: some of the bytes were heard or delivered
 abbrev pub before_loss : Case → PeerEvent → ℕ → w.Peer → Option Connection → w.Peer
@@ -78,7 +78,7 @@ abbrev pub IsOwnStream : ℕ → Option (ℕ × ℕ) → Type 0
 IsOwnStream number None = Unit {0}
 IsOwnStream number (Some started) = started.0 ≡ number
 
--- a stream that started has the slot
+-- a stream that started uses the slot
 pub record HasStream (slots : List Slot) (number confirmed : ℕ) (link : Link) : Type 0 where
   pub own : IsOwnStream number (ear_started (link_ear link))
   pub not_lost : ear_phase (link_ear link) ≢ Lost
@@ -88,7 +88,7 @@ abbrev pub HasStreamBy : List Slot → ℕ → ℕ → Option Link → Type 0
 HasStreamBy slots number confirmed None = HasSlot slots number confirmed false
 HasStreamBy slots number confirmed (Some link) = HasStream slots number confirmed link
 
--- what stays over connections is that of this subscriber of the world
+-- what stays across connections is that of this subscriber of the world
 pub record IsHalf (case : Case) (slots : List Slot) (link : Option Link) (subscriber : Subscriber) (peer : w.Peer) :
     Type 0 where
   pub named : IsNamed case.checked case.number subscriber

@@ -1,4 +1,4 @@
--- What a pump makes happen on the connection of a subscriber, so that it gets all that was committed and says so:
+-- What a pump makes happen on the connection of a subscriber, so that it gets all that was committed and reports it:
 -- PostgreSQL 15, 55.4. Streaming Replication Protocol.
 use Rattle.std.specs.Prelude.{◌≡◌, ◌<◌, ◌⊎◌, ℕ, ◌-◌, ◌^◌, false, List, [], ◌∷◌, ◌++◌, All, length, map, replicate, Some, Result, Ok, Err}
 use Rattle.copy_both.specs.Streams.{end_of}
@@ -38,7 +38,7 @@ pub record WalksAll (before after : World) (now subscriber : ℕ) (events : List
   pub go_on : All GoesOn answers
   pub runs : RunsOn before after (map (on_clock now subscriber) events) answers
 
--- the first of them happen, the last of these is answered so, and no more happens
+-- the first of them happen, the last of these has this answer, and no more happens
 pub record WalksSome (before after : World) (now subscriber : ℕ) (events : List PeerEvent) (answer : Answer) : Type 0
   where
     pub done : List PeerEvent
@@ -53,12 +53,12 @@ abbrev pub Walks : World → World → ℕ → ℕ → List PeerEvent → Result
 Walks before after now subscriber events (Ok done) = WalksAll before after now subscriber events
 Walks before after now subscriber events (Err answer) = WalksSome before after now subscriber events answer
 
--- the last of the answers says that there is no further commit
+-- the last of the answers reports that there is no further commit
 pub record EndsIdle (answers : List Answer) : Type 0 where
   pub earlier : List Answer
   pub are : answers ≡ earlier ++ Idle ∷ []
 
--- commits are taken up until there is none, or more often than there are commits
+-- commits are taken until there is none, or more often than there are commits
 pub record TakesAll (before after : World) (now subscriber : ℕ) : Type 0 where
   pub takes : ℕ
   pub walks : WalksAll before after now subscriber (replicate takes Take)
@@ -74,21 +74,21 @@ Takes before after now subscriber (Err answer) = TakesSome before after now subs
 
 -- ---- a pump
 
--- all that was sent is heard, so many commits are taken up, a keepalive is said, all is delivered, and a status is
--- said and heard
+-- all that was sent is heard, this number of commits is taken, a keepalive is sent, all is delivered, and a status is
+-- sent and heard
 abbrev pub pump_events : ℕ → List PeerEvent
 pump_events takes = Hear all_bytes
     ∷ (replicate takes Take ++ Keep false ∷ Deliver all_bytes ∷ Report false ∷ Hear all_bytes ∷ [])
 
--- where a subscriber is in each world that the program's matches
+-- the position of a subscriber in each world that the program's matches
 abbrev pub IsPosition : World → ℕ → ℕ → Type 0
 IsPosition code subscriber position =
     subscriber < length (world_checked code).plan → (most : ℕ) (events : List (ℕ × Event)) (world : w.World)
     → IsWorld code most events world
     → position ≡ position_of (world_checked code) world subscriber
 
--- after what was heard is answered, the answers to so many takes: the last says that there is no further commit, or
--- there are more takes than commits
+-- after the answer to what was heard, the answers to this number of takes: the last reports that there is no further
+-- commit, or there are more takes than commits
 pub record TakesEnough (takes commits : ℕ) (answers : List Answer) : Type 0 where
   pub heard : List Answer
   pub taken : List Answer
@@ -98,7 +98,7 @@ pub record TakesEnough (takes commits : ℕ) (answers : List Answer) : Type 0 wh
   pub as_many : length taken ≡ takes
   pub enough : EndsIdle taken ⊎ (commits < takes)
 
--- in each world that the program's matches, and which has this subscriber
+-- in each world that the program's matches and that has this subscriber
 abbrev pub InEach : World → ℕ → (ℕ → w.World → Type 0) → Type 0
 InEach before subscriber Holds =
     subscriber < length (world_checked before).plan → (most : ℕ) (events : List (ℕ × Event)) (world : w.World)
@@ -115,7 +115,7 @@ pub record PumpsSome (before after : World) (now subscriber : ℕ) (answer : Ans
 
 -- ---- where a pump ends
 
--- the subscriber is where the last of so many commits ends, in a world that the program's matches
+-- the subscriber is where the last of this number of commits ends, in a world that the program's matches
 pub record IsAtEnd (before after : World) (subscriber count most : ℕ) : Type 0 where
   pub events : List (ℕ × Event)
   pub world : w.World
@@ -132,7 +132,7 @@ abbrev pub IsEndOfLog : World → ℕ → ℕ → Type 0
 IsEndOfLog before subscriber position =
     InEach before subscriber (λ most world. position ≡ end_of (length world.transactions))
 
--- a subscriber that has a connection loses it by want of memory, and in no other way
+-- a subscriber that has a connection loses it only if memory runs out
 abbrev pub WantsMemory : World → ℕ → Answer → Type 0
 WantsMemory before subscriber answer =
     InEach before subscriber
@@ -143,7 +143,7 @@ PumpsThrough before after now subscriber (Ok done) = PumpsAll before after now s
     × ReachesEnd before after subscriber
 PumpsThrough before after now subscriber (Err answer) = PumpsSome before after now subscriber answer
 
--- it is answered by the subscriber's position, or else by the answer that ends it
+-- its answer is the subscriber's position, or else the answer that ends it
 pub data PumpsOn (before after : World) (now subscriber : ℕ) : Answer → Type 0 where
   Pumped : (position : ℕ) → PumpsAll before after now subscriber → IsPosition after subscriber position
       → IsEndOfLog before subscriber position

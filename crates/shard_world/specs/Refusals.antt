@@ -1,4 +1,4 @@
--- That where memory is refused to a call on the connection of a subscriber, the connection is lost after some of the
+-- That if memory is refused to a call on the connection of a subscriber, the connection is lost after some of the
 -- bytes, as in the world: PostgreSQL 15, 31.2. Subscription, and 55.4. Streaming Replication Protocol.
 use Rattle.std.specs.Prelude.{◌≡◌, ℕ, Bool, List, Some, None, Result, Ok, Err}
 use Rattle.filter_tree.specs.Memory.{TellsFault}
@@ -19,7 +19,7 @@ use Rattle.shard_world.specs.Joined.{PeerIs, PeerOf}
 use Rattle.shard_world.specs.PeerSteps.{Case, ChangesOwn, Halts, HasLog, IsCase, StandsIn, source_of}
 use Rattle.shard_world.specs.World.{PeerEvent, Open, Hear, Take, Keep, Deliver, Report, broken_in, log_in}
 
--- ---- the answer is no fault, so that an error says that memory was refused
+-- ---- the result is not a fault, so that an error means that memory was refused
 
 pub record IsAnswered {A F : Type 0} (answer : Result A F) : Type 0 where
   pub value : A
@@ -56,7 +56,7 @@ ReportsAreAnswered = (case : Case) (slots : List Slot) (old : PeerOf) (link : Li
 
 -- ---- a subscriber without a connection, whose connection can't be opened, stays without one
 
--- what is there matches what the world's step leaves where memory is refused
+-- what exists matches what the world's step leaves if memory is refused
 pub record StepBreaks (case : Case) (event : PeerEvent) (slots : List Slot) (code : PeerOf) : Type 0 where
   pub some : ℕ
   pub peer_is : PeerIs (source_of case) slots code (broken_in case.checked case.world case.number case.now event some)
@@ -74,7 +74,7 @@ OpenBreaks = (case : Case) (slots : List Slot) (old : PeerOf) (after : Subscribe
 
 -- ---- a call on a connection is refused
 
--- some first frames are heard, and no slot changes but its own
+-- the first few frames are heard, and only its own slot changes
 pub record HaltsOn (case : Case) (event : PeerEvent) (before after : Book) (code : PeerOf) : Type 0 where
   pub halts : Halts case event (book_slots after) code
   pub own : ChangesOwn case.number before after
@@ -89,7 +89,7 @@ HearHalts = (case : Case) → IsCase case → (before after : Book) (old : PeerO
     (front_of count (sub_output old.subscriber)) (link_sent link) (Err error)
     → HaltsOn case (Hear count) before after (record { link = Some new; subscriber = old.subscriber })
 
--- nothing is said
+-- nothing is sent
 abbrev pub TakeHalts : Type 0
 TakeHalts = (case : Case) (slots : List Slot) (old : PeerOf) (link new : Link) → StandsIn case slots old
     → old.link ≡ Some link → LinkCloses link new
@@ -100,7 +100,7 @@ KeepHalts = (case : Case) (slots : List Slot) (old : PeerOf) (link new : Link) (
     → old.link ≡ Some link → LinkCloses link new
     → Halts case (Keep want) slots (record { link = Some new; subscriber = old.subscriber })
 
--- some first frames are applied
+-- the first few frames are applied
 abbrev pub DeliverHalts : Type 0
 DeliverHalts = (case : Case) → IsCase case
     → (slots : List Slot) (old : PeerOf) (link : Link) (after : Subscriber) (count : ℕ) (error : SubFault)

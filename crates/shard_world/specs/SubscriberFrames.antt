@@ -13,8 +13,7 @@ abbrev pub start_in : Option (ℕ × ℕ) → Option ℕ
 start_in None = None
 start_in (Some begun) = Some begun.1
 
--- What was heard as a session of the world, where these moves were made before. Each reply that is wanted is a
--- keepalive.
+-- What was heard as a session of the world, if these moves were made before. Each reply that is wanted is a keepalive.
 abbrev pub session_of : ℕ → ℕ → List Move → HearingOf → Session
 session_of subscriber now moves h =
     record {
@@ -34,7 +33,7 @@ pub record IsHearing (subscriber : ℕ) (h : HearingOf) : Type 0 where
   pub is_there : subscriber < length h.slots
   pub goes_on : is_over h ≡ false
 
--- numbers of 64 bits, and no more flushed than this
+-- numbers of 64 bits, and a flushed position of at most this
 pub record IsWithin (limit : ℕ) (status : Status) : Type 0 where
   pub written : status.written < 2 ^ 64
   pub flushed : status.flushed < 2 ^ 64
@@ -52,7 +51,7 @@ pub record IsBegun (subscriber start : ℕ) (h : HearingOf) : Type 0 where
   pub started : h.started ≡ Some (subscriber, start)
   pub sent : h.sent ≡ first_sent start
 
--- the command that asks for the stream, where there is none yet
+-- the command that requests the stream, if there is none yet
 abbrev pub StartsAreHeard : Type 0
 StartsAreHeard = (served : Served) (subscriber position now : ℕ) (subscription : Subscription) (moves : List Move)
     (h : HearingOf)
@@ -64,7 +63,7 @@ StartsAreHeard = (served : Served) (subscriber position now : ℕ) (subscription
     × IsBegun subscriber (max position (confirmed_at h.slots subscriber))
     (frame_heard served h (up_frame served.checked subscriber (Asks position)))
 
--- Statuses, which say no more than what was sent and what the log has. Each that wants a reply has one.
+-- Statuses, which report no more than what was sent and what the log has. Each that wants a reply has one.
 abbrev pub StatusesAreHeard : Type 0
 StatusesAreHeard = (served : Served) (subscriber start now : ℕ) (moves : List Move) (statuses : List Status)
     (h : HearingOf)

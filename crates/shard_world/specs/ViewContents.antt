@@ -42,7 +42,7 @@ abbrev pub SeenAt : Book → ℕ → List PeerOf → ℕ → SubscriberView → 
 SeenAt book tables peers number shown =
     IfSome (slice_get peers number) (λ peer. IsSeen book tables number peer.subscriber shown)
 
--- and of all
+-- and of all subscribers
 pub record AreSeen (book : Book) (tables : ℕ) (peers : List PeerOf) (shown : View) : Type 0 where
   pub log_is : shown.log ≡ length (book_log book)
   pub width : length shown.rows.items ≡ tables

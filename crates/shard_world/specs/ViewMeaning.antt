@@ -1,6 +1,6 @@
--- What is shown of a publisher and its subscribers: each has its shard, and where all have applied the same commits
--- each row is at exactly one of them. PostgreSQL 15, "Logical Replication", 31.2 Subscription and 31.3 Row Filters;
--- 7.5 Sorting Rows.
+-- What is shown of a publisher and its subscribers: each has its shard, and if all have applied the same commits, each
+-- row is at exactly one of them. PostgreSQL 15, "Logical Replication", 31.2 Subscription and 31.3 Row Filters; 7.5
+-- Sorting Rows.
 use Rattle.std.specs.Prelude.{◌≡◌, ◌<◌, ℕ, Bool, true, ◌&&◌, List, take, length, map, Contains, Some, slice_get}
 use Rattle.std.specs.List.Sorted.{IsStrictlySortedBy}
 use Rattle.filter_tree.specs.Datum.{Datum}
@@ -23,7 +23,7 @@ pub record AreRows (test : List Datum → Bool) (rows : List (List Datum)) : Typ
   pub only : (row : List Datum) → Contains rows row → test row ≡ true
   pub ascending : IsStrictlySortedBy row_cmp rows
 
--- the publisher's tables after so many of the first commits
+-- the publisher's tables after this number of the first commits
 abbrev pub tables_after : CheckedOf → List Transaction → ℕ → Tables
 tables_after checked transactions count = after (setting_in checked) (take count transactions)
 
@@ -66,7 +66,8 @@ pub record IsShownOnce (shown : View) (table : ℕ) (row : List Datum) : Type 0 
   pub has_it : ShowsRow shown owner table row
   pub no_other : (other : ℕ) → ShowsRow shown other table row → other ≡ owner
 
--- each row of the tables after so many commits is shown of exactly one subscriber, and no other row is shown of any
+-- each row of the tables after this number of commits is shown for exactly one subscriber, and no other row is shown
+-- for any
 pub record DividesShown (checked : CheckedOf) (transactions : List Transaction) (count : ℕ) (shown : View) : Type 0
   where
     pub somewhere : (table : ℕ) (row : List Datum) → table < length checked.catalog.tables
@@ -75,7 +76,7 @@ pub record DividesShown (checked : CheckedOf) (transactions : List Transaction) 
     pub nothing_else : (number table : ℕ) (row : List Datum) → ShowsRow shown number table row
         → holds (setting_in checked).keys (tables_after checked transactions count) table row ≡ true
 
--- where all have applied so many commits, and no more
+-- if all have applied this number of commits, and no more
 abbrev pub ShowsDivided : CheckedOf → List Transaction → View → Type 0
 ShowsDivided checked transactions shown =
     (count : ℕ) → AllAt (λ number subscriber. subscriber.applied ≡ count) shown.subscribers.items

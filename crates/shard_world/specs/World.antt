@@ -1,4 +1,4 @@
--- The world of a publisher and its subscribers, where any of them moves next: commits, connections that are opened
+-- The world of a publisher and its subscribers, in which any of them moves next: commits, connections that are opened
 -- and lost, and bytes that come in any pieces: PostgreSQL 15, "Logical Replication", 31.2 Subscription, and 55.4.
 -- Streaming Replication Protocol. Its events and answers are this project's own.
 use Rattle.std.specs.Prelude.{◌≡◌, ◌<◌, ◌⊎◌, ℕ, ◌+◌, ◌-◌, ◌==◌, max, min, nat_lt, Bool, true, false, if◌then◌else◌, List, [], ◌∷◌, ◌++◌, drop, fold, length, map, slice_get, take, Option, Some, None}
@@ -132,7 +132,7 @@ first_connection = record { start = None; moves = []; reports = []; heard = 0; d
 abbrev pub ups_of : Peer → Connection → List Up
 ups_of peer c = Asks peer.position ∷ map Says c.reports
 
--- how many bytes the command has by which it asks for its stream
+-- the number of bytes of the command with which it requests its stream
 abbrev pub asking_length : Source → ℕ → ℕ
 asking_length source position = length (spelled_up source.checked source.number (Asks position))
 
@@ -148,7 +148,8 @@ pub record Session : Type 0 where
   pub start : Option ℕ
   pub moves : List Move
 
--- the stream starts where it is asked to, or at what was confirmed if that is greater; another command changes nothing
+-- the stream starts where it is requested to, or at what was confirmed if that is greater; another command changes
+-- nothing
 abbrev pub start_at : Option ℕ → ℕ → ℕ → Option ℕ
 start_at None position confirmed = Some (max position confirmed)
 start_at (Some start) position confirmed = Some start
@@ -157,7 +158,7 @@ abbrev pub replied : Bool → ℕ → List Move
 replied true now = s.Keep now false ∷ []
 replied false now = []
 
--- a status confirms what it says is flushed, and is answered if it wants a reply
+-- a status confirms what it reports as flushed, and is answered if it wants a reply
 abbrev pub hear_up : ℕ → Session → Up → Session
 hear_up now session (Asks position) = record session { start = start_at session.start position session.confirmed }
 hear_up now session (Says status) =
@@ -178,7 +179,7 @@ heard_of source now peer c more =
     fold (hear_up now) (record { confirmed = peer.confirmed; start = c.start; moves = c.moves })
     (newly source peer c more)
 
--- as many bytes as are asked for, or as wait
+-- as many bytes as are requested, or as wait
 abbrev pub as_many : ℕ → ℕ → ℕ → ℕ
 as_many asked all done = min asked (all - done)
 
@@ -272,7 +273,7 @@ in_part source now (Keep want) peer some c = peer
 in_part source now (Report want) peer some c = peer
 in_part source now Lose peer some c = peer
 
--- Where memory was refused the connection is lost, after some of the bytes that were to be heard or delivered.
+-- If memory was refused, the connection is lost, after some of the bytes that were to be heard or delivered.
 abbrev pub broken : Source → ℕ → PeerEvent → Peer → ℕ → Option Connection → Peer
 broken source now event peer some None = peer
 broken source now event peer some (Some c) = loses source (in_part source now event peer some c)
@@ -287,7 +288,7 @@ abbrev pub with_transaction : World → List Command → ℕ → World
 with_transaction world commands time =
     record world { transactions = world.transactions ++ record { commands = commands; time = time } ∷ [] }
 
--- why a list of commands is refused; memory is asked for where the log has room for a transaction
+-- why a list of commands is refused; memory is allocated if the log has room for a transaction
 abbrev pub RefusedFor : CheckedOf → ℕ → World → List Command → CommitError → Type 0
 RefusedFor checked most world commands e.EmptyTransaction = commands ≡ []
 RefusedFor checked most world commands e.TooManyCommands = 1000 < length commands
@@ -297,7 +298,7 @@ RefusedFor checked most world commands (e.At number fault) = IsTransaction comma
     ≡ Some (number, fault_view fault))
 RefusedFor checked most world commands e.OutOfMemory = IsTransaction commands × (length world.transactions < most)
 
--- it is accepted, or refused and nothing changes; the log takes at most so many
+-- it is accepted, or refused and nothing changes; the log has at most this number
 pub record Commits (checked : CheckedOf) (most : ℕ) (world : World) (commands : List Command) (time : ℕ)
     (answer : Answer) (next : World) : Type 0 where
   pub accepted : IsAccepted (setting_in checked) (after (setting_in checked) world.transactions)
@@ -329,7 +330,7 @@ pub record Moves (checked : CheckedOf) (world : World) (subscriber now : ℕ) (e
   pub answer_is : answer ≡ (step_in checked world subscriber now event).0
   pub next_is : next ≡ with_peer world subscriber (step_in checked world subscriber now event).1
 
--- memory is asked for where the step has something to do, and so not in place of these answers
+-- memory is allocated if the step has something to do, and so not in place of these answers
 abbrev pub AsksMemory : Answer → Type 0
 AsksMemory AlreadyOpen = ⊥
 AsksMemory NotOpen = ⊥
@@ -350,7 +351,7 @@ StepsOn false checked world subscriber now event answer next = (answer ≡ NoSub
 StepsOn true checked world subscriber now event answer next =
     Moves checked world subscriber now event answer next ⊎ Breaks checked world subscriber now event answer next
 
--- at a time, an event is answered so, and leaves this
+-- at a time, an event has this answer, and leaves this
 abbrev pub Steps : CheckedOf → ℕ → World → ℕ → Event → Answer → World → Type 0
 Steps checked most world now (Commit commands time) answer next =
     Commits checked most world commands time answer next ⊎ Refuses checked most world commands answer next

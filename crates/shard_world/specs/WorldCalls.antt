@@ -27,12 +27,13 @@ world_peers world = world.peers.items
 
 -- ---- which world it matches
 
--- the subscriber of this number is there, and matches that of the world
+-- the subscriber of this number exists, and matches that of the world
 abbrev pub PeerAt : Source → List Slot → w.Peer → Option PeerOf → Type 0
 PeerAt source slots peer None = ⊥
 PeerAt source slots peer (Some code) = PeerIs source slots code peer
 
--- A book and subscribers match those of a world that these events led to. The log takes at most so many commits.
+-- A book and subscribers match those of a world that these events led to. The log may have at most this number of
+-- commits.
 pub record IsWorldBy (checked : CheckedOf) (most : ℕ) (book : Book) (peers : List PeerOf) (events : List (ℕ × Event))
     (world : w.World) : Type 0 where
   pub publisher : IsPublisher checked most
@@ -50,7 +51,7 @@ IsWorld code most events world = IsWorldBy (world_checked code) most (world_book
 
 -- ---- what calls do
 
--- an event is answered so, and leaves what matches what the step of the world leaves
+-- an event has this answer, and leaves what matches what the step of the world leaves
 pub record StepsInto (before after : World) (most : ℕ) (events : List (ℕ × Event)) (world : w.World) (now : ℕ)
     (event : Event) (answer : Answer) : Type 0 where
   pub next : w.World

@@ -1,6 +1,6 @@
 -- What holds in each world that events lead to: each subscriber has exactly its shard of the publisher's tables after
--- the commits that it applied; and where all have applied the same, each row is at exactly one of them: PostgreSQL
--- 15, "Logical Replication", 31.2 Subscription and 31.3 Row Filters.
+-- the commits that it applied; and if all have applied the same, each row is at exactly one of them: PostgreSQL 15,
+-- "Logical Replication", 31.2 Subscription and 31.3 Row Filters.
 use Rattle.std.specs.Prelude.{◌≡◌, ◌<◌, ◌≤◌, ◌^◌, ℕ, Bool, true, List, All, length, take, Option, Some, None}
 use Rattle.filter_tree.specs.Datum.{Datum}
 use Rattle.table_changes.specs.Standing.{Covered, KeepsApart, DividesRows}
@@ -16,9 +16,9 @@ use Rattle.copy_both.specs.Streams.{count_before}
 use Rattle.stream_laws.specs.Following.{own_key, HasShard}
 use Rattle.shard_world.specs.World.{Connection, Peer, World, Event, Commit, On, first_world, Leads, position_of, machine_of}
 
--- ---- what is asked of the publisher and of events
+-- ---- what is required of the publisher and of events
 
--- A catalog that was checked, within its limits and named, and its own plan; its log takes at most 1,000,000,000
+-- A catalog that was checked, within its limits and named, and its own plan; its log may have at most 1,000,000,000
 -- commits.
 pub record IsPublisher (checked : CheckedOf) (most : ℕ) : Type 0 where
   pub own : checked.plan ≡ plan_of checked.catalog
@@ -28,7 +28,7 @@ pub record IsPublisher (checked : CheckedOf) (most : ℕ) : Type 0 where
   pub named : IsNamedCatalog checked.catalog
   pub most_is : most ≤ 1000000000
 
--- whoever holds a `Checked` has that
+-- each `Checked` is such a catalog
 abbrev pub CheckedPublish : Type 0
 CheckedPublish = (checked : Checked) (most : ℕ) → most ≤ 1000000000 → IsPublisher (checked_view checked) most
 
@@ -47,7 +47,7 @@ abbrev pub StartsAt : ℕ → Option ℕ → Type 0
 StartsAt position None = Unit {0}
 StartsAt position (Some start) = start ≡ position
 
--- the stream of a connection starts at the position that was asked for as it was opened
+-- the stream of a connection starts at the position that was requested when it was opened
 abbrev pub IsStartedAsAsked : Peer → Option Connection → Type 0
 IsStartedAsAsked peer None = Unit {0}
 IsStartedAsAsked peer (Some c) = StartsAt peer.position c.start
@@ -93,7 +93,7 @@ pub record IsAtOne (checked : CheckedOf) (world : World) (table : ℕ) (row : Li
   pub no_other : (other : ℕ) → other < length checked.plan → has_row checked world other table row ≡ true
       → other ≡ owner
 
--- each row of the tables after so many commits is at exactly one subscriber, and no subscriber has another row
+-- each row of the tables after this number of commits is at exactly one subscriber, and no subscriber has another row
 pub record Divides (checked : CheckedOf) (world : World) (count : ℕ) : Type 0 where
   pub somewhere : (table : ℕ) (row : List Datum)
       → holds (setting_in checked).keys (after (setting_in checked) (take count world.transactions)) table row ≡ true

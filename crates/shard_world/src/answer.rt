@@ -13,23 +13,23 @@ pub enum Answer {
     NoSubscriber,
     /// The subscriber has no connection, and nothing changes.
     NotOpen,
-    /// The subscriber has a connection already, and nothing changes.
+    /// The subscriber already has a connection, and nothing changes.
     AlreadyOpen,
     /// The subscriber has a new connection.
     Opened,
-    /// The publisher heard so many bytes.
+    /// The publisher heard this number of bytes.
     Heard(usize),
     /// The stream has not started, and nothing changes.
     NotStarted,
-    /// The publisher has no further commit to take up, and nothing changes.
+    /// The publisher has no further commit to take, and nothing changes.
     Idle,
     /// The commit of this number has no change for the subscriber.
     Skipped(u32),
-    /// The messages that tell the subscriber of the commit of this number wait to be delivered.
+    /// The messages that report the commit of this number to the subscriber wait to be delivered.
     Sent(u32),
     /// A keepalive waits to be delivered.
     Kept,
-    /// So many bytes came to the subscriber.
+    /// This number of bytes was delivered to the subscriber.
     Delivered(usize),
     /// A status waits to be heard.
     Reported,

@@ -7,17 +7,17 @@ use table_changes::Command;
 /// PostgreSQL 15, 55.4. Streaming Replication Protocol.
 #[derive(Clone, Copy, Debug, PartialEq, Eq)]
 pub enum PeerEvent {
-    /// The subscriber connects, and asks for the stream from its position on.
+    /// The subscriber connects, and requests the stream from its position on.
     Open,
-    /// The publisher hears the next bytes of the subscriber, at most so many.
+    /// The publisher hears the next bytes of the subscriber, at most `bytes`.
     Hear { bytes: usize },
-    /// The publisher takes the next commit up, and says what tells the subscriber of it.
+    /// The publisher takes the next commit, and sends the messages that report it to the subscriber.
     Take,
-    /// The publisher says a keepalive, which may want a status.
+    /// The publisher sends a keepalive, which may want a status.
     Keep { want: bool },
-    /// The next bytes of the publisher, at most so many, come to the subscriber.
+    /// The next bytes of the publisher, at most `bytes`, are delivered to the subscriber.
     Deliver { bytes: usize },
-    /// The subscriber says how far it is, and may want a keepalive.
+    /// The subscriber reports its position, and may want a keepalive.
     Report { want: bool },
     /// The connection is lost.
     Lose,
@@ -28,6 +28,6 @@ pub enum PeerEvent {
 pub enum Event {
     /// These commands are committed as one transaction at this time, in microseconds since 2000-01-01.
     Commit { commands: Vec<Command>, time: u64 },
-    /// Something happens on the connection of a subscriber, which is told by its number from 0 and need not be there.
+    /// Something happens on the connection of the subscriber with this number, from 0, which need not exist.
     On { subscriber: usize, event: PeerEvent },
 }

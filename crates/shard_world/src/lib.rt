@@ -1,5 +1,5 @@
-//! The world of a publisher and its subscribers, and laws of the worlds that events lead to. The laws of streams are
-//! those of `stream_laws`.
+//! The world of a publisher and its subscribers, and laws about the worlds that events lead to. The laws about streams
+//! are those of `stream_laws`.
 #![tactic(auto)]
 
 mod answer;

@@ -1,4 +1,4 @@
-//! The subscribers of a catalog, as they are at first.
+//! The subscribers of a catalog, in their first state.
 
 ghost use Rattle.std.specs.Prelude.{◌≡◌, IfOk, map, slice_get};
 ghost use Rattle.std.specs.String.{string_bytes};
@@ -11,7 +11,7 @@ use pub_catalog::{Catalog, Publication, Subscription};
 use std::alloc::{AllocError, Global};
 use test_subscriber::Subscriber;
 
-/// A copy of a publication's name; nothing where there is no publication of this number.
+/// A copy of a publication's name; empty if there is no publication of this number.
 fn publication_name(
     alloc: Global,
     publications: &[Publication],
@@ -59,7 +59,7 @@ fn first_peer(
     })
 }
 
-/// A subscriber for each subscription of a catalog, in their order. The only error is want of memory.
+/// A subscriber for each subscription of a catalog, in their order. The only error is out of memory.
 #[tactic(auto, using(crate::proofs::FirstPeerLemmas::one_more))]
 pub(crate) fn first_peers(alloc: Global, catalog: &Catalog) -> Result<Vec<Peer>, AllocError>
     ensures { IfOk result (λ peers. spec.AreFirstPeers (catalog_view catalog.now).publications

@@ -14,7 +14,7 @@ use std::sync::Arc;
 use tables_log::Book;
 use test_subscriber::Subscriber;
 
-/// The first of these bytes, at most so many.
+/// The first of these bytes, at most `count`.
 #[tactic(auto, using(crate::proofs::CallLemmas::front_short, crate::proofs::CallLemmas::front_whole))]
 fn front(bytes: &[u8], count: usize) -> &[u8]
     ensures { result.now ≡ front_of count bytes.now }
@@ -26,7 +26,7 @@ fn front(bytes: &[u8], count: usize) -> &[u8]
     }
 }
 
-/// What is answered where the next commit was to be taken up.
+/// The answer when the next commit was to be taken.
 fn answer_of(taken: Taken) -> Answer
     ensures { result ≡ answer_of taken }
 {
@@ -63,7 +63,7 @@ impl Peer {
     ghost use Rattle.shard_world.specs.PeerCalls.{Drops, IsCounted, Moves, Tries};
     ghost use Rattle.shard_world.specs.World.{Open, Hear, Take, Keep, Deliver, Report, Lose};
 
-    /// The subscriber connects, and asks for the stream from its position on.
+    /// The subscriber connects, and requests the stream from its position on.
     #[tactic(auto, using(crate::proofs::CallLemmas::is_already_open, crate::proofs::CallLemmas::opens_one, crate::proofs::StopLemmas::open_stays_shut, crate::proofs::StopLemmas::open_is_refused))]
     fn open(&mut self, alloc: Global, checked: &Arc<Checked, Global>) -> Result<Answer, Halted>
         ensures { (now : ℕ) (book : BookType) → Tries (checked_view (arc_value checked.now)) now Open book book
@@ -78,7 +78,7 @@ impl Peer {
         Ok(Answer::Opened)
     }
 
-    /// The publisher hears the next bytes of the subscriber, at most so many.
+    /// The publisher hears the next bytes of the subscriber, at most this number.
     #[tactic(auto, using(crate::proofs::CallLemmas::is_not_open, crate::proofs::CallLemmas::hears_piece, crate::proofs::StopLemmas::hear_stops))]
     fn hear(&mut self, book: &mut Book, now: u64, bytes: usize) -> Result<Answer, Halted>
         ensures { (checked : CheckedOf) → Tries checked now (Hear bytes) book.old book.new self.old result self.new }
@@ -93,7 +93,7 @@ impl Peer {
         Ok(Answer::Heard(count))
     }
 
-    /// The publisher takes the next commit up.
+    /// The publisher takes the next commit.
     #[tactic(auto, using(crate::proofs::CallLemmas::is_not_open, crate::proofs::CallLemmas::takes_one, crate::proofs::StopLemmas::take_stops))]
     fn take(&mut self, book: &Book, now: u64) -> Result<Answer, Halted>
         ensures { (checked : CheckedOf) → Tries checked now Take book.now book.now self.old result self.new }
@@ -105,7 +105,7 @@ impl Peer {
         Ok(answer_of(taken))
     }
 
-    /// The publisher says a keepalive.
+    /// The publisher sends a keepalive.
     #[tactic(auto, using(crate::proofs::CallLemmas::is_not_open, crate::proofs::CallLemmas::keeps_one, crate::proofs::StopLemmas::keep_stops))]
     fn keep(&mut self, now: u64, want: bool) -> Result<Answer, Halted>
         ensures { (checked : CheckedOf) (book : BookType) → Tries checked now (Keep want) book book
@@ -121,7 +121,7 @@ impl Peer {
         }
     }
 
-    /// The next bytes of the publisher, at most so many, come to the subscriber.
+    /// The next bytes of the publisher, at most this number, are delivered to the subscriber.
     #[tactic(auto, using(crate::proofs::CallLemmas::is_not_open, crate::proofs::CallLemmas::delivers_piece, crate::proofs::StopLemmas::deliver_stops))]
     fn deliver(&mut self, bytes: usize) -> Result<Answer, Halted>
         ensures { (checked : CheckedOf) (now : ℕ) (book : BookType) → Tries checked now (Deliver bytes) book book
@@ -137,7 +137,7 @@ impl Peer {
         Ok(Answer::Delivered(count))
     }
 
-    /// The subscriber says how far it is.
+    /// The subscriber reports its position.
     #[tactic(auto, using(crate::proofs::CallLemmas::is_not_open, crate::proofs::CallLemmas::reports_one, crate::proofs::StopLemmas::report_stops))]
     fn report(&mut self, now: u64, want: bool) -> Result<Answer, Halted>
         ensures { (checked : CheckedOf) (book : BookType) → Tries checked now (Report want) book book
@@ -150,7 +150,7 @@ impl Peer {
         Ok(Answer::Reported)
     }
 
-    /// There is no connection any more.
+    /// Drops the connection.
     fn drop_connection(&mut self, book: &mut Book)
         ensures { Drops self.old self.new book.old book.new }
     {
@@ -193,7 +193,7 @@ impl Peer {
         }
     }
 
-    /// What happens on the connection. Where memory is refused the connection is lost.
+    /// What happens on the connection. If memory is refused, the connection is lost.
     #[tactic(auto, using(crate::proofs::StopLemmas::makes_moves, crate::proofs::StopLemmas::drops_connection))]
     pub(crate) fn step(
         &mut self,

@@ -9,11 +9,11 @@ use std::alloc::{AllocError, Global};
 use tables_log::Book;
 use test_subscriber::Subscriber;
 
-/// The OID of the first table on the wire; table j has this and j more.
+/// The OID of the first table on the wire; table j has this plus j.
 const FIRST_OID: u32 = 16_384;
 
-/// What is in a subscriber: its position in the log, in bytes, how many commits that counts, up to where its slot is
-/// confirmed, in bytes, and for each table of the catalog its rows, in their order.
+/// What is in a subscriber: its position in the log, in bytes, how many commits that counts, the position up to which
+/// its slot is confirmed, in bytes, and for each table of the catalog its rows, in their order.
 #[derive(Debug, Drop, PartialEq, Eq)]
 pub struct SubscriberView {
     pub position: u64,
@@ -31,7 +31,7 @@ pub struct View {
     pub subscribers: Vec<SubscriberView>,
 }
 
-/// The publisher's rows, of so many tables.
+/// The publisher's rows, of this number of tables.
 #[tactic(auto, using(crate::proofs::ViewLemmas::at_more))]
 fn rows_of_tables(alloc: Global, book: &Book, tables: usize) -> Result<Vec<Vec<Row>>, AllocError>
     ensures width { IfOk result (λ rows. length rows.items ≡ tables) }
@@ -44,7 +44,7 @@ fn rows_of_tables(alloc: Global, book: &Book, tables: usize) -> Result<Vec<Vec<R
     Ok(rows)
 }
 
-/// A subscriber's rows, of so many tables.
+/// A subscriber's rows, of this number of tables.
 #[tactic(auto, using(crate::proofs::ViewLemmas::at_more))]
 fn rows_of_copies(
     alloc: Global,
@@ -101,7 +101,7 @@ fn seen_of_all(
     Ok(subscribers)
 }
 
-/// What is in a publisher and its subscribers, of so many tables. The only error is want of memory.
+/// What is in a publisher and its subscribers, of this number of tables. The only error is out of memory.
 pub(crate) fn seen(
     alloc: Global,
     book: &Book,

@@ -14,7 +14,7 @@ use tables_log::Book;
 /// All that a subscriber sent is heard.
 const HEAR_ALL: PeerEvent = PeerEvent::Hear { bytes: usize::MAX };
 
-/// What a pump does after the commits are taken up.
+/// What a pump does after the commits are taken.
 const PUMPED: [PeerEvent; 4] = [
     PeerEvent::Keep { want: false },
     PeerEvent::Deliver { bytes: usize::MAX },
@@ -46,8 +46,8 @@ impl World {
     ghost use Rattle.shard_world.specs.ViewMeaning.{ShowsWorld};
     ghost use Rattle.shard_world.specs.WorldCalls.{IsWorld, RunsOn, StepsOn, world_checked};
 
-    /// A publisher without rows, whose log may have so many commits, and subscribers without rows, at position 0 and
-    /// without connections. The only error is want of memory.
+    /// A publisher without rows, whose log may have at most `limit` commits, and subscribers without rows, at position
+    /// 0 and without connections. The only error is out of memory.
     #[tactic(auto, using(crate::proofs::FirstPeerLemmas::first_is))]
     pub fn new(
         alloc: Global,
@@ -103,7 +103,7 @@ impl World {
         }
     }
 
-    /// Events happen one after another, each at its clock. Room for the answers is made first: where memory for it is
+    /// Events happen one after another, each at its clock. Room for the answers is made first: if memory for it is
     /// refused, which is the only error, nothing happens.
     #[tactic(auto, using(crate::proofs::RunLemmas::runs_none, crate::proofs::RunLemmas::runs_more))]
     pub fn run(&mut self, events: &[(u64, Event)]) -> Result<Vec<Answer>, AllocError>
@@ -117,7 +117,7 @@ impl World {
         Ok(answers)
     }
 
-    /// Something happens on the way of a pump, which an answer ends after which there is no connection.
+    /// An event of a pump happens; an answer after which there is no connection ends the pump.
     fn go_on(&mut self, now: u64, subscriber: usize, event: PeerEvent) -> Result<Answer, Answer>
         ensures ok { IfOk result (StepsOn self.old self.new now (w.On subscriber event)) }
         ensures err { IfErr result (StepsOn self.old self.new now (w.On subscriber event)) }
@@ -132,7 +132,7 @@ impl World {
         }
     }
 
-    /// These happen on the way of a pump.
+    /// These events of a pump happen.
     #[tactic(auto, using(crate::proofs::PumpLemmas::walks_none, crate::proofs::PumpLemmas::walks_more, crate::proofs::PumpLemmas::walks_end))]
     fn go_through(
         &mut self,
@@ -150,7 +150,7 @@ impl World {
         Ok(())
     }
 
-    /// Each commit that is left is taken up.
+    /// Each remaining commit is taken.
     #[tactic(auto, using(crate::proofs::PumpLemmas::takes_none, crate::proofs::PumpLemmas::takes_more, crate::proofs::PumpLemmas::takes_idle, crate::proofs::PumpLemmas::takes_enough, crate::proofs::PumpLemmas::takes_end))]
     fn take_all(&mut self, now: u64, subscriber: usize) -> Result<(), Answer>
         ensures { Takes self.old self.new now subscriber result }
@@ -179,7 +179,7 @@ impl World {
         self.go_through(now, subscriber, &PUMPED)
     }
 
-    /// Where a subscriber is.
+    /// The position of a subscriber.
     #[tactic(auto, using(crate::proofs::ViewLemmas::position_shown, crate::proofs::ViewLemmas::nobody_shown))]
     fn position(&self, subscriber: usize) -> u64
         ensures { IsPosition self.now subscriber result }
@@ -190,10 +190,10 @@ impl World {
         }
     }
 
-    /// The subscriber gets all that was committed, and says so, all at one clock: all that it sent is heard, each
-    /// commit that is left is taken up, a keepalive is said, all is delivered, and the subscriber says how far it is,
-    /// which is heard. The answer is `At` with 64 times the log's length and 64 more. Want of memory ends the pump and
-    /// loses the connection. Without a connection, or without the subscriber, nothing happens.
+    /// The subscriber gets all that was committed, and reports it, all at one clock: all that it sent is heard, each
+    /// remaining commit is taken, a keepalive is sent, all is delivered, and the subscriber reports its position, which
+    /// is heard. Returns `At` with 64 times the log's length plus 64. Out of memory ends the pump and loses the
+    /// connection. Without a connection, or without the subscriber, nothing happens.
     pub fn pump(&mut self, now: u64, subscriber: usize) -> Answer
         ensures { PumpsOn self.old self.new now subscriber result }
     {
@@ -203,7 +203,7 @@ impl World {
         }
     }
 
-    /// What is in the publisher and in each subscriber. The only error is want of memory.
+    /// What is in the publisher and in each subscriber. The only error is out of memory.
     #[tactic(auto, using(crate::proofs::ViewLemmas::shows_world))]
     pub fn view(&self) -> Result<View, AllocError>
         ensures { (most : ℕ) (events : List (ℕ × w.Event)) (world : w.World) → IsWorld self.now most events world

@@ -1,4 +1,4 @@
--- The two words of a node: what is taken is in the text, and what is in a text is taken.
+-- The two words of a node: what is read is in the text, and what is in a text is read.
 use Rattle.std.proofs.Common.{◌≡◌, ℕ, zero, suc, ◌+◌, ◌^◌, ◌<◌, ◌≤◌, Bool, true, false, ◌&&◌, ◌==◌, List, ◌∷◌, ◌++◌, length, Ok, Err, refl, ap, subst, ◌∙◌, arith}
 use Rattle.std.specs.Prelude.{if◌then◌else◌, nat_le}
 use Rattle.std.specs.Fmt.{decimal}

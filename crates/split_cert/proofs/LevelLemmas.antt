@@ -1,4 +1,4 @@
--- The splits that are open, as an array has them: the last one comes last.
+-- The splits that are open, as they are in an array: the last one comes last.
 use Rattle.std.proofs.Common.{◌≡◌, ◌≢◌, ℕ, zero, suc, ◌-◌, ◌<◌, ◌≤◌, List, [], ◌∷◌, length, true, get_or, take, drop, reverse, refl, sym, ap, ◌∙◌, arith}
 use Rattle.std.proofs.Math.Seq.{take-suc}
 use Rattle.std.proofs.lemmas.List.{reverse-append}
@@ -31,7 +31,7 @@ few_more [] h = h
 few_more (zero ∷ levels) h = h
 few_more (suc left ∷ levels) h = h
 
--- ---- splits of which no branch is to come
+-- ---- splits of which no branch follows
 
 pub done_goes : (levels : List ℕ) → slice_get levels 0 ≡ Some 0 → without_done (drop 1 levels) ≡ without_done levels
 done_goes [] e = absurd cc

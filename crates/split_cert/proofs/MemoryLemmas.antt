@@ -1,4 +1,4 @@
--- Only a split takes memory: the two words of a node are read without, and so is a node that is no split.
+-- Only a split allocates memory: the two words of a node are read without any, and so is a node that is not a split.
 use Rattle.std.proofs.Common.{◌≡◌, ℕ, ◌+◌, Bool, true, false, ◌&&◌, ◌==◌, List, [], ◌∷◌, ◌++◌, length, take, Option, Some, None, Ok, Err, ap, ◌∙◌}
 use Rattle.std.specs.Prelude.{if◌then◌else◌, nat_le}
 use Rattle.std.specs.Fmt.{decimal}
@@ -12,7 +12,7 @@ use Rattle.split_cert.specs.Text.{words_of, BeginsWithSplit}
 use Rattle.split_cert.specs.Tree.{max_nodes}
 use Rattle.split_cert.proofs.HeadLemmas.{head_takes}
 
--- the outcome is no want of memory
+-- the outcome is not out of memory
 abbrev pub NeedsNone : {A : Type 0} → Outcome A → Type 0
 NeedsNone outcome = outcome ≡ Err OutOfMemory → ⊥
 

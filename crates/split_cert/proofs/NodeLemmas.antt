@@ -1,4 +1,4 @@
--- A reader of nodes goes on as the nodes of its text do.
+-- A reader of nodes continues as the nodes of its text do.
 use Rattle.std.proofs.Common.{◌≡◌, ℕ, zero, suc, ◌-◌, ◌<◌, Bool, true, false, ◌&&◌, ◌==◌, List, [], ◌∷◌, length, Ok, Err, refl, sym, ap, ◌∙◌, arith, eqb-true}
 use Rattle.split_cert.specs.declared.error.CertError.{CertError}
 use Rattle.split_cert.specs.declared.error.CertError.TheVariants.{TooDeep}
@@ -68,7 +68,7 @@ branch_stops : (n : ℕ) (more : Continues) (spaced : Outcome (Unit {0})) (error
 branch_stops n more (Ok read) error e = tree_stops n more read.1 error e
 branch_stops n more (Err found) error e = let same : found ≡ error = cc in ap fault same
 
--- ---- a step, where splits of which no branch is to come were closed
+-- ---- a step, after splits of which no branch follows were closed
 
 goes_on : (begun : Bool) (levels : List ℕ) (here : Here) (h : Head) (rest : Here) → (begun ≡ false → levels ≡ [])
     → (begun && (length levels == 0)) ≡ false → is_due levels ≡ true
@@ -100,7 +100,7 @@ ends false levels here stream all e = absurd cc
 ends true [] here stream all e = e
 ends true (left ∷ levels) here stream all e = absurd (omega (arith, eqb-true (length (left ∷ levels)) 0 all))
 
--- splits of which no branch is to come add nothing
+-- splits of which no branch follows add nothing
 closed_alike : (begun : Bool) (levels : List ℕ) (here : Here) → (begun ≡ false → levels ≡ [])
     → stream_at begun levels here ≡ stream_at begun (without_done levels) here
 closed_alike false levels here none = refl
@@ -108,12 +108,12 @@ closed_alike true [] here none = refl
 closed_alike true (zero ∷ levels) here none = closed_alike true levels here (λ e. absurd cc)
 closed_alike true (suc left ∷ levels) here none = refl
 
--- none is open where no node was read
+-- no split is open if no node was read
 none_closed : (begun : Bool) (levels : List ℕ) → (begun ≡ false → levels ≡ []) → begun ≡ false
     → without_done levels ≡ []
 none_closed begun levels none not_begun = ap without_done (none not_begun)
 
--- a reader that has read a node or none, where these splits are open, and closed ones are closed
+-- a reader that has read a node or none; these splits are open, and those of which no branch follows are closed
 module _ (begun : Bool) (levels closed : List ℕ) (here : Here) (none : begun ≡ false → levels ≡ [])
     (are_closed : closed ≡ without_done levels) where
   pub stays : stream_at begun closed here ≡ stream_at begun levels here

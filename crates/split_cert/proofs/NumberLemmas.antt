@@ -16,7 +16,7 @@ same_tests true b f g = sym (f refl)
 same_tests false true f g = g refl
 same_tests false false f g = refl
 
--- ---- a number that has 32 bits, if something is so
+-- ---- a number that has 32 bits, if a test holds
 
 abbrev small_if : Bool → ℕ → Option ℕ
 small_if b n = if b && nat_lt n (2 ^ 32) then Some n else None
@@ -39,7 +39,7 @@ same_small false true n same = sym (no_small true n (λ _ h. absurd (apart (sym 
 
 -- ---- digits, one after the other
 
--- a number only grows by its digits
+-- a number only grows with more digits
 number_from-grows : (n : ℕ) (digits : List ℕ) → n ≤ number_from n digits
 unfolding number_from
 number_from-grows n [] = omega arith
@@ -58,7 +58,7 @@ digits_end digits i value over all same few =
     let number : value ≡ number_from 0 digits = rw none at same in
     ap Some number ∙ sym (small (all_ascii_digits digits) (number_from 0 digits) digital (omega arith))
 
--- where the next digit makes the number too large
+-- if the next digit makes the number too large
 pub digits_over : (digits : List ℕ) (i value : ℕ) → i < length digits
     → number_from value (drop i digits) ≡ number_from 0 digits → 2 ^ 32 ≤ 10 * value + (get_or digits i 0 - 48)
     → (if all_ascii_digits digits && nat_lt (number_from 0 digits) (2 ^ 32) then
@@ -92,7 +92,7 @@ no_word word none = no_small (bytes_eq word (decimal (number_from 0 word))) (num
     let some = decimal_nonempty (number_from 0 word) (omega arith) in
     omega (arith, ap length (is_text word (number_from 0 word) same)))
 
--- a text that begins with 0 is that of 0 alone
+-- a text that begins with 0 is the text of 0 only
 zero_text : (n : ℕ) → n < 2 ^ 64 → get_or (decimal n) 0 0 ≡ 48 → length (decimal n) ≡ 1
 zero_text zero few first = ap length (decimal_digit 0 (omega arith))
 zero_text (suc n) few first = absurd (omega (arith, first_decimal (suc n) (omega arith) few))

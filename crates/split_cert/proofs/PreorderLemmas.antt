@@ -1,4 +1,4 @@
--- The nodes of a text are those of the certificate that it is read as, or they end with its fault.
+-- The nodes of a text are those of the certificate that is read from it, or they end with its fault.
 use Rattle.std.proofs.Common.{◌≡◌, ℕ, zero, suc, Bool, true, false, ◌==◌, List, ◌∷◌, ◌++◌, length, Ok, Err, refl, sym, ap, subst, ◌∙◌, append_assoc}
 use Rattle.std.specs.Prelude.{if◌then◌else◌}
 use Rattle.std.proofs.lemmas.List.{append-nil}
@@ -23,7 +23,7 @@ abbrev AreRead : Outcome Tree → Continues → Stream → Type 0
 AreRead (Ok read) more stream = stream ≡ all_led (preorder read.0) (more read.1)
 AreRead (Err error) more stream = stream.end ≡ Err error
 
--- nodes are read by a rule of their own, as a tree is by its rule
+-- nodes are read by a rule of their own, as a tree is read by its rule
 abbrev Follows : Rule Tree → (Continues → Continues) → Type 0
 Follows rule branch = (more : Continues) (here : Here) → AreRead (rule here) more (branch more here)
 

@@ -14,7 +14,7 @@ use Rattle.split_cert.specs.Tree.{Tree}
 use Rattle.split_cert.specs.Tree as T
 use Rattle.split_cert.proofs.PreorderLemmas.{nodes_of_texts}
 
--- ---- one tree at most comes first
+-- ---- at most one tree comes first
 
 regrouped : (t f u rest : List Node) → (t ++ f ++ u) ++ rest ≡ t ++ (f ++ (u ++ rest))
 regrouped t f u rest = simp append_assoc refl
@@ -60,7 +60,7 @@ never_none (T.Owner i) rest e = cc
 never_none (T.Empty i) rest e = cc
 never_none (T.NeverNull i) rest e = cc
 
--- what comes after a split that a tree begins with are its branches
+-- what comes after the split with which a tree begins are its branches
 pub record Branches (nodes rest : List Node) : Type 0 where
   pub if_true : Tree
   pub if_false : Tree
@@ -80,7 +80,7 @@ branches_of atom nodes (T.Owner i) rest e = absurd cc
 branches_of atom nodes (T.Empty i) rest e = absurd cc
 branches_of atom nodes (T.NeverNull i) rest e = absurd cc
 
--- ---- where no tree comes first
+-- ---- if no tree comes first
 
 pub none_at_fault : (before : Stream) (error : CertError) → before ≡ fault error → HasNoTree before error
 none_at_fault before error e =
@@ -155,7 +155,7 @@ pub ruleset grows = (none_at_fault, none_at_end, first_lacks, second_lacks, thir
 
 -- ---- the certificate of a text
 
--- what a tree of the text's nodes is, or why there is none
+-- what a tree of the text's nodes is, or why there is no such tree
 whole_is : (expected : Result Tree CertError) (stream after : Stream) (t : Tree) → AreNodesOf expected stream
     → stream ≡ all_led (preorder t) after → after.end ≡ Ok tt → expected ≡ Ok t
 whole_is (Ok found) stream after t are grown ends =
@@ -177,7 +177,7 @@ lack_is : (expected : Result Tree CertError) (stream : Stream) (error : CertErro
 lack_is (Ok found) stream error are lacks = absurd (lacks.none found [] (are.0 ∙ sym (append-nil (preorder found))))
 lack_is (Err other) stream error are lacks = ap Err (lacks.told other are)
 
--- an error other than want of memory tells itself
+-- an error other than out of memory reports itself
 tells : (expected : Result Tree CertError) (error : CertError) → (error ≢ OutOfMemory → expected ≡ Err error)
     → TellsFault (told error) expected
 tells expected (BadToken place) h = h (λ e. absurd cc)

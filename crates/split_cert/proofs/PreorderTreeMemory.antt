@@ -1,4 +1,4 @@
--- Only a tree that begins by a split takes memory, and no text's nodes end where memory is wanted.
+-- Only a tree that begins with a split allocates memory, and no text's nodes end because memory ran out.
 use Rattle.std.proofs.Common.{◌≡◌, ◌≢◌, ℕ, zero, suc, Bool, true, false, ◌==◌, List, length, Ok, Err, refl, ap, ◌∙◌}
 use Rattle.std.specs.Prelude.{if◌then◌else◌}
 use Rattle.split_cert.specs.declared.error.CertError.{CertError}
@@ -16,7 +16,7 @@ use Rattle.split_cert.specs.Tree.{max_splits}
 use Rattle.split_cert.proofs.PreorderTreeLemmas.{text_grows, text_lacks, text_faults}
 use Rattle.split_cert.proofs.MemoryLemmas.{head_needs_none, space_needs_none, split_begins}
 
--- what is read at no place ends where memory is wanted
+-- what is read at any place does not end because memory ran out
 abbrev NeedsNone : Continues → Type 0
 NeedsNone more = (here : Here) → (more here).end ≢ Err OutOfMemory
 
@@ -98,7 +98,7 @@ pub rest_wants : (text : List ℕ) (nodes : List Node) (after : Stream) → node
     → after.end ≡ Err OutOfMemory → BeginsWithSplit text
 rest_wants text nodes after e ends = absurd (text_needs_none text (ap (λ (s : Stream). s.end) e ∙ ends))
 
--- ---- what takes memory in a stream
+-- ---- what allocates memory in a stream
 
 pub wants_at_fault : (before : Stream) (error : CertError) → before ≡ fault error → error ≡ OutOfMemory
     → BeginsBySplit before

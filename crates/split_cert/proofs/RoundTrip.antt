@@ -1,4 +1,4 @@
--- What is read is spelled so, and what is spelled so is read.
+-- What is read is spelled like this, and what is spelled like this is read.
 use Rattle.std.proofs.Common.{◌≡◌, ℕ, zero, suc, ◌+◌, ◌-◌, ◌≤◌, Bool, true, false, ◌==◌, List, [], ◌∷◌, ◌++◌, length, Result, Ok, Err, refl, sym, ap, subst, ◌∙◌, append_assoc, arith}
 use Rattle.std.specs.Prelude.{if◌then◌else◌, IfOk}
 use Rattle.std.proofs.lemmas.Bool.{eqb-true}
@@ -16,9 +16,9 @@ use Rattle.split_cert.proofs.WordLemmas.{at, bind_ok, ok_is, EndsWord, not_zero,
 use Rattle.split_cert.proofs.HeadLemmas.{TakesHead, head_takes, head_again, space_again}
 use Rattle.split_cert.proofs.TreeLemmas.{tree_opens}
 
--- ---- what is read is spelled so
+-- ---- what is read is spelled like this
 
--- a rule took a tree of at most so many splits on a path
+-- a rule read a tree with at most this number of splits on a path
 pub record TakesTree (may_open : ℕ) (here : Here) (text : List ℕ) (t : Tree) (after : Here) : Type 0 where
   pub parts : here.rest ≡ text ++ after.rest
   pub nodes : after.nodes ≡ here.nodes + nodes t
@@ -26,7 +26,7 @@ pub record TakesTree (may_open : ℕ) (here : Here) (text : List ℕ) (t : Tree)
   pub shallow : splits_deep t ≤ may_open
   pub numbers : HasNumbers t
 
--- what a rule that reads a branch takes
+-- what a rule that reads a branch consumes
 abbrev TakesBranch : ℕ → Rule Tree → Type 0
 TakesBranch may_open rule = (here : Here) (y : Tree × Here) → rule here ≡ Ok y
     → TakesTree may_open here (32 ∷ spelling_of y.0) y.0 y.1
@@ -76,7 +76,7 @@ leaf_takes may_open kind number here behind t y begins spelled one flat numbers 
       numbers = numbers;
     })
 
--- after a head, where a split's branches are read by a rule
+-- after a head, if a split's branches are read by a rule
 node_takes : (may_open : ℕ) (rule : Rule Tree) (kind : Kind) (number : ℕ) (here behind : Here) (y : Tree × Here)
     → TakesBranch may_open rule
     → TakesHead (suc may_open) here (record { kind = kind; number = number }) behind
@@ -91,7 +91,7 @@ node_takes may_open rule NeverNull number here behind y takes begins e =
     leaf_takes (suc may_open) NeverNull number here behind (T.NeverNull number) y begins refl refl refl begins.number
     e
 
--- where no split may open
+-- if no split may open
 flat_takes : (rule : Rule Tree) (kind : Kind) (number : ℕ) (here behind : Here) (y : Tree × Here)
     → TakesHead 0 here (record { kind = kind; number = number }) behind → node_of rule kind number behind ≡ Ok y
     → TakesTree 0 here (spelling_of y.0) y.0 y.1
@@ -154,7 +154,7 @@ read_is_spelled text t e =
       whole,
     )
 
--- ---- what is spelled so is read
+-- ---- what is spelled like this is read
 
 branch_again : (n place k : ℕ) (text : List ℕ) (outcome : Outcome Tree) → tree n (at (place + 1) k text) ≡ outcome
     → branch n (at place k (32 ∷ text)) ≡ outcome
@@ -224,7 +224,7 @@ more_is_trailing t more is =
     let read = tree_again t max_splits 0 0 (32 ∷ more) is.shallow (omega (arith, is.few)) is.numbers refl in
     rw (read, not_zero (length more)) (ap (λ p. Err (Trailing p)) (omega arith))
 
--- ---- the same of what a function answers
+-- ---- the same for what a function returns
 
 pub is_found : {A : Type 0} (view : A → Tree) (text : List ℕ) (result : Result A CertError)
     → Answers view told (certificate_of text) result → IfOk result (λ a. IsCertificateOf (view a) text)

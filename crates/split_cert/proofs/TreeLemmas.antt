@@ -9,7 +9,7 @@ use Rattle.split_cert.specs.Text.{tree, node, node_of, branch}
 use Rattle.split_cert.specs.Tree.{Tree, nodes}
 use Rattle.split_cert.specs.Tree as T
 
--- after a head that is no split, no branch is read
+-- after a head that is not a split, no branch is read
 same_behind : (one other : Rule Tree) (kind : Kind) (number : ℕ) (here : Here) → (kind ≡ Split → ⊥)
     → node_of one kind number here ≡ node_of other kind number here
 same_behind one other Split number here none = absurd (none refl)

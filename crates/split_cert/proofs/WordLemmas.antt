@@ -1,4 +1,4 @@
--- Words: what is taken is in the text, and a word that is in a text is taken.
+-- Words: what is read is in the text, and a word that is in a text is read.
 use Rattle.std.proofs.Common.{◌≡◌, ◌≢◌, ℕ, suc, ◌+◌, ◌^◌, ◌<◌, Bool, true, false, ◌&&◌, ◌==◌, List, [], ◌∷◌, ◌++◌, length, take, Option, Some, None, Result, Ok, Err, refl, sym, ap, subst, ◌∙◌, arith}
 use Rattle.std.specs.Prelude.{if◌then◌else◌, nat_lt}
 use Rattle.std.specs.Char.{is_ascii_digit}
@@ -36,7 +36,7 @@ ok_is x y e = cc
 some_is : {A : Type 0} (x y : A) → Some x ≡ Some y → x ≡ y
 some_is x y e = cc
 
--- what a rule took from the front, where no node was counted
+-- what a rule consumed from the front, if no node was counted
 pub record Takes (here : Here) (text : List ℕ) (after : Here) : Type 0 where
   pub parts : here.rest ≡ text ++ after.rest
   pub nodes : after.nodes ≡ here.nodes
@@ -60,7 +60,7 @@ word_takes here y e =
     subst (λ (y : List ℕ × Here). Takes here y.0 y.1) same
     (record { parts = sym (take-append-drop n here.rest); nodes = refl })
 
--- the bytes have no space, and after a word nothing comes or a space
+-- the bytes have no space, and after a word comes nothing or a space
 abbrev pub IsWord : List ℕ → Type 0
 IsWord [] = Unit {0}
 IsWord (byte ∷ bytes) = (byte ≢ 32) × IsWord bytes

@@ -1,5 +1,5 @@
--- The names of the reasons why a text is no certificate, without the places that they carry. Certificates are this
--- project's own, and restate no section of PostgreSQL's documentation.
+-- The names of the reasons why a text is not a certificate, without the places that they carry. Certificates are
+-- specific to this project, and no section of PostgreSQL's documentation describes them.
 use Rattle.std.specs.Prelude.{ℕ, List, codes}
 use Rattle.split_cert.specs.declared.error.CertError.{CertError}
 use Rattle.split_cert.specs.declared.error.CertError.TheVariants as e

@@ -1,5 +1,5 @@
--- How the text of a certificate is read, up to one node's two words: each rule takes bytes from the front of a text,
--- and gives what it reads and where the reader is after it, or the first fault. The format is this project's own.
+-- How the text of a certificate is read, up to one node's two words: each rule consumes bytes from the front of a text,
+-- and gives what it reads and where the reader is after it, or the first fault. The format is specific to this project.
 use Rattle.std.specs.Prelude.{ℕ, ◌+◌, Bool, false, true, not, ◌&&◌, ◌==◌, nat_le, if◌then◌else◌, List, [], ◌∷◌, length, take, drop, Option, Some, None, Result, Ok, Err}
 use Rattle.std.specs.List.{prefix_len}
 use Rattle.split_cert.specs.declared.error.CertError.{CertError}
@@ -51,11 +51,11 @@ is_of_word byte = not (byte == 32)
 abbrev pub word_len : List ℕ → ℕ
 word_len bytes = prefix_len is_of_word bytes
 
--- so many bytes further
+-- this number of bytes further
 abbrev pub past : ℕ → Here → Here
 past n here = record { place = here.place + n; nodes = here.nodes; rest = drop n here.rest }
 
--- a word is due: it runs to the next space or to the end
+-- a word is expected: it ends at a space or at the end
 unfoldable pub word : Rule (List ℕ)
 word here = if length here.rest == 0 then
     Err Ended else Ok (take (word_len here.rest) here.rest, past (word_len here.rest) here)
@@ -65,11 +65,11 @@ space_first here [] = Err Ended
 space_first here (byte ∷ bytes) = if byte == 32 then
     Ok (tt, record { place = here.place + 1; nodes = here.nodes; rest = bytes }) else Err (BadToken here.place)
 
--- a space is due
+-- a space is expected
 unfoldable pub space : Rule (Unit {0})
 space here = space_first here here.rest
 
--- what a word means, which began at a place
+-- what a word means; it began at this place
 abbrev pub meant : {A : Type 0} → ℕ → Option A → Rule A
 meant place None = λ here. Err (BadToken place)
 meant place (Some a) = λ here. Ok (a, here)
@@ -106,7 +106,7 @@ is_split Owner = false
 is_split Empty = false
 is_split NeverNull = false
 
--- one more node is counted, where so many splits may still open on its path
+-- one more node is counted; this number of splits may still open on its path
 unfoldable pub count : ℕ → Kind → Rule (Unit {0})
 count may_open kind here =
     if nat_le max_nodes here.nodes then Err TooLarge
@@ -118,9 +118,9 @@ unfoldable pub head : ℕ → Rule Head
 head may_open =
     letter >>= (λ kind. count may_open kind >> space >> number >>= (λ n. pure (record { kind = kind; number = n })))
 
--- ---- what an error tells
+-- ---- what an error reports
 
--- the fault that an error tells: none where memory was refused
+-- the fault that an error reports: none if memory ran out
 abbrev pub told : CertError → Option CertError
 told OutOfMemory = None
 told (BadToken place) = Some (BadToken place)

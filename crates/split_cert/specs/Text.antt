@@ -1,5 +1,5 @@
 -- The text of a certificate, and the certificate of a text or its first fault: nodes in preorder, each a letter and a
--- number. The format is this project's own.
+-- number. The format is specific to this project.
 use Rattle.std.specs.Prelude.{◌≡◌, ℕ, zero, suc, ◌==◌, if◌then◌else◌, List, ◌∷◌, ◌++◌, length, Result, Ok, Err}
 use Rattle.std.specs.Fmt.{decimal}
 use Rattle.split_cert.specs.declared.error.CertError.{CertError}
@@ -24,18 +24,18 @@ spelling_of (T.Owner subscriber) = words_of Owner subscriber
 spelling_of (T.Empty term) = words_of Empty term
 spelling_of (T.NeverNull atom) = words_of NeverNull atom
 
--- the tree is within the limits, and the text is its own
+-- the tree is within the limits, and the text is the tree's
 pub record IsCertificateOf (tree : Tree) (text : List ℕ) : Type 0 where
   pub limits : IsWithinLimits tree
   pub spelled : text ≡ spelling_of tree
 
--- the text begins with a split: only there is memory taken
+-- the text begins with a split: only a split allocates memory
 abbrev pub BeginsWithSplit : List ℕ → Type 0
 BeginsWithSplit text = (rest : List ℕ) × (text ≡ letter_of Split ∷ 32 ∷ rest)
 
 -- ---- the tree of a text
 
--- the branches of a split, by the rule that reads one
+-- the branches of a split, by the rule that reads one branch
 unfoldable pub branches : Rule Tree → ℕ → Rule Tree
 branches branch atom =
     branch >>= (λ if_true. branch >>=
@@ -51,12 +51,12 @@ node_of branch NeverNull number = pure (T.NeverNull number)
 abbrev pub node : Rule Tree → Head → Rule Tree
 node branch h = node_of branch h.kind h.number
 
--- a tree, where so many splits may still open on its path
+-- a tree; this number of splits may still open on its path
 unfoldable pub tree : ℕ → Rule Tree
 tree zero = head zero >>= node (λ here. Err TooDeep)
 tree (suc n) = head (suc n) >>= node (space >> tree n)
 
--- a branch, where so many splits may still open below its split
+-- a branch; this number of splits may still open below its split
 unfoldable pub branch : ℕ → Rule Tree
 branch may_open = space >> tree may_open
 

@@ -1,5 +1,5 @@
--- Certificates as trees, wherever they lie in memory, and the limits on those that are read. Certificates are this
--- project's own, and restate no section of PostgreSQL's documentation.
+-- Certificates as trees, wherever they are in memory, and the limits on those that are read. Certificates are specific
+-- to this project, and no section of PostgreSQL's documentation describes them.
 use Rattle.std.specs.Prelude.{ℕ, ◌+◌, ◌<◌, ◌≤◌, ◌^◌, max}
 
 -- a split by an atom, with the branches where it is true, false and null; a subscriber that owns the rows; a term

@@ -8,7 +8,7 @@ use crate::error::CertError;
 use crate::head::{Head, Kind, kind_of};
 use crate::number::number_of;
 
-/// Where a reader is in the text of a certificate. It takes no memory.
+/// Where a reader is in the text of a certificate. It allocates no memory.
 #[derive(Clone, Copy)]
 pub(crate) struct Cursor<'a> {
     rest: &'a [u8],
@@ -47,7 +47,7 @@ impl<'a> Cursor<'a> {
         self.place
     }
 
-    /// Takes the next word, which runs to a space or to the end.
+    /// Reads the next word, which ends at a space or at the end.
     #[tactic(auto, unfolding(crate::specs::Reading::word))]
     fn word(&mut self) -> Result<&'a [u8], CertError>
         ensures { Finds (λ word. word.now) spec.word self.old self.new result }
@@ -61,7 +61,7 @@ impl<'a> Cursor<'a> {
         Ok(word)
     }
 
-    /// Takes a space.
+    /// Reads a space.
     #[tactic(auto, unfolding(crate::specs::Reading::space))]
     pub(crate) fn space(&mut self) -> Result<(), CertError>
         ensures { Finds (λ _. tt) spec.space self.old self.new result }
@@ -77,7 +77,7 @@ impl<'a> Cursor<'a> {
         }
     }
 
-    /// Takes the letter of a node.
+    /// Reads the letter of a node.
     #[tactic(auto, unfolding(crate::specs::Reading::letter))]
     fn letter(&mut self) -> Result<Kind, CertError>
         ensures { Finds (λ kind. kind) spec.letter self.old self.new result }
@@ -87,7 +87,7 @@ impl<'a> Cursor<'a> {
         kind_of(word).ok_or(CertError::BadToken(place))
     }
 
-    /// Takes the number of a node.
+    /// Reads the number of a node.
     #[tactic(auto, unfolding(crate::specs::Reading::number))]
     fn number(&mut self) -> Result<u32, CertError>
         ensures { Finds (λ number. number) spec.number self.old self.new result }
@@ -97,7 +97,7 @@ impl<'a> Cursor<'a> {
         number_of(word).ok_or(CertError::BadToken(place))
     }
 
-    /// Counts a node whose letter was taken, where so many splits may still open on its path.
+    /// Counts a node whose letter was read. At most `may_open` more splits may open on its path.
     #[tactic(auto, unfolding(crate::specs::Reading::count))]
     fn count(&mut self, may_open: usize, kind: Kind) -> Result<(), CertError>
         ensures counted { Finds (λ _. tt) (spec.count may_open kind) self.old self.new result }
@@ -113,7 +113,7 @@ impl<'a> Cursor<'a> {
         Ok(())
     }
 
-    /// Takes the letter and the number of the next node, where so many splits may still open on its path.
+    /// Reads the letter and the number of the next node. At most `may_open` more splits may open on its path.
     #[tactic(auto, unfolding(crate::specs::Reading::head))]
     pub(crate) fn head(&mut self, may_open: usize) -> Result<Head, CertError>
         ensures head { Finds (λ head. head) (spec.head may_open) self.old self.new result }

@@ -1,4 +1,4 @@
-//! Why a text is no certificate.
+//! Why a text is not a certificate.
 
 ghost use Rattle.std.specs.Prelude.{◌≡◌};
 ghost use Rattle.split_cert.specs.declared.error.CertError.TheVariants.{OutOfMemory};
@@ -6,14 +6,14 @@ ghost use Rattle.split_cert.specs.declared.error.CertError.TheVariants.{OutOfMem
 use std::alloc::{AllocError, AllocFailed};
 use thiserror::Error;
 
-/// Why a text is not read as a certificate: the first fault from the left. Places are in bytes from the start of the
-/// text.
+/// Why a text is not read as a certificate: the first fault from the left. Places are counted in bytes from the start
+/// of the text.
 #[derive(Clone, Copy, Debug, PartialEq, Eq, Error)]
 pub enum CertError {
     /// A word or a space that does not fit begins here.
     #[error("this is no word of a certificate, at byte {0}")]
     BadToken(usize),
-    /// The text is over where a word or a space is due.
+    /// The text ends where a word or a space is expected.
     #[error("the certificate is not whole")]
     Ended,
     /// The certificate ends here, and something comes after it.

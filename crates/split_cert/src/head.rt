@@ -23,7 +23,7 @@ pub(crate) struct Head {
     pub(crate) number: u32,
 }
 
-/// The kind of nodes that a word names.
+/// The kind of node that a word names.
 pub(crate) fn kind_of(word: &[u8]) -> Option<Kind>
     ensures { result ≡ spec.kind_of word.now }
 {

@@ -6,8 +6,8 @@ use crate::cert::MAX_SPLITS;
 use crate::head::Kind;
 use std::marker::Model;
 
-/// Of each split that is open, the last one first, how many of its branches are still to come. A split stays open while
-/// its last branch is read. It takes no memory.
+/// For each open split, the last one first, how many of its branches still follow. A split stays open while its last
+/// branch is read. It allocates no memory.
 #[derive(Drop)]
 pub(crate) struct Levels {
     left: [u8; MAX_SPLITS],
@@ -27,7 +27,7 @@ impl Levels {
     ghost use Rattle.split_cert.specs.declared.head.Kind.TheVariants.{Split};
     ghost use Rattle.split_cert.specs.Nodes as spec;
 
-    /// No open split.
+    /// No open splits.
     pub(crate) fn new() -> Levels
         ensures { result ≡ [] }
     {
@@ -45,7 +45,7 @@ impl Levels {
         self.depth
     }
 
-    /// How many branches of the last split are to come.
+    /// How many branches of the last split still follow.
     fn last(&self) -> Option<u8>
         ensures { result ≡ slice_get self.now 0 }
     {
@@ -55,7 +55,7 @@ impl Levels {
         Some(self.left[self.depth - 1])
     }
 
-    /// Takes the last split away, if one is open.
+    /// Removes the last split, if one is open.
     #[tactic(auto, using(crate::proofs::LevelLemmas::last_goes))]
     fn pop(&mut self)
         ensures popped { self.new ≡ drop 1 self.old }
@@ -66,7 +66,7 @@ impl Levels {
         }
     }
 
-    /// Adds a split, of which so many branches are to come.
+    /// Adds a split, of which `left` branches still follow.
     fn push(&mut self, left: u8)
         requires { length self.old < 64 }
         ensures { self.new ≡ left ∷ self.old }
@@ -75,7 +75,7 @@ impl Levels {
         self.depth += 1;
     }
 
-    /// Closes the last splits as far as no branch of them is to come.
+    /// Closes the last splits of which no branch follows any more.
     #[tactic(auto, using(crate::proofs::LevelLemmas::done_goes, crate::proofs::LevelLemmas::shorter, crate::proofs::LevelLemmas::none_done))]
     pub(crate) fn close(&mut self)
         ensures closed { self.new ≡ spec.without_done self.old }
@@ -97,7 +97,7 @@ impl Levels {
         }
     }
 
-    /// Enters a node of this kind, where it is the first one or a branch of the last split.
+    /// Enters a node of this kind, which is the first one or a branch of the last split.
     #[tactic(auto, using(crate::proofs::LevelLemmas::few_more))]
     pub(crate) fn enter(&mut self, kind: Kind)
         requires { kind ≡ Split → length self.old < 64 }

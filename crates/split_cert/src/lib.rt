@@ -1,7 +1,7 @@
 //! Certificates that a table is sharded well, as trees, and their text.
 //!
-//! A certificate splits the rows of a table by what atoms of the filters say of them, until it can name the one
-//! subscriber whose filter a row passes.
+//! A certificate splits the rows of a table by the values of atoms of the filters, until it can name the one subscriber
+//! whose filter a row passes.
 #![tactic(auto)]
 
 mod cert;

@@ -7,8 +7,8 @@ ghost use Rattle.split_cert.specs.Where.{tree_view};
 use crate::cert::{Cert, MAX_NODES, MAX_SPLITS};
 use std::alloc::Allocator;
 
-/// How many nodes may still come after those of a tree, where so many may come before them, and so many splits may open
-/// on a path; `None` where the tree has too many of either.
+/// How many nodes are still allowed after those of a tree, if `room` nodes are allowed before it and `may_open` splits
+/// may open on a path; `None` if the tree has too many of either.
 #[tactic(auto, using(crate::proofs::TreeLemmas::some_nodes))]
 fn room_after<A: Allocator>(cert: &Cert<A>, may_open: usize, room: usize) -> Option<usize>
     ensures few { IfSome result (λ left. left + nodes (tree_view cert.now) ≡ room) }

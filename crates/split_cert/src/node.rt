@@ -8,7 +8,7 @@ use crate::head::{Head, Kind};
 /// A node of a certificate as its text has it, without its branches.
 #[derive(Clone, Copy, Debug, PartialEq, Eq)]
 pub enum Node {
-    /// `s`: a split by an atom. Its branches follow, where the atom is true, false and null.
+    /// `s`: a split by an atom. The branches for the atom being true, false and null follow.
     Split(u32),
     /// `o`: a subscriber that owns the rows.
     Owner(u32),
@@ -19,7 +19,7 @@ pub enum Node {
 }
 
 impl Node {
-    /// The node of two words.
+    /// The node that two words stand for.
     pub(crate) fn new(head: Head) -> Node
         ensures { result ≡ spec.node_of head.kind head.number }
     {

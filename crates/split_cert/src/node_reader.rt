@@ -14,7 +14,7 @@ use crate::levels::Levels;
 use crate::node::Node;
 use std::marker::Model;
 
-/// A reader of the nodes of a certificate's text, each split before its branches. It takes no memory.
+/// A reader of the nodes of a certificate's text, each split before its branches. It allocates no memory.
 #[derive(Drop)]
 pub struct NodeReader<'a> {
     cursor: Cursor<'a>,
@@ -30,7 +30,7 @@ impl<'a> Model for NodeReader<'a> {
     ghost invariant = { λ reader. reader.has_begun ≡ false → reader.levels ≡ [] };
 }
 
-/// The two words of the next node, which come after a space unless it is the first, and the cursor after them.
+/// The two words of the next node, which follow a space unless it is the first, and the cursor after them.
 fn next_head<'a>(
     cursor: &Cursor<'a>,
     has_begun: bool,
@@ -48,14 +48,14 @@ fn next_head<'a>(
     Ok((head, cursor))
 }
 
-/// Whether no node is to come, where so many splits are open that have branches to come.
+/// Whether no node follows. `splits` is the number of open splits that still have branches to come.
 fn is_over(has_begun: bool, splits: usize) -> bool
     ensures { result ≡ (has_begun && (splits == 0)) }
 {
     has_begun && splits == 0
 }
 
-/// That the text is over, where no node is to come.
+/// Checks that the text has ended, if no node follows.
 fn check_end(cursor: &Cursor<'_>) -> Result<(), CertError>
     ensures ok { IfOk result (λ _. spec.at_end (here_view cursor.now) ≡ spec.over) }
     ensures err { IfErr result (λ error. spec.at_end (here_view cursor.now) ≡ spec.fault error) }
@@ -82,12 +82,12 @@ impl<'a> NodeReader<'a> {
         }
     }
 
-    /// The next node, or none after the last one.
+    /// The next node, or `None` after the last one.
     ///
     /// # Errors
     ///
-    /// The first fault of the text, as `read_in` answers it. After the end and after a fault the same is answered
-    /// again.
+    /// The first fault of the text, as `read_in` returns it. After the end and after a fault, the same result is
+    /// returned again.
     pub fn next(&mut self) -> Result<Option<Node>, CertError>
         ensures { spec.Takes self.old result self.new }
     {

@@ -4,7 +4,7 @@ ghost use Rattle.std.specs.Prelude.{◌≡◌, ◌^◌, ◌&&◌, if◌then◌el
 ghost use Rattle.std.specs.Str.{all_ascii_digits};
 ghost use Rattle.split_cert.specs.Numbers as spec;
 
-/// The number that digits write, or `None` where a byte is no digit or the number is above 4294967295.
+/// The number that digits write, or `None` if a byte is not a digit or the number is above 4294967295.
 #[tactic(auto, using(crate::proofs::NumberLemmas::digit_turns), unfolding(crate::specs::Numbers::number_from))]
 fn value_of(digits: &[u8]) -> Option<u32>
     ensures { let number = spec.number_from 0 digits.now in
@@ -21,7 +21,7 @@ fn value_of(digits: &[u8]) -> Option<u32>
     Some(value)
 }
 
-/// The number whose decimal text a word is, if it is at most 4294967295.
+/// The number of which a word is the decimal text, if it is at most 4294967295.
 #[tactic(auto, using(crate::proofs::NumberLemmas::numbers))]
 pub(crate) fn number_of(word: &[u8]) -> Option<u32>
     ensures { result ≡ spec.number_of word.now }

@@ -16,7 +16,7 @@ use crate::node::Node;
 use crate::node_reader::NodeReader;
 use std::alloc::Allocator;
 
-/// Takes the nodes of a tree.
+/// Reads the nodes of a tree.
 #[cycle(tree)]
 #[tactic(auto, using(crate::proofs::PreorderTreeLemmas::grows, crate::proofs::PreorderTreeMemory::wants))]
 fn tree<A: Allocator + Clone>(alloc: &A, reader: &mut NodeReader<'_>) -> Result<Cert<A>, CertError>
@@ -29,7 +29,7 @@ fn tree<A: Allocator + Clone>(alloc: &A, reader: &mut NodeReader<'_>) -> Result<
     }
 }
 
-/// Takes the nodes of a tree after its first node.
+/// Reads the nodes of a tree after its first node.
 #[cycle(tree)]
 #[tactic(auto, using(crate::proofs::PreorderTreeLemmas::grows, crate::proofs::PreorderTreeMemory::wants))]
 fn rooted<A: Allocator + Clone>(
@@ -48,7 +48,7 @@ fn rooted<A: Allocator + Clone>(
     }
 }
 
-/// Takes the branches of a split.
+/// Reads the branches of a split.
 #[cycle(tree)]
 #[tactic(auto, using(crate::proofs::PreorderTreeLemmas::grows, crate::proofs::PreorderTreeMemory::wants))]
 fn split<A: Allocator + Clone>(
@@ -64,7 +64,7 @@ fn split<A: Allocator + Clone>(
     Ok(Cert::Split(atom, if_true, if_false, if_null))
 }
 
-/// Takes the nodes of a branch.
+/// Reads the nodes of a branch.
 #[cycle(tree)]
 fn branch<A: Allocator + Clone>(
     alloc: &A,
@@ -88,27 +88,27 @@ fn certificate<A: Allocator + Clone>(alloc: &A, text: &str) -> Result<Cert<A>, C
     Ok(cert)
 }
 
-/// The certificate of a text, with its nodes in `alloc`. It takes time in proportion to the text, and stack for at most
-/// 65 nodes, one below the other.
+/// The certificate of a text, with its nodes in `alloc`. It takes time proportional to the length of the text, and
+/// stack for at most 65 nodes, one below the other.
 ///
 /// The text has the nodes in preorder: `s` and an atom, and then the branches where that atom is true, false and null;
-/// `o` and a subscriber; `e` and a term; `n` and an atom. One space is between two words. Numbers are decimal, at
-/// most 4294967295, without leading zeros. There are at most 1,000,000 nodes, and at most 64 splits on a path.
+/// `o` and a subscriber; `e` and a term; `n` and an atom. One space separates two words. Numbers are decimal, at most
+/// 4294967295, without leading zeros. There are at most 1,000,000 nodes, and at most 64 splits on a path.
 ///
 /// # Errors
 ///
-/// The first fault of the text, or `OutOfMemory` where an allocation was refused: only a split takes memory.
+/// The first fault of the text, or `OutOfMemory` if an allocation failed: only a split allocates memory.
 #[tactic(auto, using(crate::proofs::RoundTrip::is_found))]
 pub fn read_in<A: Allocator + Clone>(alloc: A, text: &str) -> Result<Cert<A>, CertError>
-    // The answer is the certificate of the text, or its first fault.
+    // The result is the certificate of the text, or its first fault.
     ensures exact { Answers tree_view told (spec.certificate_of text.now) result }
-    // Want of memory is no answer to a text that doesn't begin with a split.
+    // `OutOfMemory` is returned only for a text that begins with a split.
     ensures memory { NeedsMemoryOnlyIf CertError.OutOfMemory (spec.BeginsWithSplit text.now) result }
     // What is read is within the limits, and the text is what `write` gives for it.
     ensures found { IfOk result (λ cert. spec.IsCertificateOf (tree_view cert) text.now) }
     // What `write` gives for a certificate within the limits is read as that certificate.
     ensures only { (tree : Tree) → spec.IsCertificateOf tree text.now → Answers tree_view told (Ok tree) result }
-    // With a space and whatever else after it, it is refused there.
+    // With a space and anything else after it, it is refused there.
     ensures trailing { (tree : Tree) (more : List ℕ) → IsWithinLimits tree
         → text.now ≡ spec.spelling_of tree ++ 32 ∷ more
         → Answers tree_view told (Err (Trailing (length (spec.spelling_of tree)))) result }

@@ -10,8 +10,8 @@ use crate::cert::Cert;
 use crate::head::Kind;
 use std::alloc::{AllocError, Allocator, Global};
 
-/// The text of a certificate, the same that `read_in` reads. It goes down the tree by recursion: its stack grows with
-/// the splits on a path. The only error is want of memory.
+/// The text of a certificate, which is the text that `read_in` reads. It walks down the tree by recursion: its stack
+/// grows with the splits on a path. The only error is out of memory.
 #[tactic(auto, using(crate::proofs::RoundTrip::is_read_again))]
 pub fn write<A: Allocator>(alloc: Global, cert: &Cert<A>) -> Result<String, AllocError>
     ensures spelled { IfOk result (λ text. string_bytes text ≡ spelling_of (tree_view cert.now)) }

@@ -1,4 +1,4 @@
--- Taking a token leaves fewer.
+-- Consuming a token leaves fewer tokens.
 use Rattle.std.proofs.Common.{◌≡◌, ℤ, ◌<◌, ◌≤◌, Bool, true, Some, IsSome, arith}
 use Rattle.sql_reader.specs.declared.item.Item.{Item}
 use Rattle.sql_reader.specs.Items.{Items, Stop, Broken, Then, size}

@@ -1,4 +1,4 @@
--- A list in ascending order has the constants that it is made from, each once.
+-- A list in ascending order has the constants from which it is made, each once.
 use Rattle.std.proofs.Common.{◌≡◌, Bool, true, false, ◌||◌, List, [], ◌∷◌, refl, sym, ap, ◌∙◌}
 use Rattle.std.specs.Prelude.{fold}
 use Rattle.std.specs.List.{list_any, AllByRecursion}

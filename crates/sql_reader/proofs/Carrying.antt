@@ -1,4 +1,4 @@
--- The grammar reads the same whatever its forms make: what one kind of forms makes of a text is carried over to what
+-- The grammar reads the same, whatever its forms make: what one kind of forms makes of a text is carried over to what
 -- another kind makes.
 use Rattle.std.proofs.Common.{◌≡◌, ℕ, zero, suc, ℤ, Bool, true, false, List, refl, ap, ◌∙◌}
 use Rattle.std.specs.Prelude.{Option, Some, None, Result, Ok, Err, nat_lt}
@@ -37,7 +37,7 @@ pub record Carries {S T : Type 0} (from : Forms S) (to : Forms T) (h : S → T) 
   pub either : (left right : S) → to.either (h left) (h right) ≡ h (from.either left right)
   pub tree : (s : S) → to.tree (h s) ≡ from.tree s
 
--- rules in a row: the first reads the same, or is carried over
+-- rules in sequence: the first reads the same, or is carried over
 pub then-same : {A C D : Type 0} (k : C → D) (read : Outcome A) (more : A → Rule C) (other : A → Rule D) →
     ((a : A) (ts : Items) → other a ts ≡ mapped k (more a ts)) → and_then read other ≡ mapped k (and_then read more)
 then-same k (Ok read) more other e = e read.0 read.1

@@ -38,7 +38,7 @@ operand_map h (OfFormula s) = OfFormula (h s)
 abbrev pub part_map : {S T : Type 0} → (S → T) → PartOf S → PartOf T
 part_map h part = record { place = part.place; operand = operand_map h part.operand }
 
--- a check in a row of rules
+-- a check in a sequence of rules
 pub check-carried : {A B : Type 0} (h : A → B) (verdict : Verdict A) (found : Verdict B)
     → found ≡ verdict_map h verdict → (ts : Items) → with_rest found ts ≡ mapped h (with_rest verdict ts)
 check-carried h (Ok a) found is ts = ap (λ v. with_rest v ts) is
@@ -242,7 +242,7 @@ module _ {S T : Type 0} (from : Forms S) (to : Forms T) (h : S → T) (carries :
       (answered-carried truth_test.place truth_test.asked asked_part.operand)
       (λ s. ap (λ t. part asked_part.place (OfFormula t)) (negated_if-carried truth_test.is_negated s))
 
-  -- one check after another, of which the first is the same
+  -- one check after another, if the first is the same
   next-carried : {A : Type 0} (verdict found : Verdict A) (more : A → Verdict S) (other : A → Verdict T)
       → found ≡ verdict → ((a : A) → other a ≡ verdict_map h (more a)) →
       verdict_then found other ≡ verdict_map h (verdict_then verdict more)

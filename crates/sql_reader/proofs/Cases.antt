@@ -1,2 +1,2 @@
--- Cases on a test, and what OR makes of it.
+-- Case distinctions on a test, and what OR makes of it.
 use Rattle.std.proofs.Common.{◌≡◌, ◌||◌}

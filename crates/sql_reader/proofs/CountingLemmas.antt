@@ -1,4 +1,4 @@
--- A list that stops growing at its limit passes it exactly if the whole list does.
+-- A list that stops growing at its limit exceeds it exactly if the whole list does.
 use Rattle.std.proofs.Common.{◌≡◌, ◌≤◌, Bool, true, false, List, [], ◌∷◌, length, refl, ◌∙◌, ap, arith, length-append}
 use Rattle.std.specs.Prelude.{fold, nat_lt}
 use Rattle.std.specs.List.{list_any, flat_map}
@@ -37,7 +37,7 @@ passes_from held (c ∷ found) = by_test (nat_lt 64 (length held))
     grind (arith, nat_tests))
     (λ room. rw room (passes_from (with_item same_atom held c) found))
 
--- the filters have too many atoms exactly if the list that was gathered from right to left has
+-- the filters have too many atoms exactly if the list that was gathered from right to left has too many
 pub gathered_passes : (filters : List Expr)
     → nat_lt 64 (length (fold gathered [] (flat_map atoms_backwards filters))) ≡ nat_lt 64 (distinct_count filters)
 gathered_passes filters =

@@ -1,11 +1,11 @@
--- A text put between quotes, a character at a time.
+-- A text put between quotes, one character at a time.
 use Rattle.std.proofs.Common.{◌≡◌, ℕ, suc, ◌<◌, ◌≤◌, ◌==◌, if◌then◌else◌, List, [], ◌∷◌, ◌++◌, length, get_or, encode_utf8, inl, inr, refl, sym, arith, append-nil, append_assoc, false}
 use Rattle.std.proofs.lemmas.Bool.{cases_lt}
 use Rattle.std.proofs.lemmas.Bool.Decides.{nat_tests}
 use Rattle.std.proofs.lemmas.Str.{encode_ascii, inside_one}
 use Rattle.sql_tokens.specs.Doubled.{doubled}
 
--- bytes past ASCII stay
+-- bytes that are not ASCII stay as they are
 kept : (xs rest : List ℕ) → ((k : ℕ) → k < length xs → 128 ≤ get_or xs k 0)
     → doubled 39 (xs ++ rest) ≡ xs ++ doubled 39 rest
 kept [] rest high = refl

@@ -1,4 +1,4 @@
--- What each turn of a rule keeps, a list or a chain of it keeps.
+-- What each step of a rule preserves, a list or a chain of steps preserves.
 use Rattle.std.proofs.Common.{ℕ, zero, suc, Bool, true, false}
 use Rattle.std.specs.Prelude.{nat_lt, if◌then◌else◌, Option, Some, None, Result, Ok, Err}
 use Rattle.sql_reader.specs.declared.item.Item.{Item}
@@ -6,7 +6,7 @@ use Rattle.sql_reader.specs.Items.{Items, size}
 use Rattle.sql_reader.specs.Reading.{Fault, Outcome, Rule, and_then, next_is, rest_of}
 use Rattle.sql_reader.specs.Repetitions.{Step, after_step, goes, at_most, repeat, link, linked, one_more, each, guarded}
 
--- P holds of what was read, if nothing is wrong
+-- P holds for what was read, if nothing is wrong
 abbrev pub Gives : {A : Type 0} → (A → Type 0) → Outcome A → Type 0
 Gives P (Ok read) = P read.0
 Gives P (Err fault) = Unit {0}
@@ -16,7 +16,7 @@ GivesMore P (Ok (Some read)) = P read.0
 GivesMore P (Ok None) = Unit {0}
 GivesMore P (Err fault) = Unit {0}
 
--- rules in a row: the second gives P of what the first gives, or of whatever it gives
+-- rules in sequence: the second gives P of what the first gives, or of whatever it gives
 pub then-gives : {A B : Type 0} (Q : A → Type 0) (P : B → Type 0) (read : Outcome A) (more : A → Rule B)
     → Gives Q read →
     ((a : A) (ts : Items) → Q a → Gives P (more a ts)) → Gives P (and_then read more)

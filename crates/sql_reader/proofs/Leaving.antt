@@ -1,4 +1,4 @@
--- What each turn of a rule keeps of what was read and of the tokens left, a list or a chain of it keeps.
+-- What each step of a rule preserves of what was read and of the tokens left, a list or a chain of steps preserves.
 use Rattle.std.proofs.Common.{ℕ, zero, suc, Bool, true, false}
 use Rattle.std.specs.Prelude.{nat_lt, if◌then◌else◌, Option, Some, None, Result, Ok, Err}
 use Rattle.sql_reader.specs.declared.item.Item.{Item}
@@ -6,7 +6,7 @@ use Rattle.sql_reader.specs.Items.{Items, size}
 use Rattle.sql_reader.specs.Reading.{Fault, Outcome, Rule, and_then, next_is, rest_of}
 use Rattle.sql_reader.specs.Repetitions.{Step, after_step, goes, at_most, repeat, link, linked, one_more, each, guarded}
 
--- P holds of what was read and of the tokens left, if nothing is wrong
+-- P holds for what was read and for the tokens left, if nothing is wrong
 abbrev pub Leaves : {A : Type 0} → (A → Items → Type 0) → Outcome A → Type 0
 Leaves P (Ok read) = P read.0 read.1
 Leaves P (Err fault) = Unit {0}
@@ -16,7 +16,7 @@ LeavesMore P (Ok (Some read)) = P read.0 read.1
 LeavesMore P (Ok None) = Unit {0}
 LeavesMore P (Err fault) = Unit {0}
 
--- rules in a row
+-- rules in sequence
 pub then-leaves : {A B : Type 0} (Q : A → Items → Type 0) (P : B → Items → Type 0) (read : Outcome A)
     (more : A → Rule B) → Leaves Q read →
     ((a : A) (ts : Items) → Q a ts → Leaves P (more a ts)) → Leaves P (and_then read more)
@@ -62,7 +62,7 @@ one_more-leaves : {S : Type 0} (P : S → Items → Type 0) (read : Outcome S) �
 one_more-leaves P (Ok read) h = h
 one_more-leaves P (Err fault) h = tt
 
--- a list, where the token of each separator is passed, and what is looked at stays
+-- a list; the token of each separator is consumed, and what is looked at stays
 module _ {S : Type 0} (P : S → Items → Type 0) (read : S → Rule S) (keeps : Keeps P read) where
   linked-leaves : (s : S) (is : Outcome Bool) → Leaves (λ more ts. P s (rest_of ts)) is
       → LeavesMore P (linked read s is)

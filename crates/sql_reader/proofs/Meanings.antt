@@ -63,7 +63,7 @@ missing-same (Mod column divisor) row = of_remainder (value_at row column)
     of_remainder (Known (Truth known)) = refl
     of_remainder (Known (Bytes text)) = refl
 
--- ---- a comparison with its sides changed over
+-- ---- a comparison with its sides swapped
 
 bytes_eq-symm : (s t : List ℕ) → bytes_eq s t ≡ bytes_eq t s
 bytes_eq-symm s t =

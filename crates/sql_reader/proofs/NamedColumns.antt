@@ -1,4 +1,4 @@
--- A filter that is read names columns that are there.
+-- A filter that is read names columns that exist.
 use Rattle.std.proofs.Common.{◌≡◌, ℕ, zero, suc, ◌+◌, ◌<◌, ℤ, Bool, true, false, List, [], ◌∷◌, ◌++◌, length}
 use Rattle.std.specs.Prelude.{Option, Some, None, Ok, if◌then◌else◌}
 use Rattle.sql_tokens.specs.declared.kinds.Operator.TheVariants as o

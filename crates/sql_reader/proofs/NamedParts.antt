@@ -1,4 +1,4 @@
--- What is made of columns that are there names columns that are there.
+-- What is made of columns that exist names columns that exist.
 use Rattle.std.proofs.Common.{◌≡◌, ℕ, ◌+◌, ◌<◌, ℤ, pos, Bool, true, false, List, [], ◌∷◌, ◌++◌, All, length, sym, subst, arith}
 use Rattle.std.proofs.lemmas.List.{map-append}
 use Rattle.std.proofs.lemmas.List.Elements.{All-nil, All-cons, All-append}
@@ -63,7 +63,7 @@ known_column-gives columns called ts =
 
 -- ---- checks
 
--- P holds of what a check gives, if nothing is wrong
+-- P holds for what a check gives, if nothing is wrong
 abbrev pub Says : {A : Type 0} → (A → Type 0) → Verdict A → Type 0
 Says P (Ok a) = P a
 Says P (Err fault) = Unit {0}
@@ -97,7 +97,7 @@ fitting-says : {S : Type 0} (P : S → Type 0) (fit : Verdict (Unit {0})) (s : S
 fitting-says P (Ok fit) s h = h
 fitting-says P (Err fault) s h = tt
 
--- ---- what is made of columns that are there
+-- ---- what is made of columns that exist
 
 module _ (count : ℕ) where
   abbrev pub Named : Expr → Type 0

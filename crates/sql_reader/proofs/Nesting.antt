@@ -1,4 +1,4 @@
--- What may be in parentheses or after NOT where so many more may nest.
+-- What may be in parentheses or after NOT if this many more levels may nest.
 use Rattle.std.proofs.Common.{◌≡◌, ℕ, zero, suc, ◌-◌, ◌≢◌, List, refl, ap, arith}
 use Rattle.filter_tree.specs.declared.table.Column.{Column}
 use Rattle.sql_reader.specs.declared.membership.MembershipWord.{MembershipWord}

@@ -16,7 +16,7 @@ added held x = with_item same_atom held x
 abbrev has : AtomOf → List AtomOf → Bool
 has c held = list_any (same_atom c) held
 
--- lists with the same atoms in them, and as many
+-- lists with the same atoms in them, and of the same length
 pub record Alike (one other : List AtomOf) : Type 0 where
   pub members : (c : AtomOf) → has c one ≡ has c other
   pub lengths : length one ≡ length other
@@ -143,7 +143,7 @@ with_all-append : (held xs ys : List AtomOf) → with_all held (xs ++ ys) ≡ wi
 with_all-append held [] ys = refl
 with_all-append held (x ∷ xs) ys = with_all-append (added held x) xs ys
 
--- two lists in turn, each of which may come in another order, and the two changed round
+-- two lists one after the other, each of which may be in another order, and the two swapped
 both_ways : (xs' xs ys' ys : List AtomOf)
     → ((held : List AtomOf) → Alike (with_all held xs') (with_all held xs))
     → ((held : List AtomOf) → Alike (with_all held ys') (with_all held ys))

@@ -1,4 +1,4 @@
--- How a constant is put into its place in a list in order, and how a list is made so of those that are read.
+-- How a constant is put into its place in an ordered list, and how such a list is made of the constants that are read.
 use Rattle.std.proofs.Common.{◌≡◌, ℕ, ◌+◌, ◌<◌, List, [], ◌∷◌, ◌++◌, length, get_or, take, drop, map, refl, sym, ap, ◌∙◌}
 use Rattle.std.specs.Prelude.{fold, Ok, Err}
 use Rattle.std.specs.List.{insert}

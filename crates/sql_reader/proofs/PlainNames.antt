@@ -1,4 +1,4 @@
--- A name that is read has 1 to 63 bytes of UTF-8, none of which is zero, and so have those of columns.
+-- A name that is read has 1 to 63 bytes of UTF-8, none of which is zero, and so do the names of columns.
 use Rattle.std.proofs.Common.{◌≡◌, ℕ, zero, suc, Bool, true, false, ◌||◌, List, [], ◌∷◌, All, refl}
 use Rattle.std.specs.Prelude.{if◌then◌else◌, Option, Some, None, Ok, Err}
 use Rattle.std.proofs.lemmas.List.Elements.{All-nil, All-cons, All-head, All-tail, All-push}
@@ -30,7 +30,7 @@ use Rattle.sql_reader.proofs.Leaving.{Leaves, then-leaves, chosen-leaves, links-
 
 -- ---- tokens
 
--- a token that may be a name means a plain one
+-- a token that may be a name means a plain name
 abbrev IsPlainItem : Seen → Type 0
 IsPlainItem token = is_name token.item ≡ true → IsPlainName (name_meant (Some token.item) token.written)
 
@@ -75,7 +75,7 @@ ahead_plain a.End place written rest h = tt
 ahead_plain (a.Fault kind) place written rest h = tt
 ahead_plain (a.Item item) place written rest h = h
 
--- what a reader has still to read after the token ahead
+-- what a reader still has to read after the token ahead
 pub reader_plain : (r : Reader) → ArePlain (rest_of (to_read r))
 unfolding to_read
 reader_plain r = ahead_plain r.ahead r.place r.written.now (items (left r.tokens))

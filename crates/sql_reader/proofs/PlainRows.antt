@@ -42,7 +42,7 @@ pub ends_is : (byte : ℕ) → is_end byte ≡ true → EndsValue byte
 ends_is byte e = by_test (byte == 44) (λ comma. inl (eqb-true byte 44 comma))
     (λ other. inr (eqb-true byte 41 (rw other at e)))
 
--- the bytes from a place on, the first apart
+-- the bytes from a place on, with the first one separate
 at_byte : (text : List ℕ) (place byte : ℕ) → place < length text → slice_index text place ≡ byte
     → drop place text ≡ byte ∷ drop (place + 1) text
 at_byte text place byte within e = drop_more text place 0 within ∙ ap (λ first. first ∷ drop (place + 1) text) e
@@ -154,7 +154,7 @@ plain_clean bytes found =
     let bad = rw zero at passes in
     cc
 
--- what the string at a place is, by the count of its bytes
+-- what the string at a place is, by the number of its bytes
 abbrev inner : List ℕ → ℕ → ℕ → List ℕ
 inner text place count = take count (drop (place + 1) text)
 
@@ -286,7 +286,7 @@ false_is_plain text place is =
 
 -- ---- rows
 
--- the values before a place are read, and one more is wanted there
+-- the values before a place are read, and one more is required there
 abbrev pub Wants : List ℕ → List Datum → ℕ → Type 0
 Wants text cells place = (cell : Datum) (after : Items) → ReadsValue cell (tokens_at text place) after
     → values (tokens_at text 1) ≡ repeat (link i.Comma one_value) (cells ++ (cell ∷ [])) after

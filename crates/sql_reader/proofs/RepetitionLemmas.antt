@@ -1,4 +1,4 @@
--- How a loop goes through the steps of a list: each turn takes the first step of what is left.
+-- How a loop goes through the steps of a list: each round takes the first step of what is left.
 use Rattle.std.proofs.Common.{◌≡◌, ℕ, zero, suc, ◌<◌, Bool, true, false, refl, ap, ◌∙◌, arith}
 use Rattle.std.specs.Prelude.{nat_lt, Option, Some, None, Result, Ok, Err}
 use Rattle.std.proofs.lemmas.Bool.Decides.{nat_tests}
@@ -44,7 +44,7 @@ one_turn : {S : Type 0} (step : Step S) (s : S) (ts : Items)
 unfolding repeat at_most
 one_turn step s ts = refl
 
--- one step more
+-- one more step
 pub goes_on : {S : Type 0} (step : Step S) (s : S) (ts : Items) (s2 : S) (ts2 : Items)
     → step s ts ≡ Ok (Some (s2, ts2)) → size ts2 < size ts → repeat step s ts ≡ repeat step s2 ts2
 unfolding repeat
@@ -69,7 +69,7 @@ fails {S} step s ts f e =
     λ read. after_step read (goes (at_most (size ts) step) s ts) in
     one_turn step s ts ∙ ap more e
 
--- ---- the same of a loop whose step is a separator and one more
+-- ---- the same for a loop whose step is a separator and one more
 
 pub link-goes_on : {S : Type 0} (separator : Item) (read : S → Rule S) (s : S) (ts : Items) (s2 : S) (ts2 : Items) →
     next_is separator ts ≡ Ok (true, ts) → read s (rest_of ts) ≡ Ok (s2, ts2) → size ts2 < size ts →
@@ -104,7 +104,7 @@ link-part_fails {S} separator read s ts e is tells = by_fault (told e) tells
     by_fault None h = tt
     by_fault (Some found) h = fails (link separator read) s ts found (ap (linked read s) is ∙ ap one_more h)
 
--- ---- the same of a loop whose parts show by themselves whether there is one more
+-- ---- the same for a loop whose parts themselves show whether there is one more
 
 pub each-goes_on : {S : Type 0} (more : Items → Result Bool Fault) (read : S → Rule S) (s : S) (ts : Items) (s2 : S)
     (ts2 : Items) →

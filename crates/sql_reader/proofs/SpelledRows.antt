@@ -108,7 +108,7 @@ string_again text place next rest is ends =
           omega arith;
     })
 
--- what follows a value begins so
+-- what follows a value begins like this
 record EndsText (text : List ℕ) : Type 0 where
   next : ℕ
   rest : List ℕ
@@ -268,7 +268,7 @@ value_readable : (column : Column) (cell : Datum) → Fits column cell → cell 
 value_readable column Missing fits other = tt
 value_readable column (Known constant) fits other = constant_readable column.kind constant fits other
 
--- the value of a column of the row, whatever is past the row's end
+-- the value of a column of the row; the default past the row's end does not matter
 value_at_is : (row : List Datum) (k : ℕ) (d : Datum) → k < length row → value_at row k ≡ get_or row k d
 value_at_is [] k d below = absurd (omega arith)
 value_at_is (cell ∷ row) zero d below = refl

@@ -1,4 +1,4 @@
--- A quoted text read a character at a time.
+-- A quoted text read one character at a time.
 use Rattle.std.proofs.Common.{◌≡◌, ℕ, suc, ◌+◌, ◌<◌, ◌≤◌, Bool, true, false, ◌&&◌, ◌||◌, ◌==◌, if◌then◌else◌, List, [], ◌∷◌, ◌++◌, length, get_or, encode_utf8, inl, inr, refl, sym, ap, ◌∙◌, arith, append-nil, append_assoc}
 use Rattle.std.specs.List.{list_any}
 use Rattle.std.proofs.lemmas.Bool.{cases_lt, or_parts}
@@ -6,7 +6,7 @@ use Rattle.std.proofs.lemmas.Bool.Decides.{nat_tests}
 use Rattle.std.proofs.lemmas.Str.{encode_ascii, inside_one, length-encode, len_utf8_bounds}
 use Rattle.sql_tokens.specs.Quotes.{undoubled}
 
--- What is left once quotes are undoubled, after a quote that may be the first of two, or after another byte.
+-- What is left once quotes are undoubled: after a quote, which may be the first of two, or after another byte.
 unfoldable pub undoubled_from : ℕ → Bool → List ℕ → List ℕ
 undoubled_from quote is_quote [] = []
 undoubled_from quote is_quote (b ∷ bytes) = if is_quote && b == quote then
@@ -33,7 +33,7 @@ unfolding undoubled_from
 undoubled_from-nil quote is_quote [] e = refl
 undoubled_from-nil quote is_quote (b ∷ bytes) e = absurd (omega arith)
 
--- bytes that no quote is among stay
+-- bytes without a quote stay as they are
 kept : (quote : ℕ) (xs rest : List ℕ) → quote < 128 → ((k : ℕ) → k < length xs → 128 ≤ get_or xs k 0)
     → undoubled_from quote false (xs ++ rest) ≡ xs ++ undoubled_from quote false rest
 unfolding undoubled_from
@@ -43,7 +43,7 @@ kept quote (x ∷ xs) rest small high =
     let e = kept quote xs rest small (λ k below. high (suc k) (omega arith)) in
     grind (arith, nat_tests)
 
--- the same after a quote, if there is a byte
+-- the same after a quote, if there is at least one byte
 kept_after : (quote : ℕ) (is_quote : Bool) (xs rest : List ℕ) → quote < 128 → 0 < length xs
     → ((k : ℕ) → k < length xs → 128 ≤ get_or xs k 0)
     → undoubled_from quote is_quote (xs ++ rest) ≡ xs ++ undoubled_from quote false rest
@@ -86,7 +86,7 @@ undoubled_from-without quote (b ∷ bytes) none =
     let parts = or_parts (b == quote) (list_any (λ b. b == quote) bytes) none in
     rw parts.0 (ap (λ rest. b ∷ rest) (undoubled_from-without quote bytes parts.1))
 
--- a text without quotes stays
+-- a text without quotes stays as it is
 pub undoubled_without : (quote : ℕ) (bytes : List ℕ) → list_any (λ b. b == quote) bytes ≡ false
     → undoubled quote bytes ≡ bytes
 undoubled_without quote bytes none = undoubled-from quote bytes ∙ undoubled_from-without quote bytes none

@@ -22,14 +22,14 @@ use Rattle.sql_reader.specs.Repetitions.{link}
 use Rattle.sql_reader.proofs.NamedParts.{known_column-gives}
 use Rattle.sql_reader.proofs.Keeping.{Gives, then-gives, any-gives, chosen_rule-gives, repeat-gives, link-gives}
 
--- the numbers are those of columns that are there
+-- the numbers are those of columns that exist
 abbrev pub AreColumns : List Column → List ℕ → Type 0
 AreColumns columns numbers = All (λ number. number < length columns) numbers
 
 abbrev pub IsNarrow : Parts → Type 0
 IsNarrow parts = (length parts.columns ≤ 100) × AreColumns parts.columns parts.key
 
--- where what is new is let in only below a limit, there is room for it
+-- if something new is accepted only below a limit, there is room for it
 pub room-gives : (is_taken is_full : Bool) (n most : ℕ) (one other : Fault) (ts : Items)
     → (is_full ≡ false → n < most) →
     Gives (λ (u : Unit {0}). n < most)

@@ -1,5 +1,5 @@
--- The constants of a list in ascending order, each once: the order of "7.5 Sorting Rows", where duplicates are
--- dropped as in "7.3.3 DISTINCT".
+-- The constants of a list in ascending order, each once: in the order of "7.5 Sorting Rows", with duplicates dropped as
+-- in "7.3.3 DISTINCT".
 use Rattle.std.specs.Prelude.{◌≡◌, ℕ, Bool, List, [], fold}
 use Rattle.std.specs.BTreeSet.{insert_key}
 use Rattle.std.specs.List.{list_any}
@@ -9,15 +9,15 @@ use Rattle.filter_tree.specs.Datum.{Constant, Known}
 use Rattle.filter_tree.specs.Order.{rank_of, datum_cmp}
 use Rattle.filter_tree.specs.Same.{same_constant}
 
--- the order of the values that two constants are
+-- the order of the values of two constants
 abbrev pub constant_cmp : Constant → Constant → Ordering
 constant_cmp one other = datum_cmp (Known one) (Known other)
 
--- numbers come before truth values, and these before texts; no list that is read has constants of two kinds
+-- numbers come before truth values, and these before texts; no list that was read has constants of two kinds
 abbrev pub constant_rank : Constant → ℕ
 constant_rank constant = rank_of (Known constant)
 
--- a list in order, with the constant in its place unless it is there
+-- an ordered list, with the constant added in its place unless it is in the list
 abbrev pub placed : List Constant → Constant → List Constant
 placed constants constant = insert_key constant_cmp constants constant
 
@@ -29,7 +29,7 @@ ascending constants = fold placed [] constants
 abbrev pub has_constant : Constant → List Constant → Bool
 has_constant constant constants = list_any (same_constant constant) constants
 
--- Each constant is less than the next, and the list has exactly the constants that it is made from.
+-- Each constant is less than the next, and the list has exactly the constants from which it is made.
 pub record ListsAscend : Type 0 where
   pub strictly : (constants : List Constant) → IsStrictlySortedBy constant_cmp (ascending constants)
   pub members : (constant : Constant) (constants : List Constant)

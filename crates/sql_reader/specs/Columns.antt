@@ -29,11 +29,11 @@ pub record Parts : Type 0 where
   pub columns : List Column
   pub key : List ℕ
 
--- the elements of the code
+-- the elements as the code has them
 abbrev pub parts_view : TableParts → Parts
 parts_view parts = record { columns = parts.columns.items; key = parts.key.items }
 
--- a clause that is left out, at the token ahead
+-- a clause that is not supported, at the token ahead
 abbrev pub left_out_at : Items → Fault
 left_out_at ts = fault (place_ahead ts) (w.LeftOut Constraint)
 
@@ -73,7 +73,7 @@ column_type ts =
 
 -- ---- constraints of a column, each at most once
 
--- the words at which a constraint of a column begins, those of constraints that are left out among them
+-- the words with which a constraint of a column begins, including constraints that are not supported
 abbrev pub is_constraint : Option Item → Bool
 is_constraint (Some (i.Keyword k.Not)) = true
 is_constraint (Some (i.Keyword k.Primary)) = true
@@ -92,7 +92,7 @@ constraint_looked ts = Ok (is_constraint (item_ahead ts))
 unfoldable pub constraint_ahead : Items → Verdict Bool
 constraint_ahead ts = constraint_looked ts
 
--- a word and this keyword after it, with which the column is given these constraints
+-- a word and this keyword after it, which give the column these constraints
 unfoldable pub given_by : Keyword → Constraints → Rule Constraints
 given_by second given = advance >> expect (i.Keyword second) >> pure given
 
@@ -103,7 +103,7 @@ constraint_by has_key given (Some (i.Keyword k.Primary)) = if has_key || given.k
     refuse else given_by k.Key (record given { key = true })
 constraint_by has_key given _ = left_out
 
--- one more constraint, where the table has a key or not
+-- one more constraint of a table that already has a key or not
 unfoldable pub constraint : Bool → Constraints → Rule Constraints
 constraint has_key given ts = constraint_by has_key given (item_ahead ts) ts
 
@@ -141,7 +141,7 @@ column_element parts = do
 
 -- ---- the primary key as an element of its own
 
--- the columns where that of this number is NOT NULL
+-- the columns, with the column of this number made NOT NULL
 abbrev pub required : List Column → ℕ → List Column
 required [] number = []
 required (column ∷ columns) zero = record column { not_null = true } ∷ columns

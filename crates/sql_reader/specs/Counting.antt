@@ -17,6 +17,6 @@ atoms_backwards (Is test part) = atoms_backwards part
 abbrev pub gathered : List AtomOf → AtomOf → List AtomOf
 gathered held atom = if nat_lt 64 (length held) then held else with_item same_atom held atom
 
--- what is left of a number after this many are taken; nothing if it has fewer
+-- what is left of a number after subtracting this many; `None` if the number is less
 abbrev pub left_after : ℕ → ℕ → Option ℕ
 left_after taken left = if nat_le taken left then Some (left - taken) else None

@@ -26,7 +26,7 @@ pub data ErrorKindOf : Type 0 where
   TableTwice : ErrorKindOf
   NullableIndex : ErrorKindOf
 
--- what an error says is wrong: want of memory says nothing of the text
+-- what is wrong according to an error; out of memory says nothing about the text
 abbrev pub wrong_of : ErrorKind → Option ErrorKindOf
 wrong_of e.BadToken = Some BadToken
 wrong_of (e.Expected what) = Some Expected
@@ -45,7 +45,7 @@ wrong_of e.TableTwice = Some TableTwice
 wrong_of e.OutOfMemory = None
 wrong_of e.NullableIndex = Some NullableIndex
 
--- what is wrong where a token is faulty
+-- what is wrong if a token is faulty
 abbrev pub wrong_token : FaultKind → ErrorKindOf
 wrong_token f.BadToken = BadToken
 wrong_token f.NameTooLong = NameTooLong

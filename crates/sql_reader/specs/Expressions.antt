@@ -1,6 +1,6 @@
 -- Filters as they are written: PostgreSQL 15, "Value Expressions", 4.2, with the precedences of 4.1.6 Operator
--- Precedence: `%` binds tighter than comparisons, IN and BETWEEN, these tighter than IS tests, then NOT, AND and OR;
--- AND and OR build to the left.
+-- Precedence: `%` binds tighter than comparisons, IN and BETWEEN, and these tighter than IS tests, then NOT, AND and
+-- OR; AND and OR build to the left.
 use Rattle.std.specs.Prelude.{ℕ, zero, suc, ◌+◌, Bool, true, false, if◌then◌else◌, List, [], ◌∷◌, ◌++◌, length, Option, Some, None, Ok, Err}
 use Rattle.std.specs.Str.{bytes_eq}
 use Rattle.sql_tokens.specs.declared.kinds.Operator.TheVariants as o
@@ -35,7 +35,7 @@ use Rattle.sql_reader.specs.Repetitions.{link, repeat}
 
 -- ---- columns
 
--- the column of this name, of those that begin at this number
+-- the column of this name, among columns whose numbers begin at this one
 abbrev pub found_from : ℕ → List ℕ → List Column → Option FoundColumn
 found_from number text [] = None
 found_from number text (column ∷ columns) =
@@ -52,7 +52,7 @@ known called None = Err (fault called.place w.UnknownName)
 unfoldable pub known_column : List Column → PlacedName → Verdict FoundColumn
 known_column columns called = known called (find_column called.text columns)
 
--- a name that a parenthesis or a point follows is no column
+-- a name that is followed by a parenthesis or a point is not a column
 abbrev pub no_call_by : Option Item → PlacedName → Verdict (Unit {0})
 no_call_by (Some i.Open) called = Err (fault called.place (w.LeftOut l.Function))
 no_call_by (Some i.Dot) called = Err (fault called.place (w.LeftOut l.Qualified))
@@ -69,7 +69,7 @@ column columns = do
 
 -- ---- literals and columns
 
--- a cast is left out. This does not look at a faulty token: where nothing can continue an operand, the checks of what
+-- a cast is not supported. This does not look at a faulty token: if nothing can continue an operand, the checks of what
 -- it ends come before that token
 unfoldable pub no_cast : Rule (Unit {0})
 no_cast ts = if is_ahead i.DoubleColon ts then refuse_as (w.LeftOut l.Cast) ts else Ok (tt, ts)
@@ -86,7 +86,7 @@ number_part = do
   digits ← placed_number
   pure (part place (OfLiteral digits.place (Number digits.number)))
 
--- the type after `::`, which is at this place, is the word text: another is left out
+-- the type after `::`, which is at this place, is the word text: any other is not supported
 abbrev pub text_type_by : ℕ → Option Item → Rule (Unit {0})
 text_type_by place (Some (i.Keyword k.Text)) = advance
 text_type_by place (Some item) = if is_name item then check (Err (fault place (w.LeftOut l.Cast))) else refuse
@@ -111,7 +111,7 @@ string_part = λ ts. (advance >> cast_or_none >> pure
 unfoldable pub truth_part : {S : Type 0} → Bool → Rule (PartOf S)
 truth_part known = λ ts. (advance >> pure (part (place_ahead ts) (OfLiteral (place_ahead ts) (Truth known)))) ts
 
--- NULL and CASE are no operands here, and no names
+-- NULL and CASE are not operands here, and not names
 abbrev pub simple_by : {S : Type 0} → List Column → Option Item → Rule (PartOf S)
 simple_by columns (Some (i.Operator o.Minus)) = number_part
 simple_by columns (Some (i.Number number)) = number_part
@@ -125,7 +125,7 @@ simple_by columns _ = column_part columns
 unfoldable pub simple : {S : Type 0} → List Column → Rule (PartOf S)
 simple columns ts = simple_by columns (item_ahead ts) ts
 
--- ---- operators after an operand that are not read
+-- ---- operators after an operand that are not supported
 
 abbrev pub no_operator_by : Option Item → Rule (Unit {0})
 no_operator_by (Some i.DoubleColon) = refuse_as (w.LeftOut l.Cast)
@@ -144,7 +144,7 @@ no_operator = look >> (λ ts. no_operator_by (item_ahead ts) ts)
 unfoldable pub membership_word : Bool → Rule MembershipWord
 membership_word is_negated = λ ts. (advance >> pure (record { place = place_ahead ts; is_negated = is_negated })) ts
 
--- a list in parentheses is due after IN
+-- IN must be followed by a list in parentheses
 abbrev pub list_due : Rule (Unit {0})
 list_due ts = if is_ahead i.Open ts then Ok (tt, ts) else refuse ts
 
@@ -154,7 +154,7 @@ list_ahead is_negated = do
   list_due
   pure (Some (m.List word))
 
--- BETWEEN SYMMETRIC is left out, and ASYMMETRIC too, which changes nothing
+-- BETWEEN SYMMETRIC is not supported, and neither is ASYMMETRIC, which changes nothing
 abbrev pub no_symmetry_by : Option Item → Rule (Unit {0})
 no_symmetry_by (Some (i.Keyword k.Symmetric)) = refuse_as (w.LeftOut l.Operator)
 no_symmetry_by (Some (i.Keyword k.Asymmetric)) = refuse_as (w.LeftOut l.Operator)
@@ -187,7 +187,7 @@ membership_by (Some (i.Keyword k.Between)) = range_ahead false
 membership_by (Some (i.Keyword k.Not)) = negated_membership
 membership_by _ = pure None
 
--- IN or BETWEEN after an operand, with NOT before it or not, if one is ahead
+-- IN or BETWEEN after an operand, with or without NOT before it, if one is ahead
 unfoldable pub membership_or_none : Rule (Option Membership)
 membership_or_none ts = membership_by (item_ahead ts) ts
 
@@ -243,7 +243,7 @@ test_or_none ts = test_by (item_ahead ts) ts
 
 -- ---- expressions
 
--- a look at what follows a side of a comparison
+-- looks at what follows a side of a comparison
 abbrev pub side_ended : {S : Type 0} → PartOf S → Rule (PartOf S)
 side_ended read = no_operator >> pure read
 
@@ -258,7 +258,7 @@ pub data Nested (S : Type 0) : Type 0 where
   InList : MembershipWord → PartOf S → Nested S
 
 module _ {S : Type 0} (forms : Forms S) (columns : List Column) where
-  -- Each of these adds one to the nesting, which is refused at the parenthesis or the NOT that passes the limit.
+  -- Each of these adds one level of nesting, which is refused at the parenthesis or the NOT that passes the limit.
   abbrev Below : Type 0
   Below = Nested S → Rule (PartOf S)
 
@@ -284,7 +284,7 @@ module _ {S : Type 0} (forms : Forms S) (columns : List Column) where
   unfoldable pub side : Below → Rule (PartOf S)
   side below = term below >>= side_ended
 
-  -- a comparison is checked before what follows it, but for a cast
+  -- a comparison is checked before what follows it, except for a cast
   unfoldable pub right_side : Below → PartOf S → Op → Rule (PartOf S)
   right_side below left operator = do
     place ← here
@@ -294,7 +294,7 @@ module _ {S : Type 0} (forms : Forms S) (columns : List Column) where
     whole ← check (compared_part forms place left operator right)
     side_ended whole
 
-  -- one more entry of a list, after the first and these others
+  -- one more entry of a list, after the first one and these others
   unfoldable pub one_entry : Below → List (OperandOf S) → Rule (List (OperandOf S))
   one_entry below others = do
     room_in_list (length others)
@@ -371,7 +371,7 @@ module _ {S : Type 0} (forms : Forms S) (columns : List Column) where
     right ← negation below
     check (negated forms place right)
 
-  -- AND wants filters: the one before it once it is seen, and the one after it once that has ended
+  -- AND requires filters: the one before it is checked once AND is seen, and the one after it once it has ended
   unfoldable pub one_more_negation : Below → PartOf S → Rule (PartOf S)
   one_more_negation below left = do
     filter ← check (wanted forms left)
@@ -396,7 +396,7 @@ module _ {S : Type 0} (forms : Forms S) (columns : List Column) where
     inner ← disjunction below
     closed place inner
 
-  -- what is nested, where so many more may nest
+  -- what is nested, if this many more levels may nest
   unfoldable pub nested : ℕ → Below
   nested zero inner = refuse_as w.TooDeep
   nested (suc n) AfterNot = after_not (nested n)

@@ -1,4 +1,4 @@
--- The rules of Expressions as they make filters, where parentheses and NOT may nest this much deeper: PostgreSQL 15,
+-- The rules of Expressions as they make filters; parentheses and NOT may nest this many levels deeper: PostgreSQL 15,
 -- "Value Expressions", 4.2.
 use Rattle.std.specs.Prelude.{ℕ, Option, List}
 use Rattle.filter_tree.specs.declared.filter.Op.{Op}
@@ -16,7 +16,7 @@ use Rattle.sql_reader.specs.Written.{as_filter}
 abbrev pub nested : List Column → ℕ → Nested Expr → Rule (PartOf Expr)
 nested columns depth = rules.nested as_filter columns depth
 
--- ---- from what binds tightest
+-- ---- beginning with what binds tightest
 
 abbrev pub primary : List Column → ℕ → Rule (PartOf Expr)
 primary columns depth = rules.primary as_filter columns (nested columns depth)

@@ -1,4 +1,4 @@
--- The tokens of a text as the grammar tells them apart: PostgreSQL 15, "SQL Syntax", 4.1 Lexical Structure.
+-- The tokens of a text as the grammar distinguishes them: PostgreSQL 15, "SQL Syntax", 4.1 Lexical Structure.
 use Rattle.std.specs.Prelude.{ℕ, suc, Bool, true, false, not, List, Option, Some, None}
 use denote.Enum.Bare.{sameb}
 use Rattle.sql_tokens.specs.contracts.kinds.Operator.{the_type}
@@ -55,7 +55,7 @@ is_like (i.Operator operator) (i.Operator other) = same_operator operator other
 is_like (i.Keyword keyword) (i.Keyword other) = same_keyword keyword other
 is_like _ _ = false
 
--- whether a name may be written so
+-- whether a name may be written like this
 abbrev pub is_name : Item → Bool
 is_name i.Word = true
 is_name i.QuotedName = true
@@ -69,7 +69,7 @@ pub record Seen : Type 0 where
   pub place : ℕ
   pub written : List ℕ
 
--- The tokens up to the end of the text, which is at its length, or up to the first faulty one.
+-- The tokens up to the end of the text, whose place is the text's length, or up to the first faulty token.
 pub data Items : Type 0 where
   Stop : ℕ → Items
   Broken : ℕ → FaultKind → Items
@@ -102,7 +102,7 @@ size (Stop place) = 0
 size (Broken place fault) = 0
 size (Then token rest) = suc (size rest)
 
--- ---- what a reader has still to read
+-- ---- what a reader still has to read
 
 abbrev pub ahead_of : Ahead → ℕ → List ℕ → Items → Items
 ahead_of a.End place written rest = Stop place

@@ -45,7 +45,7 @@ late_keyword word =
     if str_eq_ignore_ascii_case word (codes "with") then Some k.With else
     None
 
--- the keywords from ALTER to KEY that may be names too
+-- the keywords from ALTER to KEY that may also be names
 unfoldable pub early_free_keyword : List ℕ → Option Keyword
 early_free_keyword word =
     if str_eq_ignore_ascii_case word (codes "alter") then Some k.Alter else
@@ -63,7 +63,7 @@ early_free_keyword word =
     if str_eq_ignore_ascii_case word (codes "key") then Some k.Key else
     None
 
--- the keywords from LIKE to UNKNOWN that may be names too
+-- the keywords from LIKE to UNKNOWN that may also be names
 unfoldable pub late_free_keyword : List ℕ → Option Keyword
 late_free_keyword word =
     if str_eq_ignore_ascii_case word (codes "like") then Some k.Like else
@@ -89,7 +89,7 @@ unfoldable pub keyword_of : List ℕ → Option Keyword
 keyword_of word = or_else (early_keyword word)
     (or_else (late_keyword word) (or_else (early_free_keyword word) (late_free_keyword word)))
 
--- whether a keyword can be no unquoted name
+-- whether a keyword cannot be an unquoted name
 abbrev pub is_reserved : Keyword → Bool
 is_reserved k.Alter = false
 is_reserved k.Asymmetric = false

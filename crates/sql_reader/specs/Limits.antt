@@ -11,7 +11,7 @@ use Rattle.filter_tree.specs.declared.filter.Filter.{Filter}
 use Rattle.sql_reader.specs.declared.error.Limit.{Limit}
 use Rattle.sql_reader.specs.declared.error.Limit.TheVariants.{Atoms, Nodes}
 
--- each constant, atom, NOT, AND, OR and IS test counts one
+-- each constant, atom, NOT, AND, OR and IS test counts as one
 abbrev pub nodes : Expr → ℕ
 nodes (Const known) = 1
 nodes (Atom atom) = 1
@@ -31,7 +31,7 @@ all_atoms filters = flat_map atoms_in filters
 abbrev pub distinct_count : List Expr → ℕ
 distinct_count filters = length (distinct same_atom (all_atoms filters))
 
--- the limit that the filters pass; atoms are looked at before nodes
+-- the limit that the filters exceed; atoms are checked before nodes
 unfoldable pub exceeded : List Expr → Option Limit
 exceeded filters =
     if nat_lt 64 (distinct_count filters) then Some Atoms

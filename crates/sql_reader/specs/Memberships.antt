@@ -1,6 +1,6 @@
 -- Which operands fit IN, BETWEEN and IS DISTINCT FROM: PostgreSQL 15, "9.2 Comparison Functions and Operators" and
--- "9.24 Row and Array Comparisons", of which filters ("31.3 Row Filters") have here a column, or a remainder of one,
--- with literals.
+-- "9.24 Row and Array Comparisons", of which filters ("31.3 Row Filters") here have only a column, or a remainder of
+-- one, with literals.
 use Rattle.std.specs.Prelude.{ℕ, ℤ, Bool, true, false, if◌then◌else◌, List, [], ◌∷◌, Option, Some, None, Ok, Err, nat_lt}
 use Rattle.sql_tokens.specs.declared.kinds.Operator.TheVariants.{Minus}
 use Rattle.filter_tree.specs.declared.table.ColType.{ColType}
@@ -28,14 +28,14 @@ subject_of place (OfTerm term kind) = Ok (record { term = term; kind = kind })
 subject_of place (OfLiteral at constant) = Err (fault place (w.LeftOut l.Constant))
 subject_of place (OfFormula s) = Err (fault place w.TypeClash)
 
--- what follows IN or DISTINCT FROM is a literal that `=` takes beside a column of this type; `place` is that of IN or
--- DISTINCT
+-- what follows IN or DISTINCT FROM is a literal that `=` can compare with a column of this type; `place` is that of IN
+-- or DISTINCT
 abbrev pub beside : {S : Type 0} → ℕ → ColType → OperandOf S → Verdict Constant
 beside place kind (OfTerm term other) = Err (fault place (w.LeftOut l.TwoColumns))
 beside place kind (OfLiteral at constant) = fitting (fits place kind Eq constant) constant
 beside place kind (OfFormula s) = Err (fault place w.TypeClash)
 
--- a list has a fault if one of its entries has one, and then that of the first such entry
+-- a list has a fault if one of its entries has one; its fault is that of the first such entry
 abbrev pub more_beside : Verdict Constant → Verdict (List Constant) → Verdict (List Constant)
 more_beside (Ok constant) more = verdict_map (λ constants. constant ∷ constants) more
 more_beside (Err fault) more = Err fault
@@ -44,7 +44,7 @@ abbrev pub all_beside : {S : Type 0} → ℕ → ColType → List (OperandOf S) 
 all_beside place kind [] = Ok []
 all_beside place kind (operand ∷ operands) = more_beside (beside place kind operand) (all_beside place kind operands)
 
--- numbers alone have an order here
+-- only numbers have an order here
 abbrev pub number_beside : ℕ → ColType → Constant → Verdict ℤ
 number_beside place SmallInt (Number number) = Ok number
 number_beside place Integer (Number number) = Ok number
@@ -101,7 +101,7 @@ distinct_part forms words left right =
 
 -- ---- how many entries a list may have
 
--- whether an operand, or NULL or CASE in its place, begins with this token
+-- whether this token begins an operand, or is NULL or CASE instead
 abbrev pub begins_operand : Option Item → Bool
 begins_operand (Some (i.Operator Minus)) = true
 begins_operand (Some (i.Number number)) = true
@@ -116,6 +116,6 @@ begins_operand None = false
 abbrev pub one_too_many : Rule (Unit {0})
 one_too_many ts = (if begins_operand (item_ahead ts) then refuse_as (w.TooMany InList) else refuse) ts
 
--- at most 100 entries, where so many follow the first so far
+-- at most 100 entries; `others` entries follow the first so far
 unfoldable pub room_in_list : ℕ → Rule (Unit {0})
 room_in_list others ts = if nat_lt others 99 then Ok (tt, ts) else one_too_many ts

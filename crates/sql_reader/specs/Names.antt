@@ -1,5 +1,5 @@
--- Names and strings as they are meant: PostgreSQL 15, "SQL Syntax", 4.1.1 Identifiers and Key Words and 4.1.2.1
--- String Constants.
+-- Names and strings with their meaning: PostgreSQL 15, "SQL Syntax", 4.1.1 Identifiers and Key Words and 4.1.2.1 String
+-- Constants.
 use Rattle.std.specs.Prelude.{ℕ, Bool, false, if◌then◌else◌, List, Option, Some, None, Ok, Err}
 use Rattle.std.specs.Str.{str_to_ascii_lowercase}
 use Rattle.sql_tokens.specs.Meant.{undoubled}
@@ -17,7 +17,7 @@ is_name_item None = false
 unfoldable pub name_ahead : Items → Bool
 name_ahead ts = is_name_item (item_ahead ts)
 
--- a quoted name without its quotes, another in lower case
+-- a quoted name without its quotes, any other name in lower case
 abbrev pub name_meant : Option Item → List ℕ → List ℕ
 name_meant (Some i.QuotedName) written = undoubled 34 written
 name_meant _ written = str_to_ascii_lowercase written

@@ -6,7 +6,7 @@ use Rattle.sql_reader.specs.declared.item.Item.TheVariants as i
 use Rattle.sql_reader.specs.declared.number.PlacedNumber.{PlacedNumber}
 use Rattle.sql_reader.specs.Reading.{Rule, ◌>>=◌, pure, refuse, is_ahead, item_ahead, place_ahead, rest_of}
 
--- the number that comes next, after a minus or not
+-- the number that comes next, with or without a minus before it
 abbrev pub number_ahead : Bool → Option Item → Option ℤ
 number_ahead negative (Some (i.Number n)) = Some (if negative then neg_ℤ (pos n) else pos n)
 number_ahead negative _ = None

@@ -1,5 +1,5 @@
 -- What a part of an expression is once it was read, and which parts fit together: PostgreSQL 15, "4.2 Value
--- Expressions", of which filters ("31.3 Row Filters") have here the comparisons of one column with a literal, "9.1
+-- Expressions", of which filters ("31.3 Row Filters") here have only the comparisons of one column with a literal, "9.1
 -- Logical Operators", "9.2 Comparison Functions and Operators" and `%` of "9.3 Mathematical Functions and Operators".
 use Rattle.std.specs.Prelude.{ℕ, ℤ, pos, Bool, true, false, if◌then◌else◌, List, Option, Some, None, Ok, Err}
 use Rattle.std.specs.Ordering.{int_eq}
@@ -29,7 +29,7 @@ use Rattle.sql_reader.specs.declared.operand.Operand.{Operand}
 use Rattle.sql_reader.specs.declared.operand.Operand.TheVariants as p
 use Rattle.sql_reader.specs.declared.operand.Part.{Part}
 
--- What the forms of an expression make: trees, or what they mean.
+-- What the forms of an expression make: trees, or their meaning.
 pub record Forms (S : Type 0) : Type 0 where
   -- TRUE or FALSE
   pub known : Bool → S
@@ -38,7 +38,7 @@ pub record Forms (S : Type 0) : Type 0 where
   -- a column or a remainder compared with a literal, and a literal with a column or a remainder
   pub compared : Term → Op → Constant → S
   pub compared_from : Constant → Op → Term → S
-  -- a column or a remainder IN a list of literals, which has a first one and perhaps others
+  -- a column or a remainder IN a list of literals, which has a first literal and perhaps others
   pub among : Term → Constant → List Constant → S
   -- BETWEEN two numbers, and IS DISTINCT FROM a literal
   pub between : Term → ℤ → ℤ → S
@@ -89,7 +89,7 @@ abbrev pub true_or_clash : {A : Type 0} → ℕ → Option A → Verdict A
 true_or_clash place (Some a) = Ok a
 true_or_clash place None = Err (fault place w.TypeClash)
 
--- a filter is wanted
+-- a filter is required
 unfoldable pub wanted : {S : Type 0} → Forms S → PartOf S → Verdict S
 wanted forms part = true_or_clash part.place (truth forms part.operand)
 
@@ -131,14 +131,14 @@ comparison_by (Some (i.Operator o.Greater)) = Some Gt
 comparison_by (Some (i.Operator o.GreaterOrEqual)) = Some Ge
 comparison_by _ = None
 
--- texts and truth values are equal or not, and have no order here
+-- texts and truth values are equal or not, but have no order here
 abbrev pub equality : ℕ → Op → Verdict (Unit {0})
 equality place Eq = Ok tt
 equality place Ne = Ok tt
 equality place op = Err (fault place (w.LeftOut l.Order))
 
--- a column of this type, or a remainder of one, is compared with a literal of its kind; a quoted one beside a number
--- or a truth value is left out
+-- a column of this type, or a remainder of one, is compared with a literal of its kind; a quoted literal compared with
+-- a number or a truth value is not supported
 abbrev pub fits : ℕ → ColType → Op → Constant → Verdict (Unit {0})
 fits place Text op (Bytes text) = equality place op
 fits place Boolean op (Truth known) = equality place op
@@ -174,8 +174,8 @@ abbrev pub asking : {S : Type 0} → Forms S → ℕ → Test → Option S → V
 asking forms place test (Some s) = Ok (forms.asked test s)
 asking forms place test None = Err (fault place w.TypeClash)
 
--- the test of an operand, whose word is at this place: a number or a string is not tested, and IS NULL of a boolean
--- expression is IS UNKNOWN
+-- the test of an operand; the word of the test is at this place. A number or a string is not tested, and IS NULL of a
+-- boolean expression is IS UNKNOWN
 abbrev pub answered : {S : Type 0} → Forms S → ℕ → TestedValue → OperandOf S → Verdict S
 answered forms place asked (OfLiteral at (Number number)) = Err (fault place (w.LeftOut l.Constant))
 answered forms place asked (OfLiteral at (Bytes text)) = Err (fault place (w.LeftOut l.Constant))
@@ -196,7 +196,7 @@ tested forms truth_test asked_part =
 
 -- ---- parts of the code
 
--- The data above that an operand of the code stands for.
+-- The data above for which an operand of the code stands.
 abbrev pub operand_view : Operand → OperandOf Expr
 operand_view (p.Term term kind) = OfTerm term kind
 operand_view (p.Literal place literal) = OfLiteral place (constant_view literal)

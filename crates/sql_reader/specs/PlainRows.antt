@@ -1,5 +1,5 @@
--- Values of rows as people mostly write them, which are read byte by byte: PostgreSQL 15, "SQL Syntax", 4.1.2
--- Constants. What they are is what the tokens from their place on spell.
+-- Values of rows as they are mostly written, which are read byte by byte: PostgreSQL 15, "SQL Syntax", 4.1.2 Constants.
+-- Each is the value that the tokens from its place on spell.
 use Rattle.std.specs.Prelude.{◌≡◌, ℕ, ◌+◌, ◌^◌, ◌<◌, ◌==◌, Bool, true, not, ◌||◌, List, ◌++◌, length, take, drop, slice_index, Ok}
 use Rattle.std.specs.Char.{is_ascii_digit}
 use Rattle.std.specs.List.{prefix_len}
@@ -20,7 +20,7 @@ is_end byte = byte == 44 || byte == 41
 abbrev pub is_plain : ℕ → Bool
 is_plain byte = not (byte == 39 || byte == 0)
 
--- all digits at the front of some bytes, of which there are some, with the number that they spell
+-- all digits at the front of some bytes, at least one, with the number that they spell
 pub record AreDigits (bytes : List ℕ) (digits : Digits) : Type 0 where
   pub some : 0 < digits.length
   pub all : prefix_len is_ascii_digit bytes ≡ digits.length
@@ -31,7 +31,7 @@ pub record AreDigits (bytes : List ℕ) (digits : Digits) : Type 0 where
 abbrev pub tokens_at : List ℕ → ℕ → Items
 tokens_at text place = items (at text place)
 
--- a value is read from tokens, of which others are left
+-- a value is read from tokens, and the others are left
 pub record ReadsValue (cell : Datum) (ts after : Items) : Type 0 where
   pub reads : value ts ≡ Ok (cell, after)
   pub fewer : size after < size ts

@@ -1,4 +1,4 @@
--- How the grammar is read: each rule takes tokens from the front of a list and gives what it reads and the tokens
+-- How the grammar is read: each rule consumes tokens from the front of a list and gives what it reads and the tokens
 -- that are left, or the first fault of the text.
 use Rattle.std.specs.Prelude.{◌≡◌, ℕ, Bool, true, false, if◌then◌else◌, List, [], Option, Some, None, Result, Ok, Err}
 use Rattle.filter_tree.specs.Memory.{TellsFault, Answers as AnswersBy}
@@ -39,7 +39,7 @@ rule >> next_rule = rule >>= (λ _. next_rule)
 abbrev pub pure : {A : Type 0} → A → Rule A
 pure a = λ ts. Ok (a, ts)
 
--- what a check of something that was read answers
+-- what a check of something that was read returns
 abbrev pub Verdict : Type 0 → Type 0
 Verdict A = Result A Fault
 
@@ -47,7 +47,7 @@ abbrev pub with_rest : {A : Type 0} → Verdict A → Items → Outcome A
 with_rest (Ok a) ts = Ok (a, ts)
 with_rest (Err fault) ts = Err fault
 
--- a check, which takes no token
+-- a check, which consumes no token
 abbrev pub check : {A : Type 0} → Verdict A → Rule A
 check verdict = λ ts. with_rest verdict ts
 
@@ -75,7 +75,7 @@ rest_of (Stop place) = Stop place
 rest_of (Broken place kind) = Broken place kind
 rest_of (Then token rest) = rest
 
--- why no rule takes it: it is faulty, or it fits none
+-- why no rule accepts it: it is faulty, or it fits none
 abbrev pub refusal : Items → Fault
 refusal (Stop place) = fault place w.Expected
 refusal (Broken place kind) = fault place (wrong_token kind)
@@ -98,7 +98,7 @@ is_like_ahead item (Some found) = is_like found item
 unfoldable pub is_ahead : Item → Items → Bool
 is_ahead item ts = is_like_ahead item (item_ahead ts)
 
--- a look at it, which a faulty one does not pass
+-- a look at it, which fails at a faulty token
 abbrev pub looked : Rule (Unit {0})
 looked (Stop place) = Ok (tt, Stop place)
 looked (Broken place kind) = Err (fault place (wrong_token kind))
@@ -111,7 +111,7 @@ look ts = looked ts
 unfoldable pub next_is : Item → Rule Bool
 next_is item = look >> (λ ts. Ok (is_ahead item ts, ts))
 
--- whether the text goes on, where a faulty token is refused
+-- whether the text continues; a faulty token is refused
 abbrev pub more_looked : Items → Verdict Bool
 more_looked (Stop place) = Ok false
 more_looked (Broken place kind) = Err (fault place (wrong_token kind))
@@ -120,15 +120,15 @@ more_looked (Then token rest) = Ok true
 unfoldable pub more_ahead : Items → Verdict Bool
 more_ahead ts = more_looked ts
 
--- takes it, whatever it is
+-- consumes it, whatever it is
 abbrev pub advance : Rule (Unit {0})
 advance = λ ts. Ok (tt, rest_of ts)
 
--- takes this one if it is ahead, and tells whether it was
+-- consumes this one if it is ahead, and returns whether it was
 unfoldable pub eat : Item → Rule Bool
 eat item = λ ts. if is_ahead item ts then Ok (true, rest_of ts) else Ok (false, ts)
 
--- takes this one, and tells its place
+-- consumes this one, and returns its place
 unfoldable pub expect : Item → Rule ℕ
 expect item = λ ts. if is_ahead item ts then Ok (place_ahead ts, rest_of ts) else Err (refusal ts)
 
@@ -138,23 +138,23 @@ abbrev pub fault_or_none : ℕ → Option ErrorKindOf → Option Fault
 fault_or_none place None = None
 fault_or_none place (Some wrong) = Some (fault place wrong)
 
--- the fault that an error tells; want of memory tells none
+-- the fault that an error reports; out of memory reports none
 abbrev pub told : ReadError → Option Fault
 told e = fault_or_none e.place (wrong_of e.kind)
 
--- an error tells the fault of the text, or want of memory
+-- an error reports the fault of the text, or out of memory
 abbrev pub Tells : {A : Type 0} → ReadError → Result A Fault → Type 0
 Tells e outcome = TellsFault (told e) outcome
 
--- the function's answer is the rule's, or want of memory, where `view` gives the value read as plain data and `rest`
--- are the tokens left
+-- the function's result is the rule's, or out of memory; `view` gives the value read as plain data, and `rest` are the
+-- tokens left
 abbrev pub Reads : {A B : Type 0} → (A → B) → Outcome B → Result A ReadError → Items → Type 0
 Reads view outcome result rest = AnswersBy (λ a. (view a, rest)) told outcome result
 
--- the same of a check
+-- the same for a check
 abbrev pub Answers : {A B : Type 0} → (A → B) → Verdict B → Result A ReadError → Type 0
 Answers view verdict result = AnswersBy view told verdict result
 
--- an error tells a fault
+-- an error reports a fault
 abbrev pub IsFault : ReadError → Fault → Type 0
 IsFault e fault = (e.place ≡ fault.place) × (wrong_of e.kind ≡ Some fault.wrong)

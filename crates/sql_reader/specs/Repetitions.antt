@@ -1,4 +1,4 @@
--- Lists and chains: a step of the grammar taken again and again, until it says that there are no more.
+-- Lists and chains: a step of the grammar repeated until it says that there are no more.
 use Rattle.std.specs.Prelude.{ℕ, zero, suc, Bool, nat_lt, if◌then◌else◌, Option, Some, None, Result, Ok, Err}
 use Rattle.sql_reader.specs.declared.item.Item.{Item}
 use Rattle.sql_reader.specs.Items.{Items, size}
@@ -12,7 +12,7 @@ abbrev pub after_step : {S : Type 0} → Result (Option (S × Items)) Fault → 
 after_step (Ok more) go_on = go_on more
 after_step (Err fault) go_on = Err fault
 
--- A step that takes no token is the last one; no step of the grammar is such.
+-- A step that consumes no token is the last one; no step of the grammar is such a step.
 abbrev pub goes : {S : Type 0} → (S → Rule S) → S → Items → Option (S × Items) → Outcome S
 goes more s ts None = Ok (s, ts)
 goes more s ts (Some read) = if nat_lt (size read.1) (size ts) then more read.0 read.1 else Ok read
@@ -21,7 +21,7 @@ unfoldable pub at_most : {S : Type 0} → ℕ → Step S → S → Rule S
 at_most zero step s ts = Ok (s, ts)
 at_most (suc n) step s ts = after_step (step s ts) (goes (at_most n step) s ts)
 
--- as many steps as there are: each takes a token, so there are no more than tokens
+-- as many steps as there are: each consumes a token, so there are no more steps than tokens
 unfoldable pub repeat : {S : Type 0} → Step S → S → Rule S
 repeat step s ts = at_most (suc (size ts)) step s ts
 
@@ -38,7 +38,7 @@ linked read s (Err fault) = Err fault
 unfoldable pub link : {S : Type 0} → Item → (S → Rule S) → Step S
 link separator read s ts = linked read s (next_is separator ts)
 
--- ---- the step of a list whose parts show by themselves whether there is one more
+-- ---- the step of a list whose parts themselves show whether there is one more
 
 abbrev pub guarded : {S : Type 0} → (S → Rule S) → S → Items → Result Bool Fault → Result (Option (S × Items)) Fault
 guarded read s ts (Ok more) = if more then one_more (read s ts) else Ok None

@@ -1,4 +1,5 @@
--- Rows as they are written: PostgreSQL 15, "Value Expressions", 4.2.13 Row Constructors, of the constants of 4.1.2.
+-- Rows as they are written: PostgreSQL 15, "Value Expressions", 4.2.13 Row Constructors, made of the constants of
+-- 4.1.2.
 use Rattle.std.specs.Prelude.{ℕ, true, false, if◌then◌else◌, List, [], ◌∷◌, ◌++◌, Option, Some, Ok, Err}
 use Rattle.filter_tree.specs.Datum.{Datum, Missing, Known, Number, Truth, Bytes}
 use Rattle.sql_tokens.specs.declared.kinds.Operator.TheVariants.{Minus}

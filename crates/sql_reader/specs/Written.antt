@@ -41,7 +41,7 @@ compare_values op Missing right = Null
 compare_values op left Missing = Null
 compare_values op (Known left) (Known right) = tri_of (compare_known op left right)
 
--- IN is the OR of the equalities, of which there is one at least
+-- IN is the OR of the equalities, of which there is at least one
 abbrev pub among_values : Datum → Constant → List Constant → Tri
 among_values value first [] = compare_values Eq value (Known first)
 among_values value first (next ∷ others) =
@@ -52,12 +52,12 @@ abbrev pub between_values : Datum → ℤ → ℤ → Tri
 between_values value low high =
     and_of (compare_values Ge value (Known (Number low))) (compare_values Le value (Known (Number high)))
 
--- IS DISTINCT FROM a constant is true of null, and else it is `<>`
+-- IS DISTINCT FROM a constant is true for null, and otherwise it is `<>`
 abbrev pub distinct_values : Datum → Constant → Tri
 distinct_values Missing constant = True
 distinct_values (Known value) constant = compare_values Ne (Known value) (Known constant)
 
--- the value of a boolean column; it has no others than null and truth values
+-- the value of a boolean column; it has only null and truth values
 abbrev pub truth_value : Datum → Tri
 truth_value Missing = Null
 truth_value (Known (Truth truth)) = tri_of truth
@@ -86,7 +86,7 @@ held_expr column = e.Atom (e.Cmp (Col column) Eq (Truth true))
 abbrev pub compared_expr : Term → Op → Constant → Expr
 compared_expr term op constant = e.Atom (e.Cmp term op constant)
 
--- the comparison with its sides changed over
+-- the comparison with its sides swapped
 abbrev pub turned : Op → Op
 turned Eq = Eq
 turned Ne = Ne
@@ -95,7 +95,7 @@ turned Le = Ge
 turned Gt = Lt
 turned Ge = Le
 
--- a literal on the left is turned round
+-- a comparison with the literal on the left is turned around
 abbrev pub compared_from_expr : Constant → Op → Term → Expr
 compared_from_expr constant op term = e.Atom (e.Cmp term (turned op) constant)
 
@@ -109,7 +109,7 @@ between_expr term low high = e.Atom (e.Between term low high)
 abbrev pub distinct_expr : Term → Constant → Expr
 distinct_expr term constant = e.Atom (e.Distinct term constant)
 
--- a remainder is null if its column is
+-- a remainder is null if its column is null
 abbrev pub lacking_expr : Term → Expr
 lacking_expr term = e.Atom (e.IsNull (column_of term))
 

@@ -21,9 +21,9 @@ value_text (Known (Bytes text)) = in_quotes 39 text
 abbrev pub row_text : List Datum → List ℕ
 row_text row = 40 ∷ (join_by value_text (codes ", ") row ++ (41 ∷ []))
 
--- ---- the rows whose text is read as the row
+-- ---- the rows whose text is read as the row itself
 
--- The least bigint is not: without its minus it is past the greatest.
+-- The least bigint is not readable: without its minus it exceeds the greatest.
 abbrev pub IsReadable : Datum → Type 0
 IsReadable Missing = Unit {0}
 IsReadable (Known (Truth truth)) = Unit {0}

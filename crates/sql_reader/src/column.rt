@@ -15,7 +15,7 @@ pub struct FoundColumn {
     pub kind: ColType,
 }
 
-/// The first column of a name.
+/// The first column with a name.
 #[tactic(auto, unfolding(crate::specs::Expressions::find_column))]
 pub fn find_column(columns: &[Column], name: &str) -> Option<FoundColumn>
     ensures { result ≡ spec.find_column name.now columns.now }
@@ -31,11 +31,11 @@ pub fn find_column(columns: &[Column], name: &str) -> Option<FoundColumn>
     None
 }
 
-/// The first column of a name, which has to be there.
+/// The first column with a name, which must exist.
 ///
 /// # Errors
 ///
-/// `UnknownName` at the name, where there is no such column.
+/// `UnknownName` at the name, if there is no such column.
 #[tactic(auto, unfolding(crate::specs::Expressions::known_column))]
 pub fn known_column(columns: &[Column], name: &PlacedName) -> Result<FoundColumn, ReadError>
     ensures answers { Answers (λ column. column) (spec.known_column columns.now name.now) result }

@@ -49,7 +49,7 @@ fn type_ahead(r: &Reader<'_>) -> Option<ColType>
     }
 }
 
-/// Takes the name of a type.
+/// Reads the name of a type.
 #[tactic(auto, using(crate::proofs::Ahead::rest_is_no_more), unfolding(crate::specs::Columns::column_type))]
 pub fn column_type(r: &mut Reader<'_>) -> Result<ColType, ReadError>
     ensures { Takes (λ kind. kind) spec.column_type r.old result r.new }
@@ -66,7 +66,7 @@ pub fn column_type(r: &mut Reader<'_>) -> Result<ColType, ReadError>
     }
 }
 
-/// Whether a constraint of a column begins so.
+/// Whether a constraint of a column begins with this token.
 fn is_constraint(item: Option<Item>) -> bool
     ensures { result ≡ spec.is_constraint item }
 {
@@ -83,7 +83,7 @@ fn is_constraint(item: Option<Item>) -> bool
     }
 }
 
-/// Whether a constraint of a column is ahead, where a faulty token is refused.
+/// Whether a constraint of a column is ahead. A faulty token is refused.
 #[tactic(auto, unfolding(crate::specs::Columns::constraint_ahead, crate::specs::Reading::look))]
 fn constraint_ahead(r: &Reader<'_>) -> Result<bool, ReadError>
     ensures { Answers (λ b. b) (spec.constraint_ahead (to_read r.now)) result }
@@ -92,7 +92,7 @@ fn constraint_ahead(r: &Reader<'_>) -> Result<bool, ReadError>
     Ok(is_constraint(r.item()))
 }
 
-/// Takes a word and this keyword after it, with which the column is given these constraints.
+/// Reads a word and this keyword after it, which give the column these constraints.
 #[tactic(auto, using(crate::proofs::Ahead::rest_is_no_more), unfolding(crate::specs::Columns::given_by))]
 fn given_by(
     r: &mut Reader<'_>,
@@ -107,7 +107,7 @@ fn given_by(
     Ok(given)
 }
 
-/// Takes a constraint of a column, where the table has a key already or not.
+/// Reads a constraint of a column of a table that already has a key or not.
 #[tactic(auto, unfolding(crate::specs::Columns::constraint))]
 fn constraint(
     r: &mut Reader<'_>,
@@ -143,7 +143,7 @@ fn constraint(
     }
 }
 
-/// Takes the constraints of a column.
+/// Reads the constraints of a column.
 #[tactic(auto, using(crate::proofs::RepetitionLemmas::turns), unfolding(crate::specs::Columns::constraints))]
 pub fn column_constraints(r: &mut Reader<'_>, has_key: bool) -> Result<Constraints, ReadError>
     ensures { Takes (λ given. given) (spec.constraints has_key) r.old result r.new }
@@ -158,7 +158,7 @@ pub fn column_constraints(r: &mut Reader<'_>, has_key: bool) -> Result<Constrain
     Ok(given)
 }
 
-/// The error that the token ahead begins a clause of CREATE TABLE that is left out.
+/// The error for a token ahead that begins a clause of CREATE TABLE that is not supported.
 pub fn left_out_clause(r: &Reader<'_>) -> ReadError
     ensures { IsFault result (left_out_at (to_read r.now)) }
 {

@@ -31,7 +31,7 @@ pub fn comparison_by(item: Option<Item>) -> Option<Op>
     }
 }
 
-/// The comparison with its sides changed over.
+/// The comparison with its sides swapped.
 fn turned(op: Op) -> Op
     ensures { result ≡ written.turned op }
 {
@@ -45,7 +45,7 @@ fn turned(op: Op) -> Op
     }
 }
 
-/// Refuses an order of texts or of truth values.
+/// Refuses an order comparison of texts or of truth values.
 fn equality(place: usize, op: Op) -> Result<(), ReadError>
     ensures { Answers (λ u. u) (spec.equality place op) result }
 {
@@ -109,7 +109,7 @@ fn from_literal(
     Ok(Filter::Atom(Atom::Cmp(term, turned(op), literal)))
 }
 
-/// The comparison of two operands, of which one is a column or a remainder and the other a literal of its kind.
+/// The comparison of two operands, one of which is a column or a remainder and the other a literal of its kind.
 #[tactic(auto, unfolding(crate::specs::Operands::compared))]
 fn compared(place: usize, left: Operand, op: Op, right: Operand) -> Result<Filter, ReadError>
     ensures { Answers expr_view (spec.compared as_filter place (operand_view left) op (operand_view right)) result }

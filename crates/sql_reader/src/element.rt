@@ -26,7 +26,7 @@ pub struct TableParts {
     pub key: Vec<usize>,
 }
 
-/// Refuses a column whose name is taken, or that is one too many.
+/// Refuses a column whose name is taken, or that is one column too many.
 #[tactic(auto, unfolding(crate::specs::Columns::new_column))]
 fn new_column(parts: &TableParts, name: &PlacedName) -> Result<(), ReadError>
     ensures { Answers (λ u. u) (spec.new_column (parts_view parts.now) name.now) result }
@@ -69,7 +69,7 @@ fn add_column(
     Ok(())
 }
 
-/// Takes a column.
+/// Reads a column.
 #[tactic(auto, unfolding(crate::specs::Columns::column_element))]
 fn column_element(
     r: &mut Reader<'_>,
@@ -119,7 +119,7 @@ fn add_key_column(parts: &mut TableParts, column: FoundColumn) -> Result<(), All
     Ok(())
 }
 
-/// Takes the name of a column of the key.
+/// Reads the name of a column of the key.
 #[tactic(auto, unfolding(crate::specs::Columns::key_column))]
 fn key_column(r: &mut Reader<'_>, alloc: Global, parts: &mut TableParts) -> Result<(), ReadError>
     ensures { TakesSome (λ _. parts_view parts.new) (spec.key_column (parts_view parts.old)) r.old result r.new }
@@ -131,7 +131,7 @@ fn key_column(r: &mut Reader<'_>, alloc: Global, parts: &mut TableParts) -> Resu
     Ok(())
 }
 
-/// Takes the names of the key's columns, which commas part.
+/// Reads the names of the key's columns, separated by commas.
 #[tactic(auto, using(crate::proofs::RepetitionLemmas::chains), unfolding(crate::specs::Columns::key_columns))]
 fn key_columns(r: &mut Reader<'_>, alloc: Global, parts: &mut TableParts) -> Result<(), ReadError>
     ensures { TakesSome (λ _. parts_view parts.new) (spec.key_columns (parts_view parts.old)) r.old result r.new }
@@ -144,7 +144,7 @@ fn key_columns(r: &mut Reader<'_>, alloc: Global, parts: &mut TableParts) -> Res
     Ok(())
 }
 
-/// Takes `PRIMARY KEY ( name , .. )`.
+/// Reads `PRIMARY KEY ( name , .. )`.
 #[tactic(auto, unfolding(crate::specs::Columns::first_key))]
 fn first_key(r: &mut Reader<'_>, alloc: Global, parts: &mut TableParts) -> Result<(), ReadError>
     ensures { TakesSome (λ _. parts_view parts.new) (spec.first_key (parts_view parts.old)) r.old result r.new }
@@ -157,7 +157,7 @@ fn first_key(r: &mut Reader<'_>, alloc: Global, parts: &mut TableParts) -> Resul
     Ok(())
 }
 
-/// Takes the primary key, if the table has none so far.
+/// Reads the primary key, if the table has none so far.
 #[tactic(auto, unfolding(crate::specs::Columns::key_element))]
 fn key_element(r: &mut Reader<'_>, alloc: Global, parts: &mut TableParts) -> Result<(), ReadError>
     ensures { TakesSome (λ _. parts_view parts.new) (spec.key_element (parts_view parts.old)) r.old result r.new }
@@ -168,7 +168,7 @@ fn key_element(r: &mut Reader<'_>, alloc: Global, parts: &mut TableParts) -> Res
     first_key(r, alloc, parts)
 }
 
-/// Takes an element of CREATE TABLE.
+/// Reads an element of CREATE TABLE.
 #[tactic(auto, unfolding(crate::specs::Columns::element))]
 fn element(r: &mut Reader<'_>, alloc: Global, parts: &mut TableParts) -> Result<(), ReadError>
     ensures { TakesSome (λ _. parts_view parts.new) (spec.element (parts_view parts.old)) r.old result r.new }
@@ -183,7 +183,7 @@ fn element(r: &mut Reader<'_>, alloc: Global, parts: &mut TableParts) -> Result<
     }
 }
 
-/// Takes the elements of CREATE TABLE, which commas part: columns, with their types and constraints, and the primary
+/// Reads the elements of CREATE TABLE, separated by commas: columns, with their types and constraints, and the primary
 /// key. There are at most 100 columns, and those of the key are NOT NULL.
 ///
 /// # Errors

@@ -1,13 +1,13 @@
-//! Why a text is not read, and where.
+//! Why a text is refused, and where.
 
 use std::alloc::{AllocError, AllocFailed};
 use thiserror::Error;
 
-/// Why a text is not read.
+/// Why a text is refused.
 #[derive(Clone, Copy, Debug, Error)]
 #[error("{kind}, at byte {place}")]
 pub struct ReadError {
-    /// Where, in bytes from the start of the text. It says nothing where memory ran out.
+    /// Where, in bytes from the start of the text. It has no meaning if memory ran out.
     pub place: usize,
     pub kind: ErrorKind,
 }
@@ -49,7 +49,7 @@ pub enum ErrorKind {
     NullableIndex,
 }
 
-/// Forms of PostgreSQL that are left out.
+/// Forms of PostgreSQL that are not supported.
 #[derive(Clone, Copy, Debug, PartialEq, Eq, Error)]
 pub enum Omitted {
     #[error("this operator")]
@@ -80,7 +80,7 @@ pub enum Omitted {
     DataType,
 }
 
-/// Things of which a catalog or a script may have only so many.
+/// Things of which a catalog or a script may have only a limited number.
 #[derive(Clone, Copy, Debug, PartialEq, Eq, Error)]
 pub enum Limit {
     #[error("tables (64)")]

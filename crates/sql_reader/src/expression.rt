@@ -30,7 +30,7 @@ use std::collections::VecDeque;
 /// How deep parentheses and NOT may nest.
 const MAX_NESTING: u32 = 64;
 
-/// Takes the parenthesis after a part, which begins at the one before it.
+/// Reads the parenthesis after a part, which begins at the opening parenthesis.
 fn closed(r: &mut Reader<'_>, place: usize, inner: Part) -> Result<Part, ReadError>
     ensures { TakesSome part_view (spec.closed place (part_view inner)) r.old result r.new }
 {
@@ -41,7 +41,7 @@ fn closed(r: &mut Reader<'_>, place: usize, inner: Part) -> Result<Part, ReadErr
     })
 }
 
-/// Takes an expression in parentheses.
+/// Reads an expression in parentheses.
 #[cycle(expression)]
 #[tactic(auto, using(crate::proofs::Nesting::nests), unfolding(crate::specs::Expressions::in_parentheses))]
 fn in_parentheses(
@@ -60,7 +60,7 @@ fn in_parentheses(
     Ok(closed(r, place, inner)?)
 }
 
-/// Takes an expression in parentheses, a literal or a column.
+/// Reads an expression in parentheses, a literal or a column.
 #[cycle(expression)]
 #[tactic(auto, unfolding(crate::specs::Expressions::primary))]
 fn primary(
@@ -77,7 +77,7 @@ fn primary(
     simple(r, alloc, columns)
 }
 
-/// Takes `%` and the divisor of a column, after what begins at `first`.
+/// Reads `%` and the divisor of a column, after what begins at `first`.
 #[cycle(expression)]
 #[tactic(auto, unfolding(crate::specs::Expressions::divisor))]
 fn divisor(
@@ -95,7 +95,7 @@ fn divisor(
     Ok(remainder(place, first, column, right.operand)?)
 }
 
-/// Takes `%` and a divisor after an operand, if they follow.
+/// Reads `%` and a divisor after an operand, if they follow.
 #[cycle(expression)]
 #[tactic(auto, unfolding(crate::specs::Expressions::divisor_or_none))]
 fn divisor_or_none(
@@ -114,7 +114,7 @@ fn divisor_or_none(
     Ok(left)
 }
 
-/// Takes an operand, or a remainder of one.
+/// Reads an operand, or a remainder of one.
 #[cycle(expression)]
 #[tactic(auto, unfolding(crate::specs::Expressions::term))]
 fn term(
@@ -129,7 +129,7 @@ fn term(
     Ok(divisor_or_none(r, alloc, columns, depth, left)?)
 }
 
-/// Refuses a cast or an operator that is not read, after a side of a comparison.
+/// Refuses a cast or an operator that is not supported, after a side of a comparison.
 fn side_ended(r: &mut Reader<'_>, part: Part) -> Result<Part, ReadError>
     ensures { Takes part_view (spec.side_ended (part_view part)) r.old result r.new }
 {
@@ -137,7 +137,7 @@ fn side_ended(r: &mut Reader<'_>, part: Part) -> Result<Part, ReadError>
     Ok(part)
 }
 
-/// Takes a side of a comparison.
+/// Reads a side of a comparison.
 #[cycle(expression)]
 #[tactic(auto, unfolding(crate::specs::Expressions::side))]
 fn side(
@@ -152,7 +152,7 @@ fn side(
     Ok(side_ended(r, part)?)
 }
 
-/// Takes a comparison operator and the side after it.
+/// Reads a comparison operator and the side after it.
 #[cycle(expression)]
 #[tactic(auto, using(crate::proofs::Ahead::rest_is_no_more), unfolding(crate::specs::Expressions::right_side))]
 fn right_side(
@@ -173,7 +173,7 @@ fn right_side(
     Ok(side_ended(r, whole)?)
 }
 
-/// Takes one more entry of a list.
+/// Reads one more entry of a list.
 #[cycle(expression)]
 #[tactic(auto, unfolding(crate::specs::Expressions::one_entry))]
 fn one_entry(
@@ -192,7 +192,7 @@ fn one_entry(
     Ok(())
 }
 
-/// Takes the entries after the first of a list, which commas part.
+/// Reads the entries of a list after the first, separated by commas.
 #[cycle(expression)]
 #[tactic(auto, using(crate::proofs::RepetitionLemmas::chains), unfolding(crate::specs::Expressions::other_entries))]
 fn other_entries(
@@ -212,7 +212,7 @@ fn other_entries(
     Ok(others)
 }
 
-/// Takes the list in parentheses after IN.
+/// Reads the list in parentheses after IN.
 #[cycle(expression)]
 #[tactic(auto, using(crate::proofs::Nesting::nests), unfolding(crate::specs::Expressions::in_list))]
 fn in_list(
@@ -237,7 +237,7 @@ fn in_list(
     Ok(side_ended(r, whole)?)
 }
 
-/// Takes the bounds after BETWEEN.
+/// Reads the bounds after BETWEEN.
 #[cycle(expression)]
 #[tactic(auto, unfolding(crate::specs::Expressions::bounds))]
 fn bounds(
@@ -258,7 +258,7 @@ fn bounds(
     Ok(side_ended(r, whole)?)
 }
 
-/// Takes IN and its list or BETWEEN and its bounds, with NOT before them or not, if they follow.
+/// Reads IN and its list or BETWEEN and its bounds, with or without NOT before them, if they follow.
 #[cycle(expression)]
 #[tactic(auto, unfolding(crate::specs::Expressions::member_or_none))]
 fn member_or_none(
@@ -277,7 +277,7 @@ fn member_or_none(
     }
 }
 
-/// Takes a comparison, IN or BETWEEN, and what follows it, if they are ahead.
+/// Reads a comparison, IN or BETWEEN, and what follows it, if they are ahead.
 #[cycle(expression)]
 #[tactic(auto, unfolding(crate::specs::Expressions::right_side_or_none))]
 fn right_side_or_none(
@@ -295,7 +295,7 @@ fn right_side_or_none(
     }
 }
 
-/// Takes a comparison, or an operand alone.
+/// Reads a comparison, or an operand by itself.
 #[cycle(expression)]
 #[tactic(auto, unfolding(crate::specs::Expressions::comparison))]
 fn comparison(
@@ -310,7 +310,7 @@ fn comparison(
     Ok(right_side_or_none(r, alloc, columns, depth, left)?)
 }
 
-/// Takes what is after IS DISTINCT FROM.
+/// Reads what is after IS DISTINCT FROM.
 #[cycle(expression)]
 #[tactic(auto, unfolding(crate::specs::Expressions::distinct_side))]
 fn distinct_side(
@@ -330,7 +330,7 @@ fn distinct_side(
     Ok(side_ended(r, whole)?)
 }
 
-/// Takes the test after a part, if there is one.
+/// Reads the test after a part, if there is one.
 #[cycle(expression)]
 #[tactic(auto, unfolding(crate::specs::Expressions::tested))]
 fn tested(
@@ -351,7 +351,7 @@ fn tested(
     }
 }
 
-/// Takes a comparison with a test after it or none.
+/// Reads a comparison, with or without a test after it.
 #[cycle(expression)]
 #[tactic(auto, unfolding(crate::specs::Expressions::predicate))]
 fn predicate(
@@ -366,7 +366,7 @@ fn predicate(
     Ok(tested(r, alloc, columns, depth, part)?)
 }
 
-/// Takes NOT and what it negates.
+/// Reads NOT and what it negates.
 #[cycle(expression)]
 #[tactic(auto, using(crate::proofs::Nesting::nests), unfolding(crate::specs::Expressions::after_not))]
 fn after_not(
@@ -385,7 +385,7 @@ fn after_not(
     Ok(negated(alloc, place, part)?)
 }
 
-/// Takes a part of an AND.
+/// Reads a part of an AND.
 #[cycle(expression)]
 #[tactic(auto, unfolding(crate::specs::Expressions::negation))]
 fn negation(
@@ -402,7 +402,7 @@ fn negation(
     predicate(r, alloc, columns, depth)
 }
 
-/// Takes one more part of an AND.
+/// Reads one more part of an AND.
 #[cycle(expression)]
 #[tactic(auto, unfolding(crate::specs::Expressions::one_more_negation))]
 fn one_more_negation(
@@ -420,7 +420,7 @@ fn one_more_negation(
     Ok(both(alloc, place, filter, right)?)
 }
 
-/// Takes a chain of ANDs, which builds to the left.
+/// Reads a chain of ANDs, which is grouped to the left.
 #[cycle(expression)]
 #[tactic(auto, using(crate::proofs::RepetitionLemmas::chains), unfolding(crate::specs::Expressions::conjunction))]
 fn conjunction(
@@ -439,7 +439,7 @@ fn conjunction(
     Ok(left)
 }
 
-/// Takes one more part of an OR.
+/// Reads one more part of an OR.
 #[cycle(expression)]
 #[tactic(auto, unfolding(crate::specs::Expressions::one_more_conjunction))]
 fn one_more_conjunction(
@@ -457,7 +457,7 @@ fn one_more_conjunction(
     Ok(either(alloc, place, filter, right)?)
 }
 
-/// Takes a chain of ORs, which builds to the left.
+/// Reads a chain of ORs, which is grouped to the left.
 #[cycle(expression)]
 #[tactic(auto, using(crate::proofs::RepetitionLemmas::chains), unfolding(crate::specs::Expressions::disjunction))]
 fn disjunction(
@@ -476,7 +476,7 @@ fn disjunction(
     Ok(left)
 }
 
-/// Takes a filter over these columns (PostgreSQL 15, "31.3 Row Filters"). Parentheses and NOT nest at most 64 deep.
+/// Reads a filter over these columns (PostgreSQL 15, "31.3 Row Filters"). Parentheses and NOT nest at most 64 deep.
 ///
 /// # Errors
 ///

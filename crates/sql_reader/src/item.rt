@@ -1,4 +1,4 @@
-//! Tokens as the grammar tells them apart.
+//! Tokens as the grammar distinguishes them.
 
 ghost use Rattle.std.specs.Prelude.{◌≡◌};
 ghost use Rattle.sql_reader.specs.Items as spec;
@@ -10,11 +10,11 @@ use sql_tokens::{Operator, TokenKind};
 #[derive(Clone, Copy)]
 pub enum Item {
     Keyword(Keyword),
-    /// A word that is no keyword.
+    /// A word that is not a keyword.
     Word,
     /// A name between double quotes.
     QuotedName,
-    /// A number with no sign.
+    /// A number without a sign.
     Number(u64),
     /// A string between single quotes.
     Text,
@@ -31,7 +31,7 @@ pub enum Item {
 }
 
 impl Item {
-    /// The item that a token of this kind is, where `written` is the token as it is written.
+    /// The item that a token of this kind is; `written` is the token as it is written.
     pub(crate) fn of(kind: TokenKind, written: &str) -> Item
         ensures { result ≡ spec.item_of kind written.now }
     {
@@ -75,7 +75,7 @@ impl Item {
         }
     }
 
-    /// Whether a name may be written so.
+    /// Whether a name may be written like this.
     pub(crate) fn is_name(self) -> bool
         ensures { result ≡ spec.is_name self }
     {

@@ -1,7 +1,7 @@
 //! Reads pieces of SQL as PostgreSQL 15 does ("SQL Syntax", chapter 4): names, the filters of WHERE clauses, the
 //! columns of CREATE TABLE, and rows of values. A `Reader` goes through the tokens of a text and looks at one token
-//! before it takes it. Each function that takes tokens gives what its rule of the grammar reads, or the first fault
-//! with its place.
+//! before it consumes it. Each function that consumes tokens returns what its rule of the grammar reads, or the first
+//! fault with its place.
 #![tactic(auto)]
 
 mod column;

@@ -16,8 +16,8 @@ const MAX_ATOMS: usize = 64;
 /// How many nodes the filters of a table may have together. Each constant, atom, NOT, AND, OR and IS test is a node.
 const MAX_NODES: usize = 1000;
 
-/// Which limit the filters of a table pass together, if any. Atoms are looked at first. The only error is want of
-/// memory. A filter may be a chain of ANDs and ORs of any length that leans to the left; stack is taken only for its
+/// Which limit the filters of a table exceed together, if any. Atoms are checked first. The only error is out of
+/// memory. A filter may be a chain of ANDs and ORs of any length that leans to the left; stack is used only for its
 /// right parts, and for at most `MAX_NODES` links.
 #[tactic(auto, unfolding(crate::specs::Limits::exceeded))]
 pub fn exceeded_limit<'a>(
@@ -52,7 +52,7 @@ fn are_too_many(atoms: &[&Atom]) -> bool
     atoms.len() > MAX_ATOMS
 }
 
-/// Goes down the left side in a loop, and into the right parts by recursion. It stops once the list is too long, so
+/// Walks down the left side in a loop, and into the right parts by recursion. It stops when the list is too long, so
 /// each atom is compared with at most `MAX_ATOMS` others.
 #[tactic(auto, using(crate::proofs::CountingLemmas::full_stays))]
 fn gather_atoms<'a>(atoms: &mut Vec<&'a Atom, Global>, filter: &'a Filter) -> Result<(), AllocError>
@@ -89,8 +89,8 @@ fn has_too_many_nodes(filters: &[&Filter]) -> bool
     false
 }
 
-/// How many of `left` nodes are left after those of the filter; nothing if it has more. So it takes at most `left`
-/// steps.
+/// How many of `left` nodes remain after the nodes of the filter; `None` if the filter has more. So it takes at most
+/// `left` steps.
 #[tactic(auto, using(crate::proofs::CountingLemmas::nodes_positive))]
 fn nodes_left(filter: &Filter, left: usize) -> Option<usize>
     ensures { result ≡ left_after (nodes (expr_view filter.now)) left }

@@ -26,7 +26,7 @@ use std::collections::VecDeque;
 /// How many entries a list may have.
 const MAX_ENTRIES: usize = 100;
 
-/// Whether an operand begins with this token, or NULL or CASE in its place.
+/// Whether this token begins an operand, or is NULL or CASE instead.
 fn begins_operand(item: Option<Item>) -> bool
     ensures { result ≡ spec.begins_operand item }
 {
@@ -57,7 +57,7 @@ pub fn room_in_list(r: &Reader<'_>, others: usize) -> Result<(), ReadError>
     Err(r.refusal("a literal"))
 }
 
-/// The place of a literal's kind in the order.
+/// The rank of a literal's kind in the order.
 fn rank(literal: &Literal) -> u8
     ensures { result ≡ constant_rank (constant_view literal.now) }
 {
@@ -68,7 +68,7 @@ fn rank(literal: &Literal) -> u8
     }
 }
 
-/// The order of the values that two literals are.
+/// The order of the values of two literals.
 fn literal_cmp(one: &Literal, other: &Literal) -> Ordering
     ensures { result ≡ constant_cmp (constant_view one.now) (constant_view other.now) }
 {
@@ -81,7 +81,7 @@ fn literal_cmp(one: &Literal, other: &Literal) -> Ordering
     }
 }
 
-/// Where a literal is to be put into a list in order, if the list does not have it.
+/// Where to put a literal into an ordered list, if the list does not have it.
 fn place_of(literals: &[Literal], literal: &Literal) -> Option<usize>
     ensures { MatchOption result
         (placed (map constant_view literals.now) (constant_view literal.now) ≡ map constant_view literals.now)
@@ -99,7 +99,7 @@ fn place_of(literals: &[Literal], literal: &Literal) -> Option<usize>
     Some(literals.len())
 }
 
-/// Puts a literal into its place in a list in order, unless the list has it.
+/// Puts a literal into its place in an ordered list, unless the list has it.
 #[tactic(auto, using(crate::proofs::Placing::map_insert))]
 fn put(literals: &mut Vec<Literal>, literal: Literal) -> Result<(), AllocError>
     ensures { OnOk result (map constant_view literals.new.items
@@ -164,7 +164,8 @@ pub fn among_part(
     Ok(formed(alloc, word.is_negated, start, filter)?)
 }
 
-/// A law, and no code: the constants of an IN list that was read ascend, and are those of the list as it was written.
+/// A law: a function without an effect whose contract states it. The constants of an IN list that was read ascend, and
+/// are those of the list as it was written.
 #[tactic(auto, using(crate::proofs::AscendingLemmas::lists_ascend_law))]
 pub fn lists_ascend()
     ensures { ListsAscend }

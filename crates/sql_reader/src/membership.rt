@@ -1,4 +1,4 @@
-//! The words IN and BETWEEN after an operand, with NOT before them or not.
+//! The words IN and BETWEEN after an operand, with or without NOT before them.
 
 ghost use Rattle.sql_reader.specs.Expressions as spec;
 ghost use Rattle.sql_reader.specs.ParsingContracts.{Takes, to_read, Reads};
@@ -24,7 +24,7 @@ pub enum Membership {
     Range(MembershipWord),
 }
 
-/// Takes IN or BETWEEN.
+/// Reads IN or BETWEEN.
 #[tactic(auto, using(crate::proofs::Ahead::rest_is_no_more), unfolding(crate::specs::Expressions::membership_word))]
 fn membership_word(r: &mut Reader<'_>, is_negated: bool) -> Result<MembershipWord, ReadError>
     ensures { Takes (λ word. word) (spec.membership_word is_negated) r.old result r.new }
@@ -34,7 +34,7 @@ fn membership_word(r: &mut Reader<'_>, is_negated: bool) -> Result<MembershipWor
     Ok(MembershipWord { place, is_negated })
 }
 
-/// Takes IN, before a list.
+/// Reads IN, before a list.
 #[tactic(auto, unfolding(crate::specs::Expressions::list_ahead))]
 fn list_ahead(r: &mut Reader<'_>, is_negated: bool) -> Result<Option<Membership>, ReadError>
     ensures { Takes (λ membership. membership) (spec.list_ahead is_negated) r.old result r.new }
@@ -59,7 +59,7 @@ fn no_symmetry(r: &Reader<'_>) -> Result<(), ReadError>
     }
 }
 
-/// Takes BETWEEN, before its bounds.
+/// Reads BETWEEN, before its bounds.
 #[tactic(auto, unfolding(crate::specs::Expressions::range_ahead))]
 fn range_ahead(r: &mut Reader<'_>, is_negated: bool) -> Result<Option<Membership>, ReadError>
     ensures { Takes (λ membership. membership) (spec.range_ahead is_negated) r.old result r.new }
@@ -69,7 +69,7 @@ fn range_ahead(r: &mut Reader<'_>, is_negated: bool) -> Result<Option<Membership
     Ok(Some(Membership::Range(word)))
 }
 
-/// Takes NOT after an operand, and the word that it negates.
+/// Reads NOT after an operand, and the word that it negates.
 #[tactic(auto, using(crate::proofs::Ahead::rest_is_no_more), unfolding(crate::specs::Expressions::negated_membership))]
 fn negated_membership(r: &mut Reader<'_>) -> Result<Option<Membership>, ReadError>
     ensures { Takes (λ membership. membership) spec.negated_membership r.old result r.new }
@@ -85,7 +85,7 @@ fn negated_membership(r: &mut Reader<'_>) -> Result<Option<Membership>, ReadErro
     }
 }
 
-/// Takes IN or BETWEEN after an operand, with NOT before it or not, if one is ahead.
+/// Reads IN or BETWEEN after an operand, with or without NOT before it, if one is ahead.
 #[tactic(auto, unfolding(crate::specs::Expressions::membership_or_none))]
 pub fn membership_or_none(r: &mut Reader<'_>) -> Result<Option<Membership>, ReadError>
     ensures { Takes (λ membership. membership) spec.membership_or_none r.old result r.new }

@@ -1,4 +1,4 @@
-//! Names and strings, as they are meant.
+//! Names and strings, with their meaning.
 
 ghost use Rattle.std.specs.Prelude.{◌≡◌, IfOk, IsSome, IsTrue};
 ghost use Rattle.sql_reader.specs.Names as spec;
@@ -11,7 +11,7 @@ use crate::reader::Reader;
 use filter_tree::Text;
 use std::alloc::{AllocError, Global};
 
-/// A name that was read as it is meant, and the place where it is, in bytes from the start of the text.
+/// A name as it is meant, and its place in bytes from the start of the text.
 #[derive(Drop)]
 pub struct PlacedName {
     pub place: usize,
@@ -51,11 +51,11 @@ fn name_text(r: &Reader<'_>, alloc: Global) -> Result<Text, AllocError>
     }
 }
 
-/// Takes a name, in lower case unless it is quoted (PostgreSQL 15, "4.1.1 Identifiers and Key Words").
+/// Reads a name, in lower case unless it is quoted (PostgreSQL 15, "4.1.1 Identifiers and Key Words").
 ///
 /// # Errors
 ///
-/// The fault of the token ahead, or `Expected` where it is no name; `OutOfMemory`.
+/// The fault of the token ahead, or `Expected` if it is not a name; `OutOfMemory`.
 #[tactic(auto, using(crate::proofs::Ahead::rest_of_name_is_fewer), unfolding(crate::specs::Names::name))]
 pub fn read_name(
     r: &mut Reader<'_>,

@@ -15,7 +15,7 @@ pub struct PlacedNumber {
     pub number: i64,
 }
 
-/// Takes a number, as the negative one where a minus came before it.
+/// Reads a number, and negates it if a minus came before it.
 #[tactic(auto, using(crate::proofs::Ahead::rest_of_number_is_fewer), unfolding(crate::specs::Numbers::number))]
 fn number(r: &mut Reader<'_>, negative: bool) -> Result<PlacedNumber, ReadError>
     ensures { TakesSome (λ number. number) (spec.number negative) r.old result r.new }
@@ -30,7 +30,7 @@ fn number(r: &mut Reader<'_>, negative: bool) -> Result<PlacedNumber, ReadError>
     }
 }
 
-/// Takes a number, with a minus before it or none, and tells the place of its digits.
+/// Reads a number, with or without a minus before it, and also returns the place of its digits.
 #[tactic(auto, using(crate::proofs::Ahead::rest_is_fewer), unfolding(crate::specs::Numbers::placed_number, crate::specs::Reading::eat))]
 pub fn placed_number(r: &mut Reader<'_>) -> Result<PlacedNumber, ReadError>
     ensures { TakesSome (λ number. number) spec.placed_number r.old result r.new }
@@ -39,7 +39,7 @@ pub fn placed_number(r: &mut Reader<'_>) -> Result<PlacedNumber, ReadError>
     Ok(number(r, negative)?)
 }
 
-/// Takes a number, with a minus before it or none.
+/// Reads a number, with or without a minus before it.
 #[tactic(auto, unfolding(crate::specs::Numbers::signed_number))]
 pub fn signed_number(r: &mut Reader<'_>) -> Result<i64, ReadError>
     ensures { TakesSome (λ number. number) spec.signed_number r.old result r.new }

@@ -1,4 +1,4 @@
-//! Parts of an expression that were read, and which of them fit together.
+//! Parts of an expression, and which of them fit together.
 
 ghost use Rattle.std.specs.Prelude.{◌≡◌};
 ghost use Rattle.std.specs.Option.{option_map};
@@ -13,12 +13,12 @@ use crate::error::{ErrorKind, ReadError};
 use filter_tree::{Atom, ColType, Filter, Literal, Op, Term};
 use std::alloc::Global;
 
-/// What a part of an expression is. Parentheses round it make no difference.
+/// What a part of an expression is. Parentheses around it make no difference.
 #[derive(Drop)]
 pub enum Operand {
     /// A column or a remainder of one, and the type of the column.
     Term(Term, ColType),
-    /// A literal, and the place of its token: of the digits, where a minus comes before them.
+    /// A literal, and the place of its token, which is that of the digits if a minus comes before them.
     Literal(usize, Literal),
     /// A boolean expression that is neither a column nor a literal.
     Formula(Filter),
@@ -48,7 +48,7 @@ pub fn truth(operand: Operand) -> Option<Filter>
     }
 }
 
-/// The filter that a part is, where one is wanted.
+/// The filter that a part is, if a filter is required.
 #[tactic(auto, unfolding(crate::specs::Operands::wanted))]
 pub fn wanted(part: Part) -> Result<Filter, ReadError>
     ensures { Answers expr_view (spec.wanted as_filter (part_view part)) result }
@@ -113,7 +113,7 @@ pub fn dividend(operand: Operand) -> Option<FoundColumn>
     }
 }
 
-/// The remainder of a column by a divisor, by the place of `%`, which follows what begins at `first`.
+/// The remainder of a column by a divisor; `place` is that of `%`, which follows what begins at `first`.
 #[tactic(auto, unfolding(crate::specs::Operands::remainder))]
 pub fn remainder(
     place: usize,

@@ -1,4 +1,4 @@
-//! Operators after an operand that are not read.
+//! Operators after an operand that are not supported.
 
 ghost use Rattle.sql_reader.specs.ParsingContracts.{to_read, Reads};
 ghost use Rattle.sql_reader.specs.Expressions as spec;
@@ -9,7 +9,7 @@ use crate::reader::Reader;
 use crate::word::Keyword;
 use sql_tokens::Operator;
 
-/// Refuses a cast, without a look at a faulty token.
+/// Refuses a cast, without looking at a faulty token.
 #[tactic(auto, unfolding(crate::specs::Expressions::no_cast))]
 pub fn no_cast(r: &Reader<'_>) -> Result<(), ReadError>
     ensures { Reads (λ u. u) (spec.no_cast (to_read r.now)) result (to_read r.now) }
@@ -20,7 +20,7 @@ pub fn no_cast(r: &Reader<'_>) -> Result<(), ReadError>
     Ok(())
 }
 
-/// Looks at the token after an operand, and refuses a cast and the operators that are not read.
+/// Looks at the token after an operand, and refuses a cast and the operators that are not supported.
 #[tactic(auto, unfolding(crate::specs::Expressions::no_operator))]
 pub fn no_operator(r: &Reader<'_>) -> Result<(), ReadError>
     ensures { Reads (λ u. u) (spec.no_operator (to_read r.now)) result (to_read r.now) }

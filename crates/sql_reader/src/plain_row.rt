@@ -1,5 +1,6 @@
-//! Rows as people mostly write them, read byte by byte: numbers of digits, NULL, TRUE and FALSE in upper case, and
-//! strings with no quote in them, with a comma and at most one space between. Any other row is read by its tokens.
+//! Rows as they are mostly written, read byte by byte: numbers of digits, NULL, TRUE and FALSE in upper case, and
+//! strings without a quote in them, with a comma and at most one space between values. Any other row is read by its
+//! tokens.
 
 ghost use Rattle.std.specs.Prelude.{◌^◌, pos, neg_ℤ, ◌≡◌, ◌≢◌, ◌+◌, ◌<◌, ◌≤◌, ◌++◌, length, take, drop, slice_index, IfOk, IfSome, IsTrue, Ok, Some};
 ghost use Rattle.std.specs.List.{prefix_len};
@@ -12,7 +13,7 @@ use std::alloc::{AllocError, Global};
 /// The greatest number.
 const LIMIT: u64 = 9_223_372_036_854_775_807;
 
-/// The number that some digits spell, and how many they are.
+/// The number that some digits spell, and how many digits there are.
 #[derive(Clone, Copy)]
 pub(crate) struct Digits {
     pub number: u64,
@@ -53,7 +54,8 @@ fn is_end(text: &str, place: usize) -> bool
     byte == b',' || byte == b')'
 }
 
-/// The number that the digits at the front of some bytes spell; `None` where there is none, or the number is too large.
+/// The number that the digits at the front of some bytes spell; `None` if there are none, or if the number is too
+/// large.
 #[tactic(auto, using(crate::proofs::PlainRows::digit_turns), unfolding(sql_tokens::specs::Numbers::number_from))]
 fn leading_digits(bytes: &[u8]) -> Option<Digits>
     ensures digits { IfSome result (spec.AreDigits bytes.now) }
@@ -159,7 +161,7 @@ fn is_word(text: &str, place: usize, word: &[u8]) -> bool
     rest_from(text, place).starts_with(word) && is_end(text, place + word.len())
 }
 
-/// The value at a place that is spelled by a word.
+/// The value at a place that is spelled as a word.
 fn plain_word(text: &str, place: usize) -> Option<PlacedValue>
     requires { place < length text.now }
     ensures { IfSome result (spec.IsPlain text.now place) }
@@ -213,11 +215,11 @@ fn after_comma(text: &str, place: usize) -> usize
     }
 }
 
-/// The row of a text, if it is written plainly, in the memory of a row that is done with.
+/// The row of a text, if it is written plainly, in the memory of a row that is no longer needed.
 ///
 /// # Errors
 ///
-/// Only want of memory.
+/// Only out of memory.
 pub(crate) fn plain_row(alloc: Global, used: Row, text: &str) -> Result<Option<Row>, AllocError>
     ensures { IfOk result (λ found. IfSome found (λ row. row_of text.now ≡ Ok row)) }
 {

@@ -35,7 +35,7 @@ fn undoubled_by_character(alloc: Global, quote: char, written: &str) -> Result<S
     ensures { IfOk result (λ text. string_bytes text ≡ meant quote written.now) }
 {
     let mut text = String::new(alloc);
-    // Whether the last character is the first of two quotes, if another follows.
+    // Whether the last character is the first of two quotes, if another quote follows.
     let mut is_quote = false;
     for character in written.chars() {
         if is_quote && character == quote {

@@ -17,8 +17,8 @@ pub enum Ahead {
     Item(Item),
 }
 
-/// A reader of the tokens of a text, which looks at one token before it takes it.
-/// Where it is after a name, a filter or the elements of a table were refused, no contract says.
+/// A reader of the tokens of a text, which looks at one token before it consumes it. No contract says where it is after
+/// a name, a filter or the elements of a table were refused.
 #[derive(Drop)]
 pub struct Reader<'a> {
     text: &'a str,
@@ -85,7 +85,7 @@ impl<'a> Reader<'a> {
         }
     }
 
-    /// Takes the token ahead, if there is one that is not faulty.
+    /// Consumes the token ahead, if there is one that is not faulty.
     #[tactic(auto, unfolding(crate::specs::Items::to_read))]
     pub fn advance(&mut self)
         ensures { to_read self.new ≡ spec.rest_of (to_read self.old) }
@@ -115,7 +115,7 @@ impl<'a> Reader<'a> {
     }
 
     /// The token ahead as it is written, without the quotes of a quoted name or a string; nothing at the end of the
-    /// text and where the token is faulty.
+    /// text and if the token is faulty.
     #[tactic(auto, unfolding(crate::specs::Items::to_read))]
     pub fn written(&self) -> &'a str
         ensures { result.now ≡ spec.written_ahead (to_read self.now) }
@@ -126,7 +126,7 @@ impl<'a> Reader<'a> {
         }
     }
 
-    /// Why the token ahead is not taken: it is faulty, or it is not what was expected.
+    /// Why the token ahead is not accepted: it is faulty, or it is not what was expected.
     #[tactic(auto, unfolding(crate::specs::Items::to_read))]
     pub fn refusal(&self, what: &'static str) -> ReadError
         ensures { IsFault result (spec.refusal (to_read self.now)) }
@@ -151,7 +151,7 @@ impl<'a> Reader<'a> {
         }
     }
 
-    /// Whether this token is ahead: not at a faulty one.
+    /// Whether this token is ahead; false at a faulty token.
     #[tactic(auto, unfolding(crate::specs::Reading::is_ahead))]
     pub fn is(&self, item: Item) -> bool
         ensures { result ≡ spec.is_ahead item (to_read self.now) }
@@ -181,7 +181,7 @@ impl<'a> Reader<'a> {
         }
     }
 
-    /// Whether this token is ahead, where a faulty one is refused.
+    /// Whether this token is ahead. A faulty token is refused.
     ///
     /// # Errors
     ///
@@ -195,7 +195,7 @@ impl<'a> Reader<'a> {
         Ok(self.is(item))
     }
 
-    /// Takes this token, if it is ahead, and tells whether it was.
+    /// Consumes this token, if it is ahead, and returns whether it was.
     #[tactic(auto, using(crate::proofs::Ahead::rest_is_no_more), unfolding(crate::specs::Reading::eat))]
     pub fn eat(&mut self, item: Item) -> bool
         ensures takes { spec.eat item (to_read self.old) ≡ Ok (result, to_read self.new) }
@@ -208,11 +208,11 @@ impl<'a> Reader<'a> {
         is_ahead
     }
 
-    /// Takes this token and tells its place, in bytes from the start of the text.
+    /// Consumes this token and returns its place, in bytes from the start of the text.
     ///
     /// # Errors
     ///
-    /// The fault of the token ahead, or `Expected` where it is another token; then nothing is taken.
+    /// The fault of the token ahead, or `Expected` if it is another token; then nothing is consumed.
     #[tactic(auto, using(crate::proofs::Ahead::rest_is_fewer), unfolding(crate::specs::Reading::expect))]
     pub fn expect(&mut self, item: Item, what: &'static str) -> Result<usize, ReadError>
         ensures takes { TakesSome (λ place. place) (spec.expect item) self.old result self.new }
@@ -227,7 +227,7 @@ impl<'a> Reader<'a> {
         Ok(place)
     }
 
-    /// The number ahead, as the negative one where `negative` says so.
+    /// The number ahead, negated if `negative` says so.
     #[tactic(auto, unfolding(crate::specs::Items::to_read))]
     pub(crate) fn number(&self, negative: bool) -> Option<i64>
         ensures { result ≡ number_ahead negative (spec.item_ahead (to_read self.now)) }
@@ -241,7 +241,7 @@ impl<'a> Reader<'a> {
         }
     }
 
-    /// Refuses all but the end of the text.
+    /// Refuses anything but the end of the text.
     #[tactic(auto, unfolding(crate::specs::Rows::end, crate::specs::Items::to_read))]
     pub(crate) fn end(&self, what: &'static str) -> Result<(), ReadError>
         ensures { Reads (λ u. u) (end (to_read self.now)) result (to_read self.now) }
@@ -252,7 +252,7 @@ impl<'a> Reader<'a> {
         }
     }
 
-    /// Whether the text goes on, where a faulty token is refused.
+    /// Whether the text continues. A faulty token is refused.
     ///
     /// # Errors
     ///

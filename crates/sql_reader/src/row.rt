@@ -16,7 +16,7 @@ use filter_tree::{Row, Value};
 use sql_tokens::Operator;
 use std::alloc::Global;
 
-/// Takes `:: text`.
+/// Reads `:: text`.
 #[tactic(auto, using(crate::proofs::Ahead::rest_is_no_more), unfolding(crate::specs::Rows::text_cast))]
 fn text_cast(r: &mut Reader<'_>) -> Result<(), ReadError>
     ensures { TakesSome (λ u. u) spec.text_cast r.old result r.new }
@@ -26,7 +26,7 @@ fn text_cast(r: &mut Reader<'_>) -> Result<(), ReadError>
     Ok(())
 }
 
-/// Takes `:: text`, if it follows.
+/// Reads `:: text`, if it follows.
 #[tactic(auto, unfolding(crate::specs::Rows::cast_or_none))]
 fn cast_or_none(r: &mut Reader<'_>) -> Result<(), ReadError>
     ensures { Takes (λ u. u) spec.cast_or_none r.old result r.new }
@@ -37,7 +37,7 @@ fn cast_or_none(r: &mut Reader<'_>) -> Result<(), ReadError>
     Ok(())
 }
 
-/// Takes a string, with `:: text` after it or nothing.
+/// Reads a string, with or without `:: text` after it.
 #[tactic(auto, using(crate::proofs::Ahead::rest_of_some_is_fewer), unfolding(crate::specs::Rows::string_value))]
 fn string_value(r: &mut Reader<'_>, alloc: Global) -> Result<Value, ReadError>
     requires { IsSome (item_ahead (to_read r.old)) }
@@ -56,7 +56,7 @@ fn number_value(r: &mut Reader<'_>) -> Result<Value, ReadError>
     Ok(Value::Int(signed_number(r)?))
 }
 
-/// Takes a value of a row.
+/// Reads a value of a row.
 #[tactic(auto, using(crate::proofs::Ahead::rest_of_some_is_fewer), unfolding(crate::specs::Rows::value))]
 fn value(r: &mut Reader<'_>, alloc: Global) -> Result<Value, ReadError>
     ensures { TakesSome datum_view spec.value r.old result r.new }
@@ -81,7 +81,7 @@ fn value(r: &mut Reader<'_>, alloc: Global) -> Result<Value, ReadError>
     }
 }
 
-/// Takes one more value.
+/// Reads one more value.
 #[tactic(auto, unfolding(crate::specs::Rows::one_value))]
 fn one_value(r: &mut Reader<'_>, alloc: Global, row: &mut Vec<Value>) -> Result<(), ReadError>
     ensures { TakesSome (λ _. map datum_view row.new.items) (spec.one_value (map datum_view row.old.items))
@@ -92,7 +92,7 @@ fn one_value(r: &mut Reader<'_>, alloc: Global, row: &mut Vec<Value>) -> Result<
     Ok(())
 }
 
-/// Takes the values of a row, which commas part.
+/// Reads the values of a row, separated by commas.
 #[tactic(auto, using(crate::proofs::RepetitionLemmas::chains), unfolding(crate::specs::Rows::values))]
 fn values(r: &mut Reader<'_>, alloc: Global) -> Result<Vec<Value>, ReadError>
     ensures { TakesSome (λ row. map datum_view row.items) spec.values r.old result r.new }
@@ -106,12 +106,12 @@ fn values(r: &mut Reader<'_>, alloc: Global) -> Result<Vec<Value>, ReadError>
     Ok(row)
 }
 
-/// Takes the values of a row between parentheses: `( value , .. )`, where a value is NULL, TRUE, FALSE, a number with a
-/// minus or none, or a string with `:: text` or without.
+/// Reads the values of a row between parentheses: `( value , .. )`. A value is NULL, TRUE, FALSE, a number with or
+/// without a minus, or a string with or without `:: text`.
 ///
 /// # Errors
 ///
-/// The first fault, or `OutOfMemory` where an allocation was refused.
+/// The first fault, or `OutOfMemory` if an allocation failed.
 #[tactic(auto, unfolding(crate::specs::Rows::in_parentheses))]
 pub fn read_values(r: &mut Reader<'_>, alloc: Global) -> Result<Row, ReadError>
     ensures { TakesSome (λ row. row) spec.in_parentheses r.old result r.new }
@@ -131,23 +131,23 @@ fn row(r: &mut Reader<'_>, alloc: Global) -> Result<Row, ReadError>
     Ok(row)
 }
 
-/// Reads a row: `( value , .. )`, where a value is NULL, TRUE, FALSE, a number with a minus or none, or a string with
-/// `:: text` or without. Its values are not held against a table here.
+/// Reads a row: `( value , .. )`. A value is NULL, TRUE, FALSE, a number with or without a minus, or a string with or
+/// without `:: text`. The values are not checked against a table here.
 ///
 /// # Errors
 ///
-/// The first fault of the text, or `OutOfMemory` where an allocation was refused.
+/// The first fault of the text, or `OutOfMemory` if an allocation failed.
 pub fn read_row(alloc: Global, text: &str) -> Result<Row, ReadError>
     ensures { Answers (λ row. row) (spec.row_of text.now) result }
 {
     Ok(read_row_in(alloc, Row::from_values(Vec::new(alloc)), text)?)
 }
 
-/// Reads a row as `read_row` does, in the memory of a row that is done with.
+/// Reads a row as `read_row` does, in the memory of a row that is no longer needed.
 ///
 /// # Errors
 ///
-/// The first fault of the text, or `OutOfMemory` where an allocation was refused.
+/// The first fault of the text, or `OutOfMemory` if an allocation failed.
 #[tactic(auto, unfolding(crate::specs::Rows::row_of))]
 pub fn read_row_in(alloc: Global, used: Row, text: &str) -> Result<Row, ReadError>
     ensures { Answers (λ row. row) (spec.row_of text.now) result }

@@ -1,4 +1,4 @@
-//! Operands of an expression that are no parentheses: literals and columns.
+//! Operands of an expression that are not in parentheses: literals and columns.
 
 ghost use Rattle.std.specs.Prelude.{IsSome};
 ghost use Rattle.sql_reader.specs.Expressions as spec;
@@ -17,7 +17,7 @@ use filter_tree::{Column, Literal, Term};
 use sql_tokens::Operator;
 use std::alloc::Global;
 
-/// Refuses a name that a parenthesis or a point follows.
+/// Refuses a name that is followed by a parenthesis or a point.
 #[tactic(auto, unfolding(crate::specs::Expressions::no_call))]
 fn no_call(r: &Reader<'_>, name: &PlacedName) -> Result<(), ReadError>
     ensures { Reads (λ u. u) (spec.no_call name.now (to_read r.now)) result (to_read r.now) }
@@ -36,7 +36,7 @@ fn no_call(r: &Reader<'_>, name: &PlacedName) -> Result<(), ReadError>
     }
 }
 
-/// Takes the name of a column.
+/// Reads the name of a column.
 #[tactic(auto, unfolding(crate::specs::Expressions::column))]
 fn column(r: &mut Reader<'_>, alloc: Global, columns: &[Column]) -> Result<FoundColumn, ReadError>
     ensures { TakesSome (λ column. column) (spec.column columns.now) r.old result r.new }
@@ -46,7 +46,7 @@ fn column(r: &mut Reader<'_>, alloc: Global, columns: &[Column]) -> Result<Found
     Ok(known_column(columns, &name)?)
 }
 
-/// Takes a column.
+/// Reads a column.
 #[tactic(auto, unfolding(crate::specs::Expressions::column_part))]
 fn column_part(r: &mut Reader<'_>, alloc: Global, columns: &[Column]) -> Result<Part, ReadError>
     ensures { TakesSome part_view (spec.column_part columns.now) r.old result r.new }
@@ -59,7 +59,7 @@ fn column_part(r: &mut Reader<'_>, alloc: Global, columns: &[Column]) -> Result<
     })
 }
 
-/// Takes a number, with a minus before it or none.
+/// Reads a number, with or without a minus before it.
 #[tactic(auto, unfolding(crate::specs::Expressions::number_part))]
 fn number_part(r: &mut Reader<'_>) -> Result<Part, ReadError>
     ensures { TakesSome part_view spec.number_part r.old result r.new }
@@ -72,7 +72,7 @@ fn number_part(r: &mut Reader<'_>) -> Result<Part, ReadError>
     })
 }
 
-/// Takes the type after `::`, which is at `place`.
+/// Reads the type after `::`, which is at `place`.
 #[tactic(auto, using(crate::proofs::Ahead::rest_is_no_more), unfolding(crate::specs::Expressions::text_type))]
 fn text_type(r: &mut Reader<'_>, place: usize) -> Result<(), ReadError>
     ensures { Takes (λ u. u) (spec.text_type place) r.old result r.new }
@@ -90,7 +90,7 @@ fn text_type(r: &mut Reader<'_>, place: usize) -> Result<(), ReadError>
     }
 }
 
-/// Takes `::` and the type after it.
+/// Reads `::` and the type after it.
 #[tactic(auto, unfolding(crate::specs::Expressions::text_cast))]
 fn text_cast(r: &mut Reader<'_>) -> Result<(), ReadError>
     ensures { TakesSome (λ u. u) spec.text_cast r.old result r.new }
@@ -99,7 +99,7 @@ fn text_cast(r: &mut Reader<'_>) -> Result<(), ReadError>
     text_type(r, place)
 }
 
-/// Takes the cast after a string, if there is one.
+/// Reads the cast after a string, if there is one.
 #[tactic(auto, unfolding(crate::specs::Expressions::cast_or_none))]
 fn cast_or_none(r: &mut Reader<'_>) -> Result<(), ReadError>
     ensures { Takes (λ u. u) spec.cast_or_none r.old result r.new }
@@ -110,7 +110,7 @@ fn cast_or_none(r: &mut Reader<'_>) -> Result<(), ReadError>
     Ok(())
 }
 
-/// Takes a string, with `:: text` after it or nothing.
+/// Reads a string, with or without `:: text` after it.
 #[tactic(auto, using(crate::proofs::Ahead::rest_of_some_is_fewer), unfolding(crate::specs::Expressions::string_part))]
 fn string_part(r: &mut Reader<'_>, alloc: Global) -> Result<Part, ReadError>
     requires { IsSome (item_ahead (to_read r.old)) }
@@ -126,7 +126,7 @@ fn string_part(r: &mut Reader<'_>, alloc: Global) -> Result<Part, ReadError>
     })
 }
 
-/// Takes TRUE or FALSE.
+/// Reads TRUE or FALSE.
 #[tactic(auto, using(crate::proofs::Ahead::rest_of_some_is_fewer), unfolding(crate::specs::Expressions::truth_part))]
 fn truth_part(r: &mut Reader<'_>, known: bool) -> Result<Part, ReadError>
     requires { IsSome (item_ahead (to_read r.old)) }
@@ -140,7 +140,7 @@ fn truth_part(r: &mut Reader<'_>, known: bool) -> Result<Part, ReadError>
     })
 }
 
-/// Takes a literal or a column.
+/// Reads a literal or a column.
 #[tactic(auto, unfolding(crate::specs::Expressions::simple))]
 pub fn simple(r: &mut Reader<'_>, alloc: Global, columns: &[Column]) -> Result<Part, ReadError>
     ensures { TakesSome part_view (spec.simple columns.now) r.old result r.new }

@@ -35,7 +35,7 @@ pub fn subject_of(place: usize, operand: Operand) -> Result<Subject, ReadError>
     Err(ReadError { place, kind })
 }
 
-/// The literal after IN or DISTINCT FROM, if it is one that a column of this type may be equal to.
+/// The literal after IN or DISTINCT FROM, if it is one to which a column of this type may be equal.
 pub fn beside(place: usize, kind: ColType, operand: Operand) -> Result<Literal, ReadError>
     ensures { Answers (λ literal. constant_view literal) (spec.beside place kind (operand_view operand)) result }
 {
@@ -50,7 +50,7 @@ pub fn beside(place: usize, kind: ColType, operand: Operand) -> Result<Literal, 
     Err(ReadError { place, kind: fault })
 }
 
-/// The number that a literal is beside a column of this type.
+/// The number that a literal is when compared with a column of this type.
 fn number_beside(place: usize, kind: ColType, literal: &Literal) -> Result<i64, ReadError>
     ensures { Answers (λ number. number) (spec.number_beside place kind (constant_view literal.now)) result }
 {
@@ -66,7 +66,7 @@ fn number_beside(place: usize, kind: ColType, literal: &Literal) -> Result<i64, 
     Err(ReadError { place, kind: fault })
 }
 
-/// A bound of BETWEEN, if it is a number and the column's type one of numbers.
+/// A bound of BETWEEN, if it is a number and the column's type is a number type.
 fn bound(place: usize, kind: ColType, operand: Operand) -> Result<i64, ReadError>
     ensures { Answers (λ number. number) (spec.bound place kind (operand_view operand)) result }
 {
@@ -99,7 +99,7 @@ fn distinct(words: DistinctWords, left: Operand, right: Operand) -> Result<Filte
     Ok(Filter::Atom(Atom::Distinct(subject.term, literal)))
 }
 
-/// A filter at the place of its left side, with NOT or without.
+/// A filter at the place of its left side, with or without NOT.
 pub fn formed(
     alloc: Global,
     is_negated: bool,

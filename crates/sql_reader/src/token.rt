@@ -1,4 +1,4 @@
-//! What the reader makes of a token and of a faulty one.
+//! What the reader makes of a token and of a faulty token.
 
 ghost use Rattle.std.specs.Prelude.{◌≡◌, Some};
 ghost use Rattle.sql_tokens.specs.Left.{IsCut, lexeme};
@@ -30,7 +30,7 @@ pub fn within_quotes<'a>(text: &'a str, token: Token) -> &'a str
     }
 }
 
-/// What is wrong where a token is faulty.
+/// What is wrong if a token is faulty.
 pub fn token_kind(fault: FaultKind) -> ErrorKind
     ensures { wrong_of result ≡ Some (wrong_token fault) }
 {

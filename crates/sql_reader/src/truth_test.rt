@@ -18,7 +18,7 @@ use crate::word::Keyword;
 use filter_tree::{Atom, Filter, Literal, Test};
 use std::alloc::{AllocError, Global};
 
-/// What a test asks for: null, or one of the three truth values.
+/// What a test tests for: null, or one of the three truth values.
 #[derive(Clone, Copy)]
 pub enum TestedValue {
     Null,
@@ -33,7 +33,7 @@ pub struct TruthTest {
     pub asked: TestedValue,
 }
 
-/// IS DISTINCT FROM, by the places of IS and of DISTINCT.
+/// IS DISTINCT FROM, with the places of IS and of DISTINCT.
 #[derive(Clone, Copy)]
 pub struct DistinctWords {
     pub place: usize,
@@ -45,11 +45,11 @@ pub struct DistinctWords {
 #[derive(Clone, Copy)]
 pub enum TestAhead {
     Truth(TruthTest),
-    /// IS DISTINCT FROM, whose right side is still to read.
+    /// IS DISTINCT FROM, whose right side is still to be read.
     Distinct(DistinctWords),
 }
 
-/// Takes what follows IS.
+/// Reads what follows IS.
 #[tactic(auto, using(crate::proofs::Ahead::rest_is_no_more), unfolding(crate::specs::Expressions::asked_for))]
 fn asked_for(r: &mut Reader<'_>) -> Result<TestedValue, ReadError>
     ensures { Takes (λ asked. asked) grammar.asked_for r.old result r.new }
@@ -65,7 +65,7 @@ fn asked_for(r: &mut Reader<'_>) -> Result<TestedValue, ReadError>
     Ok(asked)
 }
 
-/// Takes what a test asks for, after IS, which is at `place`, or IS NOT.
+/// Reads what a test tests for, after IS, which is at `place`, or IS NOT.
 #[tactic(auto, unfolding(crate::specs::Expressions::truth_test))]
 fn truth_test(
     r: &mut Reader<'_>,
@@ -82,7 +82,7 @@ fn truth_test(
     })))
 }
 
-/// Takes DISTINCT FROM, after IS, which is at `place`, or IS NOT.
+/// Reads DISTINCT FROM, after IS, which is at `place`, or IS NOT.
 #[tactic(auto, unfolding(crate::specs::Expressions::distinct_words))]
 fn distinct_words(
     r: &mut Reader<'_>,
@@ -100,7 +100,7 @@ fn distinct_words(
     })))
 }
 
-/// Takes what follows IS, which is at `place`, or IS NOT.
+/// Reads what follows IS, which is at `place`, or IS NOT.
 #[tactic(auto, unfolding(crate::specs::Expressions::after_is))]
 fn after_is(
     r: &mut Reader<'_>,
@@ -115,7 +115,7 @@ fn after_is(
     truth_test(r, place, is_negated)
 }
 
-/// Takes IS and what is asked.
+/// Reads IS and what it tests for.
 #[tactic(auto, unfolding(crate::specs::Expressions::is_test))]
 fn is_test(r: &mut Reader<'_>) -> Result<Option<TestAhead>, ReadError>
     ensures { TakesSome (λ test. test) grammar.is_test r.old result r.new }
@@ -125,7 +125,7 @@ fn is_test(r: &mut Reader<'_>) -> Result<Option<TestAhead>, ReadError>
     Ok(after_is(r, place, is_negated)?)
 }
 
-/// Takes ISNULL or NOTNULL.
+/// Reads ISNULL or NOTNULL.
 #[tactic(auto, using(crate::proofs::Ahead::rest_is_no_more), unfolding(crate::specs::Expressions::null_test))]
 fn null_test(r: &mut Reader<'_>, is_negated: bool) -> Result<Option<TestAhead>, ReadError>
     ensures { Takes (λ test. test) (grammar.null_test is_negated) r.old result r.new }
@@ -139,7 +139,7 @@ fn null_test(r: &mut Reader<'_>, is_negated: bool) -> Result<Option<TestAhead>, 
     })))
 }
 
-/// Takes a test up to its right side, if one is ahead.
+/// Reads a test up to its right side, if one is ahead.
 #[tactic(auto, unfolding(crate::specs::Expressions::test_or_none))]
 pub fn test_or_none(r: &mut Reader<'_>) -> Result<Option<TestAhead>, ReadError>
     ensures { Takes (λ test. test) grammar.test_or_none r.old result r.new }
@@ -201,7 +201,7 @@ fn answered(
     }
 }
 
-/// NOT of a filter, where it is negated.
+/// NOT of a filter, if it is negated.
 pub fn negated_if(alloc: Global, is_negated: bool, filter: Filter) -> Result<Filter, AllocError>
     ensures { IfOk result (λ f. expr_view f ≡ spec.negated_if as_filter is_negated (expr_view filter)) }
 {

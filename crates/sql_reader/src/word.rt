@@ -79,7 +79,7 @@ pub fn keyword_of(word: &str) -> Option<Keyword>
     }
 }
 
-/// Whether a keyword can be no unquoted name.
+/// Whether a keyword cannot be an unquoted name.
 pub fn is_reserved(keyword: Keyword) -> bool
     ensures { result ≡ spec.is_reserved keyword }
 {
@@ -189,7 +189,7 @@ fn late_keyword(word: &str) -> Option<Keyword>
     }
 }
 
-/// The keywords from ALTER to KEY that may be names too.
+/// The keywords from ALTER to KEY that may also be names.
 #[tactic(auto, unfolding(crate::specs::Keywords::early_free_keyword))]
 fn early_free_keyword(word: &str) -> Option<Keyword>
     ensures { result ≡ spec.early_free_keyword word.now }
@@ -225,7 +225,7 @@ fn early_free_keyword(word: &str) -> Option<Keyword>
     }
 }
 
-/// The keywords from LIKE to UNKNOWN that may be names too.
+/// The keywords from LIKE to UNKNOWN that may also be names.
 #[tactic(auto, unfolding(crate::specs::Keywords::late_free_keyword))]
 fn late_free_keyword(word: &str) -> Option<Keyword>
     ensures { result ≡ spec.late_free_keyword word.now }
@@ -259,7 +259,7 @@ fn late_free_keyword(word: &str) -> Option<Keyword>
     }
 }
 
-/// Whether two words differ at most in the case of ASCII letters.
+/// Whether two words differ only in the case of ASCII letters, if at all.
 pub fn same_word(word: &str, other: &str) -> bool
     ensures { result ≡ str_eq_ignore_ascii_case word.now other.now }
 {

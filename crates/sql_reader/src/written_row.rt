@@ -13,20 +13,20 @@ ghost use Rattle.sql_reader.specs.WrittenRows.{row_text, value_text, IsReadableR
 use filter_tree::{Row, Value};
 use std::alloc::{AllocError, Allocator, Global};
 
-/// The text of a row, as `(7, 'eu')`: NULL, TRUE and FALSE in upper case, numbers in decimal, and texts between single
-/// quotes, with each quote in them written twice ("4.1.2. Constants"). `read_row` reads it as that row, if the row has
-/// a value, no value is the least bigint, whose digits are past the greatest, and each text has at most 65,535 bytes
-/// and no zero byte.
+/// The text of a row, such as `(7, 'eu')`: NULL, TRUE and FALSE in upper case, numbers in decimal, and texts between
+/// single quotes, with each quote in them doubled ("4.1.2. Constants"). `read_row` reads it as that row, if the row has
+/// a value, no value is the least bigint, whose digits exceed the greatest, and each text has at most 65,535 bytes and
+/// no zero byte.
 ///
 /// # Errors
 ///
-/// Only want of memory.
+/// Only out of memory.
 #[tactic(auto, using(crate::proofs::SpelledRows::is_read_again))]
 pub fn write_row<R: Allocator>(alloc: Global, row: &Row<R>) -> Result<String, AllocError>
     ensures spelled { IfOk result (λ text. string_bytes text ≡ row_text row.now) }
-    // It is read as that row where each value is readable,
+    // It is read as that row if each value is readable,
     ensures again { IfOk result (λ text. IsReadableRow row.now → row_of (string_bytes text) ≡ Ok row.now) }
-    // so where the row fits a table and the least bigint is not in it.
+    // which holds if the row fits a table and does not have the least bigint.
     ensures valid { IfOk result
         (λ text. (columns : List Column) → row_fault columns row.now ≡ None → row.now ≢ [] → ¬ Contains row.now least
         → row_of (string_bytes text) ≡ Ok row.now) }
@@ -65,7 +65,7 @@ fn write_value<R: Allocator>(value: &Value<R>, text: &mut String) -> Result<(), 
     }
 }
 
-/// Writes a text between single quotes, with each quote in it twice.
+/// Writes a text between single quotes, with each quote in it doubled.
 #[tactic(auto, using(crate::proofs::Doubling::doubling))]
 fn write_quoted(inner: &str, text: &mut String) -> Result<(), AllocError>
     ensures { OnOk result (string_bytes text.new ≡ string_bytes text.old ++ value_text (Known (Bytes inner.now))) }

@@ -1,9 +1,9 @@
--- A comment read a byte at a time.
+-- A comment read one byte at a time.
 use Rattle.std.proofs.Common.{◌≡◌, ℕ, ◌+◌, ◌-◌, ◌&&◌, ◌==◌, if◌then◌else◌, List, [], ◌∷◌, Option, Some, None, refl, ap, arith}
 use Rattle.std.proofs.lemmas.Bool.Decides.{nat_tests}
 use Rattle.sql_tokens.specs.Comments.{longer, block_comment}
 
--- What is left of a comment after the byte `before`, which is 0 where that byte belongs to a mark.
+-- What is left of a comment after the byte `before`, which is 0 if that byte belongs to a mark.
 unfoldable pub comment_from : ℕ → ℕ → List ℕ → Option ℕ
 comment_from depth before [] = None
 comment_from depth before (b ∷ bytes) =
@@ -23,7 +23,7 @@ pub longer_zero : (o : Option ℕ) → longer 0 o ≡ o
 longer_zero None = refl
 longer_zero (Some k) = let e : 0 + k ≡ k = omega arith in ap Some e
 
--- a comment with and without its first byte, and read a byte at a time
+-- a comment with and without its first byte, and read one byte at a time
 turns : (bytes : List ℕ)
     → ((depth b : ℕ) → block_comment depth (b ∷ bytes)
     ≡ (if b == 0 then None else longer 1 (comment_from depth b bytes)))

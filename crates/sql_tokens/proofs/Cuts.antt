@@ -1,4 +1,4 @@
--- A text may be cut at the ends of a token, and inside its quotes.
+-- It is valid to cut a text at the ends of a token, and inside its quotes.
 use Rattle.std.proofs.Common.{◌≡◌, ℕ, ◌+◌, ◌-◌, ◌<◌, ◌≤◌, List, length, get_or, take, drop, IsUtf8, sym, ap, ◌∙◌, subst, refl, arith, add-zero, get_or-drop, length-drop}
 use Rattle.std.proofs.lemmas.List.{length-take-le, drop-take, drop-drop, take-take}
 use Rattle.std.proofs.lemmas.Str.{IsCharBoundary-before_ascii, IsCharBoundary-after_ascii}
@@ -8,7 +8,7 @@ use Rattle.sql_tokens.specs.Pieces.{IsToken}
 use Rattle.sql_tokens.specs.Left.{IsCut, IsBetweenQuotes}
 use Rattle.sql_tokens.specs.Meant.{between_quotes}
 
--- the place of the last byte, from the first
+-- the place of the last byte, counted from the first
 last_place : (place n : ℕ) → 0 < n → (place + (n - 1) + 1 ≡ place + n) × (place + (n - 1) ≡ place + n - 1)
 last_place place n some = (omega arith, omega arith)
 
@@ -45,8 +45,8 @@ cut text token utf8 within found =
       number = found.number;
     }
 
--- What is between the quotes of a token is the text between its ends, without a byte on each side. A reader of the
--- tokens cuts that.
+-- What is between the quotes of a token is the text between its ends, without one byte on each side. A reader of the
+-- tokens cuts there.
 pub between_quotes-cut : (text : List ℕ) (place n : ℕ) → 2 ≤ n → place + n ≤ length text
     → between_quotes (take n (drop place text)) ≡ take (place + n - 1 - (place + 1)) (drop (place + 1) text)
 between_quotes-cut text place n two within =

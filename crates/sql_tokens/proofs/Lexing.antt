@@ -36,7 +36,7 @@ rest_at text place n some within =
     ∙ ap (λ k. drop k text) e in
     tokens_from-skip (place + 1) (n - 1) (drop (place + 1) text) long ∙ rw (e, f) refl
 
--- one step of `at`, by the piece there
+-- one step of `at`, by the piece at that place
 pub at-blank : (text : List ℕ) (place n : ℕ) → place < length text → front (drop place text) ≡ Blank n → 0 < n
     → place + n ≤ length text → at text place ≡ at text (place + n)
 at-blank text place n h e some within =

@@ -1,4 +1,4 @@
--- A name in a text that is UTF-8 is UTF-8 too: the text may be cut before and after each byte that is ASCII.
+-- A name in a text that is UTF-8 is UTF-8 too: it is valid to cut the text before and after each ASCII byte.
 use Rattle.std.proofs.Common.{◌≡◌, ℕ, suc, ◌+◌, ◌<◌, ◌≤◌, Bool, true, false, ◌&&◌, ◌==◌, List, [], ◌∷◌, ◌++◌, length, get_or, take, drop, IsUtf8, refl, sym, ap, subst, ◌∙◌, arith, add-zero, append_assoc, get_or-drop, length-append, length-drop}
 use Rattle.std.specs.Prelude.{if◌then◌else◌, slice_index}
 use Rattle.std.specs.List.{prefix_len}
@@ -12,7 +12,7 @@ use Rattle.sql_tokens.specs.declared.bytes.Class.TheVariants as class
 use Rattle.sql_tokens.specs.Bytes.{is_of}
 use Rattle.sql_tokens.specs.Quotes.{undoubled}
 
--- ---- from each byte on that is ASCII
+-- ---- from each ASCII byte on
 
 abbrev pub AreTexts : List ℕ → Type 0
 AreTexts [] = Unit {0}
@@ -70,7 +70,7 @@ inner_utf8 bytes n first utf8 within last =
     IsUtf8-take (drop 1 bytes) n (IsUtf8-drop bytes 1 utf8 after)
     (IsCharBoundary-before_ascii (drop 1 bytes) n within (omega (arith, last)))
 
--- what is before a byte that is ASCII, and what is after it
+-- what is before an ASCII byte, and what is after it
 parted : (part : List ℕ) (b : ℕ) (text : List ℕ) → b < 128 → IsUtf8 (part ++ b ∷ text) → IsUtf8 part × IsUtf8 text
 parted part b text low utf8 =
     let whole = part ++ b ∷ text in

@@ -1,4 +1,4 @@
--- A number only grows by its digits.
+-- A number only grows with more digits.
 use Rattle.std.proofs.Common.{ℕ, ◌+◌, ◌-◌, ◌*◌, ◌≤◌, List, [], ◌∷◌, arith}
 use Rattle.sql_tokens.specs.Numbers.{number_from}
 

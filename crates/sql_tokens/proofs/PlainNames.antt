@@ -28,7 +28,7 @@ use Rattle.sql_tokens.proofs.QuoteLoops.{inner_len-at_quote}
 use Rattle.sql_tokens.specs.Lexed.{Lexed, begins, tokens_from, at}
 use Rattle.sql_tokens.specs.PlainNames.{IsPlainName, IsPlainToken, AreTokensPlain}
 
--- the token at the front of these bytes, where it is a name
+-- the token at the front of these bytes, if it is a name
 abbrev NamesOf : List ℕ → Piece → Type 0
 NamesOf bytes (Blank n) = Unit {0}
 NamesOf bytes (Whole kind n) = IsPlainToken kind (take n bytes)
@@ -57,7 +57,7 @@ word_byte_some b e = grind (arith, nat_tests)
 abbrev IsSome : ℕ → Type 0
 IsSome b = 0 < b
 
--- bytes of which none is zero
+-- bytes, none of which is zero
 abbrev AreSome : List ℕ → Type 0
 AreSome [] = Unit {0}
 AreSome (b ∷ bytes) = IsSome b × AreSome bytes
@@ -116,7 +116,7 @@ word_names bytes letter =
 
 -- ---- quoted names
 
--- there is no zero byte before the quote that closes
+-- there is no zero byte before the closing quote
 inner_some : (quote : ℕ) → 0 < quote → (bytes : List ℕ) → IfSome (inner_len quote bytes) (λ n. AreSome (take n bytes))
 unfolding inner_len
 inner_some quote q [] = tt
@@ -217,7 +217,7 @@ quoted_names bytes first utf8 =
     quoted_by bytes (inner_len 34 (drop 1 bytes)) first utf8 (inner_len-at_quote 34 (drop 1 bytes))
     (inner_some 34 (omega arith) (drop 1 bytes))
 
--- ---- other tokens are no names
+-- ---- other tokens are not names
 
 comment_names : (bytes : List ℕ) (found : Option ℕ) → NamesOf bytes (comment_piece found)
 comment_names bytes None = tt

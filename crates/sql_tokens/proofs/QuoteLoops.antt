@@ -1,12 +1,12 @@
--- A quoted text read a byte at a time.
+-- A quoted text read one byte at a time.
 use Rattle.std.proofs.Common.{◌≡◌, ℕ, suc, ◌+◌, ◌<◌, ◌≤◌, Bool, true, false, ◌&&◌, ◌==◌, if◌then◌else◌, List, [], ◌∷◌, length, get_or, Option, Some, None, IfSome, refl, arith, eqb-true}
 use Rattle.std.proofs.lemmas.Bool.Decides.{nat_tests}
 use Rattle.sql_tokens.specs.Comments.{longer}
 use Rattle.sql_tokens.specs.Quotes.{inner_len, undoubled}
 use Rattle.sql_tokens.proofs.CommentLoops.{longer_none, longer_longer, longer_zero}
 
--- How many bytes more come before the quote that closes, after a quote that closes if no other follows, or after
--- another byte.
+-- How many more bytes come before the closing quote: after a quote, which closes if no other follows, or after another
+-- byte.
 unfoldable pub inner_from : ℕ → Bool → List ℕ → Option ℕ
 inner_from quote is_quote [] = if is_quote then Some 0 else None
 inner_from quote is_quote (b ∷ bytes) =
@@ -14,7 +14,8 @@ inner_from quote is_quote (b ∷ bytes) =
     else (if b == 0 then None
     else (if b == quote then inner_from quote true bytes else longer 1 (inner_from quote false bytes)))
 
--- How many bytes are left once quotes are undoubled, after a quote that may be the first of two, or after another byte.
+-- How many bytes are left once quotes are undoubled: after a quote, which may be the first of two, or after another
+-- byte.
 unfoldable pub undoubled_from : ℕ → Bool → List ℕ → ℕ
 undoubled_from quote is_quote [] = 0
 undoubled_from quote is_quote (b ∷ bytes) = if is_quote && b == quote then
@@ -67,7 +68,7 @@ undoubled-no_longer quote bytes =
     let less = undoubled_from-no_longer quote false bytes in
     omega (arith, undoubled-from quote bytes)
 
--- at the place there is the quote
+-- the quote is at this place
 abbrev IsAtQuote : ℕ → List ℕ → ℕ → Type 0
 IsAtQuote quote bytes n = (n < length bytes) × (get_or bytes n 0 ≡ quote)
 
@@ -99,7 +100,7 @@ inner_len-at_quote quote (b ∷ c ∷ bytes) =
     (λ _. at_first e))
     (λ _. one_later quote b (c ∷ bytes) _ (inner_len-at_quote quote (c ∷ bytes))))
 
--- where the inner text ends there is the quote
+-- the quote is where the inner text ends
 pub inner_len-ends : (quote : ℕ) (bytes : List ℕ) (n : ℕ) → inner_len quote bytes ≡ Some n → get_or bytes n 0 ≡ quote
 inner_len-ends quote bytes n e = let found = rw e at (inner_len-at_quote quote bytes) in found.1
 

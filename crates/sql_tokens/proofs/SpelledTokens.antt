@@ -1,4 +1,4 @@
--- The text of a value, read from the front: each piece of it is the token that it was written as.
+-- The text of a value, read from the front: each piece of it is the token as which it was written.
 use Rattle.std.proofs.Common.{◌≡◌, ℕ, suc, ◌+◌, ◌-◌, ◌^◌, ◌<◌, ◌≤◌, Bool, true, false, ◌==◌, List, [], ◌∷◌, ◌++◌, length, get_or, Some, inl, inr, refl, ap, ◌∙◌, arith, rules, append_assoc, length-append, eqb-true}
 use Rattle.std.specs.Prelude.{nat_lt, codes, Contains, ◌⊎◌}
 use Rattle.std.specs.Char.{is_ascii_digit}
@@ -35,7 +35,7 @@ EndsValue next = (next ≡ 44) ⊎ (next ≡ 41)
 abbrev pub lexeme : TokenKind → ℕ → List ℕ → Lexeme
 lexeme kind place text = record { kind = kind; place = place; text = text }
 
--- the bytes of a token come before others
+-- the bytes of a token come before other bytes
 abbrev pub Begins : TokenKind → ℕ → List ℕ → List ℕ → Type 0
 Begins kind place text rest =
     tokens_from place 0 (text ++ rest) ≡ Then (lexeme kind place text) (tokens_from (place + length text) 0 rest)
@@ -267,7 +267,7 @@ string_token place text next rest clean short ends =
     token_here place Text (in_quotes 39 text) (next ∷ rest) (omega arith)
     (rw (append_assoc, whole) (string_front text next rest clean short ends))
 
--- and what it says
+-- and what they mean
 pub string_says : (text : List ℕ) → undoubled 39 (between_quotes (in_quotes 39 text)) ≡ text
 string_says text =
     let inner_length : length (in_quotes 39 text) - 2 ≡ length (doubled 39 text) =

@@ -10,7 +10,7 @@ abbrev pub is_free_sign : ℕ → Bool
 is_free_sign b = b == 126 || b == 33 || b == 64 || b == 35 || b == 37 || b == 94 || b == 38 || b == 124 || b == 96
     || b == 63
 
--- + - * / < > = and those
+-- + - * / < > = and the above
 abbrev pub is_sign : ℕ → Bool
 is_sign b = b == 43 || b == 45 || b == 42 || b == 47 || b == 60 || b == 62 || b == 61 || is_free_sign b
 

@@ -5,7 +5,7 @@ use Rattle.std.specs.List.{prefix_len}
 use Rattle.sql_tokens.specs.declared.bytes.Class.TheVariants as class
 use Rattle.sql_tokens.specs.Bytes.{is_of}
 
--- `n` bytes more
+-- `n` more bytes
 abbrev pub longer : ℕ → Option ℕ → Option ℕ
 longer n = option_map (λ k. n + k)
 
@@ -23,7 +23,7 @@ line_comment bytes =
     let n = prefix_len (is_of class.LineByte) bytes in
     if nat_lt n (length bytes) && slice_index bytes n == 0 then None else Some n
 
--- A comment with `depth` more round it ends with the asterisk and slash that close the outermost. It has no zero byte.
+-- A comment inside `depth` others ends with the asterisk and slash that close the outermost. It has no zero byte.
 unfoldable pub block_comment : ℕ → List ℕ → Option ℕ
 block_comment depth (b ∷ c ∷ bytes) =
     if b == 0 then None

@@ -19,7 +19,7 @@ abbrev pub comment_piece : Option ℕ → Piece
 comment_piece None = Faulty BadToken
 comment_piece (Some n) = Blank (2 + n)
 
--- a letter directly before a quote, by what the letter and the two bytes after it are
+-- a letter directly before a quote, depending on the letter and the two bytes after it
 abbrev pub is_string_form : ℕ → ℕ → ℕ → Bool
 is_string_form letter next after =
     let e = to_ascii_lowercase letter in
@@ -35,7 +35,7 @@ word_piece n bytes =
 unfoldable pub word : List ℕ → Piece
 word bytes = word_piece (1 + prefix_len (is_of class.WordByte) (drop 1 bytes)) bytes
 
--- a byte that begins nothing longer, but for a pair of colons
+-- a byte that begins nothing longer, except for two colons
 abbrev pub punctuation : ℕ → ℕ → Piece
 punctuation b next =
     if b == 40 then Whole Open 1 else (if b == 41 then Whole Close 1 else (if b == 44 then Whole Comma 1

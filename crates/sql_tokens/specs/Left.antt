@@ -13,7 +13,7 @@ use Rattle.sql_tokens.specs.Lexed.{Lexeme, Lexed, End, Bad, Then, at}
 abbrev pub text_of : Tokens → List ℕ
 text_of tokens = tokens.text.now
 
--- the tokens that it has not answered yet
+-- the tokens that it has not returned yet
 abbrev pub left : Tokens → Lexed
 left tokens = at (text_of tokens) tokens.place
 
@@ -21,24 +21,24 @@ left tokens = at (text_of tokens) tokens.place
 abbrev pub lexeme : List ℕ → Token → Lexeme
 lexeme text token = record { kind = token.kind; place = token.place; text = take token.length (drop token.place text) }
 
--- the tokens that an answer tells of, where `rest` are those after it
+-- the tokens that a result stands for; `rest` are the tokens after it
 abbrev pub answered : List ℕ → Result (Option Token) TokenFault → Lexed → Lexed
 answered text (Ok None) rest = End (length text)
 answered text (Ok (Some token)) rest = Then (lexeme text token) rest
 answered text (Err fault) rest = Bad fault.place fault.kind
 
--- where the text goes on after an answer
+-- where the text continues after a result
 abbrev pub place_after : List ℕ → Result (Option Token) TokenFault → ℕ
 place_after text (Ok (Some token)) = token.place + token.length
 place_after text _ = length text
 
--- a token with a quote at each end, between which the text may be cut
+-- a token with a quote at each end, between which it is valid to cut the text
 pub record IsBetweenQuotes (text : List ℕ) (token : Token) : Type 0 where
   pub quotes : 2 ≤ token.length
   pub starts : IsCharBoundary text (token.place + 1)
   pub ends : IsCharBoundary text (token.place + token.length - 1)
 
--- a token lies within the text, and the text may be cut at its ends
+-- a token lies within the text, and it is valid to cut the text at its ends
 pub record IsCut (text : List ℕ) (token : Token) : Type 0 where
   pub some : 0 < token.length
   pub within : token.place + token.length ≤ length text

@@ -12,20 +12,21 @@ pub record Lexeme : Type 0 where
   pub place : ℕ
   pub text : List ℕ
 
--- The tokens up to the end of the text, which is at its length, or up to the first fault.
+-- The tokens up to the end of the text, whose place is the text's length, or up to the first fault.
 pub data Lexed : Type 0 where
   End : ℕ → Lexed
   Bad : ℕ → FaultKind → Lexed
   Then : Lexeme → Lexed → Lexed
 
--- what the piece at the front of some bytes makes, where `go_on` reads on past a number of bytes after the first
+-- what the piece at the front of some bytes makes; `go_on` continues after skipping a number of bytes after the first
+-- one
 abbrev pub begins : Piece → ℕ → List ℕ → (ℕ → Lexed) → Lexed
 begins (Blank n) place bytes go_on = go_on (n - 1)
 begins (Whole kind n) place bytes go_on =
     Then (record { kind = kind; place = place; text = take n bytes }) (go_on (n - 1))
 begins (Faulty fault) place bytes go_on = Bad place fault
 
--- the tokens of bytes that are at a place of the text, past `skip` of them
+-- the tokens of bytes that are at a place of the text, after skipping `skip` of them
 unfoldable pub tokens_from : ℕ → ℕ → List ℕ → Lexed
 tokens_from place skip [] = End place
 tokens_from place (suc skip) (b ∷ bytes) = tokens_from (place + 1) skip bytes

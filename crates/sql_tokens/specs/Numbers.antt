@@ -1,4 +1,4 @@
--- Numbers: PostgreSQL 15, "SQL Syntax", 4.1.2.6 Numeric Constants. Those here are of decimal digits alone, and fit a
+-- Numbers: PostgreSQL 15, "SQL Syntax", 4.1.2.6 Numeric Constants. Those here have decimal digits only, and fit a
 -- bigint.
 use Rattle.std.specs.Prelude.{ℕ, ◌+◌, ◌-◌, ◌*◌, ◌^◌, ◌==◌, nat_lt, if◌then◌else◌, List, [], ◌∷◌, take, slice_index}
 use Rattle.std.specs.List.{prefix_len}
@@ -9,7 +9,7 @@ use Rattle.sql_tokens.specs.declared.kinds.Piece.{Piece}
 use Rattle.sql_tokens.specs.declared.kinds.Piece.TheVariants.{Whole, Faulty}
 use Rattle.sql_tokens.specs.Bytes.{is_of}
 
--- digits read after a number
+-- more digits read after a number
 unfoldable pub number_from : ℕ → List ℕ → ℕ
 number_from n [] = n
 number_from n (d ∷ digits) = number_from (10 * n + (d - 48)) digits
@@ -17,7 +17,7 @@ number_from n (d ∷ digits) = number_from (10 * n + (d - 48)) digits
 abbrev pub number_of : List ℕ → ℕ
 number_of digits = number_from 0 digits
 
--- a number of `n` digits, by the byte after it
+-- a number of `n` digits, depending on the byte after it
 abbrev pub number_piece : ℕ → ℕ → ℕ → Piece
 number_piece n value next =
     if is_of class.Letter next then Faulty fault.BadToken

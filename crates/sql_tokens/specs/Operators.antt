@@ -18,8 +18,8 @@ signs_len (b ∷ bytes) =
     if is_of class.Sign b && not (begins_line_comment (b ∷ bytes) || begins_block_comment (b ∷ bytes)) then
     1 + signs_len bytes else 0
 
--- A run drops the plus and minus characters at its end, but keeps one character, unless it has a character that lets
--- it end so.
+-- A run drops the plus and minus characters at its end, but keeps one character. It drops none if it has a character
+-- that allows such an end.
 abbrev pub operator_len : List ℕ → ℕ
 operator_len run = if list_any (is_of class.FreeSign) run then
     length run else max 1 (length run - suffix_len (is_of class.PlusMinus) run)

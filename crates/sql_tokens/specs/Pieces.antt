@@ -1,5 +1,5 @@
--- How a piece lies at the front of some bytes: PostgreSQL 15, "SQL Syntax", 4.1 Lexical Structure. A token begins and
--- ends with an ASCII character.
+-- How a piece is placed at the front of some bytes: PostgreSQL 15, "SQL Syntax", 4.1 Lexical Structure. A token begins
+-- and ends with an ASCII character.
 use Rattle.std.specs.Prelude.{ℕ, ◌-◌, ◌^◌, ◌<◌, ◌≤◌, List, length, slice_index}
 use Rattle.sql_tokens.specs.declared.kinds.TokenKind.{TokenKind}
 use Rattle.sql_tokens.specs.declared.kinds.TokenKind.TheVariants.{QuotedName, Number, Text}

@@ -19,7 +19,7 @@ IsPlainToken Word text = IsPlainName (name_of Word text)
 IsPlainToken QuotedName text = IsPlainName (name_of QuotedName text)
 IsPlainToken _ text = Unit {0}
 
--- so does each of these tokens
+-- so do all of these tokens
 abbrev pub AreTokensPlain : Lexed → Type 0
 AreTokensPlain (End place) = Unit {0}
 AreTokensPlain (Bad place fault) = Unit {0}

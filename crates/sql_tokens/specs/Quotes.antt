@@ -7,14 +7,15 @@ use Rattle.sql_tokens.specs.declared.kinds.Piece.{Piece}
 use Rattle.sql_tokens.specs.declared.kinds.Piece.TheVariants.{Whole, Faulty}
 use Rattle.sql_tokens.specs.Comments.{longer}
 
--- What is between two quotes, where each two quotes side by side are meant as one.
+-- What is between two quotes; each two quotes side by side stand for one.
 unfoldable pub undoubled : ℕ → List ℕ → List ℕ
 undoubled quote (b ∷ c ∷ bytes) = if b == quote && c == quote then
     quote ∷ undoubled quote bytes else b ∷ undoubled quote (c ∷ bytes)
 undoubled quote (b ∷ []) = b ∷ []
 undoubled quote [] = []
 
--- How many bytes come before the quote that closes: a quote with none after it. There is none after a zero byte.
+-- How many bytes come before the closing quote, which is a quote with none after it. There is no closing quote after a
+-- zero byte.
 unfoldable pub inner_len : ℕ → List ℕ → Option ℕ
 inner_len quote (b ∷ c ∷ bytes) =
     if b == 0 then None
@@ -33,7 +34,7 @@ name_piece n meant = if n == 0 then
 abbrev pub string_piece : ℕ → ℕ → Piece
 string_piece n meant = if nat_lt 65535 meant then Faulty LiteralBytes else Whole Text (n + 2)
 
--- what an opening quote makes of the bytes after it
+-- the piece that an opening quote makes with the bytes after it
 abbrev pub quoted : ℕ → (ℕ → ℕ → Piece) → List ℕ → Option ℕ → Piece
 quoted quote piece bytes None = Faulty BadToken
 quoted quote piece bytes (Some n) = piece n (length (undoubled quote (take n bytes)))

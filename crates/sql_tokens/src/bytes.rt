@@ -9,17 +9,17 @@ ghost use Rattle.sql_tokens.specs.Bytes as spec;
 pub(crate) enum Class {
     /// White space: a space, a tab, a newline, a carriage return or a form feed.
     Space,
-    /// What a word begins with: an ASCII letter or an underscore.
+    /// The first byte of a word: an ASCII letter or an underscore.
     Letter,
-    /// What a word goes on with: a letter, an underscore, a digit or a dollar sign.
+    /// A later byte of a word: a letter, an underscore, a digit or a dollar sign.
     WordByte,
     /// A decimal digit.
     Digit,
-    /// What a comment to the end of the line goes on with: no line end and no zero byte.
+    /// A byte of a comment to the end of the line: no line end and no zero byte.
     LineByte,
-    /// What an operator is made of.
+    /// A character of operators.
     Sign,
-    /// Such a character that lets an operator end in a plus or a minus.
+    /// A character of operators that lets an operator end in a plus or a minus.
     FreeSign,
     /// A plus or a minus.
     PlusMinus,

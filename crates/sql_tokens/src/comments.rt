@@ -19,7 +19,7 @@ pub(crate) fn begins_block_comment(bytes: &[u8]) -> bool
     byte_at(bytes, 0) == b'/' && byte_at(bytes, 1) == b'*'
 }
 
-/// The length of a comment after its two hyphens, or `None` where it has a zero byte.
+/// The length of a comment after its two hyphens, or `None` if it has a zero byte.
 pub(crate) fn line_comment(bytes: &[u8]) -> Option<usize>
     ensures value { result ≡ spec.line_comment bytes.now }
     ensures within { IfSome result (λ n. n ≤ length bytes.now) }
@@ -32,8 +32,7 @@ pub(crate) fn line_comment(bytes: &[u8]) -> Option<usize>
     }
 }
 
-/// The length of a comment after its slash and asterisk, or `None` where it does not end or has
-/// a zero byte.
+/// The length of a comment after its slash and asterisk, or `None` if it does not end or has a zero byte.
 #[tactic(auto, using(crate::proofs::CommentLoops::comment_turns), unfolding(crate::proofs::CommentLoops::comment_from))]
 pub(crate) fn block_comment(bytes: &[u8]) -> Option<usize>
     ensures value { result ≡ spec.block_comment 0 bytes.now }
@@ -41,9 +40,9 @@ pub(crate) fn block_comment(bytes: &[u8]) -> Option<usize>
 {
     let mut rest = bytes;
     let mut length = 0;
-    // How many comments are open round the innermost one.
+    // How many comments are open around the innermost one.
     let mut depth: usize = 0;
-    // The byte before the rest, or 0 where it belongs to a mark.
+    // The byte before the rest, or 0 if it belongs to a mark.
     let mut before = 0;
     while let [byte, after @ ..] = rest {
         if *byte == 0 {

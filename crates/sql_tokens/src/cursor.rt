@@ -5,7 +5,7 @@ ghost use Rattle.std.specs.Prelude.{◌≤◌, length, IsUtf8};
 use crate::kinds::{Token, TokenFault};
 use crate::scan::token_at;
 
-/// A cursor over the tokens of a text. It takes no memory, and may be copied to read ahead.
+/// A cursor over the tokens of a text. It allocates no memory, and may be copied to read ahead.
 ///
 /// PostgreSQL 15, "SQL Syntax", 4.1 Lexical Structure.
 #[derive(Clone, Copy)]
@@ -33,8 +33,7 @@ impl<'a> Tokens<'a> {
     ///
     /// # Errors
     ///
-    /// The fault of the next piece of text, where it is no token. The end and a fault are
-    /// answered again by each later call.
+    /// The fault of the next piece of text, if it is not a token. Each later call returns the end or the fault again.
     pub fn next(&mut self) -> Result<Option<Token>, TokenFault>
         ensures text { text_of self.new ≡ text_of self.old }
         ensures next { left self.old ≡ answered (text_of self.old) result (left self.new) }

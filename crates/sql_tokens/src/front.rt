@@ -13,7 +13,7 @@ use crate::numbers::number;
 use crate::quotes::{quoted_name, string};
 use crate::signs::operator;
 
-/// What a comment makes, by its length after the two characters that begin it.
+/// The piece that a comment makes, by its length after the two characters that begin it.
 fn comment_piece(length: Option<usize>) -> Piece
     requires { IfSome length (λ n. n < 2 ^ 63) }
     ensures { result ≡ spec.comment_piece length }
@@ -24,7 +24,7 @@ fn comment_piece(length: Option<usize>) -> Piece
     }
 }
 
-/// Whether a letter comes directly before a quote that it changes, by the bytes after it.
+/// Whether a letter comes directly before a quote whose meaning it changes, by the bytes after it.
 fn is_string_form(letter: u8, next: u8, after: u8) -> bool
     ensures { result ≡ spec.is_string_form letter next after }
 {
@@ -52,7 +52,7 @@ fn word(bytes: &[u8]) -> Piece
     }
 }
 
-/// A byte that begins nothing longer, but for a pair of colons.
+/// A byte that begins nothing longer, except for two colons.
 fn punctuation(bytes: &[u8]) -> Piece
     requires { 0 < length bytes.now }
     ensures value { result ≡ spec.punctuation (slice_index bytes.now 0) (slice_index bytes.now 1) }
@@ -69,7 +69,7 @@ fn punctuation(bytes: &[u8]) -> Piece
     }
 }
 
-/// What is at the front of some bytes, by the tests of all that it may be.
+/// What is at the front of some bytes, by testing for all that it may be.
 #[tactic(auto, unfolding(crate::specs::Front::front))]
 fn any_front(bytes: &[u8]) -> Piece
     requires { 0 < length bytes.now }
@@ -98,8 +98,8 @@ fn any_front(bytes: &[u8]) -> Piece
     }
 }
 
-/// What is at the front of some bytes. Digits, and the marks that part values, come so often that they are told by
-/// their first byte alone.
+/// What is at the front of some bytes. Digits, and the marks that separate values, are so frequent that they are
+/// recognized by their first byte alone.
 #[tactic(auto, using(crate::proofs::Fronts::fronts))]
 pub(crate) fn front(bytes: &[u8]) -> Piece
     requires { 0 < length bytes.now }

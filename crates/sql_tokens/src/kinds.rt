@@ -1,4 +1,4 @@
-//! What a token is, and what a faulty one is.
+//! Tokens and faulty tokens.
 
 /// A token of a text: its kind, and where it is.
 #[derive(Clone, Copy, Debug, PartialEq, Eq)]
@@ -6,7 +6,7 @@ pub struct Token {
     pub kind: TokenKind,
     /// The place of its first byte, in bytes from the start of the text.
     pub place: usize,
-    /// How many bytes it takes as it is written, quotes included.
+    /// How many bytes it has as it is written, quotes included.
     pub length: usize,
 }
 
@@ -15,13 +15,13 @@ pub struct Token {
 pub enum TokenKind {
     /// An unquoted name or a keyword, of at most 63 bytes.
     Word,
-    /// A name between double quotes, of 1 to 63 bytes once its doubled quotes are undone.
+    /// A name between double quotes, of 1 to 63 bytes once doubled quotes are undone.
     QuotedName,
     /// A number of decimal digits, at most 9223372036854775807, with its value.
     Number(u64),
-    /// A string constant, of at most 65,535 bytes once its doubled quotes are undone.
+    /// A string constant, of at most 65,535 bytes once doubled quotes are undone.
     Text,
-    /// An operator that is known here.
+    /// A known operator.
     Operator(Operator),
     /// `(`
     Open,
@@ -37,7 +37,7 @@ pub enum TokenKind {
     DoubleColon,
 }
 
-/// The operators that are known here.
+/// The known operators.
 ///
 /// PostgreSQL 15, "SQL Syntax", 4.1.3 Operators.
 #[derive(Clone, Copy, Debug, PartialEq, Eq)]
@@ -62,7 +62,7 @@ pub enum Operator {
     Star,
 }
 
-/// A piece of text that is no token, or a token that is refused.
+/// A piece of text that is not a token, or a token that is refused.
 #[derive(Clone, Copy, Debug, PartialEq, Eq)]
 pub struct TokenFault {
     /// The place of its first byte, in bytes from the start of the text.
@@ -73,8 +73,8 @@ pub struct TokenFault {
 /// Why a piece of text is refused.
 #[derive(Clone, Copy, Debug, PartialEq, Eq)]
 pub enum FaultKind {
-    /// A byte that begins no token, a quote or comment that does not end, a zero byte, an empty
-    /// quoted name, or a number that runs into a letter.
+    /// A byte that does not begin a token, a quote or comment that does not end, a zero byte, an empty quoted name, or
+    /// a number that runs into a letter.
     BadToken,
     /// A name of more than 63 bytes.
     NameTooLong,
@@ -82,11 +82,11 @@ pub enum FaultKind {
     NumberTooLarge,
     /// A string constant of more than 65,535 bytes.
     LiteralBytes,
-    /// A number with a point after it, which may be a decimal one.
+    /// A number with a point after it, which may be a decimal number.
     Number,
     /// A string constant or a quoted name with a letter before it that changes how it is read.
     StringForm,
-    /// An operator that is not among those known here.
+    /// An operator that is not known here.
     Operator,
 }
 

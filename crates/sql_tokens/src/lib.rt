@@ -1,7 +1,7 @@
 //! Cuts a text into tokens, as PostgreSQL 15 does ("SQL Syntax", 4.1 Lexical Structure).
 //!
-//! `Tokens` is a cursor over a text that takes no memory. It answers a token at a time: its kind,
-//! and the bytes of the text where it is.
+//! `Tokens` is a cursor over a text. It allocates no memory. It returns one token at a time: its kind, and the bytes of
+//! the text where it is.
 #![tactic(auto)]
 
 mod bytes;

@@ -12,7 +12,7 @@ use crate::kinds::{FaultKind, Piece, TokenKind};
 /// The greatest number.
 const LIMIT: u64 = 9_223_372_036_854_775_807;
 
-/// The number that digits spell, or `None` where it is too large.
+/// The number that digits spell, or `None` if it is too large.
 #[tactic(auto, using(crate::proofs::NumberLoops::number_turns), unfolding(crate::specs::Numbers::number_from))]
 fn value_of(digits: &[u8]) -> Option<u64>
     ensures value { let n = spec.number_of digits.now in

@@ -9,7 +9,7 @@ use crate::kinds::{FaultKind, NAME_BYTES, Piece, TokenKind};
 /// The most bytes of a string constant.
 const STRING_BYTES: usize = 65_535;
 
-/// How many bytes come before the quote that closes, or `None` where none does.
+/// How many bytes come before the closing quote, or `None` if there is none.
 #[tactic(auto, using(crate::proofs::QuoteLoops::inner_turns), unfolding(crate::proofs::QuoteLoops::inner_from))]
 fn inner_len(quote: u8, bytes: &[u8]) -> Option<usize>
     ensures value { result ≡ spec.inner_len quote bytes.now }
@@ -18,7 +18,7 @@ fn inner_len(quote: u8, bytes: &[u8]) -> Option<usize>
 {
     let mut rest = bytes;
     let mut length = 0;
-    // Whether a quote comes before the rest that closes if no other follows.
+    // Whether the byte before the rest is a quote, which closes unless another quote follows.
     let mut is_quote = false;
     while let [byte, after @ ..] = rest {
         if is_quote {
@@ -46,7 +46,7 @@ fn undoubled_len(quote: u8, inner: &[u8]) -> usize
 {
     let mut rest = inner;
     let mut length = 0;
-    // Whether the byte before the rest is the first of two quotes, if another follows.
+    // Whether the byte before the rest is the first of two quotes, if another quote follows.
     let mut is_quote = false;
     while let [byte, after @ ..] = rest {
         if is_quote && *byte == quote {
@@ -60,7 +60,7 @@ fn undoubled_len(quote: u8, inner: &[u8]) -> usize
     length
 }
 
-/// Whether more bytes than the limit are left once doubled quotes are undone. There are never more than before.
+/// Whether more bytes than the limit are left once doubled quotes are undone. Undoing never makes more.
 #[tactic(auto, using(crate::proofs::QuoteLoops::shorter))]
 fn is_longer(quote: u8, inner: &[u8], limit: usize) -> bool
     ensures { result ≡ nat_lt limit (length (spec.undoubled quote inner.now)) }

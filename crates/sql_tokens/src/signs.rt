@@ -48,7 +48,7 @@ fn has_free_sign(run: &[u8]) -> bool
     run.iter().any(|byte| is_of(Class::FreeSign, *byte))
 }
 
-/// How much of a run is one operator.
+/// How many bytes of a run are one operator.
 fn operator_len(run: &[u8]) -> usize
     requires { 0 < length run.now }
     ensures value { result ≡ spec.operator_len run.now }
@@ -79,8 +79,7 @@ fn operator_of(signs: &[u8]) -> Option<Operator>
     }
 }
 
-/// The operator at the front of some bytes, which begin with one of its characters and with no
-/// comment.
+/// The operator at the front of some bytes, which begin with one of its characters and not with a comment.
 #[tactic(auto, unfolding(crate::specs::Operators::operator))]
 pub(crate) fn operator(bytes: &[u8]) -> Piece
     requires sign { is_of class.Sign (slice_index bytes.now 0) ≡ true }

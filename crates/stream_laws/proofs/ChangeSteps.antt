@@ -46,7 +46,7 @@ use Rattle.stream_laws.proofs.Safety.{Safe, safe_heard, safe_both}
 use Rattle.stream_laws.proofs.SwapLemmas.{Found, put, IsDone, passing_some}
 use Rattle.filter_tree.proofs.Tests.{by_test}
 
--- ---- a change of a table that was told
+-- ---- a change of a table that was announced
 
 table_known : (machine : Machine) (oid : ℕ) (shape : TableShape) → machine.known oid ≡ true
     → machine.kept oid ≡ Some shape → table_of machine oid ≡ Some shape
@@ -127,7 +127,7 @@ module _ (checked : CheckedOf) (number : ℕ) (table : Table)
       ∙ ap (λ found. own_key checked number (blanked_in found old)) (sym there)
       ∙ (tells_identity checked covered).blanked number old fit)
 
--- where nothing is recorded of the old row, the new one has its key
+-- if nothing is recorded of the old row, the new one has its key
 same_key : (checked : CheckedOf) → Covered (setting_in checked) → (number : ℕ) (old new : List Datum)
     → fits (setting_in checked) number old ≡ true → fits (setting_in checked) number new ≡ true
     → part_of (setting_in checked) number old (Some new) ≡ None
@@ -157,7 +157,7 @@ same_key checked covered number old new fit also h = by_recorded ((setting_in ch
         (Some new)) e) ∙ k in cc)
     by_recorded Nowhere e k = absurd (covered.recorded number e)
 
--- of a row that goes something is recorded
+-- something is recorded of a row that is removed
 record HasPart (checked : CheckedOf) (number : ℕ) (old : List Datum) : Type 0 where
   part : PartOf
   is : part_of (setting_in checked) number old None ≡ Some part
@@ -210,7 +210,7 @@ module _ (checked : CheckedOf) (transactions : List Transaction) (subscriber beg
   flag_there : (told : List Bool) → length told ≡ length checked.catalog.tables → number < length told
   flag_there told long = subst (λ c. number < c) (sym long) (slice_get_within checked.catalog.tables number table there)
 
-  -- the message of a change, where its table was told
+  -- the message of a change, if its table was announced
   ends_with : (told : List Bool) (machine : Machine) (message : Msg) (change : Change) (found : Found)
       → length told ≡ length checked.catalog.tables
       → Inside checked subscriber begin outer (told_one told number) before machine
@@ -234,7 +234,7 @@ module _ (checked : CheckedOf) (transactions : List Transaction) (subscriber beg
             (λ other differ. (steps (λ t. machine.work (oid_of t)) inside.work).beside other differ),
       )
 
-  -- its table's Relation, if it is to come, and then its message
+  -- its table's Relation, if it has to be sent, and then its message
   with_relation : (told : List Bool) (machine : Machine) (message : Msg)
       → Inside checked subscriber begin outer told before machine
       → ((next : Machine) → Inside checked subscriber begin outer (told_one told number) before next

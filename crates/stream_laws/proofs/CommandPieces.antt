@@ -1,4 +1,4 @@
--- The pieces of a command that asks for a stream, each read as it was written.
+-- The pieces of a command that requests a stream, each read as it was written.
 use Rattle.std.proofs.Common.{◌≡◌, ◌≢◌, ℕ, zero, suc, ◌+◌, ◌-◌, ◌*◌, ◌/◌, ◌%◌, ◌^◌, ◌<◌, ◌≤◌, true, false, ◌==◌, List, [], ◌∷◌, ◌++◌, length, get_or, Option, Some, refl, sym, ap, ◌∙◌, arith, append_assoc, length-append, eqb-true}
 use Rattle.std.specs.Prelude.{nat_lt}
 use Rattle.std.specs.Char.{is_ascii_hexdigit, digit_value}
@@ -54,7 +54,7 @@ two_quotes : (quote : ℕ) (after : List ℕ) → quoted quote (quote ∷ quote 
 unfolding quoted
 two_quotes quote after = rw (eq-eqb quote quote refl) refl
 
--- what is written with each quote in it twice is read as it was
+-- what is written with each quote in it doubled is read as it was
 pub quoted_back : (quote : ℕ) (text after : List ℕ) → get_or after 0 0 ≢ quote
     → quoted quote (doubled quote text ++ (quote ∷ after)) ≡ found_as text (length (doubled quote text) + 1)
 quoted_back quote [] after other = last_quote quote after other
@@ -103,7 +103,7 @@ all_hex : (ds : List ℕ) → AllDigits 16 ds → list_all is_ascii_hexdigit ds 
 all_hex [] all = refl
 all_hex (d ∷ ds) all = rw (hex_digit d all.0, all_hex ds all.1) refl
 
--- a number with more than one digit has one more than what is left of it
+-- a number with more than one digit has one digit more than the rest of it
 fewer : (k n : ℕ) → n < 16 ^ suc k → n / 16 == 0 ≡ false → (before : ℕ)
     × ((k ≡ suc before) × (n / 16 < 16 ^ suc before))
 fewer zero n small e =

@@ -1,4 +1,4 @@
--- The command that asks for a stream, read as it was meant.
+-- The command that requests a stream, read as it was meant.
 use Rattle.std.proofs.Common.{◌≡◌, ◌≢◌, ℕ, ◌^◌, ◌<◌, false, ◌==◌, List, [], ◌∷◌, ◌++◌, length, get_or, Some, refl, ap, ◌∙◌, arith}
 use Rattle.std.specs.Prelude.{codes, map, nat_lt, All}
 use Rattle.std.specs.List.{flat_map, slice_split}

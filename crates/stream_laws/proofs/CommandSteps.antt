@@ -56,7 +56,7 @@ pub record ChangesRows (setting : Setting) (before after : Tables) (table : ℕ)
   pub there : (row : List Datum) → old ≡ Some row → holds setting.keys before table row ≡ true
   pub room : (row : List Datum) → new ≡ Some row → holds setting.keys before table row ≡ true → old ≡ Some row
 
--- a row that a key names is there
+-- a row that a key names exists
 named_there : (setting : Setting) (tables : Tables) → Stands setting.keys tables → (table : ℕ) (key row : List Datum)
     → named tables table key ≡ Some row
     → holds setting.keys tables table row ≡ true
@@ -98,7 +98,7 @@ insert_changes setting has tables stands table new h = record {
       (free_of_insert setting tables table new h)) h2);
 }
 
--- without the row that was named, a row is free only in its place
+-- without the row that was named, only its place becomes free for a row
 left_free : (setting : Setting) → HasPrimaryKeys setting.keys → (tables : Tables) → Stands setting.keys tables
     → (table : ℕ) (key new : List Datum) (old : Option (List Datum))
     → named tables table key ≡ old → is_free setting.keys (without setting.keys tables table old) table new ≡ true
@@ -150,7 +150,7 @@ delete_changes setting has tables stands table key h = record {
 
 -- ---- at the subscriber
 
--- rows that fit a table have one key at the subscriber where they have one identity, and only there
+-- rows that fit a table have the same key at the subscriber if, and only if, they have the same identity
 pub record TellsIdentity (setting : Setting) (key_of : ℕ → List Datum → List Datum) : Type 0 where
   pub same_identity : (table : ℕ) (one other : List Datum) → fits setting table one ≡ true
       → fits setting table other ≡ true
@@ -180,7 +180,7 @@ swaps_rows setting key_of tells before after fit apart table old new changes = r
       (tells.same_identity table one other (fit table one one_there) (fit table other other_there) keys);
 }
 
--- what the subscriber of this number does with the rows that it sees go and come in a table
+-- what the subscriber of this number does with the rows that it sees removed and added in a table
 pub record Steps (setting : Setting) (key_of : ℕ → List Datum → List Datum) (subscriber : ℕ) (copies : ℕ → Found)
     (after : Tables) (table : ℕ) (old new : Option (List Datum)) : Type 0 where
   pub here : IsDone (key_of table) (copies table) (passing (setting.passes subscriber table) old)
@@ -217,7 +217,7 @@ step_of setting key_of tells subscriber copies before after finds fit apart tabl
       (λ row. ap (λ b. b && setting.passes subscriber other row) (sym (changes.beside other row differ)));
 }
 
--- rows that go and come fit their table
+-- rows that are removed and added fit their table
 pub old_fits : (setting : Setting) (before after : Tables) (table : ℕ) (old new : Option (List Datum))
     → ChangesRows setting before after table old new → AllFit setting before
     → (row : List Datum) → old ≡ Some row → fits setting table row ≡ true
@@ -232,7 +232,7 @@ new_fits setting before after table old new changes fit row h =
 
 -- ---- TRUNCATE
 
--- none of the rows of these tables is left
+-- no row of these tables is left
 abbrev pub cleared : (ℕ → Found) → List ℕ → ℕ → Found
 cleared copies numbers table key = if list_any (λ number. number == table) numbers then None else copies table key
 
@@ -298,7 +298,7 @@ any_fold table numbers (item ∷ more) =
     ∙ or_again (list_any (λ number. number == table) numbers) (item == table)
     (list_any (λ number. number == table) more)
 
--- among the tables that the subscriber takes anything of
+-- among the tables that the subscriber gets anything of
 among_carried : (carries : ℕ → Bool) (numbers : List ℕ) (table : ℕ)
     → list_any (λ number. number == table) (filter carries (distinct nat_eq numbers))
     ≡ (carries table && list_any (λ number. number == table) numbers)

@@ -1,4 +1,4 @@
--- A subscriber hears what it is told of the commands of a commit.
+-- A subscriber hears what it is sent of the commands of a commit.
 use Rattle.std.proofs.Common.{◌≡◌, ℕ, ◌+◌, ◌<◌, Bool, List, [], ◌∷◌, length, refl, sym, ap, subst}
 use Rattle.std.specs.Prelude.{Option, Some, None, All, nat_eq, filter, option_map}
 use Rattle.std.proofs.lemmas.List.Elements.{All-head, All-filter}
@@ -44,7 +44,7 @@ right_after checked keeps tables command h right = record {
   apart = keeps.kept tables command h right.stands right.apart;
 }
 
--- ---- what is told of a command is what is seen of it
+-- ---- what is sent of a command is what is seen of it
 
 only_same : (one other : Option r.ChangeOf) → one ∷ [] ≡ other ∷ [] → one ≡ other
 only_same one other h = cc
@@ -61,7 +61,7 @@ shows checked covered subscriber tables command h =
 module _ (checked : CheckedOf) (transactions : List Transaction) (subscriber begin position : ℕ) (outer : Machine)
     (follows : Follows checked transactions subscriber position outer) (covered : Covered (setting_in checked))
     (keeps : KeepsApart (setting_in checked)) where
-  -- what is told of a change leaves the machine safe, and inside the transaction, after the change
+  -- what is sent of a change leaves the machine safe, and inside the transaction, after the change
   abbrev Tells : Option r.ChangeOf → Tables → List Bool → Machine → Type 0
   Tells mine after told machine =
       Safe (Follows checked transactions subscriber) position (said checked.catalog.tables told mine) machine

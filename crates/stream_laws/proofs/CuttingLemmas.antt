@@ -21,7 +21,7 @@ use Rattle.filter_tree.proofs.Tests.{by_test}
 length_framed : (frame : Frame) → length (framed frame) ≡ length frame.body + 5
 length_framed frame = omega (arith, length-append (to_be_bytes w32 (length frame.body + 4)) frame.body)
 
--- what is shorter than a frame, and begins as it does, is no whole frame
+-- what is shorter than a frame, and begins as it does, is not a whole frame
 is_part : (limit : ℕ) (frame : Frame) (bytes others more : List ℕ) → IsFrame limit frame
     → bytes ++ others ≡ framed frame ++ more
     → length bytes < length (framed frame) → front limit bytes ≡ Part
@@ -117,7 +117,7 @@ parts_are_cut frame limit (x ∷ xs) bytes others allowed same =
 pub first_parts_are_cut : FirstPartsAreCut
 first_parts_are_cut limit items bytes others allowed same = parts_are_cut frame_in limit items bytes others allowed same
 
--- ---- a piece more
+-- ---- one more piece
 
 module _ {X : Type 0} (frame : X → Frame) where
   -- what is whole in more bytes begins with what is whole in fewer ones
@@ -166,7 +166,7 @@ pub record IsPiece {X : Type 0} (frame : X → Frame) (limit : ℕ) (all : List 
       ≡ after_frames (map frame (drop (length (whole_by frame done all)) (whole_by frame (done + more) all)))
       (Rest rest)
   pub held : rest_of (cut limit (take (done + more) bytes)) ≡ rest
-  -- and so all that came
+  -- and so is all that came
   pub before : IsCutBy frame limit all (take done bytes)
   pub before_long : length (take done bytes) ≡ done
   pub all_cut : cut limit (take (done + more) bytes)

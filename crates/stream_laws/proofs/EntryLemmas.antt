@@ -14,7 +14,7 @@ use Rattle.stream_laws.proofs.CommandSteps.{IsRight}
 use Rattle.std.proofs.lemmas.Option.{same_Some}
 use Rattle.copy_both.proofs.SeenStreamLemmas.{at_later}
 
--- the transaction of an entry, which comes after so many others
+-- the transaction of an entry, which comes after this number of others
 pub record IsEntry (setting : Setting) (tables : Tables) (number : ℕ) (transactions : List Transaction) (place : ℕ)
     (commit : CommitOf) : Type 0 where
   pub transaction : Transaction

@@ -69,7 +69,7 @@ whole_begin count (item ∷ items) =
 
 -- ---- what is heard of bytes that were cut
 
--- it has no fault, and this is so of the machine
+-- it has no fault, and this holds of the machine
 abbrev IsHeard : Heard → (Machine → Type 0) → Type 0
 IsHeard heard P = (heard.fault ≡ None) × P heard.machine
 
@@ -189,7 +189,7 @@ fed_follow checked transactions published number old between new follows opens m
     (fed_heard between bytes).machine (sub_machine new)
     followed.follows feeds.machine.position feeds.machine.rows feeds.machine.kept
 
--- ---- where it stops
+-- ---- when it stops
 
 -- the first frames of items are the frames of the first items
 pub record FirstFrames (frames : List Frame) (all : List Item) : Type 0 where
@@ -243,7 +243,7 @@ nothing_is_fed old between opens = record {
     nothing : fed_heard between [] ≡ record { machine = sub_machine between; fault = None }
     nothing = heard_is old between [] opens
 
--- of two first parts of a list the longer one goes on with the other
+-- of two first parts of a list, the longer one begins with the other
 record GoesOn (short long : List Item) : Type 0 where
   more : List Item
   is : long ≡ short ++ more
@@ -326,7 +326,7 @@ module _ (checked : CheckedOf) (transactions : List Transaction) (published : Is
             stop.stays));
       }
     where
-      -- what is whole in more bytes goes on with what is whole in fewer
+      -- what is whole in more bytes begins with what is whole in fewer
       whole_both : Begins before fed
       whole_both = record {
         others = drop (length before) (whole_in (length bytes + length piece) all);

@@ -143,7 +143,7 @@ module _ (checked : CheckedOf) (transactions : List Transaction) (subscriber : �
       then_ok (Ok next) more P Q h on = on next h
       then_ok (Err fault) more P Q h on = h
 
--- what is so of all is so of the last ones
+-- what holds of all holds of the last ones
 all_last : (xs ys : List Item) → All IsSentItem (xs ++ ys) → All IsSentItem ys
 all_last [] ys h = h
 all_last (x ∷ xs) ys h = all_last xs ys (All-tail IsSentItem x (xs ++ ys) h)

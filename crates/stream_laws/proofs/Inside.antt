@@ -1,5 +1,5 @@
--- A subscriber within a transaction: what it shows stays, and what it staged is its shard of the tables as far as the
--- transaction's commands were told.
+-- A subscriber within a transaction: what it shows stays, and what it staged is its shard of the tables after those of
+-- the transaction's commands that were sent.
 use Rattle.std.proofs.Common.{◌≡◌, ℕ, zero, suc, ◌<◌, Bool, true, false, List, [], ◌∷◌, length, take, refl, sym, ◌∙◌, ap, subst, arith}
 use Rattle.std.specs.Prelude.{Option, Some, None, ◌==◌, All, slice_get, slice_index_or}
 use Rattle.std.specs.Cmp.{unsigned_Decides}
@@ -25,7 +25,7 @@ use Rattle.std.proofs.lemmas.Bool.{eqb-true}
 use Rattle.stream_laws.proofs.EntryLemmas.{past_end}
 use Rattle.filter_tree.proofs.Tests.{by_test}
 
--- the number of a table that was told stays told
+-- the number of a table that was announced stays announced
 pub record Inside (checked : CheckedOf) (subscriber begin : ℕ) (outer : Machine) (told : List Bool) (tables : Tables)
     (machine : Machine) : Type 0 where
   pub busy : machine.phase ≡ Busy begin
@@ -51,12 +51,12 @@ inside_follows checked transactions subscriber begin position outer told tables 
   relations = inside.relations;
 }
 
--- each is the number of a table, and each was told
+-- each is the number of a table, and each was announced
 abbrev pub AllTold : List Bool → List ℕ → Type 0
 AllTold told [] = Unit {0}
 AllTold told (number ∷ numbers) = (slice_index_or told number false ≡ true) × AllTold told numbers
 
--- a table that was told stays told
+-- a table that was announced stays announced
 stays_told_one : (told : List Bool) (number other : ℕ) → number < length told → slice_index_or told other false ≡ true
     → slice_index_or (told_one told number) other false ≡ true
 stays_told_one told number other less h = by_test (other == number)
@@ -111,7 +111,7 @@ module _ (checked : CheckedOf) (transactions : List Transaction) (subscriber beg
   good told machine inside =
       inside_follows checked transactions subscriber begin position outer told tables machine follows inside
 
-  -- the Relation of a table that wasn't told
+  -- the Relation of a table that wasn't announced
   new_relation : (told : List Bool) (number : ℕ) (found : Option Table) (machine : Machine)
       → slice_get checked.catalog.tables number ≡ found → number < length told
       → Inside checked subscriber begin outer told tables machine
@@ -139,7 +139,7 @@ module _ (checked : CheckedOf) (transactions : List Transaction) (subscriber beg
         },
       )
 
-  -- a table that was told before
+  -- a table that was announced before
   no_relation : (told : List Bool) (number : ℕ) (machine : Machine) → slice_index_or told number false ≡ true
       → Inside checked subscriber begin outer told tables machine
       → Inside checked subscriber begin outer (told_one told number) tables machine
@@ -190,7 +190,7 @@ module _ (checked : CheckedOf) (transactions : List Transaction) (subscriber beg
 
 -- ---- what is staged
 
--- another copy of one table, where the shard changes in that table alone
+-- another copy of one table, if the shard changes in that table alone
 pub staged_inside : (checked : CheckedOf) (subscriber begin : ℕ) (outer : Machine) (told : List Bool)
     (before after : Tables) (machine : Machine) (number : ℕ) (found : Found)
     → Inside checked subscriber begin outer told before machine
@@ -230,7 +230,7 @@ staged_inside checked subscriber begin outer told before after machine number fo
         cc))
         (λ differ. differ)
 
--- nothing is staged where the shard stays as it is
+-- nothing is staged if the shard stays as it is
 pub stays_inside : (checked : CheckedOf) (subscriber begin : ℕ) (outer : Machine) (told : List Bool)
     (before after : Tables) (machine : Machine)
     → Inside checked subscriber begin outer told before machine

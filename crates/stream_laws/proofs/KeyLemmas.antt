@@ -118,8 +118,8 @@ all_flagged table number (column ∷ columns) one other h =
 value_past : (row : List Datum) (column : ℕ) → length row ≤ column → value_at row column ≡ Missing
 value_past row column h = ap (λ found. unwrap_or found Missing) (slice_get_past row column h)
 
--- rows as wide as the table have the same values in the flagged columns where they have them in those of the
--- identity, and only there
+-- rows as wide as the table have the same values in the flagged columns if, and only if, they have them in those of the
+-- identity
 identity_from_flags : (table : Table) (one other : List Datum) → length one ≡ length table.columns
     → length other ≡ length table.columns
     → values_at (flagged_in (Some table)) one ≡ values_at (flagged_in (Some table)) other

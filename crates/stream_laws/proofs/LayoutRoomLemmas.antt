@@ -1,4 +1,4 @@
--- The layouts have room for what is told of the commits of a log.
+-- The layouts have room for what is sent of the commits of a log.
 use Rattle.std.proofs.Common.{◌≡◌, ℕ, zero, suc, ◌+◌, ◌<◌, ◌≤◌, ◌^◌, Bool, true, false, ◌||◌, List, [], ◌∷◌, ◌++◌, length, map, take, refl, sym, ◌∙◌, ap, subst, arith}
 use Rattle.std.specs.Prelude.{Option, Some, None, All, nat_eq, filter, fold, IfSome, option_map, slice_get, slice_index_or, if◌then◌else◌}
 use Rattle.std.specs.Cmp.{unsigned_Decides}
@@ -200,7 +200,7 @@ module _ (checked : CheckedOf) (limited : IsLimited checked.catalog) where
       (changes_sendable commands (applied setting tables command) (number + 1) none.1
       (said_after tables command none.0 so))
 
-  -- ---- what is told are texts
+  -- ---- what is sent are texts
 
   relation_text : (number : ℕ) (table : Table) → IsNamed table → HasTexts (m.Relation (relation_of number table))
   relation_text number table names =
@@ -240,7 +240,7 @@ module _ (checked : CheckedOf) (limited : IsLimited checked.catalog) where
       (relations_of checked.catalog.tables (told_one told number) numbers)
       (once_text (slice_index_or told number false) number) (relations_text (told_one told number) numbers)
 
-  -- what is told of a change, where its own message is a text
+  -- what is sent of a change, if its own message is a text
   change_text : (told : List Bool) (change : Option r.ChangeOf) → IfSome change (λ one. All HasTexts (message_of one))
       → All HasTexts (said checked.catalog.tables told change)
   unfolding said
@@ -271,7 +271,7 @@ module _ (checked : CheckedOf) (limited : IsLimited checked.catalog) where
       All-cons HasTexts (m.Update (t.oid_of number) (Some (t.old_of (r.Full row))) (cells_of new)) []
       (row_text row h text, row_text new k also) (All-nil HasTexts)
 
-  -- of rows that are seen
+  -- for rows that are seen
   rows_told : (number : ℕ) (old new : Option (List Datum))
       → IfSome old (λ row. fits (setting_in checked) number row ≡ true)
       → IfSome new (λ row. fits (setting_in checked) number row ≡ true)

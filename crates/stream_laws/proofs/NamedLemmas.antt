@@ -1,5 +1,5 @@
--- Each subscriber of a catalog can ask for its stream: its subscription is found by its name, and takes publications
--- that are there.
+-- Each subscriber of a catalog can request its stream: its subscription is found by its name, and takes publications
+-- that exist.
 use Rattle.std.proofs.Common.{◌≡◌, ℕ, zero, suc, ◌+◌, ◌<◌, ◌≤◌, Bool, true, false, ◌||◌, List, [], ◌∷◌, All, length, map, get_or, refl, sym, ap, subst, ◌∙◌, arith}
 use Rattle.std.specs.Prelude.{nat_eq, nat_lt, position, slice_get, Some}
 use Rattle.std.specs.Cmp.{IsEquivalence, decided}
@@ -26,7 +26,7 @@ use Rattle.stream_laws.specs.Asking.{CanAsk}
 same_bytes : IsEquivalence bytes_eq
 same_bytes = decided bytes_eq bytes_eq-Decides
 
--- where no two names are the same, none before a name is that
+-- if no two names are the same, none before a name equals it
 first_at : (names : List (List ℕ)) (number : ℕ) (d : List ℕ) → IsDistinct bytes_eq names → number < length names
     → position_or_len (bytes_eq (get_or names number d)) names ≡ number
 first_at [] number d differ within = absurd (omega (arith, within))
@@ -60,7 +60,7 @@ member_below count q (number ∷ numbers) all e =
     either true other h at_one at_other = at_one refl
     either false other h at_one at_other = at_other h
 
--- each once, so that they are no more than there are
+-- each once, so there are no more of them than exist
 pub few_taken : (count : ℕ) (numbers : List ℕ) → AreTaken count numbers → length numbers ≤ count
 few_taken count numbers taken =
     length-le_from_distinct_below numbers count taken.once (λ q. member_below count q numbers taken.known)

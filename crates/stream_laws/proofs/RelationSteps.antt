@@ -1,4 +1,4 @@
--- A subscriber hears the Relations of tables that it was not told of.
+-- A subscriber hears the Relations of tables that were not announced to it.
 use Rattle.std.proofs.Common.{◌≡◌, ℕ, ◌+◌, ◌<◌, Bool, true, false, ◌||◌, List, [], ◌∷◌, length, refl, sym, ◌∙◌, ap, arith, get_or-set_same, get_or-set_other}
 use Rattle.std.specs.Prelude.{Option, Some, None, Ok, ◌==◌, nat_eq, slice_get, slice_index_or}
 use Rattle.std.specs.Bool.{beq}
@@ -85,9 +85,9 @@ has_shape number table =
     ap (option_map (λ (kinds : List ColType). shaped (relation_of number table) kinds))
     (kinds_back table 0 table.columns)
 
--- ---- which tables it was told of
+-- ---- which tables were announced to it
 
--- those of which the stream's flags say so, and of them it keeps what their Relations say
+-- those that the stream's flags mark, and of them it keeps what their Relations say
 pub record Knows (checked : CheckedOf) (told : List Bool) (machine : Machine) : Type 0 where
   pub flags : length told ≡ length checked.catalog.tables
   pub known : (number : ℕ) → machine.known (oid_of number) ≡ slice_index_or told number false

@@ -1,4 +1,4 @@
--- A machine that hears messages, and what is so of it before each of them and at the end.
+-- A machine that hears messages, and what holds of it before each of them and at the end.
 use Rattle.std.proofs.Common.{◌≡◌, ℕ, List, [], ◌∷◌, ◌++◌, sym, subst}
 use Rattle.std.specs.Prelude.{Ok, Err}
 use Rattle.std.specs.Result.{IsOkAnd}

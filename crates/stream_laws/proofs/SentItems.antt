@@ -1,4 +1,4 @@
--- Each item of a stream has room, where what is told of the log has, and the clocks have 64 bits.
+-- Each item of a stream has room, if what is sent of the log has, and the clocks have 64 bits.
 use Rattle.std.proofs.Common.{◌≡◌, ℕ, ◌+◌, ◌<◌, ◌≤◌, ◌^◌, List, [], ◌∷◌, ◌++◌, length, map, refl, sym, ap, subst, arith}
 use Rattle.std.specs.Prelude.{Option, Some, None, All, slice_get}
 use Rattle.std.proofs.lemmas.List.Elements.{All-nil, All-cons, All-head, All-tail}

@@ -1,4 +1,4 @@
--- A start that a subscriber asks for is not refused, and which stream it starts.
+-- A start that a subscriber requests is not refused, and which stream it starts.
 use Rattle.std.proofs.Common.{◌≡◌, ℕ, zero, suc, ◌^◌, ◌<◌, Bool, true, false, ◌||◌, List, [], ◌∷◌, ◌++◌, length, Option, Some, None, refl, sym, ap, ◌∙◌, arith, append_assoc}
 use Rattle.std.specs.Prelude.{map, max, nat_lt, slice_get, All}
 use Rattle.std.specs.List.{list_all, list_any}

@@ -1,4 +1,4 @@
--- The command by which a subscriber of a catalog asks for its stream fits a frame: names are short, and there are few
+-- The command with which a subscriber of a catalog requests its stream fits a frame: names are short, and there are few
 -- of them.
 use Rattle.std.proofs.Common.{◌≡◌, ℕ, zero, suc, ◌+◌, ◌*◌, ◌/◌, ◌%◌, ◌^◌, ◌<◌, ◌≤◌, ◌==◌, true, List, [], ◌∷◌, ◌++◌, All, length, map, refl, arith, length-append}
 use Rattle.std.specs.Prelude.{codes, slice_get, Option, Some, None}

@@ -1,4 +1,4 @@
--- The text of a command that asks for a stream is UTF-8 and has no zero byte, so that its Query says it whole.
+-- The text of a command that requests a stream is UTF-8 and has no zero byte, so that its Query carries all of it.
 use Rattle.std.proofs.Common.{◌≡◌, ℕ, suc, ◌+◌, ◌/◌, ◌%◌, ◌^◌, ◌<◌, Bool, true, false, not, ◌&&◌, ◌==◌, List, [], ◌∷◌, ◌++◌, length, get_or, drop, Some, IsUtf8, refl, sym, ap, ◌∙◌, subst, arith, append_assoc, length-append, eqb-true}
 use Rattle.std.specs.Prelude.{nat_lt, codes, All, Contains}
 use Rattle.std.specs.Char.{is_ascii_hexdigit}

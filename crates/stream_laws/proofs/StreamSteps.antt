@@ -30,7 +30,7 @@ use Rattle.stream_laws.proofs.Safety.{Safe, safe_heard, safe_both}
 use Rattle.filter_tree.proofs.Tests.{by_test}
 
 -- Between transactions: what it shows is its shard after the commits that its position counts, and, since it sees
--- nothing of those between, after all that the connection is done with.
+-- nothing of those between, after all commits that the connection has done.
 pub record Between (checked : CheckedOf) (transactions : List Transaction) (place : Place) (position : ℕ)
     (machine : Machine) : Type 0 where
   pub idle : machine.phase ≡ Idle
@@ -81,7 +81,7 @@ count_of_end done = omega arith
 ends_there : (position done : ℕ) → count_before position ≤ done → max position (end_of (done + 1)) ≡ end_of (done + 1)
 ends_there position done h = omega (arith, h)
 
--- a keepalive raises the position where it was below
+-- a keepalive raises the position if it was below
 not_raised : (position sent : ℕ) → sent ≤ position → max position sent ≡ position
 not_raised position sent h = omega (arith, h)
 
@@ -193,7 +193,7 @@ module _ (checked : CheckedOf) (transactions : List Transaction) (published : Is
         between.at_done;
   }
 
-  -- Begin, what is said, and Commit; or nothing
+  -- Begin, the messages between, and Commit; or nothing
   enclosed_safe : (place : Place) (position : ℕ) (machine : Machine)
       → Between checked transactions place position machine → (transaction : Transaction)
       → place.done < length transactions
@@ -265,7 +265,7 @@ module _ (checked : CheckedOf) (transactions : List Transaction) (published : Is
 
   -- ---- a keepalive
 
-  -- the machine after it has what it had, but for the position
+  -- the machine after it has what it had, except for the position
   pub keepalive_between : (place : Place) (position : ℕ) (machine next : Machine)
       → Between checked transactions place position machine
       → next.phase ≡ machine.phase → next.position ≡ max machine.position place.sent → next.rows ≡ machine.rows

@@ -1,4 +1,4 @@
--- A row that goes and one that comes, at the publisher and at a subscriber.
+-- A row that is removed and one that is added, at the publisher and at a subscriber.
 use Rattle.std.proofs.Common.{◌≡◌, Bool, true, false, not, ◌&&◌, ◌||◌, List, refl, sym, ◌∙◌, ap, subst}
 use Rattle.std.specs.Prelude.{Option, Some, None, if◌then◌else◌}
 use Rattle.filter_tree.specs.Datum.{Datum}
@@ -19,7 +19,7 @@ Found = List Datum → Option (List Datum)
 abbrev pub put : Found → List Datum → Option (List Datum) → Found
 put found key row other = if same_row key other then row else found other
 
--- ---- a row comes, and a row goes
+-- ---- a row is added, and a row is removed
 
 put_here : (found : Found) (key : List Datum) (row : Option (List Datum)) (other : List Datum)
     → same_row key other ≡ true → put found key row other ≡ row
@@ -91,14 +91,14 @@ finds_gone key_of found rows old finds there = record {
       ∙ ap (λ b. rows row && not b) (sym (keys_differ key_of old row beside)));
 }
 
--- ---- a row goes and another comes
+-- ---- a row is removed and another is added
 
 -- the rows afterwards: the new one, and of those before it all but the old one
 abbrev pub swapped : Option (List Datum) → Option (List Datum) → (List Datum → Bool) → List Datum → Bool
 swapped old new rows row = is_row new row || (rows row && not (is_row old row))
 
--- What is known of a change of the rows of a table that was accepted: the old row was there, the new one was not, but
--- for the old one's place, and no two rows have one key afterwards.
+-- What is known of a change of the rows of a table that was accepted: the old row existed, the new one did not, except
+-- at the old one's place, and no two rows have the same key afterwards.
 pub record Swaps (key_of : List Datum → List Datum) (old new : Option (List Datum)) (rows : List Datum → Bool) : Type
     0 where
   pub there : (row : List Datum) → old ≡ Some row → rows row ≡ true
@@ -113,7 +113,7 @@ is_it (Some found) row h = same_row_of_equal found row (some_is found row h)
 still_there : (p q : Bool) → p ≡ true → q ≡ false → (p && not q) ≡ true
 still_there p q h k = rw (h, k) refl
 
--- the place of the new row is free where all rows that are found are others than the old one
+-- the place of the new row is free if all rows that are found differ from the old one
 pub vacant : (key_of : List Datum → List Datum) (old : Option (List Datum)) (new : List Datum)
     (rows found_rows : List Datum → Bool) (found : Found)
     → Swaps key_of old (Some new) rows → FindsRows key_of found found_rows
@@ -178,7 +178,7 @@ distribute false true false true = refl
 distribute false true false false = refl
 distribute false false o p = refl
 
--- of the rows that pass there are afterwards those that would be if only rows that pass came and went
+-- the rows that pass are afterwards those that would exist if only rows that pass were added and removed
 pub shard_swapped : (passes : List Datum → Bool) (old new : Option (List Datum)) (rows : List Datum → Bool)
     (row : List Datum)
     → swapped (passing passes old) (passing passes new) (λ r. rows r && passes r) row
@@ -190,8 +190,8 @@ shard_swapped passes old new rows row =
 
 -- ---- what a subscriber does with what it sees
 
--- after what is seen of an old row and a new one, each if it passes: a row that goes is found, one that comes has a
--- free key, and then these rows are found
+-- after what is seen of an old row and a new one, each if it passes: a row that is removed is found, one that is added
+-- has a free key, and then these rows are found
 abbrev pub IsDone : (List Datum → List Datum) → Found → Option (List Datum) → Option (List Datum)
     → (List Datum → Bool) → Type 0
 IsDone key_of found None None after = FindsRows key_of found after

@@ -1,4 +1,4 @@
--- Rows that fit are texts, and so are the messages that tell of them.
+-- Rows that fit are texts, and so are the messages that report them.
 use Rattle.std.proofs.Common.{◌≡◌, ℕ, suc, ◌+◌, ◌<◌, ◌≤◌, ◌^◌, Bool, true, false, List, [], ◌∷◌, length, arith, rules, lit≤, lit<}
 use Rattle.std.specs.Prelude.{ℤ, pos, negsuc, ◌≤ℤ◌, Option, Some, None, All, IfSome, ◌==◌, codes, slice_get, if◌then◌else◌}
 use Rattle.std.specs.Int.Signed.{mag}

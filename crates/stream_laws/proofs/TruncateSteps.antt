@@ -1,4 +1,4 @@
--- A subscriber hears TRUNCATE of the tables that it takes anything of.
+-- A subscriber hears TRUNCATE of the tables that it gets anything of.
 use Rattle.std.proofs.Common.{◌≡◌, ℕ, zero, suc, ◌<◌, Bool, true, false, ◌||◌, List, [], ◌∷◌, length, map, refl, sym, ◌∙◌, ap, arith}
 use Rattle.std.specs.Prelude.{Option, Some, None, Ok, ◌==◌, All, slice_get, slice_index_or, if◌then◌else◌}
 use Rattle.std.specs.Cmp.{unsigned_Decides}

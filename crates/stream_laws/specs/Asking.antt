@@ -1,4 +1,4 @@
--- That the command by which a subscriber asks for its stream is read as it was meant, and which stream then starts:
+-- That the command with which a subscriber requests its stream is read as it was meant, and which stream then starts:
 -- PostgreSQL 15, 55.4. Streaming Replication Protocol (START_REPLICATION SLOT slot_name LOGICAL), 55.5.1. Logical
 -- Streaming Replication Parameters, and 4.1.1. Identifiers and Key Words.
 use Rattle.std.specs.Prelude.{◌≡◌, ◌<◌, ◌≤◌, ◌^◌, ℕ, max, List, [], ◌∷◌, All, length, map, slice_get, Some, None, codes}
@@ -22,7 +22,7 @@ pub record IsShortName (name : List ℕ) : Type 0 where
   pub some : 0 < length name
   pub short : length name ≤ 63
 
--- the stream of a slot at a position, by version 1 of the protocol, of the publications of these names
+-- the stream of a slot at a position, in version 1 of the protocol, of the publications of these names
 abbrev pub start_command : List ℕ → List (List ℕ) → ℕ → StartCommand
 start_command slot names position = record {
   slot = slot;
@@ -37,7 +37,7 @@ CommandsAreRead = (slot : List ℕ) (names : List (List ℕ)) (position : ℕ) �
     → All IsShortName names → position < 2 ^ 64
     → command_of (start_text slot names position) ≡ Some (start_command slot names position)
 
--- ---- what is answered
+-- ---- the answer
 
 -- The subscription of this number is found by its name, and its publications, at least one, are the catalog's.
 pub record CanAsk (catalog : CatalogOf Expr) (subscriber : ℕ) (subscription : Subscription) : Type 0 where
@@ -48,8 +48,8 @@ pub record CanAsk (catalog : CatalogOf Expr) (subscriber : ℕ) (subscription : 
   pub known : All (λ number. number < length catalog.publications) subscription.publications
   pub publications : All IsPlainName (map (λ p. p.name) catalog.publications)
 
--- Where the slot is free and the log reaches the position, the stream starts there, or where the slot is confirmed if
--- that is later.
+-- If the slot is free and the log reaches the position, the stream starts there, or where the slot is confirmed if that
+-- is later.
 abbrev pub StartsAreAnswered : Type 0
 StartsAreAnswered = (served : Served) (slots : List Slot) (subscriber position : ℕ) (subscription : Subscription)
     → CanAsk served.checked.catalog subscriber subscription
@@ -58,7 +58,7 @@ StartsAreAnswered = (served : Served) (slots : List Slot) (subscriber position :
     (up_frame served.checked subscriber (Asks position)).body
     ≡ Begins subscriber (max position (confirmed_at slots subscriber))
 
--- ---- who can ask
+-- ---- who can request a stream
 
 -- it has a subscription, and its command fits a frame
 pub record IsAsking (catalog : CatalogOf Expr) (subscriber : ℕ) : Type 0 where

@@ -11,7 +11,7 @@ abbrev pub if_whole : {X : Type 0} → Bool → X → List X → List X
 if_whole true first others = first ∷ others
 if_whole false first others = []
 
--- of those that have these frames, one after another, those whose frames are whole in so many bytes
+-- of those that have these frames, one after another, those whose frames are whole in this number of bytes
 abbrev pub whole_by : {X : Type 0} → (X → Frame) → ℕ → List X → List X
 whole_by frame count [] = []
 whole_by frame count (first ∷ others) =
@@ -21,7 +21,7 @@ whole_by frame count (first ∷ others) =
 abbrev pub whole_in : ℕ → List Item → List Item
 whole_in count items = whole_by frame_in count items
 
--- these bytes are the frames that are whole in them, and a rest that is none
+-- these bytes are the frames that are whole in them, and a rest that is not a whole frame
 pub record IsCutBy {X : Type 0} (frame : X → Frame) (limit : ℕ) (all : List X) (bytes : List ℕ) : Type 0 where
   pub rest : List ℕ
   pub cuts : cut limit bytes ≡ after_frames (map frame (whole_by frame (length bytes) all)) (Rest rest)

@@ -77,7 +77,7 @@ pub record Follows (checked : CheckedOf) (transactions : List Transaction) (subs
       (after (setting_in checked) (take (count_before position) transactions))
   pub relations : KeepsRelations checked machine
 
--- ---- what is asked of a stream
+-- ---- what is required of a stream
 
 -- a checked catalog, and transactions that were accepted, from tables without rows
 pub record IsPublished (checked : CheckedOf) (transactions : List Transaction) : Type 0 where
@@ -100,7 +100,7 @@ pub record IsHead (head : XLogData) : Type 0 where
   pub end : head.end < 2 ^ 64
   pub clock : head.clock < 2 ^ 64
 
--- the layouts have room for what it says
+-- the layouts have room for what it sends
 abbrev pub IsSentItem : Item → Type 0
 IsSentItem Response = Unit {0}
 IsSentItem (Carries head message) = IsHead head × IsSent message

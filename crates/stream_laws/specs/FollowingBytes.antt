@@ -1,4 +1,4 @@
--- That a subscriber follows its stream however the bytes are cut into pieces, and from its first connection over all
+-- That a subscriber follows its stream however the bytes are cut into pieces, and from its first connection across all
 -- others: PostgreSQL 15, 31.2. Subscription, 55.4. Streaming Replication Protocol, and 55.7. Message Formats.
 use Rattle.std.specs.Prelude.{◌≡◌, ℕ, List, [], ◌++◌, All, length, None}
 use Rattle.shard_checker.specs.CheckedView.{CheckedOf}
@@ -22,7 +22,7 @@ AreFirst checked transactions subscriber position moves bytes others =
     bytes ++ others ≡ stream (telling_of checked) (log_of checked transactions) subscriber
     (length checked.catalog.tables) position moves
 
--- the position after the items whose frames are whole in so many bytes
+-- the position after the items whose frames are whole in this number of bytes
 abbrev pub position_in : CheckedOf → List Transaction → ℕ → ℕ → List Move → List ℕ → ℕ
 position_in checked transactions subscriber position moves bytes =
     position_after position (whole_in (length bytes) (items_from checked transactions subscriber position moves))
@@ -51,7 +51,7 @@ abbrev pub SubFollows : CheckedOf → List Transaction → ℕ → Subscriber �
 SubFollows checked transactions number subscriber =
     Follows checked transactions number (sub_machine subscriber).position (sub_machine subscriber)
 
--- So does a subscriber that is fed them; all pieces that were fed are as one.
+-- The same holds for a subscriber that is fed them; all pieces that were fed are as one.
 abbrev pub FedFollow : Type 0
 FedFollow = (checked : CheckedOf) (transactions : List Transaction) → IsPublished checked transactions
     → (number : ℕ) (old between new : Subscriber) → SubFollows checked transactions number old → Opens old between
@@ -74,7 +74,7 @@ pub record StopsFollowing (checked : CheckedOf) (transactions : List Transaction
   pub among : (before ++ more) ++ others ≡ fed
   pub follows : Follows checked transactions number (position_after position (before ++ more)) (sub_machine new)
 
--- It stops for nothing but want of memory, and then still follows: so many bytes were fed before the piece to which
+-- It stops only when memory ran out, and then still follows: this number of bytes were fed before the piece for which
 -- memory was refused.
 abbrev pub StoppedFollow : Type 0
 StoppedFollow = (checked : CheckedOf) (transactions : List Transaction) → IsPublished checked transactions
@@ -94,12 +94,12 @@ LostFollow = (checked : CheckedOf) (transactions : List Transaction) (number : �
     → SubFollows checked transactions number old → Loses old new
     → SubFollows checked transactions number new
 
--- And before its first connection it follows, at position 0.
+-- Before its first connection it follows, at position 0.
 abbrev pub FirstFollows : Type 0
 FirstFollows = (checked : CheckedOf) (transactions : List Transaction) (number : ℕ)
     → Follows checked transactions number 0 first_machine
 
--- Whoever follows a list of transactions follows each list that goes on with it.
+-- A subscriber that follows a list of transactions follows each longer list that begins with it.
 abbrev pub FollowsLonger : Type 0
 FollowsLonger = (checked : CheckedOf) (transactions more : List Transaction) (number position : ℕ) (machine : Machine)
     → Follows checked transactions number position machine

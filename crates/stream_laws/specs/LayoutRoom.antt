@@ -1,5 +1,5 @@
--- When what is told of the commits of a log has room in its layouts: times have 64 bits, and the catalog is within
--- its limits: PostgreSQL 15, 55.9. Logical Replication Message Formats.
+-- When what is sent of the commits of a log has room in its layouts: times have 64 bits, and the catalog is within its
+-- limits: PostgreSQL 15, 55.9. Logical Replication Message Formats.
 use Rattle.std.specs.Prelude.{◌≡◌, ◌<◌, ◌≤◌, ◌^◌, ℕ, Bool, List, All, length, slice_get, Some}
 use Rattle.pub_catalog.specs.CatalogLimits.{IsLimited}
 use Rattle.shard_checker.specs.CheckedView.{CheckedOf, setting_in}
@@ -12,7 +12,7 @@ use Rattle.pgoutput_msgs.specs.Telling.{messages_for}
 use Rattle.copy_both.specs.Streams.{Move, Take, Keep, count_before}
 use Rattle.stream_laws.specs.Following.{log_of, items_from, IsSentItem}
 
--- the layouts have room for what is told of each commit
+-- the layouts have room for what is sent of each commit
 pub record FitsLayouts (checked : CheckedOf) (transactions : List Transaction) : Type 0 where
   pub few : length transactions ≤ 1000000000
   pub said : (subscriber : ℕ) (told : List Bool) (place : ℕ) (commit : CommitOf)
@@ -30,15 +30,15 @@ IsClocked (Keep clock want) = clock < 2 ^ 64
 
 -- ---- the laws
 
--- So the layouts have room for what is told of each commit of a log of such transactions.
+-- So the layouts have room for what is sent of each commit of a log of such transactions.
 abbrev pub LogsFitLayouts : Type 0
 LogsFitLayouts = (checked : CheckedOf) → Covered (setting_in checked) → IsLimited checked.catalog
     → (transactions : List Transaction) → AreAccepted (setting_in checked) no_rows transactions
     → All IsTimedTransaction transactions → length transactions ≤ 1000000000
     → FitsLayouts checked transactions
 
--- And they have room for each item of a stream of such a log, whatever its moves, where it starts at a position that
--- the log reaches, and clocks have 64 bits.
+-- And they have room for each item of a stream of such a log, whatever its moves, if it starts at a position that the
+-- log reaches, and clocks have 64 bits.
 abbrev pub StreamsCanBeSent : Type 0
 StreamsCanBeSent = (checked : CheckedOf) (transactions : List Transaction)
     → AreAccepted (setting_in checked) no_rows transactions → FitsLayouts checked transactions

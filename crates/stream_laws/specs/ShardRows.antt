@@ -16,7 +16,7 @@ abbrev pub in_shard : Setting → ℕ → Tables → ℕ → List Datum → Bool
 in_shard setting subscriber tables table row =
     holds setting.keys tables table row && setting.passes subscriber table row
 
--- of each table, the rows of the subscriber's shard are found in its copy
+-- for each table, the rows of the subscriber's shard are found in its copy
 abbrev pub FindsShard : Setting → (ℕ → List Datum → List Datum) → ℕ → (ℕ → List Datum → Option (List Datum)) → Tables
     → Type 0
 FindsShard setting key_of subscriber copies tables = (table : ℕ)

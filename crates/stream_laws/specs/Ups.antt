@@ -1,4 +1,4 @@
--- What a subscriber sends: the command that asks for its stream, and statuses: PostgreSQL 15, 55.4. Streaming
+-- What a subscriber sends: the command that requests its stream, and statuses: PostgreSQL 15, 55.4. Streaming
 -- Replication Protocol (START_REPLICATION, Standby status update).
 use Rattle.std.specs.Prelude.{ℕ, List, [], ◌∷◌, ◌++◌, map, slice_get, Option, Some, None}
 use Rattle.filter_tree.specs.Expr.{Expr}
@@ -12,7 +12,7 @@ use Rattle.copy_frames.specs.declared.status.Status.{Status}
 use Rattle.test_subscriber.specs.StartQuery.{start_text}
 use Rattle.stream_laws.specs.Cutting.{whole_by}
 
--- the command that asks for its stream at a position, and statuses
+-- the command that requests its stream at a position, and statuses
 pub data Up : Type 0 where
   Asks : ℕ → Up
   Says : Status → Up
@@ -44,6 +44,6 @@ up_frame checked subscriber (Says status) = record { kind = 100; body = status_b
 abbrev pub spelled_up : CheckedOf → ℕ → Up → List ℕ
 spelled_up checked subscriber up = framed (up_frame checked subscriber up)
 
--- those whose frames are whole in so many bytes
+-- those whose frames are whole in this number of bytes
 abbrev pub whole_up : CheckedOf → ℕ → ℕ → List Up → List Up
 whole_up checked subscriber count ups = whole_by (up_frame checked subscriber) count ups

@@ -1,4 +1,4 @@
-//! Laws of streams.
+//! Laws about streams.
 
 ghost use Rattle.stream_laws.specs.Asking.{CommandsAreRead, StartsAreAnswered};
 ghost use Rattle.stream_laws.specs.Cutting.{FirstPartsAreCut};
@@ -6,8 +6,8 @@ ghost use Rattle.stream_laws.specs.Following.{ItemsAreFollowed};
 ghost use Rattle.stream_laws.specs.FollowingBytes.{BytesAreFollowed, FedFollow, NothingIsFed, StoppedFollow, LostFollow, FirstFollows, FollowsLonger};
 ghost use Rattle.stream_laws.specs.LayoutRoom.{LogsFitLayouts, StreamsCanBeSent};
 
-/// A law, and no code, of streams. Bytes that are a first part of a stream are cut into the frames that are whole in
-/// them, and a rest that is no whole frame.
+/// A law about cutting streams: a function without an effect whose contract states it. Bytes that are a first part of a
+/// stream are cut into the frames that are whole in them, and a rest that is not a whole frame.
 ///
 /// PostgreSQL 15, 55.7. Message Formats.
 #[tactic(auto, using(crate::proofs::CuttingLemmas::first_parts_are_cut))]
@@ -15,10 +15,10 @@ pub fn first_parts_are_cut()
     ensures { FirstPartsAreCut }
 {}
 
-/// A law, and no code, of a subscriber that follows: its rows are those of its shard of the publisher's tables after
-/// the commits that its position counts. It opens a connection at its own position. After the frames of any first items
-/// of the stream that starts there, whatever the stream's moves, it follows, at the greatest position that these told
-/// it of, and none of them is a fault to it (`items`). So it is after any first bytes of the stream (`bytes`).
+/// A law about a subscriber that follows: its rows are those of its shard of the publisher's tables after the commits
+/// that its position counts. It opens a connection at its own position. After the frames of any first items of the
+/// stream that starts there, whatever the stream's moves, it follows, at the greatest position that they carried, and
+/// none of them is a fault to it (`items`). The same holds after any first bytes of the stream (`bytes`).
 ///
 /// PostgreSQL 15, 55.4. Streaming Replication Protocol, and "Logical Replication", 31.3 Row Filters.
 #[tactic(auto, using(crate::proofs::FollowingLemmas::items_are_followed, crate::proofs::FollowingBytesLemmas::bytes_are_followed))]
@@ -27,12 +27,12 @@ pub fn subscribers_follow_streams()
     ensures bytes { BytesAreFollowed }
 {}
 
-/// A law, and no code, of subscribers, by what their calls leave. One that follows, and opened a connection, follows
-/// after it was fed any first bytes of its stream (`fed`), which is the same in pieces (`pieces_are_fed_as_one` of
-/// `test_subscriber`); before the first piece it is as if it was fed nothing (`nothing`). Where a piece stops it, memory
-/// was refused, and it follows still, after all items that are whole in the pieces before it, and some of those that
-/// are whole with it (`stops`). So it does after it lost its connection (`lost`), before its first one (`first`), and
-/// as more is committed (`longer`).
+/// A law about subscribers, by what their calls leave. One that follows, and opened a connection, follows after it was
+/// fed any first bytes of its stream (`fed`), which is the same in pieces (`pieces_are_fed_as_one` of
+/// `test_subscriber`); before the first piece it is as if it was fed nothing (`nothing`). If a piece stops it, memory
+/// was refused, and it still follows, after all items that are whole in the pieces before it, and some of those that
+/// are whole with it (`stops`). It also follows after it lost its connection (`lost`), before its first one (`first`),
+/// and when more is committed (`longer`).
 ///
 /// PostgreSQL 15, 31.2. Subscription, and 55.4. Streaming Replication Protocol.
 #[tactic(auto, using(crate::proofs::FollowingBytesLemmas::fed_follow, crate::proofs::FollowingBytesLemmas::first_follows, crate::proofs::FollowingBytesLemmas::follows_longer))]
@@ -45,9 +45,9 @@ pub fn fed_subscribers_follow()
     ensures longer { FollowsLonger }
 {}
 
-/// A law, and no code, of logs of transactions that were accepted: where times have 64 bits, the
-/// catalog is within its limits and there are at most 1,000,000,000 transactions, the layouts have room for each
-/// message that tells any subscriber of them, so that it is read as it was spelled.
+/// A law about logs of transactions that were accepted: if times have 64 bits, the catalog is within its limits and
+/// there are at most 1,000,000,000 transactions, the layouts have room for each message that reports them to any
+/// subscriber, so that it is read as it was spelled.
 ///
 /// PostgreSQL 15, 55.9. Logical Replication Message Formats.
 #[tactic(auto, using(crate::proofs::LayoutRoomLemmas::logs_fit_layouts))]
@@ -55,27 +55,26 @@ pub fn logs_fit_layouts()
     ensures { LogsFitLayouts }
 {}
 
-/// A law, and no code, of streams: where the layouts have room for what is told of the log, and clocks have 64 bits, they
-/// have room for each item of a stream that starts at a position which the log reaches, whatever its moves.
+/// A law about streams: if the layouts have room for what is sent of the log, and clocks have 64 bits, they have room
+/// for each item of a stream that starts at a position that the log reaches, whatever its moves.
 ///
 /// PostgreSQL 15, 55.4. Streaming Replication Protocol.
 pub fn streams_can_be_sent()
     ensures { StreamsCanBeSent }
 {}
 
-/// A law, and no code, of the command by which a subscriber asks for its stream. The publisher reads what was meant:
-/// the slot, the position, version 1 of the protocol and the publications' names, where each name has 1 to 63 bytes and
-/// the position has 64 bits. There is at least one publication. A name may have any bytes, quotes and commas among
-/// them.
+/// A law about the command with which a subscriber requests its stream. The publisher reads what was meant: the slot,
+/// the position, version 1 of the protocol and the publications' names, if each name has 1 to 63 bytes and the position
+/// has 64 bits. There is at least one publication. A name may have any bytes, quotes and commas among them.
 ///
 /// PostgreSQL 15, 55.4. Streaming Replication Protocol, and 55.5.1. Logical Streaming Replication Parameters.
 pub fn commands_are_read()
     ensures { CommandsAreRead }
 {}
 
-/// A law, and no code, of the first frame of a subscriber of the world, where its subscription is found by its name,
-/// its publications are those of the catalog, and names are plain. If its slot is free and the log reaches the
-/// position, the publisher starts the stream of its slot there, or where the slot is confirmed if that is later.
+/// A law about the first frame of a subscriber of the world, if its subscription is found by its name, its publications
+/// are those of the catalog, and names are plain. If its slot is free and the log reaches the position, the publisher
+/// starts the stream of its slot there, or where the slot is confirmed if that is later.
 ///
 /// PostgreSQL 15, 55.4. Streaming Replication Protocol.
 pub fn starts_are_answered()

@@ -1,6 +1,6 @@
-//! Laws of the streams through which subscribers follow a publisher's tables: that a first part of a stream is cut into
-//! its frames, that each message of it has room, that a subscriber's command is read and answered as it was asked, and
-//! that whoever is fed a first part of its stream has its shard.
+//! Laws about the streams through which subscribers follow a publisher's tables: that a first part of a stream is cut
+//! into its frames, that each of its messages has room, that a subscriber's command is read and answered as requested,
+//! and that a subscriber that is fed a first part of its stream has its shard.
 #![tactic(auto)]
 
 mod laws;

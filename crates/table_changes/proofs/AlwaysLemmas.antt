@@ -9,7 +9,7 @@ use Rattle.table_changes.specs.Tables.{Tables, without, is_free}
 
 -- ---- one command
 
--- the fault, if there is one, is of the rows that are there
+-- the fault, if there is one, depends on the rows
 abbrev IsOfRows : Option CommandFault → Type 0
 IsOfRows found = (fault : CommandFault) → is_of_command fault ≡ true → found ≡ Some fault → ⊥
 
@@ -54,7 +54,7 @@ always_of setting tables (Truncate numbers) fault own is others = is
 
 -- ---- lists
 
--- the command of this number has the fault, where the first one has the number `first`
+-- the command of this number has the fault; the first one has the number `first`
 record HasFrom (setting : Setting) (commands : List Command) (first number : ℕ) (fault : CommandFault) : Type 0 where
   place : ℕ
   command : Command

@@ -45,7 +45,7 @@ may_insert setting tables table row h =
           (no_unless (is_free setting.keys tables table row) DuplicateKey None fit.1).0;
     }
 
--- the row that is named is there, in the place of the key
+-- the row that is named is in the table, in the place of the key
 pub record IsFound (tables : Tables) (table : ℕ) (key : List Datum) : Type 0 where
   pub row : List Datum
   pub there : named tables table key ≡ Some row
@@ -75,7 +75,7 @@ may_update setting tables table key row h =
           DuplicateKey None there.1).0;
     }
 
--- what UPDATE and DELETE name is there
+-- the row that UPDATE and DELETE name is in the table
 pub update_finds : (setting : Setting) (tables : Tables) (table : ℕ) (key row : List Datum)
     → fault_of setting tables (Update table key row) ≡ None → IsFound tables table key
 update_finds setting tables table key row h = (may_update setting tables table key row h).found
@@ -106,7 +106,7 @@ holds_after setting keyed tables stands table key None is other another =
 holds_after setting keyed tables stands table key (Some row) is other another =
     holds_without setting.keys keyed tables stands table 0 key row is other another
 
--- ---- which rows are there
+-- ---- which rows exist
 
 pub rows_stand : (setting : Setting) → HasPrimaryKeys setting.keys → (tables : Tables) (command : Command)
     → fault_of setting tables command ≡ None → Stands setting.keys tables
@@ -174,7 +174,7 @@ this_fits setting table row other another h fit =
     subst (λ t. fits setting t another ≡ true) ((unsigned_Decides table other).0 both.0)
     (subst (λ r. fits setting table r ≡ true) (equal_from_same_row row another both.1) fit)
 
--- a row that is there after a command was there before, or fits its table
+-- a row that exists after a command existed before, or fits its table
 came_from : {P : Type 0} (setting : Setting) (tables : Tables) (command : Command)
     → fault_of setting tables command ≡ None → (table : ℕ) (row : List Datum)
     → stands_after setting tables command table row ≡ true → (fits setting table row ≡ true → P)
@@ -216,7 +216,7 @@ stay_fit setting keyed tables number (command ∷ commands) h stands fit =
     (λ table row there. is_new_or_old setting keyed tables command both.0 stands table row there (λ new. new)
     (λ old. fit table row old))
 
--- ---- rows stay apart
+-- ---- rows stay distinct
 
 pub stay_apart : (setting : Setting) → KeepsApart setting → (tables : Tables) (number : ℕ) (commands : List Command)
     → first_fault setting tables number commands ≡ None
@@ -228,7 +228,7 @@ stay_apart setting keeps tables number (command ∷ commands) h stands apart =
     stay_apart setting keeps (applied setting tables command) (number + 1) commands both.1
     (keeps_keyed setting tables command both.0 stands) (keeps.kept tables command both.0 stands apart)
 
--- ---- the first tables
+-- ---- tables without rows
 
 none_held : (setting : Setting) (table : ℕ) (row : List Datum) → holds setting.keys no_rows table row ≡ true → ⊥
 none_held setting table row h = let at = (held setting.keys no_rows table row h).there in cc

@@ -1,4 +1,4 @@
--- Lists of commands go on, and tables with the same rows stay alike.
+-- Lists of commands continue, and tables with the same rows stay alike.
 use Rattle.std.proofs.Common.{◌≡◌, ℕ, suc, ◌+◌, ◌&&◌, List, [], ◌∷◌, ◌++◌, length, refl, sym, ◌∙◌, ap, subst, arith}
 use Rattle.std.specs.Prelude.{Option, Some, None, ◌==◌, is_none, is_some, if◌then◌else◌}
 use Rattle.std.specs.List.{list_any}
@@ -173,7 +173,7 @@ are_alike setting one other same = record {
   sees = λ subscriber commands. each_alike setting subscriber one other same commands;
 }
 
--- ---- one command more
+-- ---- one more command
 
 next_number : (number count : ℕ) → number + 1 + count ≡ number + suc count
 next_number number count = omega arith

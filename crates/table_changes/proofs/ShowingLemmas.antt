@@ -77,7 +77,7 @@ shows_gone setting covered subscriber table old =
 
 -- ---- a row that another replaces
 
--- the row that is asked passes as the old one does, and a row that goes is recorded as any that does
+-- the row that is tested passes as the old row does, and a row that goes is recorded like any row that goes
 record TellsOld (setting : Setting) (table : ℕ) (old new : List Datum) : Type 0 where
   part : Option r.PartOf
   is : part_of setting table old (Some new) ≡ part

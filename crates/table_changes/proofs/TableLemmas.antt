@@ -1,4 +1,4 @@
--- Where rows of tables are, and what is kept as they come and go.
+-- Where rows of tables are, and what is preserved as they come and go.
 use Rattle.std.proofs.Common.{◌≡◌, ℕ, zero, suc, ◌+◌, Bool, true, false, not, ◌&&◌, ◌||◌, List, [], ◌∷◌, refl, sym, ◌∙◌, ap, subst, arith}
 use Rattle.std.specs.Prelude.{Option, Some, None, ◌==◌, is_none, is_some, slice_get}
 use Rattle.std.specs.List.{list_any}
@@ -198,7 +198,7 @@ emptied_keeps keys tables numbers stands = record {
       (sym (emptied_elsewhere tables numbers other number value elsewhere) ∙ h) k);
 }
 
--- ---- rows that are there
+-- ---- rows that are in a table
 
 -- the row is found by its primary key
 pub record IsHeld (keys : Keys) (tables : Tables) (table : ℕ) (row : List Datum) : Type 0 where
@@ -226,7 +226,7 @@ one_row keys tables stands table number one other value h k first second =
     some_is one other (sym (stands.whole table 0 number at.value value one at.there first)
     ∙ stands.whole table 0 number by.value value other by.there second)
 
--- ---- which rows are there
+-- ---- which rows are in a table
 
 record HasKey (keys : Keys) (table : ℕ) (row : List Datum) : Type 0 where
   value : List Datum
@@ -244,7 +244,7 @@ holds_by : (keys : Keys) (tables : Tables) (table : ℕ) (row value : List Datum
     → holds keys tables table row ≡ is_row (tables table 0 value) row
 holds_by keys tables table row value h = ap (λ found. is_row (found_at (tables table 0) found) row) h
 
--- a row that is this one has this one's places
+-- a row that equals this one has the places of this one
 this_own : (keys : Keys) (table : ℕ) (row : List Datum) (other : ℕ) (another value : List Datum)
     → key_at keys other 0 another ≡ Some value → is_own keys table row other 0 value ≡ false
     → is_this table row other another ≡ false
@@ -257,7 +257,7 @@ this_own keys table row other another value key h = by_test (is_this table row o
     cc))
     (λ differs. differs)
 
--- the row that comes is there, and the others as before
+-- the row that comes is in the table, and the others are as before
 pub holds_with : (keys : Keys) → HasPrimaryKeys keys → (tables : Tables) (table : ℕ) (row : List Datum)
     → is_free keys tables table row ≡ true
     → (other : ℕ) (another : List Datum)
@@ -284,7 +284,7 @@ holds_with keys keyed tables table row free other another =
     ∙ sym before ∙ ap (λ b. b || holds keys tables other another)
     (sym (this_own keys table row other another its.value its.key elsewhere)))
 
--- the row that goes is no more there, and the others as before
+-- the row that goes is no longer there, and the others are as before
 pub holds_without : (keys : Keys) → HasPrimaryKeys keys → (tables : Tables) → Stands keys tables
     → (table place : ℕ) (at row : List Datum) → tables table place at ≡ Some row → (other : ℕ) (another : List Datum)
     → holds keys (take_out keys tables table row) other another
@@ -310,7 +310,7 @@ holds_without keys keyed tables stands table place at row there other another =
     ∙ ap (λ b. holds keys tables other another && not b)
     (sym (this_own keys table row other another its.value its.key elsewhere)))
 
--- no row of a table that is emptied is there
+-- a table that is emptied has no rows
 pub holds_emptied : (keys : Keys) → HasPrimaryKeys keys
     → (tables : Tables) (numbers : List ℕ) (other : ℕ) (another : List Datum)
     → holds keys (emptied tables numbers) other another
@@ -327,7 +327,7 @@ holds_emptied keys keyed tables numbers other another =
     ∙ sym before ∙ sym (and_true (holds keys tables other another))
     ∙ ap (λ b. holds keys tables other another && not b) (sym elsewhere))
 
--- ---- a row that is there goes
+-- ---- a row that is in a table goes
 
 pub row_goes : (keys : Keys) → HasPrimaryKeys keys → (tables : Tables) → Stands keys tables
     → (table : ℕ) (row : List Datum) → holds keys tables table row ≡ true

@@ -1,11 +1,11 @@
--- Faults that a command has whatever rows there are: no such table, and a row that doesn't fit its table: PostgreSQL
+-- Faults that a command has, whatever rows there are: no such table, and a row that doesn't fit its table: PostgreSQL
 -- 15, Chapter 6 Data Manipulation, and SQL Commands, TRUNCATE.
 use Rattle.std.specs.Prelude.{◌≡◌, ℕ, ◌+◌, Bool, true, false, List, Some, slice_get}
 use Rattle.table_changes.specs.Commands.{Command, CommandFault, NoTable, Unfit, NoSuchRow, DuplicateKey, fault_of, first_fault}
 use Rattle.table_changes.specs.Setting.{Setting}
 use Rattle.table_changes.specs.Tables.{Tables}
 
--- the command alone has the fault, and not the rows that are there
+-- the fault depends on the command alone, and not on the rows
 abbrev pub is_of_command : CommandFault → Bool
 is_of_command NoTable = true
 is_of_command (Unfit fault) = true

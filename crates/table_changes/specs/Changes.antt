@@ -1,5 +1,5 @@
--- Which rows are in tables as rows and commands without a fault come and go, and what is kept: PostgreSQL 15, Chapter
--- 6 Data Manipulation, 5.4.4 Primary Keys, 11.6 Unique Indexes, and SQL Commands, TRUNCATE.
+-- Which rows are in tables as rows and commands without a fault come and go, and what is preserved: PostgreSQL 15,
+-- Chapter 6 Data Manipulation, 5.4.4 Primary Keys, 11.6 Unique Indexes, and SQL Commands, TRUNCATE.
 use Rattle.std.specs.Prelude.{◌≡◌, ℕ, ◌==◌, Bool, true, not, ◌&&◌, ◌||◌, List, Some, None}
 use Rattle.std.specs.List.{list_any}
 use Rattle.filter_tree.specs.Datum.{Datum}
@@ -16,7 +16,8 @@ is_this table row other another = (table == other) && same_row row another
 
 -- ---- rows that come and go
 
--- A row that comes, where no row has its value in a unique key, is there with those that were there before.
+-- A row that comes, if no row has its value in a unique key, is in the tables along with the rows that were there
+-- before.
 abbrev pub RowComes : Type 0
 RowComes = (keys : Keys) → HasPrimaryKeys keys → (tables : Tables) (table : ℕ) (row : List Datum)
     → is_free keys tables table row ≡ true
@@ -24,7 +25,7 @@ RowComes = (keys : Keys) → HasPrimaryKeys keys → (tables : Tables) (table : 
     → holds keys (put_in keys tables table row) other another
     ≡ (is_this table row other another || holds keys tables other another)
 
--- A row that was there and goes is no more there, and all others are.
+-- When a row that was in the tables goes, it is no longer there, and all others are.
 abbrev pub RowGoes : Type 0
 RowGoes = (keys : Keys) → HasPrimaryKeys keys → (tables : Tables) → Stands keys tables
     → (table : ℕ) (row : List Datum) → holds keys tables table row ≡ true
@@ -32,7 +33,7 @@ RowGoes = (keys : Keys) → HasPrimaryKeys keys → (tables : Tables) → Stands
     → holds keys (take_out keys tables table row) other another
     ≡ (holds keys tables other another && not (is_this table row other another))
 
--- Of tables that are emptied no row is there, and of others all.
+-- Tables that are emptied have no rows, and the others keep all their rows.
 abbrev pub TablesAreEmptied : Type 0
 TablesAreEmptied = (keys : Keys) → HasPrimaryKeys keys → (tables : Tables) (numbers : List ℕ)
     → (other : ℕ) (another : List Datum)
@@ -62,8 +63,7 @@ OneRowForKey = (keys : Keys) (tables : Tables) → Stands keys tables → (table
 abbrev pub is_named : Tables → ℕ → List Datum → ℕ → List Datum → Bool
 is_named tables table key other another = (table == other) && is_row (named tables table key) another
 
--- which rows are there after a command: those that it adds, and of those that were there before all but those that it
--- takes out
+-- which rows exist after a command: those that it adds, and all that existed before except those that it takes out
 abbrev pub stands_after : Setting → Tables → Command → ℕ → List Datum → Bool
 stands_after setting tables (Insert table row) other another =
     is_this table row other another || holds setting.keys tables other another
@@ -75,7 +75,7 @@ stands_after setting tables (Delete table key) other another =
 stands_after setting tables (Truncate numbers) other another =
     holds setting.keys tables other another && not (list_any (λ table. table == other) numbers)
 
--- Exactly those rows are there.
+-- Exactly those rows exist.
 abbrev pub RowsStand : Type 0
 RowsStand = (setting : Setting) → HasPrimaryKeys setting.keys → (tables : Tables) (command : Command)
     → fault_of setting tables command ≡ None → Stands setting.keys tables
@@ -100,7 +100,7 @@ RowsStayApart = (setting : Setting) → KeepsApart setting → (tables : Tables)
     → first_fault setting tables number commands ≡ None
     → Stands setting.keys tables → Apart setting tables → Apart setting (all_applied setting tables commands)
 
--- All that is so of tables without rows.
+-- All this holds for tables without rows.
 pub record BeginsWell (setting : Setting) : Type 0 where
   pub keyed : Stands setting.keys no_rows
   pub fit : AllFit setting no_rows

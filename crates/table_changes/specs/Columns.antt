@@ -15,7 +15,7 @@ is_null (Known constant) = false
 abbrev pub unless_null : List Datum → Option (List Datum)
 unless_null values = if list_any is_null values then None else Some values
 
--- the values that begin at this number, with nulls outside these columns
+-- the values from this number on, with nulls outside these columns
 abbrev pub blanked_from : List ℕ → ℕ → List Datum → List Datum
 blanked_from columns number [] = []
 blanked_from columns number (value ∷ values) =

@@ -1,4 +1,4 @@
--- How lists of commands go on, and what tables with the same rows have in common: PostgreSQL 15, Chapter 6 Data
+-- How lists of commands continue, and what tables with the same rows have in common: PostgreSQL 15, Chapter 6 Data
 -- Manipulation.
 use Rattle.std.specs.Prelude.{◌≡◌, ℕ, ◌+◌, List, [], ◌∷◌, ◌++◌, length, Some, None}
 use Rattle.filter_tree.specs.Datum.{Datum}
@@ -27,7 +27,7 @@ pub record AreAlike (setting : Setting) (one other : Tables) : Type 0 where
 abbrev pub SameAreAlike : Type 0
 SameAreAlike = (setting : Setting) (one other : Tables) → SameTables one other → AreAlike setting one other
 
--- after commands without a fault, the fault of one more
+-- after commands without a fault, the fault of one more command
 abbrev pub FaultOfOneMore : Type 0
 FaultOfOneMore = (setting : Setting) (tables : Tables) (number : ℕ) (commands : List Command) (command : Command)
     → first_fault setting tables number commands ≡ None

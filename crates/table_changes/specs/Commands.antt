@@ -17,7 +17,7 @@ pub data Command : Type 0 where
   Delete : ℕ → List Datum → Command
   Truncate : List ℕ → Command
 
--- a command of the code
+-- a command of the program
 abbrev pub command_view : d.Command → Command
 command_view (v.Insert table row) = Insert table row
 command_view (v.Update table key row) = Update table key row
@@ -32,12 +32,12 @@ pub data CommandFault : Type 0 where
   NoSuchRow : CommandFault
   DuplicateKey : CommandFault
 
--- the fault unless the test holds, and else the next one
+-- the fault unless the test holds, otherwise the next one
 abbrev pub unless : Bool → CommandFault → Option CommandFault → Option CommandFault
 unless true fault next = next
 unless false fault next = Some fault
 
--- the row's own fault, and else the next one
+-- the row's own fault, otherwise the next one
 abbrev pub unless_unfit : Option RowFault → Option CommandFault → Option CommandFault
 unless_unfit None next = next
 unless_unfit (Some fault) next = Some (Unfit fault)
@@ -46,14 +46,14 @@ unless_unfit (Some fault) next = Some (Unfit fault)
 abbrev pub named : Tables → ℕ → List Datum → Option (List Datum)
 named tables table key = tables table 0 key
 
--- there are tables, and each is known
+-- there is at least one table, and each is known
 abbrev pub all_known : Setting → List ℕ → Bool
 all_known setting [] = false
 all_known setting (table ∷ numbers) = list_all setting.known (table ∷ numbers)
 
--- The first fault of a command: no such table, as of TRUNCATE without any; a row that doesn't fit; no row with the
--- key, as of each key that isn't of the primary key's shape; and a value in a unique key that another row has, which
--- for UPDATE isn't the row that is replaced.
+-- The first fault of a command: no such table, also for TRUNCATE without any table; a row that doesn't fit; no row with
+-- the key, also for each key that doesn't have the primary key's shape; and a value in a unique key that another row
+-- has, which for UPDATE isn't the row that is replaced.
 abbrev pub fault_of : Setting → Tables → Command → Option CommandFault
 fault_of setting tables (Insert table row) =
     unless (setting.known table) NoTable (unless_unfit (setting.fault table row)
@@ -77,7 +77,7 @@ applied setting tables (Update table key row) =
 applied setting tables (Delete table key) = without setting.keys tables table (named tables table key)
 applied setting tables (Truncate numbers) = emptied tables numbers
 
--- and after commands, each on what the earlier ones leave
+-- and after commands, each acting on what the earlier ones leave
 abbrev pub all_applied : Setting → Tables → List Command → Tables
 all_applied setting tables commands = fold (applied setting) tables commands
 
@@ -86,7 +86,7 @@ abbrev pub numbered : ℕ → Option CommandFault → Option (ℕ × CommandFaul
 numbered number None next = next
 numbered number (Some fault) next = Some (number, fault)
 
--- the first fault of commands, each on what the earlier ones leave, where the first command has this number
+-- the first fault of commands, each acting on what the earlier ones leave; the first command has this number
 abbrev pub first_fault : Setting → Tables → ℕ → List Command → Option (ℕ × CommandFault)
 first_fault setting tables number [] = None
 first_fault setting tables number (command ∷ commands) =

@@ -7,7 +7,7 @@ use Rattle.filter_tree.specs.Datum.{Datum}
 abbrev pub UniqueKey : Type 0
 UniqueKey = List Datum → Option (List Datum)
 
--- of each table its unique keys by their numbers; 0 is the primary key
+-- the unique keys of each table by their numbers; 0 is the primary key
 abbrev pub Keys : Type 0
 Keys = ℕ → List UniqueKey
 
@@ -15,7 +15,7 @@ abbrev pub value_in : Option UniqueKey → List Datum → Option (List Datum)
 value_in None row = None
 value_in (Some key) row = key row
 
--- the row's value in the table's unique key of this number; in one that the table doesn't have, none
+-- the row's value in the table's unique key of this number; none in a key that the table doesn't have
 abbrev pub key_at : Keys → ℕ → ℕ → List Datum → Option (List Datum)
 key_at keys table number row = value_in (slice_get (keys table) number) row
 

@@ -1,5 +1,5 @@
--- What a subscriber gets of a recorded change, where the old row is known by its part alone: PostgreSQL 15, "Logical
--- Replication", 31.3.1 Row Filter Rules and 31.3.3 UPDATE Transformations.
+-- What a subscriber gets of a recorded change, when only the recorded part of the old row is known: PostgreSQL 15,
+-- "Logical Replication", 31.3.1 Row Filter Rules and 31.3.3 UPDATE Transformations.
 use Rattle.std.specs.Prelude.{ℕ, Bool, true, false, List, filter, Option, Some, None, option_map, if◌then◌else◌}
 use Rattle.std.specs.List.{list_any}
 use Rattle.filter_tree.specs.Datum.{Datum}
@@ -14,27 +14,27 @@ pub data OutOf : Type 0 where
   Delete : Option r.PartOf → OutOf
   Truncate : List ℕ → OutOf
 
--- The old row counts as passing where this row passes: the recorded part, or the new row where nothing is recorded.
+-- The old row counts as passing if this row passes: the recorded part, or the new row if nothing is recorded.
 abbrev pub asked : Option r.PartOf → List Datum → List Datum
 asked None new = new
 asked (Some (r.Key part)) new = part
 asked (Some (r.Full old)) new = old
 
--- by whether the old row and the new one pass
+-- depending on whether the old row and the new row pass
 abbrev pub out_by : Bool → Bool → Option r.PartOf → List Datum → Option OutOf
 out_by false false part new = None
 out_by false true part new = Some (Insert new)
 out_by true false part new = Some (Delete part)
 out_by true true part new = Some (Update part new)
 
--- of an old row that goes; where nothing is recorded of it, nobody is told
+-- for an old row that goes; if nothing is recorded of it, nothing is sent
 abbrev pub out_gone : (List Datum → Bool) → Option r.PartOf → Option OutOf
 out_gone passes None = None
 out_gone passes (Some (r.Key part)) = if passes part then Some (Delete (Some (r.Key part))) else None
 out_gone passes (Some (r.Full old)) = if passes old then Some (Delete (Some (r.Full old))) else None
 
--- What a subscriber gets of a change, if anything. `passes` tells which rows of a table pass to it, and `carries`
--- which tables it takes anything of.
+-- What a subscriber gets of a change, if anything. `passes` says which rows of a table pass to it, and `carries` from
+-- which tables it gets anything.
 abbrev pub transform_of : (ℕ → List Datum → Bool) → (ℕ → Bool) → r.ChangeOf → Option OutOf
 transform_of passes carries (r.Insert table new) = if passes table new then Some (Insert new) else None
 transform_of passes carries (r.Update table part new) =
@@ -51,7 +51,7 @@ table_of (r.Update table part new) = table
 table_of (r.Delete table part) = table
 table_of (r.Truncate numbers) = 0
 
--- as a change of this table, or of those tables that the subscriber takes anything of
+-- as a change of this table, or of those tables from which the subscriber gets anything
 abbrev pub stands_for : ℕ → (ℕ → Bool) → OutOf → r.ChangeOf
 stands_for table carries (Insert new) = r.Insert table new
 stands_for table carries (Update part new) = r.Update table part new

@@ -11,8 +11,8 @@ use Rattle.table_changes.specs.Tables.{Tables}
 
 -- ---- parts of old rows
 
--- what is recorded of an old row, where anything is: the row with nulls outside the columns of the identity, or the
--- whole row
+-- what is recorded of an old row, if anything is: the row with nulls outside the columns of the identity, or the whole
+-- row
 pub data PartOf : Type 0 where
   Key : List Datum → PartOf
   Full : List Datum → PartOf
@@ -22,8 +22,8 @@ abbrev pub is_kept : (List Datum → List Datum) → List Datum → Option (List
 is_kept identity old None = false
 is_kept identity old (Some new) = same_row (identity old) (identity new)
 
--- What is recorded of an old row that goes, or that a new one replaces. Where columns identify rows it is recorded
--- only if one of them changes; a whole row always is. `identity` gives the values that identify a row, and `blanked`
+-- What is recorded of an old row that goes, or that a new one replaces. If columns identify rows it is recorded only if
+-- one of them changes; a whole row is always recorded. `identity` gives the values that identify a row, and `blanked`
 -- the row with nulls outside them.
 abbrev pub part_by : Recorded → (List Datum → List Datum) → (List Datum → List Datum) → List Datum
     → Option (List Datum) → Option PartOf
@@ -36,7 +36,7 @@ abbrev pub part_of : Setting → ℕ → List Datum → Option (List Datum) → 
 part_of setting table old new =
     part_by (setting.recorded table) (setting.identity table) (setting.blanked table) old new
 
--- and of one that was found
+-- and of an old row that was found
 abbrev pub part_found : Setting → ℕ → Option (List Datum) → Option (List Datum) → Option PartOf
 part_found setting table None new = None
 part_found setting table (Some old) new = part_of setting table old new
@@ -50,7 +50,7 @@ pub data ChangeOf : Type 0 where
   Delete : ℕ → Option PartOf → ChangeOf
   Truncate : List ℕ → ChangeOf
 
--- the change that a command makes on tables; TRUNCATE empties each table once that it names
+-- the change that a command makes on tables; TRUNCATE empties each table that it names, and only once
 abbrev pub change_of : Setting → Tables → c.Command → ChangeOf
 change_of setting tables (c.Insert table row) = Insert table row
 change_of setting tables (c.Update table key row) =
@@ -58,7 +58,7 @@ change_of setting tables (c.Update table key row) =
 change_of setting tables (c.Delete table key) = Delete table (part_found setting table (c.named tables table key) None)
 change_of setting tables (c.Truncate numbers) = Truncate (distinct nat_eq numbers)
 
--- the changes that commands make, each on what the earlier ones leave
+-- the changes that commands make, each acting on what the earlier ones leave
 abbrev pub record_of : Setting → Tables → List c.Command → List ChangeOf
 record_of setting tables [] = []
 record_of setting tables (command ∷ commands) =

@@ -1,6 +1,6 @@
--- What a subscriber sees of commands: an UPDATE whose old row alone passes takes the row away, and one whose new row
--- alone passes brings it; row filters have no effect on TRUNCATE: PostgreSQL 15, "Logical Replication", 31.3.1 Row
--- Filter Rules and 31.3.3 UPDATE Transformations, and SQL Commands, TRUNCATE.
+-- What a subscriber sees of commands: an UPDATE of which only the old row passes takes the row away, and one of which
+-- only the new row passes brings it; row filters have no effect on TRUNCATE: PostgreSQL 15, "Logical Replication",
+-- 31.3.1 Row Filter Rules and 31.3.3 UPDATE Transformations, and SQL Commands, TRUNCATE.
 use Rattle.std.specs.Prelude.{ℕ, nat_eq, Bool, List, [], ◌∷◌, filter, filter_map, Option, Some, None, if◌then◌else◌}
 use Rattle.filter_tree.specs.Datum.{Datum}
 use Rattle.filter_tree.specs.Lists.{distinct}
@@ -20,14 +20,14 @@ abbrev pub passing : (List Datum → Bool) → Option (List Datum) → Option (L
 passing passes None = None
 passing passes (Some row) = if passes row then Some row else None
 
--- of the old row and the new one, where they pass
+-- what is seen of the old row and the new row, if they pass
 abbrev pub seen_rows : ℕ → Option (List Datum) → Option (List Datum) → Option Seen
 seen_rows table None None = None
 seen_rows table None (Some new) = Some (Insert table new)
 seen_rows table (Some old) None = Some (Delete table old)
 seen_rows table (Some old) (Some new) = Some (Update table old new)
 
--- of the tables that are emptied, where the subscriber takes anything of them
+-- what is seen of the tables that are emptied, if the subscriber gets anything from them
 abbrev pub seen_tables : List ℕ → Option Seen
 seen_tables [] = None
 seen_tables (table ∷ numbers) = Some (Truncate (table ∷ numbers))
@@ -44,7 +44,7 @@ seen_of setting subscriber tables (c.Delete table key) =
 seen_of setting subscriber tables (c.Truncate numbers) =
     seen_tables (filter (setting.carries subscriber) (distinct nat_eq numbers))
 
--- of each command, on what the earlier ones leave
+-- what is seen of each command, acting on what the earlier ones leave
 abbrev pub seen_each : Setting → ℕ → Tables → List c.Command → List (Option Seen)
 seen_each setting subscriber tables [] = []
 seen_each setting subscriber tables (command ∷ commands) =

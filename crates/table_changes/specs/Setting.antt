@@ -1,6 +1,6 @@
--- What changes of tables depend on, told apart from the catalog that says it: which tables there are, which rows fit
--- them, their unique keys, what the replica identity records of a row, which subscribers get it, and which take
--- anything of a table: PostgreSQL 15, "Logical Replication", 31.1 Publication and 31.3 Row Filters.
+-- What changes of tables depend on, separate from the catalog that defines it: which tables exist, which rows fit them,
+-- their unique keys, what the replica identity records of a row, which subscribers get it, and which get anything from
+-- a table: PostgreSQL 15, "Logical Replication", 31.1 Publication and 31.3 Row Filters.
 use Rattle.std.specs.Prelude.{ℕ, Bool, ◌&&◌, List, is_none, Option}
 use Rattle.filter_tree.specs.Datum.{Datum}
 use Rattle.filter_tree.specs.declared.validity.RowFault.{RowFault}
@@ -14,7 +14,7 @@ pub data Recorded : Type 0 where
 
 -- tables and subscribers by their numbers
 pub record Setting : Type 0 where
-  -- the table is there
+  -- the table exists
   pub known : ℕ → Bool
   -- the first reason why the row may not be in it
   pub fault : ℕ → List Datum → Option RowFault
@@ -26,9 +26,9 @@ pub record Setting : Type 0 where
   pub blanked : ℕ → List Datum → List Datum
   -- the row passes to the subscriber: subscriber, table, row
   pub passes : ℕ → ℕ → List Datum → Bool
-  -- the subscriber takes anything of the table: subscriber, table
+  -- the subscriber gets anything from the table: subscriber, table
   pub carries : ℕ → ℕ → Bool
 
--- the table is there, and takes the row
+-- the table exists, and accepts the row
 abbrev pub fits : Setting → ℕ → List Datum → Bool
 fits setting table row = setting.known table && is_none (setting.fault table row)

@@ -9,8 +9,8 @@ use Rattle.table_changes.specs.Setting.{Setting}
 use Rattle.table_changes.specs.Standing.{Covered}
 use Rattle.table_changes.specs.Tables.{Tables}
 
--- Of each change of the record of commands without a fault a subscriber gets what it sees of the command in its
--- place, and nothing where it sees nothing.
+-- From each change of the record of commands without a fault a subscriber gets what it sees of the command at that
+-- position, and nothing if it sees nothing.
 abbrev pub RecordShows : Type 0
 RecordShows = (setting : Setting) → Covered setting
     → (subscriber : ℕ) (tables : Tables) (number : ℕ) (commands : List Command)
@@ -18,7 +18,7 @@ RecordShows = (setting : Setting) → Covered setting
     → map (got setting subscriber) (record_of setting tables commands)
     ≡ map (option_map (as_recorded setting)) (seen_each setting subscriber tables commands)
 
--- So it gets of the whole record what it sees of the commands, in their order.
+-- So from the whole record it gets what it sees of the commands, in their order.
 abbrev pub RecordShowsAll : Type 0
 RecordShowsAll = (setting : Setting) → Covered setting
     → (subscriber : ℕ) (tables : Tables) (number : ℕ) (commands : List Command)

@@ -6,7 +6,7 @@ use Rattle.filter_tree.specs.Datum.{Datum}
 use Rattle.filter_tree.specs.Same.{same_row}
 use Rattle.table_changes.specs.Keys.{UniqueKey, Keys, key_at}
 
--- of each table, each of its unique keys by its number and each value of that key the row that is there, if any
+-- for each table, each of its unique keys by its number and each value of that key: the row that is there, if any
 abbrev pub Tables : Type 0
 Tables = ℕ → ℕ → List Datum → Option (List Datum)
 
@@ -24,7 +24,7 @@ is_row (Some found) row = same_row found row
 abbrev pub is_own : Keys → ℕ → List Datum → ℕ → ℕ → List Datum → Bool
 is_own keys table row other number value = (table == other) && is_row (key_at keys table number row) value
 
--- the tables with this row, or none, in each place of a row
+-- the tables with this row, or none, in each place of the row
 abbrev pub put : Keys → Tables → ℕ → List Datum → Option (List Datum) → Tables
 put keys tables table row found other number value = if is_own keys table row other number value then
     found else tables other number value
@@ -35,7 +35,7 @@ put_in keys tables table row = put keys tables table row (Some row)
 abbrev pub take_out : Keys → Tables → ℕ → List Datum → Tables
 take_out keys tables table row = put keys tables table row None
 
--- without the row that was found, if one was
+-- without the row that was found, if there was one
 abbrev pub without : Keys → Tables → ℕ → Option (List Datum) → Tables
 without keys tables table None = tables
 without keys tables table (Some row) = take_out keys tables table row
@@ -45,14 +45,14 @@ abbrev pub emptied : Tables → List ℕ → Tables
 emptied tables numbers other number value = if list_any (λ table. table == other) numbers then
     None else tables other number value
 
--- ---- which rows are there
+-- ---- which rows are in a table
 
 -- what is in the place of a value, if there is a value
 abbrev pub found_at : (List Datum → Option (List Datum)) → Option (List Datum) → Option (List Datum)
 found_at place None = None
 found_at place (Some value) = place value
 
--- at none of these unique keys, which begin at this number, there is a row with the row's value
+-- no row has the row's value in any of these unique keys, the first of which has this number
 abbrev pub is_free_from : (ℕ → List Datum → Option (List Datum)) → ℕ → List UniqueKey → List Datum → Bool
 is_free_from places number [] row = true
 is_free_from places number (key ∷ keys) row =
@@ -66,7 +66,7 @@ is_free keys tables table row = is_free_from (tables table) 0 (keys table) row
 abbrev pub holds : Keys → Tables → ℕ → List Datum → Bool
 holds keys tables table row = is_row (found_at (tables table 0) (key_at keys table 0 row)) row
 
--- ---- what is so of tables
+-- ---- what holds for tables
 
 -- Rows are found where they belong.
 pub record Stands (keys : Keys) (tables : Tables) : Type 0 where

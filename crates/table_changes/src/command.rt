@@ -2,8 +2,8 @@
 
 use filter_tree::Row;
 
-/// A command on tables, which are told by their numbers from 0. A row that is replaced or deleted is named by its key:
-/// the values of the primary key's columns, in the key's order. TRUNCATE names the tables that it empties.
+/// A command on tables, which are identified by their numbers from 0. A row that is replaced or deleted is named by its
+/// key: the values of the primary key's columns, in the key's order. TRUNCATE names the tables that it empties.
 ///
 /// PostgreSQL 15, Chapter 6 Data Manipulation, and SQL Commands, TRUNCATE.
 #[derive(Debug, Drop, PartialEq, Eq)]

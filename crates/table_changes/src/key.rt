@@ -1,4 +1,4 @@
-//! The values of rows in some of their columns, as primary keys and unique indexes have them.
+//! The values of rows in some of their columns, as in primary keys and unique indexes.
 
 ghost use Rattle.std.specs.Prelude.{◌≡◌, IfOk};
 ghost use Rattle.filter_tree.specs.Datum.{value_at};
@@ -23,7 +23,7 @@ fn copy_at<A: Allocator, B: Allocator + Clone>(
 }
 
 /// The row's values in the columns of these numbers, from 0, in their order; null for a column past the row's end. The
-/// only error is want of memory.
+/// only error is out of memory.
 pub fn values_at<A: Allocator, B: Allocator + Clone>(
     alloc: B,
     columns: &[usize],
@@ -39,7 +39,7 @@ pub fn values_at<A: Allocator, B: Allocator + Clone>(
 }
 
 /// The values of the row in the columns of the table's primary key, in the key's order; null for a column past the
-/// row's end. The only error is want of memory.
+/// row's end. The only error is out of memory.
 ///
 /// PostgreSQL 15, 5.4.4 Primary Keys.
 pub fn key_of<A: Allocator, B: Allocator + Clone>(

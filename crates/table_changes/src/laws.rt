@@ -1,4 +1,4 @@
-//! Laws of what commands do to tables.
+//! Laws about what commands do to tables. A law is a function without an effect whose contract states it.
 
 ghost use Rattle.table_changes.specs.Always.{FaultsOfCommandsStay};
 ghost use Rattle.table_changes.specs.Setting.{Setting};
@@ -7,10 +7,10 @@ ghost use Rattle.table_changes.specs.Changes.{RowsStand, RowsStayKeyed, RowsStay
 ghost use Rattle.table_changes.specs.CommandLists.{SameAreAlike, FaultOfOneMore, FirstFaultStays, LeftByOneMore, RecordOfOneMore};
 ghost use Rattle.table_changes.specs.Showing.{RecordShows, RecordShowsAll};
 
-/// A law, and no code, of tables in which a row is found by each of its unique keys, and has a primary key. No other
-/// row changes where a row comes that shares no value in a unique key (`comes`), where a row goes (`goes`) and where
-/// tables are emptied (`empties`). Rows stay where each of their unique keys finds them (`stay`). Rows of a table that
-/// share a value in a unique key are one row (`one`).
+/// A law about tables in which a row is found by each of its unique keys, and has a primary key. No other row changes
+/// when a row comes that shares no value in a unique key (`comes`), when a row goes (`goes`) and when tables are
+/// emptied (`empties`). Rows stay where each of their unique keys finds them (`stay`). Rows of a table that share a
+/// value in a unique key are one row (`one`).
 ///
 /// PostgreSQL 15, Chapter 6 Data Manipulation, 5.4.4 Primary Keys, and 11.6 Unique Indexes.
 #[tactic(auto, using(crate::proofs::TableLemmas::holds_with, crate::proofs::TableLemmas::row_goes, crate::proofs::TableLemmas::holds_emptied, crate::proofs::TableLemmas::others_stay, crate::proofs::TableLemmas::one_row))]
@@ -22,10 +22,10 @@ pub fn rows_come_and_go()
     ensures one { OneRowForKey }
 {}
 
-/// A law, and no code, of commands on tables. A command without a fault leaves exactly the rows that it adds and those
-/// that it doesn't take out (`stand`). Commands without a fault, each on what the earlier ones leave, keep each row
-/// where each of its unique keys has it (`keyed`), rows that fit their tables (`fit`), and the rows of a table apart by
-/// their identity (`apart`). Tables without rows have all of that (`begin`).
+/// A law about commands on tables. A command without a fault leaves exactly the rows that it adds and those that it
+/// does not take out (`stand`). Commands without a fault, each acting on what the earlier ones leave, keep each row
+/// where each of its unique keys has it (`keyed`), rows that fit their tables (`fit`), and the rows of a table distinct
+/// by their identity (`apart`). Tables without rows have all of these properties (`begin`).
 ///
 /// PostgreSQL 15, Chapter 6 Data Manipulation, and SQL Commands, TRUNCATE.
 #[tactic(auto, using(crate::proofs::ChangeLemmas::rows_stand, crate::proofs::ChangeLemmas::stay_keyed, crate::proofs::ChangeLemmas::stay_fit, crate::proofs::ChangeLemmas::stay_apart, crate::proofs::ChangeLemmas::begins_well))]
@@ -37,10 +37,10 @@ pub fn commands_change_rows()
     ensures begin { (setting : Setting) → BeginsWell setting }
 {}
 
-/// A law, and no code, of lists of commands. On tables with the same row in each place commands have the same faults,
-/// and leave, record and show the same (`alike`). After commands without a fault the first fault is that of one more
-/// command (`fault`), and after a fault it stays the first (`first`). One more command acts on what the others leave
-/// (`left`), and its change is recorded after theirs (`recorded`).
+/// A law about lists of commands. On tables with the same row in each place commands have the same faults, and leave,
+/// record and show the same (`alike`). After commands without a fault the first fault is that of the next command
+/// (`fault`), and after a fault it stays the first (`first`). One more command acts on what the others leave (`left`),
+/// and its change is recorded after theirs (`recorded`).
 ///
 /// PostgreSQL 15, Chapter 6 Data Manipulation.
 #[tactic(auto, using(crate::proofs::CommandListLemmas::are_alike, crate::proofs::CommandListLemmas::fault_of_one_more, crate::proofs::CommandListLemmas::first_fault_stays, crate::proofs::CommandListLemmas::left_by_one_more, crate::proofs::CommandListLemmas::record_of_one_more))]
@@ -52,9 +52,8 @@ pub fn commands_come_one_by_one()
     ensures recorded { RecordOfOneMore }
 {}
 
-/// A law, and no code, of the faults that a command has by itself: a table that isn't there, and a row that doesn't fit
-/// its table. A list that is refused on any tables for such a fault of a command has that fault, whatever rows there
-/// are.
+/// A law about the faults that a command has by itself: a table that does not exist, and a row that does not fit its
+/// table. A list that is refused on any tables for such a fault of a command has that fault, whatever rows there are.
 ///
 /// PostgreSQL 15, Chapter 6 Data Manipulation, and SQL Commands, TRUNCATE.
 #[tactic(auto, using(crate::proofs::AlwaysLemmas::faults_of_commands_stay))]
@@ -62,9 +61,9 @@ pub fn faults_of_commands_stay()
     ensures { FaultsOfCommandsStay }
 {}
 
-/// A law, and no code, of what is recorded of commands without a fault, where a row's identity tells who gets it. A
-/// subscriber gets of each recorded change what it sees of the command in its place, and nothing where it sees nothing
-/// (`each`); so it gets of the whole record what it sees of the commands (`all`).
+/// A law about what is recorded of commands without a fault, if a row's identity determines who gets it. From each
+/// recorded change a subscriber gets what it sees of the command at that position, and nothing if it sees nothing
+/// (`each`); so from the whole record it gets what it sees of the commands (`all`).
 ///
 /// PostgreSQL 15, "Logical Replication", 31.3.3 UPDATE Transformations.
 #[tactic(auto, using(crate::proofs::ShowingLemmas::record_shows, crate::proofs::ShowingLemmas::record_shows_all))]

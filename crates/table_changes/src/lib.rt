@@ -1,4 +1,4 @@
-//! What commands do to tables: which of them are refused, which rows are there afterwards, and what stays so.
+//! What commands do to tables: which of them are refused, which rows exist afterwards, and what stays true.
 #![tactic(auto)]
 
 mod command;

@@ -31,7 +31,7 @@ use Rattle.tables_log.proofs.PlaceLemmas.{within, put_is, put_others, seen_befor
 use Rattle.tables_log.proofs.SendableLemmas.{part_sendable}
 use Rattle.filter_tree.proofs.Tests.{by_test}
 
--- ---- which tables are there
+-- ---- which tables exist
 
 pub is_known : (catalog : CatalogOf Expr) (plan : PlanOf) (number : ℕ) (table : Table)
     → slice_get catalog.tables number ≡ Some table → (setting_of catalog plan).known number ≡ true
@@ -102,7 +102,7 @@ module _ (catalog : CatalogOf Expr) (plan : PlanOf) (tables : Tables) (number : 
       None))))
       (is_unknown catalog plan number none)
 
--- of a table that is there, whose rows are at these places
+-- for a table that exists, whose rows are at these places
 module _ (catalog : CatalogOf Expr) (plan : PlanOf) (tables : Tables) (number : ℕ) (table : Table)
     (there : slice_get catalog.tables number ≡ Some table)
     (places : Places) (same : (key : ℕ) (value : List Datum) → tables number key value ≡ places key value) where
@@ -279,7 +279,7 @@ module _ (catalog : CatalogOf Expr) (plan : PlanOf) (old : List TableRows) (numb
 
 -- ---- answers
 
--- what holds of a good answer, and what else does as there is no fault
+-- what holds of a good answer, and what else holds because there is no fault
 pub if_ok : {V : Type 0} (result : Result V Refused) (fault : Option CommandFault) (P Q : V → Type 0)
     → Finds fault result → IfOk result P
     → ((value : V) → fault ≡ None → P value → Q value) → IfOk result Q

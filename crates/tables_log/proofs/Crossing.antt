@@ -1,6 +1,6 @@
--- A book may go to another thread, and what it shares of its catalog and its commits may be read in several.
--- The search stops at its limits where it goes through a filter, which may hold itself. So each type that reaches a
--- filter has a lemma, and the types that hold it name that.
+-- A book may be sent to another thread, and what it shares of its catalog and its commits may be read in several.
+-- The search stops at its limits when it goes through a filter, which may contain itself. So each type that reaches a
+-- filter has a lemma, and the types that contain it name that lemma.
 use denote.Param.Send.{IsSend, IsSync, sendable, struct_send, struct_sync, recorded_send, recorded_sync}
 use denote.Struct.Declared.{shape}
 use Rattle.std.proofs.Crossing.{crosses, Arc-send, Vec-send}

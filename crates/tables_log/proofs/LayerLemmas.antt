@@ -43,12 +43,12 @@ pub if_same : {V : Type 0} (b : Bool) (value : V) → (if b then value else valu
 if_same true value = refl
 if_same false value = refl
 
--- nothing, as where nothing was found and nothing is kept of it
+-- nothing, as when nothing was found and nothing is kept of it
 pub over_none : {V : Type 0} (was : Option (Option V)) → (is_some was ≡ true → ⊥) → over was None ≡ None
 over_none None never = refl
 over_none (Some place) never = absurd (never refl)
 
--- a call that may fail did not, where what its failure says can't be
+-- a call that may fail did not, because what its failure says is impossible
 did_not_fail : {A E : Type 0} (result : Result A E) (P Q : Type 0) → OnOk result P → OnErr result Q → (Q → ⊥) → P
 did_not_fail (Ok value) P Q ok err never = ok
 did_not_fail (Err error) P Q ok err never = absurd (never err)
@@ -110,7 +110,7 @@ module _ {K : Type 0} (cmp : K → K → Ordering) where
       → get cmp map key ≡ None → ⊥
   no_place map key has none = let lacks : has_place cmp map key ≡ false = ap is_some none in cc
 
-  -- an insert at a place that is there
+  -- an insert at a place that exists
   pub writes : {V E : Type 0} (old new : BTreeMap K (Option V)) (key : K) (value : Option V)
       (result : Result (Option (Option V)) E)
       → OnOk result (Updates cmp old new key (Some value)) → OnErr result (get cmp old key ≡ None)
@@ -119,7 +119,7 @@ module _ {K : Type 0} (cmp : K → K → Ordering) where
   writes old new key value result ok err has =
       did_not_fail result (Updates cmp old new key (Some value)) (get cmp old key ≡ None) ok err (no_place old key has)
 
-  -- ---- what was kept, where nothing is undone, and after a call that changes nothing
+  -- ---- what was kept, if nothing is undone, and after a call that changes nothing
 
   pub kept_same : {V : Type 0} (base new_base : BTreeMap K (Option V)) (made new_made : List K)
       (undo new_undo : List (K × Option V))
@@ -137,7 +137,7 @@ module _ {K : Type 0} (cmp : K → K → Ordering) where
   room_same base new_base undo new_undo same stay room = λ key has.
       stay key (room key (sym (ap (λ places. is_some (was_in cmp places key)) same) ∙ has))
 
-  -- ---- while the places get what they had
+  -- ---- while the places get back what they had
 
   pub record Rewinds {V : Type 0} (base first_base : BTreeMap K (Option V)) (undo first_undo : List (K × Option V)) :
       Type 0 where
@@ -145,7 +145,7 @@ module _ {K : Type 0} (cmp : K → K → Ordering) where
         ≡ over (was_in cmp first_undo key) (below cmp first_base key)
     pub room : HasRoom cmp base undo
 
--- ---- with keys in a total order, of which those that tie find the same
+-- ---- with keys in a total order, where keys that tie find the same
 
 module _ {K : Type 0} {cmp : K → K → Ordering} (total : IsTotalOrder cmp) where
   turned : (key other : K) → is_at (cmp other) key ≡ eq_by_cmp cmp key other
@@ -176,7 +176,7 @@ module _ {K : Type 0} {cmp : K → K → Ordering} (total : IsTotalOrder cmp) wh
   there_after old new key place updates =
       ap is_some (get_at cmp old new key (Some place) updates key ((eq_by_cmp_equiv total).refl key))
 
-  -- ---- a change of a place that was there
+  -- ---- a change of a place that existed
 
   pub keeps_undone : {V : Type 0} (base new_base : BTreeMap K (Option V)) (made : List K) (undo : List (K × Option V))
       (key : K) (was value : Option V)
@@ -207,7 +207,7 @@ module _ {K : Type 0} {cmp : K → K → Ordering} (total : IsTotalOrder cmp) wh
       (λ same. ap is_some (get_same new_base key other same) ∙ there)
       (λ apart. stay other (room other (some_before (is_at (cmp other)) undo key was (turned key other ∙ apart) has)))
 
-  -- ---- while the places get what they had
+  -- ---- while the places get back what they had
 
   pub rewinds_one : {V : Type 0} (base new_base first_base : BTreeMap K (Option V))
       (undo new_undo first_undo : List (K × Option V)) (key : K) (was : Option V)

@@ -34,8 +34,7 @@ pub map_more : {X Y : Type 0} (f : X → Y) (xs : List X) (x : X) → map f (xs 
 map_more f [] x = refl
 map_more f (y ∷ ys) x = ap (λ rest. f y ∷ rest) (map_more f ys x)
 
--- what the commands that are left do to the tables, and have for a fault, is what all do; the first that is left has
--- this number
+-- what the remaining commands do to the tables, and their fault, is what all do; the first that remains has this number
 pub record SoFar (setting : Setting) (tables first : List TableRows) (changes : List ChangeOf) (number : ℕ)
     (left all : List Command) : Type 0 where
   pub fault : first_fault setting (seen_in tables) number left ≡ first_fault setting (seen_in first) 1 all

@@ -366,7 +366,7 @@ lists_table tables table rows is lists =
     subst (λ (found : Option TableRows). ListsFound (kept_at (maps_of found) 0) (first_values (maps_of found)))
     (sym is) lists
 
--- ---- the rows of a table, where each row is found by one key at most
+-- ---- the rows of a table, when each row is found by at most one key
 
 module _ (found : List Datum → Option (List Datum)) (listed : List (List Datum)) (lists : ListsFound found listed) where
   long : length lists.keys ≡ length listed

@@ -1,4 +1,5 @@
--- Loops that do the same to each item of a list, one after another: what was done is done, and the rest is as it was.
+-- Loops that do the same to each item of a list, one after another: what was done stays done, and the rest is as it
+-- was.
 use Rattle.std.proofs.Common.{◌≡◌, ◌≢◌, ℕ, ◌+◌, ◌<◌, ◌≤◌, List, length, refl, sym, ◌∙◌, ap, subst, arith}
 use Rattle.std.specs.Prelude.{Option, Some, None, ◌==◌, nat_lt, slice_get, slice_set}
 use Rattle.std.proofs.lemmas.Bool.{ltb-true, ltb-false}

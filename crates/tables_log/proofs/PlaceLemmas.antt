@@ -193,7 +193,7 @@ puts_next old new values value row one number found = by_test (number == length 
     ∙ ap (λ b. if b && is_row value found then row else seen_at old.maps.items number found) beside)
     ∙ sym (put_front (seen_at old.maps.items) values value row number apart found))
 
--- maps of which nothing is found, one more than were counted
+-- maps in which nothing is found, one more than were counted
 pub record Making (maps : List (Staged (List Datum))) (count : ℕ) : Type 0 where
   pub width : length maps ≡ count + 1
   pub kept_none : (number : ℕ) (value : List Datum) → kept_at maps number value ≡ None
@@ -221,7 +221,7 @@ making_more maps new map count is unkept unseen making = record {
       ∙ none_more seen maps map making.seen_none unseen number value;
 }
 
--- so far: what the values that are left put is what all put, and what is kept stays
+-- so far: what the remaining values put is what all put, and what is kept stays
 pub record Putting (maps : List (Staged (List Datum))) (values : List (Option (List Datum)))
     (first_maps : List (Staged (List Datum))) (first_values : List (Option (List Datum))) (row : Option (List Datum))
     : Type 0 where

@@ -16,7 +16,7 @@ use Rattle.tables_log.specs.Routes.{commit_in, lacks, IsRouted, AreRouted, passe
 use Rattle.tables_log.specs.declared.routed.Routed.{Routed}
 use Rattle.tables_log.proofs.ListLemmas.{map_more}
 
--- ---- the entries after so many others
+-- ---- the entries after this number of others
 
 drop_within : {X : Type 0} (xs : List X) (done : ℕ) → drop (min done (length xs)) xs ≡ drop done xs
 drop_within xs done =
@@ -122,7 +122,7 @@ gathered view subscriber commits entry rest left all has left_is gathers =
 
 -- ---- their numbers
 
--- each has the number of its place after so many others
+-- each has the number of its place after this number of others
 abbrev After : ℕ → List CommitOf → Type 0
 After done commits = (place : ℕ) (commit : CommitOf) → slice_get commits place ≡ Some commit
     → commit.number ≡ done + place + 1

@@ -82,7 +82,7 @@ module _ (tables : List TableRows) (number : ℕ) (old new : TableRows) (at : sl
 
 -- ---- one table after another
 
--- so far: when those that are left settle, all are settled
+-- so far: when the remaining ones settle, all are settled
 pub record Settling (tables first : List TableRows) (left all : ℕ → Bool) : Type 0 where
   pub keeps : (table key : ℕ) (value : List Datum)
       → (if left table then seen_in tables table key value else kept_in tables table key value)

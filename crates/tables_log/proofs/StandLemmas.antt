@@ -1,4 +1,4 @@
--- Books are those of the transactions that they accepted.
+-- Books are the results of the transactions that they accepted.
 use Rattle.std.proofs.Common.{◌≡◌, ℕ, suc, ◌+◌, List, [], ◌∷◌, ◌++◌, length, refl, sym, ◌∙◌, ap, subst, arith}
 use Rattle.std.specs.Prelude.{fold}
 use Rattle.replica_identity.proofs.SettingLemmas.{has_primary_keys}
@@ -21,7 +21,7 @@ use Rattle.tables_log.proofs.ListingLemmas.{rows_in_order}
 same_back : (one other : Tables) → SameTables one other → SameTables other one
 same_back one other same = λ table number value. sym (same table number value)
 
--- ---- one transaction more
+-- ---- one more transaction
 
 after_more : (setting : Setting) (tables : Tables) (transactions : List Transaction) (transaction : Transaction)
     → fold (left_by setting) tables (transactions ++ transaction ∷ [])

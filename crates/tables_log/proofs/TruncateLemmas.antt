@@ -1,4 +1,4 @@
--- TRUNCATE of tables that are there: which are emptied, and that the list of them can be sent.
+-- TRUNCATE of tables that exist: which are emptied, and that the list of them can be sent.
 use Rattle.std.proofs.Common.{◌≡◌, ℕ, ◌<◌, ◌≤◌, Bool, true, false, ◌&&◌, ◌||◌, List, [], ◌∷◌, ◌++◌, length, refl, sym, ◌∙◌, ap, subst, arith}
 use Rattle.std.specs.Prelude.{Option, Some, None, ◌==◌, All, nat_eq, slice_get, slice_set, fold, if◌then◌else◌}
 use Rattle.std.specs.Cmp.{nat_eq_equiv}
@@ -90,7 +90,7 @@ pub none_distinct : IsDistinct nat_eq []
 unfolding IsDistinct
 none_distinct = tt
 
--- ---- tables that are there
+-- ---- tables that exist
 
 known_of_any : (known : ℕ → Bool) (number : ℕ) (numbers : List ℕ) → list_all known numbers ≡ true
     → list_any (nat_eq number) numbers ≡ true → known number ≡ true
@@ -156,12 +156,12 @@ empties_one tables left number numbers sees = λ other key value.
     ap (λ row. if list_any (λ table. table == other) numbers then None else row) (sees other key value)
     ∙ empty_if (number == other) (list_any (λ table. table == other) numbers) (tables other key value)
 
--- so far: what emptying the tables that are left leaves is what emptying all leaves
+-- so far: emptying the remaining tables leaves what emptying all leaves
 pub record Emptying (tables first : List TableRows) (left all : List ℕ) : Type 0 where
   pub empties : SameTables (emptied (seen_in tables) left) (emptied (seen_in first) all)
   pub keeps : KeepsTables first tables
 
--- nothing is seen of a table that isn't there
+-- nothing is seen of a table that doesn't exist
 nothing_past : (tables : List TableRows) (number : ℕ) → length tables ≤ number → (key : ℕ) (value : List Datum)
     → seen_in tables number key value ≡ None
 nothing_past tables number past key value =

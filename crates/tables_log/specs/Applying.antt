@@ -19,9 +19,9 @@ use Rattle.tables_log.specs.Sendable.{IsSendableRow, IsSendableChange}
 use Rattle.tables_log.specs.declared.error.Refused.{Refused}
 use Rattle.tables_log.specs.declared.table_rows.TableRows.{TableRows}
 
--- ---- one table, which is there
+-- ---- one table, which exists
 
--- without the row that was found, if one was
+-- without the row that was found, if any
 abbrev pub without_at : List UniqueKey → Places → Option (List Datum) → Places
 without_at keys places None = places
 without_at keys places (Some row) = put_at places (values_in keys row) None
@@ -36,7 +36,7 @@ abbrev pub replace_fault : List UniqueKey → Places → List Datum → List Dat
 replace_fault keys places key row =
     unless (is_some (places 0 key)) NoSuchRow (unless_taken keys (without_at keys places (places 0 key)) row)
 
--- the old row is no more there, and then the new one is
+-- the old row is removed, and then the new one is put there
 pub record ReplacesRow (old new : TableRows) (keys : List UniqueKey) (gone row : List Datum) : Type 0 where
   pub sees : (number : ℕ) (value : List Datum) → seen_at new.maps.items number value
       ≡ put_at (put_at (seen_at old.maps.items) (values_in keys gone) None) (values_in keys row) (Some row) number value
@@ -66,16 +66,16 @@ pub record UpdatesRow (table : Table) (number : ℕ) (old new : TableRows) (key 
   pub sendable : IsSendableRow row
   pub records : change ≡ r.Update number (part_in table gone (Some row)) row
 
--- ---- what calls on one table answer and leave: they tell this fault, if there is one, and what was kept stays
+-- ---- what calls on one table return and leave: this fault, if there is one, and what was kept stays
 
--- a value is answered only if it is such a one
+-- a value is returned only if it is such a one
 pub record TriesRows {V : Type 0} (refusal : Option CommandFault) (IsGood : V → Type 0) (old : TableRows)
     (result : Result V Refused) (new : TableRows) : Type 0 where
   pub fault : Finds refusal result
   pub keeps : KeepsRows old new
   pub ok : IfOk result IsGood
 
--- the row of this primary key is answered, if this is done to the rows with it
+-- the row of this primary key is returned, if this is done to the rows with it
 pub record TakesRow (refusal : Option CommandFault) (key : List Datum) (IsDone : List Datum → Type 0)
     (old : TableRows) (result : Result (List Datum) Refused) (new : TableRows) : Type 0 where
   pub fault : Finds refusal result
@@ -105,7 +105,7 @@ pub record Applies (setting : Setting) (old new : List TableRows) (command : Com
   pub records : change ≡ change_of setting (seen_in old) command
   pub sendable : IsSendableChange change
 
--- The command is applied, or an error is its fault or want of memory. What was kept stays.
+-- The command is applied, or an error is its fault or out of memory. What was kept stays.
 pub record Tries (setting : Setting) (command : Command) (old : List TableRows) (result : Result Change Refused)
     (new : List TableRows) : Type 0 where
   pub fault : Finds (fault_of setting (seen_in old) command) result

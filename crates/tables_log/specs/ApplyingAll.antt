@@ -43,20 +43,20 @@ abbrev pub error_at : ℕ → Refused → CommitError
 error_at number (r.Fault fault) = e.At number fault
 error_at number r.OutOfMemory = e.OutOfMemory
 
--- a list of so many commands is refused
+-- a list of this number of commands is refused
 abbrev pub RefusesCount : ℕ → CommitError → Type 0
 RefusesCount commands e.EmptyTransaction = commands ≡ 0
 RefusesCount commands e.TooManyCommands = 1000 < commands
 RefusesCount commands _ = ⊥
 
--- the error is the first fault of the commands, or want of memory
+-- the error is the first fault of the commands, or out of memory
 abbrev pub StopsAt : Setting → Tables → List Command → CommitError → Type 0
 StopsAt setting tables commands (e.At number fault) =
     first_fault setting tables 1 commands ≡ Some (number, fault_view fault)
 StopsAt setting tables commands e.OutOfMemory = Unit {0}
 StopsAt setting tables commands _ = ⊥
 
--- A value is answered only if it is such a one, and an error is the first fault of the commands or want of memory. What
+-- A value is returned only if it is such a one, and an error is the first fault of the commands or out of memory. What
 -- was kept stays.
 pub record TriesAll {V : Type 0} (setting : Setting) (commands : List Command) (IsGood : V → Type 0)
     (old : List TableRows) (result : Result V CommitError) (new : List TableRows) : Type 0 where

@@ -13,7 +13,7 @@ use Rattle.tables_log.specs.declared.error.CommitError.{CommitError}
 use Rattle.tables_log.specs.declared.error.CommitError.TheVariants as e
 use Rattle.tables_log.specs.declared.slots.Slot.{Slot}
 
--- It has no rows, no entries, and a slot for each subscription, which nothing has and of which nothing is confirmed.
+-- It has no rows, no entries, and a slot for each subscription, which is not in use and for which nothing is confirmed.
 pub record IsNew (book : Book) (checked : CheckedOf) (limit : ℕ) : Type 0 where
   pub checked_is : book_checked book ≡ checked
   pub limit_is : book_limit book ≡ limit
@@ -60,7 +60,7 @@ pub record Commits (old new : Book) (commands : List Command) (time number : ℕ
       ++ commit_of number time (record_of (book_setting old) (book_rows old) commands) ∷ []
   pub slots : book_slots new ≡ book_slots old
 
--- ---- refusals, each of which passes what comes before it
+-- ---- refusals, each of which passes the tests before it
 
 pub record IsFull (book : Book) (commands : List Command) : Type 0 where
   pub transaction : IsTransaction commands

@@ -1,5 +1,5 @@
--- A map that is changed in place, beside what undoes the changes: what is seen in it, what was kept, and that each
--- key that was changed has a place.
+-- A map that is changed in place, with what undoes the changes: what is seen in it, what was kept, and that each key
+-- that was changed has a place.
 use Rattle.std.specs.Prelude.{◌≡◌, Bool, true, List, [], ◌∷◌, map, is_some, Option, Some, None, Result, IfOk, OnOk, OnErr, if◌then◌else◌}
 use Rattle.std.specs.BTreeMap.{BTreeMap, get, is_at}
 use Rattle.std.specs.List.{list_any}
@@ -18,7 +18,7 @@ filled [] = []
 filled (None ∷ places) = filled places
 filled (Some value ∷ places) = value ∷ filled places
 
--- what was found first, and where nothing was, this
+-- what was found first, and if nothing was, this
 abbrev pub over : {V : Type 0} → Option (Option V) → Option V → Option V
 over None below = below
 over (Some place) below = place
@@ -26,7 +26,7 @@ over (Some place) below = place
 abbrev pub below : {K V : Type 0} → (K → K → Ordering) → BTreeMap K (Option V) → K → Option V
 below cmp base key = flat (get cmp base key)
 
--- what is seen: in a new map, once all was taken away
+-- what is seen: in a new map, once all was removed
 abbrev pub shown : {K V : Type 0} → (K → K → Ordering) → BTreeMap K (Option V) → BTreeMap K (Option V) → Bool → K
     → Option V
 shown cmp base fresh emptied key = if emptied then below cmp fresh key else below cmp base key
@@ -40,11 +40,11 @@ has_place cmp map key = is_some (get cmp map key)
 abbrev pub is_made : {K : Type 0} → (K → K → Ordering) → List K → K → Bool
 is_made cmp made key = list_any (is_at (cmp key)) made
 
--- what the first change of a place that was there had found in it
+-- what the first change of a place that existed found in it
 abbrev pub was_in : {K V : Type 0} → (K → K → Ordering) → List (K × Option V) → K → Option (Option V)
 was_in cmp undo key = lookup (is_at (cmp key)) undo
 
--- What was kept under a key, where this is found now.
+-- What was kept under a key, if this is found now.
 abbrev pub rewound : {K V : Type 0} → (K → K → Ordering) → List K → List (K × Option V) → K → Option V → Option V
 rewound cmp made undo key found = if is_made cmp made key then None else over (was_in cmp undo key) found
 
@@ -57,12 +57,12 @@ abbrev pub kept_places : {K V : Type 0} → (K → K → Ordering) → BTreeMap 
     → List (Option V)
 kept_places cmp base made undo = map (λ entry. rewound cmp made undo entry.0 entry.1) base.entries
 
--- each key whose place was changed has it still
+-- each key whose place was changed still has it
 abbrev pub HasRoom : {K V : Type 0} → (K → K → Ordering) → BTreeMap K (Option V) → List (K × Option V) → Type 0
 HasRoom {K} cmp base undo = (key : K) → is_some (was_in cmp undo key) ≡ true → has_place cmp base key ≡ true
 
--- what a call leaves that puts this value, or none, under a key: what was kept stays, and so does what was seen where
--- memory is wanting. It says whether something was seen there.
+-- what a call leaves that puts this value, or none, under a key: what was kept stays, and so does what was seen if
+-- memory ran out. It says whether something was seen there.
 pub record PutsUnder {K V E : Type 0} (cmp : K → K → Ordering) (key : K) (value : Option V)
     (old_kept old_seen : K → Option V) (result : Result Bool E) (new_kept new_seen : K → Option V) : Type 0 where
   pub keeps : (other : K) → new_kept other ≡ old_kept other

@@ -49,7 +49,7 @@ first_values (map ∷ maps) = kept_values map
 abbrev pub listed_in : List TableRows → ℕ → List (List Datum)
 listed_in tables table = first_values (maps_of (slice_get tables table))
 
--- rows in their order, none of which is left out or comes more often
+-- rows in their order, each exactly once
 pub record IsInOrder (listed rows : List (List Datum)) : Type 0 where
   pub same : IsPermutation listed rows
   pub ascending : IsSorted row_cmp rows
@@ -85,13 +85,13 @@ pub record KeepsRows (old new : TableRows) : Type 0 where
       → kept_at new.maps.items number value ≡ kept_at old.maps.items number value
   pub width : length new.maps.items ≡ length old.maps.items
 
--- in the place of this value, if there is one, of the key of this number there is this row, or none
+-- at the place of this value, if there is one, of the key of this number there is this row, or none
 pub record PutsOne (old new : TableRows) (number : ℕ) (value : Option (List Datum)) (row : Option (List Datum)) : Type
     0 where
   pub sees : (other : ℕ) (found : List Datum) → seen_at new.maps.items other found
       ≡ (if (other == number) && is_row value found then row else seen_at old.maps.items other found)
 
--- in the places of these values there is this row, or none
+-- at the places of these values there is this row, or none
 pub record PutsRow (old new : TableRows) (values : List (Option (List Datum))) (row : Option (List Datum)) : Type 0
   where
     pub sees : (number : ℕ) (value : List Datum)

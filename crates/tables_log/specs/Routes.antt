@@ -19,16 +19,16 @@ lacks subscriber entry = not (owned entry.concerned subscriber)
 abbrev pub IsRouted : PlanOf → Routed → Type 0
 IsRouted plan entry = OwnedWhere entry.concerned (concerns plan (commit_in entry).changes)
 
--- So it is of each entry.
+-- The same holds for each entry.
 abbrev pub AreRouted : PlanOf → List Routed → Type 0
 AreRouted plan log = All (IsRouted plan) log
 
--- the subscriber gets something of the commit; nobody does where there is none
+-- the subscriber gets something of the commit; nobody does if there is none
 abbrev pub gets_some : PlanOf → Option CommitOf → ℕ → Bool
 gets_some plan None subscriber = false
 gets_some plan (Some commit) subscriber = concerns plan commit.changes subscriber
 
--- the commits after so many others, up to the first of which the subscriber gets something, and at most 64
+-- the commits after this number of others, before the first of which the subscriber gets something, and at most 64
 abbrev pub passed_over : PlanOf → ℕ → List CommitOf → ℕ → List CommitOf
 passed_over plan subscriber log done =
     take_while (λ commit. not (concerns plan commit.changes subscriber)) (take 64 (drop done log))

@@ -6,7 +6,7 @@ use Rattle.tables_log.specs.declared.error.StartError.{StartError}
 use Rattle.tables_log.specs.declared.error.StartError.TheVariants.{NoSlot, Ahead, InUse}
 use Rattle.tables_log.specs.declared.slots.Slot.{Slot}
 
--- where a log of so many commits ends
+-- where a log of this number of commits ends
 abbrev pub end_after : ℕ → ℕ
 end_after commits = 64 * commits + 64
 
@@ -14,17 +14,17 @@ abbrev pub confirmed_of : Option Slot → ℕ
 confirmed_of None = 0
 confirmed_of (Some slot) = slot.confirmed
 
--- the confirmed position of the slot of this number; 0 of one that isn't there
+-- the confirmed position of the slot of this number; 0 if it doesn't exist
 abbrev pub confirmed_at : List Slot → ℕ → ℕ
 confirmed_at slots number = confirmed_of (slice_get slots number)
 
--- no slot is confirmed after the end of a log of so many commits
+-- no slot is confirmed after the end of a log of this number of commits
 abbrev pub IsBounded : List Slot → ℕ → Type 0
 IsBounded slots commits = (number : ℕ) → confirmed_at slots number ≤ end_after commits
 
 -- ---- start
 
--- the first of the faults of a start: no such slot, a position after the log's end, and a slot that a stream has
+-- the first of the faults of a start: no such slot, a position after the log's end, and a slot that a stream uses
 abbrev pub slot_fault : Option Slot → ℕ → ℕ → Option StartError
 slot_fault None end position = Some NoSlot
 slot_fault (Some slot) end position = if nat_lt end position then
@@ -39,7 +39,7 @@ abbrev pub changed : List Slot → ℕ → Option Slot → (Slot → Slot) → L
 changed slots number None change = slots
 changed slots number (Some slot) change = slice_set slots number (change slot)
 
--- the slots where this is done to the one of this number
+-- the slots after this is done to the one of this number
 abbrev pub change_at : List Slot → ℕ → (Slot → Slot) → List Slot
 change_at slots number change = changed slots number (slice_get slots number) change
 

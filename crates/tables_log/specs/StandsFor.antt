@@ -1,5 +1,5 @@
--- The transactions of a book: a list of transactions, each of which is accepted on what the earlier ones leave of
--- tables without rows: PostgreSQL 15, 3.4. Transactions, and "Logical Replication", 31.1 Publication.
+-- The transactions of a book: a list of transactions, each of which is accepted on what the earlier ones leave,
+-- beginning with tables without rows: PostgreSQL 15, 3.4. Transactions, and "Logical Replication", 31.1 Publication.
 use Rattle.std.specs.Prelude.{◌≡◌, ℕ, ◌+◌, ◌++◌, List, [], ◌∷◌, fold, length, None}
 use Rattle.filter_tree.specs.Datum.{Datum}
 use Rattle.table_changes.specs.Commands.{Command, first_fault, all_applied}
@@ -52,17 +52,17 @@ pub record StandsFor (book : Book) (transactions : List Transaction) : Type 0 wh
 
 -- ---- laws
 
--- A new book is of no transaction.
+-- A new book has no transaction.
 abbrev pub NewStands : Type 0
 NewStands = (book : Book) (checked : CheckedOf) (limit : ℕ) → IsNew book checked limit → StandsFor book []
 
--- After a commit it is of one more.
+-- A commit adds one.
 abbrev pub CommitsAddOne : Type 0
 CommitsAddOne = (old new : Book) (commands : List Command) (time number : ℕ) → Commits old new commands time number
     → (transactions : List Transaction) → StandsFor old transactions
     → StandsFor new (transactions ++ record { commands = commands; time = time } ∷ [])
 
--- After a refusal, and whatever happens to its slots, it is of the same.
+-- A refusal, and whatever happens to its slots, leaves the list as it is.
 abbrev pub SlotsKeepIt : Type 0
 SlotsKeepIt = (old new : Book) (slots : List Slot) → ChangesSlots old new slots → (transactions : List Transaction)
     → StandsFor old transactions → StandsFor new transactions
@@ -72,7 +72,7 @@ abbrev pub EachIsLogged : Type 0
 EachIsLogged = (book : Book) (transactions : List Transaction) → StandsFor book transactions
     → length (book_log book) ≡ length transactions
 
--- Rows are where each of their unique keys has them, and fit their tables.
+-- Rows are found by each of their unique keys, and fit their tables.
 pub record RowsAreRight (book : Book) : Type 0 where
   pub keyed : Stands (book_setting book).keys (book_rows book)
   pub fit : AllFit (book_setting book) (book_rows book)
@@ -81,7 +81,7 @@ pub record RowsAreRight (book : Book) : Type 0 where
 abbrev pub BooksAreRight : Type 0
 BooksAreRight = (book : Book) (transactions : List Transaction) → StandsFor book transactions → RowsAreRight book
 
--- What `Book::rows` answers are the rows of the table.
+-- What `Book::rows` returns are the rows of the table.
 abbrev pub ListedAreRows : Type 0
 ListedAreRows = (book : Book) (transactions : List Transaction) (table : ℕ) (rows : List (List Datum))
     → StandsFor book transactions

@@ -54,7 +54,7 @@ fn place(alloc: Global, table: &Table, rows: &mut TableRows, row: &TableRow) -> 
     Ok(())
 }
 
-/// Stages that the row of this primary key is gone, and gives that row.
+/// Stages that the row of this primary key is deleted, and returns that row.
 fn take(alloc: Global, table: &Table, rows: &mut TableRows, key: &Row) -> Result<TableRow, Refused>
     requires { length rows.old.maps.items ≡ length (keys_in (Some table.now)) }
     ensures { TakesRow (delete_fault (seen_at rows.old.maps.items) key.now) key.now
@@ -70,7 +70,7 @@ fn take(alloc: Global, table: &Table, rows: &mut TableRows, key: &Row) -> Result
     Ok(old)
 }
 
-/// Stages the row in the place of the one of this primary key, and gives that one.
+/// Stages the row in place of the one of this primary key, and returns that one.
 fn replace(
     alloc: Global,
     table: &Table,
@@ -122,7 +122,7 @@ fn insert_in(
     })
 }
 
-/// Stages a row in the place of the one of this primary key.
+/// Stages a row in place of the one of this primary key.
 fn update_in(
     alloc: Global,
     table: &Table,
@@ -148,7 +148,7 @@ fn update_in(
     })
 }
 
-/// Stages that the row of this primary key is gone.
+/// Stages that the row of this primary key is deleted.
 fn delete_in(
     alloc: Global,
     table: &Table,
@@ -185,7 +185,7 @@ pub(crate) fn insert(
     insert_in(alloc, table, number, &mut tables[number], row)
 }
 
-/// Stages a row in the place of the one of this primary key.
+/// Stages a row in place of the one of this primary key.
 pub(crate) fn update(
     alloc: Global,
     checked: &Checked,
@@ -202,7 +202,7 @@ pub(crate) fn update(
     update_in(alloc, table, number, &mut tables[number], key, row)
 }
 
-/// Stages that the row of this primary key is gone.
+/// Stages that the row of this primary key is deleted.
 pub(crate) fn delete(
     alloc: Global,
     checked: &Checked,

@@ -25,8 +25,8 @@ use table_changes::Command;
 /// The tables of a catalog whose sharding is sound, the log of the commits that made their rows, and a replication slot
 /// for each subscription.
 ///
-/// A book is that of the transactions that it accepted: its tables have the rows that these leave, one after another,
-/// of tables without rows, and its log has an entry for each.
+/// A book is the result of the transactions that it accepted: its tables have the rows that these leave, applied one
+/// after another to tables without rows, and its log has an entry for each.
 ///
 /// PostgreSQL 15, 3.4. Transactions, and "Logical Replication", 31.1 Publication.
 #[derive(Drop)]
@@ -64,8 +64,8 @@ impl Book {
     ghost use Rattle.tables_log.specs.Routes.{commit_in, gets_some, ArePassed, IsRouted};
     ghost use Rattle.tables_log.specs.Slots.{end_after, confirmed_at, start_fault, started, released, confirmed_up_to};
 
-    /// A book of the catalog's tables, without rows and with an empty log, which may have so many commits, and with a
-    /// slot for each subscription, of which nothing is confirmed. The only error is want of memory.
+    /// A book of the catalog's tables, without rows, with an empty log that may have at most `limit` commits, and with
+    /// a slot for each subscription, for which nothing is confirmed. The only error is out of memory.
     #[tactic(auto, using(crate::proofs::BookLemmas::narrow_limited))]
     pub fn new(alloc: Global, checked: Arc<Checked, Global>, limit: u32) -> Result<Book, AllocError>
         requires some { 1 ≤ limit }
@@ -89,17 +89,17 @@ impl Book {
         })
     }
 
-    /// Makes the commands one transaction, each on what the earlier ones leave, and logs it with this time, in
-    /// microseconds since 2000-01-01. The answer is its number, from 1. With an error nothing changes.
+    /// Applies the commands as one transaction, each to what the earlier ones leave, and logs it with this time, in
+    /// microseconds since 2000-01-01. Returns its number, from 1. If there is an error, nothing changes.
     ///
-    /// It takes time for its commands, each times the logarithm of a table's rows, and looks at no other row, and at no
-    /// table that no command names unless one is refused.
+    /// The time it takes is that of its commands, each times the logarithm of the number of a table's rows. It looks at
+    /// no other row, and at tables that no command names only if a command is refused.
     ///
     /// # Errors
     ///
     /// The first of `EmptyTransaction`, `TooManyCommands` (more than 1,000), `LogFull`, and `At` with the number, from
-    /// 1, of the first command that has a fault, and the fault; or `OutOfMemory` in place of such a fault where an
-    /// allocation was refused. The others take no memory.
+    /// 1, of the first command that has a fault, and the fault; or `OutOfMemory` in place of such a fault if an
+    /// allocation was refused. The others need no memory.
     ///
     /// PostgreSQL 15, 3.4. Transactions, and Chapter 6 Data Manipulation.
     #[tactic(auto, using(crate::proofs::BookLemmas::refused_by, crate::proofs::BookLemmas::count_refused, crate::proofs::BookLemmas::is_transaction, crate::proofs::ListLemmas::map_more))]
@@ -164,8 +164,8 @@ impl Book {
         }
     }
 
-    /// The commit of this number once more: `Some` for 1 to `log_len()`. The only error is that a commit that is there
-    /// is shared too often.
+    /// Another reference to the commit of this number: `Some` for 1 to `log_len()`. The only error is that an existing
+    /// commit is shared too often.
     #[tactic(auto, using(crate::proofs::BookLemmas::found_numbered))]
     pub fn shared(&self, number: u32) -> Result<Option<Arc<Commit, Global>>, AllocError>
         ensures shows { IfOk result (λ found. option_map (λ commit. arc_value commit) found ≡ entry_at
@@ -179,7 +179,7 @@ impl Book {
         Ok(Some(Arc::try_clone(&entry.commit)?))
     }
 
-    /// The subscribers that get something of the commit of this number; none where there is no such commit.
+    /// The subscribers that get something of the commit of this number; none if there is no such commit.
     ///
     /// PostgreSQL 15, "Logical Replication", 31.3.3 UPDATE Transformations.
     pub fn concerned(&self, number: u32) -> OwnerSet
@@ -191,10 +191,11 @@ impl Book {
         }
     }
 
-    /// The commits after so many others, up to the first of which the subscriber gets something, and at most 64. They
-    /// are numbered from the next number on. No filter is asked: it takes time for these commits alone.
+    /// The commits after the first `done` ones, before the first of which the subscriber gets something, and at most
+    /// 64. They are numbered from the next number on. No filter is evaluated: the time it takes is that of these
+    /// commits alone.
     ///
-    /// The only errors are want of memory, and that a commit is shared too often.
+    /// The only errors are out of memory, and that a commit is shared too often.
     pub fn passed_over(
         &self,
         subscriber: usize,
@@ -223,8 +224,8 @@ impl Book {
     }
 
     /// Copies of the table's rows, in their order: NULL first, numbers by their size, FALSE before TRUE, texts byte by
-    /// byte, by the first column in which the rows differ. There are none of a table that isn't there. The only error
-    /// is want of memory.
+    /// byte, by the first column in which the rows differ. There are none if the table doesn't exist. The only error is
+    /// out of memory.
     ///
     /// PostgreSQL 15, 7.5 Sorting Rows.
     pub fn rows(&self, table: usize) -> Result<Vec<Row>, AllocError>
@@ -237,8 +238,8 @@ impl Book {
         }
     }
 
-    /// The position up to which the slot's subscriber has confirmed the log, which is at most 64 * log_len() + 64; 0
-    /// where nothing is confirmed, or there is no such slot.
+    /// The position up to which the slot's subscriber has confirmed the log, which is at most 64 * log_len() + 64; 0 if
+    /// nothing is confirmed, or there is no such slot.
     pub fn confirmed(&self, slot: usize) -> u64
         ensures shows { result ≡ confirmed_at (book_slots self.now) slot }
         ensures bounded { result ≤ end_after (length (book_log self.now)) }
@@ -246,8 +247,8 @@ impl Book {
         slots::confirmed(&self.slots, slot)
     }
 
-    /// Takes the slot for a stream that starts at the position, or at the confirmed one if that is greater; the answer
-    /// is where it starts. With an error nothing changes.
+    /// Acquires the slot for a stream that starts at the position, or at the confirmed one if that is greater; returns
+    /// where it starts. If there is an error, nothing changes.
     ///
     /// # Errors
     ///
@@ -268,7 +269,7 @@ impl Book {
         slots::start(&mut self.slots, end, slot, position)
     }
 
-    /// Gives the slot back, so that another stream may have it.
+    /// Releases the slot, so that another stream may acquire it.
     pub fn release(&mut self, slot: usize)
         ensures { ChangesSlots self.old self.new (released (book_slots self.old) slot) }
     {
@@ -280,7 +281,7 @@ impl Book {
     ///
     /// # Errors
     ///
-    /// `StatusAhead` where the position is above `sent`; then nothing changes.
+    /// `StatusAhead` if the position is above `sent`; then nothing changes.
     ///
     /// PostgreSQL 15, 55.4. Streaming Replication Protocol (Standby status update).
     pub fn confirm(&mut self, slot: usize, position: u64, sent: u64) -> Result<(), StatusAhead>

@@ -34,7 +34,7 @@ impl Model for Commit {
     ghost invariant = { λ c. IsSendable (commit_of c.number c.time (map change_view c.changes.items)) };
 }
 
-/// Equal changes, which share the rows, and whose other memory is taken from `alloc`.
+/// Equal changes, which share the rows, and whose other memory is allocated from `alloc`.
 fn copy_changes(alloc: Global, changes: &[Change]) -> Result<Vec<Change>, AllocError>
     ensures { IfOk result (λ copies. map change_view copies.items ≡ map change_view changes.now) }
 {
@@ -97,8 +97,8 @@ impl Commit {
         self.changes.as_slice()
     }
 
-    /// An equal commit, which shares the rows, and whose other memory is taken from `alloc`. The only errors are want of
-    /// memory, and that a row is shared too often.
+    /// An equal commit, which shares the rows, and whose other memory is allocated from `alloc`. The only errors are
+    /// out of memory, and that a row is shared too often.
     pub fn copy(&self, alloc: Global) -> Result<Commit, AllocError>
         ensures { IfOk result (λ copy. copy ≡ self.now) }
     {
@@ -109,7 +109,7 @@ impl Commit {
             changes,
         })
     }
-    /// Whether the commits are equal: they have one number, one time, and equal changes in the same order.
+    /// Whether the commits are equal: they have the same number, the same time, and equal changes in the same order.
     pub fn same(&self, other: &Commit) -> bool
         ensures { MatchBool result (self.now ≡ other.now) (self.now ≢ other.now) }
     {

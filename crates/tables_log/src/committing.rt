@@ -39,7 +39,7 @@ pub(crate) fn check_count(commands: usize) -> Result<(), CommitError>
     Ok(())
 }
 
-/// A map for each unique key of each table, without rows. The only error is want of memory.
+/// A map for each unique key of each table, without rows. The only error is out of memory.
 pub(crate) fn empty_tables(alloc: Global, tables: &[Table]) -> Result<Vec<TableRows>, AllocError>
     ensures widths { IfOk result (λ rows. widths rows.items ≡ widths_of tables.now) }
     ensures kept { IfOk result (λ rows. SameTables (kept_in rows.items) no_rows) }
@@ -53,7 +53,7 @@ pub(crate) fn empty_tables(alloc: Global, tables: &[Table]) -> Result<Vec<TableR
     Ok(rows)
 }
 
-/// Stages what the commands do, and gives their entry of the log.
+/// Stages what the commands do, and returns their entry of the log.
 fn stage(
     alloc: Global,
     checked: &Checked,
@@ -75,8 +75,8 @@ fn stage(
     Ok(Arc::new(alloc, commit)?)
 }
 
-/// Makes the commands one transaction, and gives its entry of the log; or leaves what was kept. Only the tables that
-/// they name have to settle, since all that was seen of each was kept.
+/// Applies the commands as one transaction, and returns its entry of the log; or leaves what was kept. Only the tables
+/// that they name have to settle, since all that was seen of each was kept.
 #[tactic(auto, using(crate::proofs::BookLemmas::commits_tables, crate::proofs::BookLemmas::stops_kept, crate::proofs::BookLemmas::keeps_first, crate::proofs::BookLemmas::stages_settled, crate::proofs::SettleLemmas::settles_all, crate::proofs::SettleLemmas::discards_all))]
 pub(crate) fn commit_tables(
     alloc: Global,

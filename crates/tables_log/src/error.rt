@@ -32,10 +32,10 @@ pub enum CommitError {
     /// The list has more than 1,000 commands.
     #[error("a transaction has at most 1,000 commands")]
     TooManyCommands,
-    /// The log holds as many commits as it may.
+    /// The log has as many commits as it may have.
     #[error("the log is full")]
     LogFull,
-    /// The first command that is refused on what the earlier ones leave, by its number from 1, and why it is.
+    /// The number, from 1, of the first command that is refused on what the earlier ones leave, and why.
     #[error("command {0}: {1}")]
     At(usize, CommandFault),
     /// An allocation was refused.
@@ -74,17 +74,17 @@ pub enum StartError {
     /// The position is after the end of the log.
     #[error("the position is after the end of the log")]
     Ahead,
-    /// A stream has the slot.
+    /// The slot is in use by a stream.
     #[error("the slot is in use")]
     InUse,
 }
 
-/// A position to be confirmed is after what was sent.
+/// The position to be confirmed is after what was sent.
 #[derive(Clone, Copy, Debug, PartialEq, Eq, Error)]
 #[error("the position is after what was sent")]
 pub struct StatusAhead;
 
-/// Why a command isn't staged: its fault, or want of memory.
+/// Why a command isn't staged: its fault, or memory ran out.
 pub(crate) enum Refused {
     Fault(CommandFault),
     OutOfMemory,

@@ -20,7 +20,7 @@ fn has_null(row: &Row) -> bool
     false
 }
 
-/// The row's value in the index; none if it has a null in one of the index's columns.
+/// The row's value in the index; none if one of the index's columns is null.
 fn index_value(alloc: Global, index: &UniqueIndex, row: &Row) -> Result<Option<Row>, AllocError>
     ensures { IfOk result (λ value. value ≡ index_key index.now row.now) }
 {
@@ -33,7 +33,7 @@ fn index_value(alloc: Global, index: &UniqueIndex, row: &Row) -> Result<Option<R
 }
 
 /// The row's value in each unique key of the table: in the primary key, and in the unique indexes in their order. The
-/// only error is want of memory.
+/// only error is out of memory.
 ///
 /// PostgreSQL 15, 5.4.4 Primary Keys, 11.6 Unique Indexes.
 pub(crate) fn key_values(

@@ -1,4 +1,4 @@
-//! Maps that are changed in place, beside what undoes the changes until they settle, which takes no memory.
+//! Maps that are changed in place, with what undoes the changes until they settle, which needs no memory.
 
 ghost use Rattle.std.specs.Prelude.{◌≡◌, true, false, [], None, Some, map, is_some, IfOk, OnOk, OnErr, if◌then◌else◌};
 ghost use Rattle.std.specs.BTreeMap.{get};
@@ -10,8 +10,8 @@ use std::alloc::{AllocError, Global};
 use std::collections::BTreeMap;
 use std::mem;
 
-/// An ordered map that is changed in place. What was kept comes back without memory: the keys whose places were made
-/// are taken away, and the others' places, which stay, get what they had.
+/// An ordered map that is changed in place. What was kept is restored without memory: the keys whose places were made
+/// are removed, and the places of the others, which stay, get back what they had.
 #[derive(Drop)]
 pub(crate) struct Layers<K: Ord, V> {
     alloc: Global,
@@ -20,7 +20,7 @@ pub(crate) struct Layers<K: Ord, V> {
     made: Vec<K>,
     /// The other keys that were changed since, each with what its place had.
     undo: Vec<(K, Option<V>)>,
-    /// What is seen in place of the base, once that was emptied.
+    /// What is seen instead of the base, once that was emptied.
     fresh: BTreeMap<K, Option<V>, Global>,
     emptied: bool,
     ghost room: { HasRoom K.cmp base undo.items },
@@ -60,7 +60,7 @@ fn was_found<'a, K: Ord, V>(undo: &'a [(K, Option<V>)], key: &K) -> Option<&'a O
     None
 }
 
-/// What was kept under the key, where this is found now.
+/// What was kept under the key, if this is found now.
 fn before<'a, K: Ord, V>(
     made: &[K],
     undo: &'a [(K, Option<V>)],
@@ -93,7 +93,7 @@ fn write<K: Ord + Drop, V: Drop>(
     let _ = base.insert(key, value);
 }
 
-/// Leaves the key's place empty, if there is one, and gives what it had.
+/// Leaves the key's place empty, if there is one, and returns what it had.
 fn clear_place<K: Ord + Drop, V: Drop>(
     base: &mut BTreeMap<K, Option<V>, Global>,
     key: &K,
@@ -109,7 +109,7 @@ fn clear_place<K: Ord + Drop, V: Drop>(
     }
 }
 
-/// Takes the key's place away, if it is empty.
+/// Removes the key's place, if it is empty.
 fn take_empty<K: Ord + Drop, V: Drop>(base: &mut BTreeMap<K, Option<V>, Global>, key: &K)
     ensures { (other : K) → below K.cmp base.new other ≡ below K.cmp base.old other }
 {
@@ -118,7 +118,7 @@ fn take_empty<K: Ord + Drop, V: Drop>(base: &mut BTreeMap<K, Option<V>, Global>,
     }
 }
 
-/// Forgets what undoes the changes, and takes the places away that they left empty. A place that was made has a value,
+/// Forgets what undoes the changes, and removes the places that they left empty. A place that was made has a value,
 /// unless a later change found it there.
 fn settle_in<K: Ord + Drop, V: Drop>(
     base: &mut BTreeMap<K, Option<V>, Global>,
@@ -137,7 +137,7 @@ fn settle_in<K: Ord + Drop, V: Drop>(
     }
 }
 
-/// Gives the places that were there what they had, the last change first.
+/// Restores what the places that existed before had, the last change first.
 fn write_back<K: Ord + Drop, V: Drop>(
     base: &mut BTreeMap<K, Option<V>, Global>,
     undo: &mut Vec<(K, Option<V>)>,
@@ -152,7 +152,7 @@ fn write_back<K: Ord + Drop, V: Drop>(
     }
 }
 
-/// Takes the places away that were made.
+/// Removes the places that were made.
 fn take_made<K: Ord + Drop, V: Drop>(base: &mut BTreeMap<K, Option<V>, Global>, made: &mut Vec<K>)
     ensures gone { (key : K) → below K.cmp base.new key
         ≡ (if is_made K.cmp made.old.items key then None else below K.cmp base.old key) }
@@ -163,7 +163,7 @@ fn take_made<K: Ord + Drop, V: Drop>(base: &mut BTreeMap<K, Option<V>, Global>, 
     }
 }
 
-/// Makes the map what it was.
+/// Restores the map to what it was.
 fn rewind<K: Ord + Drop, V: Drop>(
     base: &mut BTreeMap<K, Option<V>, Global>,
     made: &mut Vec<K>,
@@ -178,8 +178,8 @@ fn rewind<K: Ord + Drop, V: Drop>(
     take_made(base, made);
 }
 
-/// Puts the value under the key, which is given twice, and says whether something was there. The only error is want of
-/// memory; then the map is as it was.
+/// Puts the value under the key, which is given twice, and returns whether something was there. The only error is out
+/// of memory; then the map is as it was.
 fn put_in<K: Ord + Drop, V: Drop>(
     base: &mut BTreeMap<K, Option<V>, Global>,
     made: &mut Vec<K>,
@@ -213,8 +213,8 @@ fn put_in<K: Ord + Drop, V: Drop>(
     }
 }
 
-/// Leaves nothing under the key, and says whether something was there. The only error is want of memory; then the map is
-/// as it was.
+/// Leaves nothing under the key, and returns whether something was there. The only error is out of memory; then the map
+/// is as it was.
 fn take_in<K: Ord + Drop, V: Drop>(
     base: &mut BTreeMap<K, Option<V>, Global>,
     made: &[K],
@@ -241,8 +241,8 @@ fn take_in<K: Ord + Drop, V: Drop>(
     }
 }
 
-/// Puts the value under the key of a map that has nothing to undo, and says whether something was there. The only error
-/// is want of memory; then the map is as it was.
+/// Puts the value under the key of a map that has nothing to undo, and returns whether something was there. The only
+/// error is out of memory; then the map is as it was.
 #[tactic(auto, using(crate::proofs::LayerLemmas::below_after, crate::proofs::LayerLemmas::below_unchanged))]
 fn put_alone<K: Ord + Drop, V: Drop>(
     fresh: &mut BTreeMap<K, Option<V>, Global>,
@@ -260,7 +260,7 @@ fn put_alone<K: Ord + Drop, V: Drop>(
     }
 }
 
-/// Takes the key of a map away that has nothing to undo, and says whether something was there.
+/// Removes the key of a map that has nothing to undo, and returns whether something was there.
 #[tactic(auto, using(crate::proofs::LayerLemmas::below_after))]
 fn take_alone<K: Ord + Drop, V: Drop>(fresh: &mut BTreeMap<K, Option<V>, Global>, key: &K) -> bool
     ensures was { result ≡ is_some (below K.cmp fresh.old key.now) }
@@ -314,7 +314,7 @@ impl<K: Ord + Drop, V: Drop> Layers<K, V> {
         before(&self.made, &self.undo, key, value_in(&self.base, key))
     }
 
-    /// What is listed, and then all that is kept, in the order of the keys. The only error is want of memory.
+    /// What is listed, and then all that is kept, in the order of the keys. The only error is out of memory.
     pub(crate) fn list<'a>(&'a self, listed: Vec<&'a V>) -> Result<Vec<&'a V>, AllocError>
         ensures shows { IfOk result (λ all. map (λ value. value.now) all.items
             ≡ map (λ value. value.now) listed.entry.items
@@ -331,8 +331,8 @@ impl<K: Ord + Drop, V: Drop> Layers<K, V> {
         Ok(listed)
     }
 
-    /// Puts the value under the key, which is given twice, and says whether something was seen there. What is kept
-    /// stays. The only error is want of memory; then what is seen stays too.
+    /// Puts the value under the key, which is given twice, and returns whether something was seen there. What is kept
+    /// stays. The only error is out of memory; then what is seen stays too.
     pub(crate) fn put(&mut self, key: K, copy: K, value: V) -> Result<bool, AllocError>
         requires { copy ≡ key }
         ensures { PutsUnder K.cmp key (Some value)
@@ -355,8 +355,8 @@ impl<K: Ord + Drop, V: Drop> Layers<K, V> {
         }
     }
 
-    /// Leaves nothing under the key, and says whether something was seen there. What is kept stays. The only error is
-    /// want of memory; then what is seen stays too.
+    /// Leaves nothing under the key, and returns whether something was seen there. What is kept stays. The only error
+    /// is out of memory; then what is seen stays too.
     pub(crate) fn take(&mut self, key: K) -> Result<bool, AllocError>
         ensures { PutsUnder K.cmp key None
             (kept_under K.cmp self.old.base self.old.made.items self.old.undo.items)
@@ -371,7 +371,7 @@ impl<K: Ord + Drop, V: Drop> Layers<K, V> {
         }
     }
 
-    /// Takes every key away. What is kept stays.
+    /// Removes every key. What is kept stays.
     pub(crate) fn empty(&mut self)
         ensures keeps { (key : K) → kept_under K.cmp self.new.base self.new.made.items self.new.undo.items key
             ≡ kept_under K.cmp self.old.base self.old.made.items self.old.undo.items key }
@@ -396,7 +396,7 @@ impl<K: Ord + Drop, V: Drop> Layers<K, V> {
         }
     }
 
-    /// Forgets the changes: what is kept is seen.
+    /// Discards the changes: what is kept is seen.
     pub(crate) fn discard(&mut self)
         ensures keeps { (key : K) → kept_under K.cmp self.new.base self.new.made.items self.new.undo.items key
             ≡ kept_under K.cmp self.old.base self.old.made.items self.old.undo.items key }

@@ -20,7 +20,7 @@ pub(crate) struct Routed {
     pub(crate) concerned: OwnerSet,
 }
 
-/// The entries after so many others, and at most `MOST` of them.
+/// The entries after the first `done` ones, and at most `MOST` of them.
 #[tactic(auto, using(crate::proofs::RouteLemmas::some_after))]
 pub(crate) fn entries_after(log: &[Routed], done: usize) -> &[Routed]
     ensures { result.now ≡ take 64 (drop done log.now) }
@@ -30,8 +30,8 @@ pub(crate) fn entries_after(log: &[Routed], done: usize) -> &[Routed]
     next
 }
 
-/// The commits of the first of these entries, up to one of which the subscriber gets something. The only error is want
-/// of memory, or that a commit is shared too often.
+/// The commits of the first of these entries, before one of which the subscriber gets something. The only errors are
+/// out of memory, and that a commit is shared too often.
 pub(crate) fn passed_over(
     alloc: Global,
     entries: &[Routed],

@@ -7,7 +7,7 @@ ghost use Rattle.tables_log.specs.Settling.{is_in, names, are_named, IsSettled, 
 use crate::table_rows::TableRows;
 use table_changes::Command;
 
-/// Keeps what is seen of the table, if it is there.
+/// Keeps what is seen of the table, if it exists.
 #[tactic(auto, using(crate::proofs::SettleLemmas::settles_past))]
 fn settle_one(tables: &mut [TableRows], number: usize)
     ensures { SettlesOne tables.old tables.new number }
@@ -44,7 +44,7 @@ fn settle_named(tables: &mut [TableRows], command: &Command)
     }
 }
 
-/// Keeps what is seen of the tables that the commands name, where all that is seen of the others is kept.
+/// Keeps what is seen of the tables that the commands name, if all that is seen of the others is kept.
 #[tactic(auto, using(crate::proofs::SettleLemmas::settles_command, crate::proofs::SettleLemmas::settled_commands))]
 pub(crate) fn settle(tables: &mut [TableRows], commands: &[Command])
     requires { IsSettledBut (are_named commands.now) tables.old }

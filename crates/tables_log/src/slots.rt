@@ -5,7 +5,7 @@ ghost use Rattle.tables_log.specs.Slots.{confirmed_at, start_fault, started, rel
 
 use crate::error::StartError;
 
-/// A replication slot: the position up to which its subscriber has confirmed the log, and whether a stream has it.
+/// A replication slot: the position up to which its subscriber has confirmed the log, and whether a stream uses it.
 ///
 /// PostgreSQL 15, 27.2.6 Replication Slots.
 #[derive(Clone, Copy, Debug)]
@@ -14,7 +14,7 @@ pub(crate) struct Slot {
     pub(crate) taken: bool,
 }
 
-/// The slot's confirmed position; 0 where there is no such slot.
+/// The slot's confirmed position; 0 if there is no such slot.
 pub(crate) fn confirmed(slots: &[Slot], number: usize) -> u64
     ensures { result ≡ confirmed_at slots.now number }
 {
@@ -24,7 +24,7 @@ pub(crate) fn confirmed(slots: &[Slot], number: usize) -> u64
     }
 }
 
-/// Takes the slot for a stream that starts at the position, or at the confirmed one if that is greater.
+/// Acquires the slot for a stream that starts at the position, or at the confirmed one if that is greater.
 pub(crate) fn start(
     slots: &mut [Slot],
     end: u64,
@@ -53,7 +53,7 @@ pub(crate) fn start(
     Ok(position.max(slot.confirmed))
 }
 
-/// Gives the slot back.
+/// Releases the slot.
 pub(crate) fn release(slots: &mut [Slot], number: usize)
     ensures { slots.new ≡ released slots.old number }
 {

@@ -1,4 +1,4 @@
-//! Maps in which changes are staged: what is kept stays until they settle, which takes no memory.
+//! Maps in which changes are staged: what is kept stays until they settle, which needs no memory.
 
 ghost use Rattle.std.specs.Prelude.{◌≡◌};
 ghost use Rattle.filter_tree.specs.Order.{row_cmp};
@@ -9,11 +9,11 @@ use crate::layers::Layers;
 use filter_tree::{Row, Value, copy_row};
 use std::alloc::{AllocError, Global};
 
-/// A map from rows, as keys, in which changes are staged: they are made in place, and what undoes them is noted, so that
-/// what was kept stays known. Changes settle without memory, and they are discarded without memory.
+/// A map from rows, as keys, in which changes are staged: they are made in place, and what undoes them is noted, so
+/// that what was kept stays known. Settling and discarding changes need no memory.
 ///
-/// Keys that are one number have a map of their own, whose nodes have the numbers themselves, so that a look-up goes to
-/// no other place in memory for each key that it passes.
+/// Keys that are one number have a map of their own, whose nodes have the numbers themselves, so that a look-up
+/// accesses no other place in memory for each key that it passes.
 #[derive(Drop)]
 pub struct Staged<V> {
     alloc: Global,
@@ -74,7 +74,7 @@ impl<V: Drop> Staged<V> {
     }
 
     /// All that is kept: in the order of the keys that are one number, and then in that of the others. The only error
-    /// is want of memory.
+    /// is out of memory.
     #[tactic(auto, using(crate::proofs::ListingLemmas::lists_maps), unfolding(crate::specs::Staging::kept))]
     pub fn values(&self) -> Result<Vec<&V>, AllocError>
         ensures shows { IfOk result (λ values. map (λ value. value.now) values.items ≡ kept_values self.now) }
@@ -84,8 +84,8 @@ impl<V: Drop> Staged<V> {
         Ok(self.rows.list(listed)?)
     }
 
-    /// Puts the value under the key, and says whether something was seen there. What is kept stays. The only error is
-    /// want of memory.
+    /// Puts the value under the key, and returns whether something was seen there. What is kept stays. The only error
+    /// is out of memory.
     pub fn put(&mut self, key: Row, value: V) -> Result<bool, AllocError>
         ensures keeps { Keeps self.old self.new }
         ensures was { IfOk result (λ was. was ≡ is_some (seen self.old key)) }
@@ -100,8 +100,8 @@ impl<V: Drop> Staged<V> {
         }
     }
 
-    /// Leaves nothing under the key, and says whether something was seen there. What is kept stays. The only error is
-    /// want of memory.
+    /// Leaves nothing under the key, and returns whether something was seen there. What is kept stays. The only error
+    /// is out of memory.
     pub fn take(&mut self, key: Row) -> Result<bool, AllocError>
         ensures keeps { Keeps self.old self.new }
         ensures was { IfOk result (λ was. was ≡ is_some (seen self.old key)) }
@@ -113,7 +113,7 @@ impl<V: Drop> Staged<V> {
         }
     }
 
-    /// Puts the value under the key, or none. What is kept stays. The only error is want of memory.
+    /// Puts the value under the key, or removes the key's value. What is kept stays. The only error is out of memory.
     pub fn stage(&mut self, key: Row, value: Option<V>) -> Result<(), AllocError>
         ensures keeps { Keeps self.old self.new }
         ensures puts { OnOk result (Puts self.old self.new key value) }
@@ -125,7 +125,7 @@ impl<V: Drop> Staged<V> {
         Ok(())
     }
 
-    /// Takes every key away. What is kept stays.
+    /// Removes every key. What is kept stays.
     pub fn empty(&mut self)
         ensures keeps { Keeps self.old self.new }
         ensures empties { Empties self.new }
@@ -142,7 +142,7 @@ impl<V: Drop> Staged<V> {
         self.rows.settle();
     }
 
-    /// Forgets the changes: what is kept is seen.
+    /// Discards the changes: what is kept is seen.
     pub fn discard(&mut self)
         ensures { Discards self.old self.new }
     {

@@ -36,7 +36,7 @@ impl TableRow {
         TableRow { shared }
     }
 
-    /// The same row once more. The only error is that it is shared too often.
+    /// Another reference to the row. The only error is that it is shared too often.
     pub(crate) fn share(&self) -> Result<TableRow, AllocError>
         ensures { IfOk result (λ row. row ≡ self.now) }
     {

@@ -25,7 +25,7 @@ fn share(row: Option<&TableRow>) -> Result<Option<TableRow>, AllocError>
     }
 }
 
-/// Copies of the rows. The only error is want of memory.
+/// Copies of the rows. The only error is out of memory.
 fn copies(alloc: Global, shared: &[&TableRow]) -> Result<Vec<Row>, AllocError>
     ensures { IfOk result (λ rows. rows.items ≡ map (λ row. row.now) shared.now) }
 {
@@ -45,7 +45,7 @@ impl TableRows {
     ghost use Rattle.tables_log.specs.Places.{kept_at, seen_at, are_free, first_values, IsInOrder};
     ghost use Rattle.tables_log.specs.Places.{KeepsRows, PutsOne, PutsRow, EmptiesRows, SettlesRows, DiscardsRows};
 
-    /// No rows of a table with so many unique indexes. The only error is want of memory.
+    /// No rows of a table with this number of unique indexes. The only error is out of memory.
     pub(crate) fn new(alloc: Global, indexes: usize) -> Result<TableRows, AllocError>
         ensures width { IfOk result (λ rows. length rows.maps.items ≡ indexes + 1) }
         ensures kept { IfOk result (λ rows. (number : ℕ)
@@ -81,7 +81,7 @@ impl TableRows {
         }
     }
 
-    /// Copies of the rows that are kept, in the order of rows. The only error is want of memory.
+    /// Copies of the rows that are kept, in the order of rows. The only error is out of memory.
     pub(crate) fn rows(&self, alloc: Global) -> Result<Vec<Row>, AllocError>
         ensures shows { IfOk result (λ rows. IsInOrder (first_values self.now.maps.items) rows.items) }
         ensures found { OnOk result (ListsFound (kept_at self.now.maps.items 0) (first_values self.now.maps.items)) }
@@ -119,7 +119,7 @@ impl TableRows {
     }
 
     /// Stages the row, or that there is none, in the map of this number, if the row has a value there. The only error
-    /// is want of memory.
+    /// is out of memory.
     #[tactic(auto, using(crate::proofs::PlaceLemmas::puts_nothing, crate::proofs::PlaceLemmas::puts_there, crate::proofs::PlaceLemmas::keeps_there, crate::proofs::PlaceLemmas::keeps_here))]
     fn put_one(
         &mut self,
@@ -140,7 +140,7 @@ impl TableRows {
         Ok(())
     }
 
-    /// Stages the row, or that there is none, in each map where the row has a value. The only error is want of memory.
+    /// Stages the row, or that there is none, in each map where the row has a value. The only error is out of memory.
     #[tactic(auto, using(crate::proofs::PlaceLemmas::puts_step, crate::proofs::PlaceLemmas::puts_done, crate::proofs::PlaceLemmas::keeps_step))]
     pub(crate) fn put(
         &mut self,

@@ -16,7 +16,7 @@ use replica_identity::Change;
 use shard_checker::Checked;
 use std::alloc::{AllocError, Global};
 
-/// Whether there are tables, and each of them is there.
+/// Whether there are tables, and each of them exists.
 fn are_known(checked: &Checked, numbers: &[usize]) -> bool
     ensures { result ≡ all_known (setting_in (checked_view checked.now)) numbers.now }
 {
@@ -29,7 +29,7 @@ fn are_known(checked: &Checked, numbers: &[usize]) -> bool
     !numbers.is_empty()
 }
 
-/// The numbers, each once, where it comes first. The only error is want of memory.
+/// The numbers, each once, at its first place. The only error is out of memory.
 fn each_once(alloc: Global, numbers: &[usize]) -> Result<Vec<usize>, AllocError>
     ensures { IfOk result (λ once. once.items ≡ distinct nat_eq numbers.now) }
 {
@@ -40,7 +40,7 @@ fn each_once(alloc: Global, numbers: &[usize]) -> Result<Vec<usize>, AllocError>
     Ok(once)
 }
 
-/// Stages that there are no rows in the table, if it is there.
+/// Stages that there are no rows in the table, if it exists.
 #[tactic(auto, using(crate::proofs::ListLemmas::keeps_itself, crate::proofs::TruncateLemmas::empties_past))]
 fn empty_one(tables: &mut [TableRows], number: usize)
     ensures keeps { KeepsTables tables.old tables.new }

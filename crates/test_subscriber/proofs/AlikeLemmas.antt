@@ -1,4 +1,4 @@
--- What machines that are alike do is alike.
+-- Machines that are alike do the same.
 use Rattle.std.proofs.Common.{◌≡◌, ℕ, ◌+◌, ◌<◌, ◌≤◌, List, [], ◌∷◌, length, drop, get_or, refl, sym, ◌∙◌, ap, subst, add-one, drop-cons}
 use Rattle.std.specs.Prelude.{Option, Some, None, Ok, Err, ◌==◌, if◌then◌else◌}
 use Rattle.std.proofs.Math.ListN.{drop_of_length-le}
@@ -131,7 +131,7 @@ empties_next oids i old new whole low reached same =
     (after_one (drop (i + 1) oids) new (hear_empty (get_or oids i 0) old) reached))
     same
 
--- one that is refused refuses all
+-- one refusal refuses all
 stops_one : (oids : List ℕ) (one : Outcome) (fault : SubFault) → one ≡ Err fault
     → empty_rest one (hear_truncate oids) ≡ Err fault
 stops_one oids one fault stops = ap (λ out. empty_rest out (hear_truncate oids)) stops

@@ -1,4 +1,4 @@
--- Where the copy of a table is in a list of copies, and what becomes of it as the list changes.
+-- Where the copy of a table is in a list of copies, and what happens to it when the list changes.
 use Rattle.std.proofs.Common.{◌≡◌, ◌≢◌, ℕ, zero, suc, ◌+◌, ◌<◌, ◌≤◌, true, false, cond, List, [], ◌∷◌, ◌++◌, length, refl, sym, ◌∙◌, ap, subst, arith, get_or}
 use Rattle.std.specs.Prelude.{Option, Some, None, ◌==◌, nat_lt, slice_get, slice_set, if◌then◌else◌}
 use Rattle.std.specs.Option.{option_or}

@@ -1,4 +1,4 @@
--- What is answered to bytes that spell no message.
+-- The result for bytes that spell no message.
 use Rattle.std.proofs.Common.{ap}
 use Rattle.std.specs.Prelude.{Result}
 use Rattle.filter_tree.specs.Memory.{TellsFault}

@@ -85,7 +85,7 @@ no_row : (datum : Option Datum) → row_with datum None ≡ None
 no_row None = refl
 no_row (Some datum) = refl
 
--- of another width there is no row
+-- there is no row of another width
 pub other_width : (kinds : List ColType) (cells : List Cell) → length kinds ≢ length cells → row_in kinds cells ≡ None
 unfolding row_in
 other_width [] [] h = absurd (h refl)

@@ -30,7 +30,7 @@ stopped_alike one other alike = record {
   work = alike.rows;
 }
 
--- ---- how far it is: these frames were heard, and what is left is cut so
+-- ---- the progress: these frames were heard, and the rest is cut this way
 
 pub record HasHeard (whole left : Cut) (old new : Machine) : Type 0 where
   pub frames : List Frame
@@ -115,7 +115,7 @@ pub shorter : (before : Inbox) (frame : Frame) (after : Inbox) → GivesFrame be
     → length after.bytes < length before.bytes
 shorter before frame after gives = omega (arith, ap length gives.spelled, length-append (framed frame) after.bytes)
 
--- ---- where all is heard
+-- ---- if all is heard
 
 record Matches (heard : Heard) (fault : Option SubFault) (new : Machine) : Type 0 where
   fault_is : heard.fault ≡ fault
@@ -156,7 +156,7 @@ hears_held start before found after old new at never gives =
       inbox_fault = at.fault;
     }))
 
--- ---- where it stops
+-- ---- if it stops
 
 stays_of : (outcome : Outcome) (middle new : Machine) → Reaches middle outcome → Alike new (stopped middle)
     → StaysOf outcome new
@@ -207,7 +207,7 @@ stops_by (Some fault) whole frame more old middle new has refused stays =
     subst (λ cut. StopsBy fault (hear_cut cut old) new) has.first
     (stops_at has.frames frame more old middle new fault has.heard refused stays)
 
--- a frame was given and refused
+-- a frame was returned and refused
 pub stops_after : (start before : Inbox) (found : Option Frame) (frame : Frame) (after : Inbox)
     (old middle new : Machine) (error : SubFault)
     → IsAt start before old middle → found ≡ Some frame → Gives before found after
@@ -220,7 +220,7 @@ stops_after start before found frame after old middle new error at is given refu
     stops_by (told error) (cut start.limit start.bytes) frame (cut start.limit after.bytes) old middle (stopped new)
     (subst (λ left. HasHeard (cut start.limit start.bytes) left old middle) next at.heard) refused stays
 
--- no frame could be given
+-- no frame could be returned
 pub stops_there : (whole left : Cut) (old middle : Machine) (error : SubFault) → HasHeard whole left old middle
     → error ≡ f.OutOfMemory
     → StopsFor (told error) (hear_cut whole old) whole old (stopped middle)

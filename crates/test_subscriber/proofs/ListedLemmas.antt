@@ -21,7 +21,7 @@ InOrder rows copy = IsInOrder (listed_in copy) rows
 none_in_order : IsInOrder [] []
 none_in_order = record { same = IsPermutation-refl []; ascending = λ k d low within. absurd (omega (arith, within)) }
 
--- ---- where there is no copy
+-- ---- if there is no copy
 
 pub nowhere_in_order : (copies : List TableCopy) (oid : ℕ) (rows : List (List Datum)) → place_of copies oid ≡ None
     → rows ≡ [] → InOrder rows (copy_of copies oid)
@@ -33,7 +33,7 @@ pub nowhere_listed : (copies : List TableCopy) (oid : ℕ) → place_of copies o
 nowhere_listed copies oid none =
     subst Lists (sym (found_nowhere copies oid none)) (lists_none (kept_in None) (λ key. refl))
 
--- ---- where there is one
+-- ---- if there is one
 
 module _ (copies : List TableCopy) (oid place : ℕ) (copy : TableCopy) (there : place_of copies oid ≡ Some place)
     (is : copy ≡ get_or copies place copy) where

@@ -1,4 +1,4 @@
--- What becomes of a subscriber's machine where copies of tables change.
+-- What happens to a subscriber's machine when copies of tables change.
 use Rattle.std.proofs.Common.{◌≡◌, ℕ, Bool, true, false, List, get_or, refl, sym, ◌∙◌, ap, subst}
 use Rattle.std.specs.Prelude.{Option, Some, None, Result, Ok, Err, ◌==◌, slice_set}
 use Rattle.filter_tree.specs.Memory.{TellsFault}
@@ -39,7 +39,7 @@ module _ (phase : Phase) (at : ℕ) (wants : Bool) (copies : List TableCopy) (oi
     new_oid : new.shape.relation.oid ≡ oid
     new_oid = ap (λ (shape : TableShape). shape.relation.oid) has ∙ first_has copies oid place old first
 
-    -- what is shown alike of both is shown as before
+    -- what both show alike is shown as before
     as_before : {A : Type 0} (show : Option TableCopy → A) → show (Some new) ≡ show (Some old)
         → (other : ℕ) → show (copy_of (slice_set copies place new) other) ≡ show (copy_of copies other)
     as_before show same other = ap show (written copies oid place old new other first new_oid) ∙ by_test (other == oid)
@@ -93,7 +93,7 @@ module _ (phase : Phase) (at : ℕ) (wants : Bool) (copies : List TableCopy) (oi
       → RefusedBy (change_in oid change (machine_with phase at wants copies)) error
   refuses change error refused = by_told change (told error) refused
 
--- what it answers and leaves to stage a change in the copy at a place
+-- what staging a change in the copy at a place returns and leaves
 module _ (self after : Replica) (oid place : ℕ) (old new : TableCopy) (known : IsKnownAt self.copies.items oid place)
     (is : old ≡ get_or self.copies.items place old)
     (written_is : machine_view after ≡ machine_with self.phase self.position self.wants_reply

@@ -1,4 +1,4 @@
--- What becomes of a subscriber's machine where all copies of tables change, or a new one comes.
+-- What happens to a subscriber's machine when all copies of tables change, or a new one comes.
 use Rattle.std.proofs.Common.{◌≡◌, ℕ, Bool, false, List, ◌++◌, refl, sym, ◌∙◌, ap, max, length, take, drop}
 use Rattle.std.specs.Prelude.{Option, Some, None}
 use Rattle.filter_tree.specs.Datum.{Datum}
@@ -52,7 +52,7 @@ settled phase at end_lsn wants olds news does = record {
   work = λ oid key. settled_seen (copy_of olds oid) (copy_of news oid) key (does oid);
 }
 
--- ---- what is staged is forgotten
+-- ---- what is staged is discarded
 
 forgotten_shape : (old new : Option TableCopy) → OfEach ForgetsCopy old new → shape_in new ≡ shape_in old
 forgotten_shape None None does = refl

@@ -1,4 +1,4 @@
--- What becomes of a subscriber's machine where a Relation comes.
+-- What happens to a subscriber's machine when a Relation comes.
 use Rattle.std.proofs.Common.{◌≡◌, ℕ, Bool, true, false, List, [], ◌∷◌, ◌++◌, get_or, refl, sym, ◌∙◌, ap, subst}
 use Rattle.std.specs.Prelude.{Option, Some, None, Ok, Err, ◌==◌, slice_set}
 use Rattle.std.specs.Option.{option_map}
@@ -47,7 +47,7 @@ module _ (phase : Phase) (at : ℕ) (wants : Bool) (copies : List TableCopy) (pl
   abbrev pub came : TableCopy
   came = record old { is_known = true }
 
-  -- what is shown alike of both is shown as before
+  -- what both show alike is shown as before
   as_before : {A : Type 0} (show : Option TableCopy → A) → show (Some came) ≡ show (Some old)
       → (other : ℕ) → show (copy_of (slice_set copies place came) other) ≡ show (copy_of copies other)
   as_before show same other = ap show (written copies relation.oid place old came other first has)

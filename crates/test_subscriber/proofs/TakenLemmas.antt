@@ -1,4 +1,4 @@
--- What is taken from under a key that has nothing changes nothing.
+-- Removing what is under a key that has nothing changes nothing.
 use Rattle.std.proofs.Common.{◌≡◌, false, List, refl, sym, ◌∙◌, ap}
 use Rattle.std.specs.Prelude.{Option, Some, None, is_some, if◌then◌else◌}
 use Rattle.filter_tree.specs.Datum.{Datum}

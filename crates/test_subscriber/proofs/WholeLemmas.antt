@@ -5,7 +5,7 @@ use Rattle.std.proofs.lemmas.Option.{unwrap_or-slice_get}
 use Rattle.filter_tree.specs.Datum.{Datum, Missing, value_at}
 use Rattle.table_changes.specs.Columns.{values_at}
 
--- the columns before this number are the first ones, so that all are all if the others are the others
+-- the columns before this number are the first ones, so the whole list is all columns if the rest is the others
 pub record Completes (columns : List ℕ) (width number : ℕ) : Type 0 where
   pub whole : (row : List Datum) → length row ≡ width → values_at (drop number columns) row ≡ drop number row
       → values_at columns row ≡ row

@@ -1,4 +1,4 @@
--- What calls on a subscriber answer and leave, where its machine has an outcome.
+-- What calls on a subscriber return and leave, when its machine has an outcome.
 use Rattle.std.specs.Prelude.{◌≡◌, Result, Ok, Err, OnOk, OnErr, IfErr}
 use Rattle.test_subscriber.specs.Copies.{RefusedBy}
 use Rattle.test_subscriber.specs.Hearing.{Outcome}
@@ -16,15 +16,15 @@ Reaches new (Err fault) = ⊥
 abbrev pub Stays : Machine → Machine → Type 0
 Stays old new = Alike (stopped new) (stopped old)
 
--- The machine is that of the rule's outcome. An error is its fault or want of memory, and loses nothing that stays
--- after a fault.
+-- The machine is that of the rule's outcome. An error is its fault or out of memory, and loses nothing that stays after
+-- a fault.
 pub record Hears (rule : Machine → Outcome) (old : Replica) (result : Result (Unit {0}) SubFault) (new : Replica) :
     Type 0 where
   pub ok : OnOk result (Reaches (machine_view new) (rule (machine_view old)))
   pub fault : IfErr result (RefusedBy (rule (machine_view old)))
   pub stays : OnErr result (Stays (machine_view old) (machine_view new))
 
--- the same of a change that is staged, which loses nothing of that, whatever the answer
+-- the same for a change that is staged, which loses nothing of that, whatever the result
 pub record Stages (rule : Machine → Outcome) (old : Replica) (result : Result (Unit {0}) SubFault) (new : Replica) :
     Type 0 where
   pub ok : OnOk result (Reaches (machine_view new) (rule (machine_view old)))

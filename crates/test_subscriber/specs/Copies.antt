@@ -10,7 +10,7 @@ use Rattle.test_subscriber.specs.declared.fault.SubFault.{SubFault}
 use Rattle.test_subscriber.specs.declared.fault.SubFault.TheVariants.{Frame, Msg, OutOfPlace, NoRelation, BadValue, DuplicateKey, Refused, Closed, OutOfMemory}
 use Rattle.test_subscriber.specs.declared.table_copy.TableCopy.{TableCopy}
 
--- the fault that an error tells, if it tells one
+-- the fault that an error reports, if any
 abbrev pub told : SubFault → Option SubFault
 told (Frame fault) = Some (Frame fault)
 told (Msg fault) = Some (Msg fault)
@@ -37,7 +37,7 @@ pub record StaysCopy (old new : TableCopy) : Type 0 where
   pub is_known : new.is_known ≡ old.is_known
   pub keeps : (key : List Datum) → kept new.rows key ≡ kept old.rows key
 
--- the change is staged, or refused by its fault or for want of memory
+-- the change is staged, or refused with its fault or because memory ran out
 pub record ChangesCopy (change : Change) (old : TableCopy) (result : Result (Unit {0}) SubFault) (new : TableCopy) :
     Type 0 where
   pub stays : StaysCopy old new

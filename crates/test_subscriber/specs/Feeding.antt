@@ -1,4 +1,4 @@
--- What a subscriber makes of bytes that come in pieces, which are cut into frames, and what stays where it stops:
+-- What a subscriber does with bytes that come in pieces, which are cut into frames, and what stays when it stops:
 -- PostgreSQL 15, 55.7. Message Formats.
 use Rattle.std.specs.Prelude.{◌≡◌, ℕ, List, [], ◌∷◌, Option, Some, None, Ok, Err}
 use Rattle.std.specs.Option.{option_map}
@@ -12,7 +12,7 @@ use Rattle.test_subscriber.specs.declared.fault.SubFault.TheVariants as f
 use Rattle.test_subscriber.specs.declared.phase.Phase.{Phase}
 use Rattle.test_subscriber.specs.declared.phase.Phase.TheVariants.{Shut, Waiting, Idle, Busy}
 
--- the length of a frame, which counts itself and not the kind, is at most this
+-- the greatest length of a frame, which counts itself and not the kind
 abbrev pub limit : ℕ
 limit = 16777216
 
@@ -20,14 +20,14 @@ limit = 16777216
 abbrev pub length_fault : Cut → Option SubFault
 length_fault cut = option_map f.Frame (fault_of cut)
 
--- what was cut is heard, where there is a connection
+-- what was cut is heard, if there is a connection
 abbrev pub hear_while : Phase → Cut → Machine → Heard
 hear_while Shut cut machine = record { machine = machine; fault = Some f.Closed }
 hear_while Waiting cut machine = hear_cut cut machine
 hear_while Idle cut machine = hear_cut cut machine
 hear_while (Busy begin) cut machine = hear_cut cut machine
 
--- ---- where it stops
+-- ---- when it stops
 
 abbrev pub next_heard : Outcome → (Machine → Outcome) → Outcome
 next_heard (Err fault) more = Err fault
@@ -38,7 +38,7 @@ abbrev pub hear_frames : List Frame → Machine → Outcome
 hear_frames [] machine = Ok machine
 hear_frames (frame ∷ frames) machine = next_heard (hear_frame frame machine) (hear_frames frames)
 
--- what stays of a machine that got there
+-- what stays of a machine in this state
 abbrev pub StaysOf : Outcome → Machine → Type 0
 StaysOf (Ok reached) new = Alike new (stopped reached)
 StaysOf (Err fault) new = ⊥
@@ -48,14 +48,14 @@ pub record StopsBy (fault : SubFault) (heard : Heard) (new : Machine) : Type 0 w
   pub fault_is : heard.fault ≡ Some fault
   pub stays : Alike new (stopped heard.machine)
 
--- after some of the frames that were cut, the first ones, and none of them has a fault
+-- after the first few of the frames that were cut, none of which has a fault
 pub record StopsAmong (cut : Cut) (old new : Machine) : Type 0 where
   pub frames : List Frame
   pub rest : Cut
   pub first : after_frames frames rest ≡ cut
   pub stays : StaysOf (hear_frames frames old) new
 
--- by the fault that is told, and where memory was refused anywhere among the frames
+-- at the fault that is reported, and, if memory was refused, anywhere among the frames
 abbrev pub StopsFor : Option SubFault → Heard → Cut → Machine → Machine → Type 0
 StopsFor None heard cut old new = StopsAmong cut old new
 StopsFor (Some fault) heard cut old new = StopsBy fault heard new

@@ -21,7 +21,8 @@ use Rattle.test_subscriber.specs.declared.phase.Phase.TheVariants.{Shut, Waiting
 
 -- ---- the answer to the command that starts the stream
 
--- the code of an ErrorResponse with a severity, twice, a code of five characters and a text, each ended by a zero byte
+-- the code of an ErrorResponse with a severity, twice, a code of five characters and a text, each followed by a zero
+-- byte
 abbrev pub code_in : List ℕ → Option (List ℕ)
 code_in body =
     if nat_le 24 (length body)
@@ -66,7 +67,7 @@ abbrev pub hear_keepalive : Option Keepalive → Machine → Outcome
 hear_keepalive None machine = Err (f.Frame BadLength)
 hear_keepalive (Some keepalive) machine = Ok (kept_alive keepalive machine)
 
--- the fault of bytes that spell no message, and want of memory
+-- the fault of bytes that spell no message, and out of memory
 abbrev pub fault_of : MsgError → SubFault
 fault_of (e.Unknown found) = f.Msg (e.Unknown found)
 fault_of e.Toast = f.Msg e.Toast

@@ -35,7 +35,7 @@ keeps machine oid shape other = if other == oid then Some shape else machine.kep
 abbrev pub learned : ℕ → TableShape → Machine → Machine
 learned oid shape machine = record machine { kept = keeps machine oid shape; known = knows machine oid }
 
--- a new Relation, if its columns have types that are known
+-- a new Relation, if its columns have known types
 abbrev pub learn_new : Option TableShape → ℕ → Machine → Outcome
 learn_new None oid machine = Err BadValue
 learn_new (Some shape) oid machine = Ok (learned oid shape machine)
@@ -45,7 +45,7 @@ learn_as None relation machine = learn_new (shape_of relation) relation.oid mach
 learn_as (Some shape) relation machine =
     if same_relation shape.relation relation then Ok (recognized relation.oid machine) else Err OutOfPlace
 
--- A Relation is kept over connections, and may not change.
+-- A Relation is kept across connections, and may not change.
 abbrev pub hear_relation : Relation → Machine → Outcome
 hear_relation relation machine = learn_as (machine.kept relation.oid) relation machine
 

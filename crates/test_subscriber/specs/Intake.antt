@@ -1,4 +1,4 @@
--- What it leaves to take a piece into a deframer, and to hear what that holds: PostgreSQL 15, 55.7. Message Formats.
+-- What is left when a deframer accepts a piece, and when what it holds is heard: PostgreSQL 15, 55.7. Message Formats.
 use Rattle.std.specs.Prelude.{◌≡◌, List, ℕ, ◌++◌, Option, None}
 use Rattle.copy_frames.specs.Frames.{Cut, fault_in, rest_of}
 use Rattle.copy_frames.specs.Inboxes.{Inbox, with_piece}
@@ -20,7 +20,7 @@ pub record HearsHeld (cut : Cut) (heard : Heard) (old new : Inbox) (machine : Ma
   pub limit : new.limit ≡ old.limit
   pub inbox_fault : new.fault ≡ old.fault
 
--- the same where there is no fault
+-- the same if there is no fault
 pub record HearsPiece (cut : Cut) (heard : Heard) (old new : Inbox) (machine : Machine) : Type 0 where
   pub fault : heard.fault ≡ None
   pub reached : Alike machine heard.machine

@@ -1,4 +1,4 @@
--- A subscriber as it applies a stream: what it is ready for, how far it is, what it keeps of tables, and their rows:
+-- A subscriber as it applies a stream: what it is ready for, its progress, what it keeps of tables, and their rows:
 -- PostgreSQL 15, 31.2. Subscription, and 3.4. Transactions.
 use Rattle.std.specs.Prelude.{◌≡◌, ℕ, Bool, false, List, Option}
 use Rattle.filter_tree.specs.Datum.{Datum}
@@ -20,7 +20,7 @@ pub record Machine : Type 0 where
   -- what the Relation of an OID said, on this connection or an earlier one, and whether it came on this one
   pub kept : ℕ → Option TableShape
   pub known : ℕ → Bool
-  -- the rows that applied transactions left, and those with the changes of the one that is not committed
+  -- the rows that applied transactions left, and those with the changes of the uncommitted one
   pub rows : Rows
   pub work : Rows
 
@@ -34,7 +34,7 @@ pub record Alike (one other : Machine) : Type 0 where
   pub rows : (oid : ℕ) (key : List Datum) → one.rows oid key ≡ other.rows oid key
   pub work : (oid : ℕ) (key : List Datum) → one.work oid key ≡ other.work oid key
 
--- after a fault the changes of the transaction that was not committed are gone, and each Relation has to come again
+-- after a fault the changes of the uncommitted transaction are discarded, and each Relation has to come again
 abbrev pub stopped : Machine → Machine
 stopped m = record m { phase = Shut; known = λ oid. false; work = m.rows }
 
@@ -42,6 +42,6 @@ stopped m = record m { phase = Shut; known = λ oid. false; work = m.rows }
 abbrev pub lost : Machine → Machine
 lost m = record m { phase = Shut; wants_reply = false; known = λ oid. false; work = m.rows }
 
--- there is a new connection, on which the stream is asked for
+-- there is a new connection, on which the stream is requested
 abbrev pub opened : Machine → Machine
 opened m = record m { phase = Waiting; wants_reply = false; known = λ oid. false; work = m.rows }

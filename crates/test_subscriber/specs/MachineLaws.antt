@@ -1,4 +1,4 @@
--- That what a subscriber does with a message depends on nothing but its machine, at each OID and key.
+-- That what a subscriber does with a message depends only on its machine, at each OID and key.
 use Rattle.pgoutput_msgs.specs.declared.message.Msg.{Msg}
 use Rattle.test_subscriber.specs.Answers.{SameOutcome}
 use Rattle.test_subscriber.specs.Hearing.{hear}

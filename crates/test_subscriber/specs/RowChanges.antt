@@ -39,21 +39,21 @@ key_of shape (Ok row) = Ok (values_at shape.key row)
 abbrev pub key_in : TableShape → OldTuple → Result (List Datum) SubFault
 key_in shape old = key_of shape (read_in shape (cells_in old))
 
--- and those of the row that a new one replaces: where nothing is sent of the old row, they are the same in both
+-- and those of the row that a new one replaces: if nothing is sent of the old row, they are the same in both
 abbrev pub gone_of : TableShape → Option OldTuple → List Datum → Result (List Datum) SubFault
 gone_of shape None row = Ok (values_at shape.key row)
 gone_of shape (Some old) row = key_in shape old
 
--- ---- what becomes of the rows
+-- ---- what happens to the rows
 
 abbrev pub put : Found → List Datum → Option (List Datum) → Found
 put found key row other = if same_row key other then row else found other
 
--- a new row, where no other has its key
+-- a new row, if no other has its key
 abbrev pub placed : Found → List Datum → List Datum → Result Found SubFault
 placed found key row = if is_some (found key) then Err DuplicateKey else Ok (put found key (Some row))
 
--- a new row in place of the one with the key `gone`; where there is none, the change is skipped
+-- a new row in place of the one with the key `gone`; if there is none, the change is skipped
 abbrev pub replaced : Found → List Datum → List Datum → List Datum → Result Found SubFault
 replaced found gone key row = if is_some (found gone) then placed (put found gone None) key row else Ok found
 

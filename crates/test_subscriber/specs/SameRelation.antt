@@ -1,5 +1,5 @@
--- Whether two Relation messages say the same, field by field: PostgreSQL 15, 55.9. Logical Replication Message
--- Formats (Relation).
+-- Whether two Relation messages are equal, field by field: PostgreSQL 15, 55.9. Logical Replication Message Formats
+-- (Relation).
 use Rattle.std.specs.Prelude.{Bool, true, false, ◌&&◌, nat_eq, List, [], ◌∷◌}
 use Rattle.std.specs.Bool.{beq}
 use Rattle.std.specs.Ordering.{int_eq}

@@ -1,6 +1,6 @@
--- The frame that asks for the stream of a slot: PostgreSQL 15, 55.4. Streaming Replication Protocol
--- (START_REPLICATION SLOT slot_name LOGICAL), 55.5.1. Logical Streaming Replication Parameters, 8.20. pg_lsn Type,
--- 4.1.1. Identifiers and Key Words, 4.1.2.1. String Constants, and 55.7. Message Formats (Query).
+-- The frame that requests the stream of a slot: PostgreSQL 15, 55.4. Streaming Replication Protocol (START_REPLICATION
+-- SLOT slot_name LOGICAL), 55.5.1. Logical Streaming Replication Parameters, 8.20. pg_lsn Type, 4.1.1. Identifiers and
+-- Key Words, 4.1.2.1. String Constants, and 55.7. Message Formats (Query).
 use Rattle.std.specs.Prelude.{◌≡◌, ℕ, ◌/◌, ◌%◌, ◌^◌, nat_lt, true, if◌then◌else◌, List, [], ◌∷◌, ◌++◌, length, codes, Result, Ok, Err, OnOk, OnErr, IfErr}
 use Rattle.std.specs.Fmt.{digits}
 use Rattle.std.specs.List.{join_by}
@@ -15,7 +15,7 @@ use Rattle.test_subscriber.specs.declared.fault.SubFault.TheVariants as f
 abbrev pub lsn_text : ℕ → List ℕ
 lsn_text lsn = digits 16 true (lsn / 2 ^ 32) ++ (47 ∷ digits 16 true (lsn % 2 ^ 32))
 
--- each between double quotes, and a comma between each two
+-- each between double quotes, separated by commas
 abbrev pub names_text : List (List ℕ) → List ℕ
 names_text names = join_by (in_quotes 34) (codes ",") names
 
@@ -40,7 +40,7 @@ abbrev pub Asks : Result (List ℕ) SubFault → List ℕ → List ℕ → Type 
 Asks (Ok frame) old new = new ≡ old ++ frame
 Asks (Err fault) old new = ⊥
 
--- the frame is appended, or an error says its fault or want of memory, and nothing is appended
+-- the frame is appended, or the error is its fault or out of memory, and nothing is appended
 pub record Appends (frame : Result (List ℕ) SubFault) (old : List ℕ) (result : Result (Unit {0}) SubFault)
     (new : List ℕ) : Type 0 where
   pub ok : OnOk result (Asks frame old new)

@@ -23,7 +23,7 @@ use Rattle.test_subscriber.specs.declared.subscriber.Subscriber.{Subscriber}
 abbrev pub sub_machine : Subscriber → Machine
 sub_machine subscriber = machine_view subscriber.replica
 
--- the bytes that came and are no whole frame
+-- the bytes that came and are not a whole frame
 abbrev pub sub_held : Subscriber → List ℕ
 sub_held subscriber = subscriber.inbox.bytes
 
@@ -69,7 +69,7 @@ pub record Loses (old new : Subscriber) : Type 0 where
   pub machine : Alike (sub_machine new) (lost (sub_machine old))
   pub cleared : IsCleared old new
 
--- the start is asked for at its own position, and nothing else waits
+-- the start is requested at its own position, and nothing else waits
 pub record Opens (old new : Subscriber) : Type 0 where
   pub machine : Alike (sub_machine new) (opened (sub_machine old))
   pub held : sub_held new ≡ []
@@ -97,7 +97,7 @@ pub record FeedStops (old : Subscriber) (piece : List ℕ) (error : SubFault) (n
 
 -- ---- statuses
 
--- there has to be a connection
+-- there must be a connection
 abbrev pub status_answer : Phase → Result (Unit {0}) SubFault
 status_answer Shut = Err Closed
 status_answer Waiting = Ok tt
@@ -119,7 +119,7 @@ pub record Reports (old : Subscriber) (clock : ℕ) (want : Bool) (new : Subscri
       ++ copy_data (status_body (status_at (sub_machine old).position clock want))
   pub names : SameNames old new
 
--- ---- output: so many of the first bytes that wait are dropped, or all
+-- ---- output: this number of the first bytes that wait are dropped, or all
 
 pub record Passes (old : Subscriber) (count : ℕ) (new : Subscriber) : Type 0 where
   pub machine : sub_machine new ≡ sub_machine old

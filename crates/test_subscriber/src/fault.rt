@@ -11,21 +11,21 @@ use thiserror::Error;
 /// Why a subscriber stops. After each of these it is closed until it is opened again.
 #[derive(Clone, Copy, Debug, PartialEq, Eq, Error)]
 pub enum SubFault {
-    /// The bytes are not cut into frames, or a frame of the stream is shorter than what it says it carries.
+    /// The bytes can't be cut into frames, or a frame of the stream is too short for what it carries by its kind.
     #[error("{0}")]
     Frame(FrameFault),
-    /// The bytes of a message are no message of the protocol.
+    /// The bytes are not a message of the protocol.
     #[error("{0}")]
     Msg(MsgError),
-    /// A frame or a message that can't come here: a change outside a transaction, a transaction in another one, a
+    /// A frame or a message that can't come here: a change outside a transaction, a transaction within another, a
     /// Commit with another LSN than its Begin, or a Relation other than the one that was kept for its OID.
     #[error("a frame or a message came where it can't come")]
     OutOfPlace,
-    /// A change of a table with this OID, whose Relation did not come on this connection.
+    /// A change of the table with this OID, whose Relation did not come on this connection.
     #[error("no Relation came on this connection for the OID {0}")]
     NoRelation(u32),
-    /// A value that its column's type does not have, a row of another width, or a type other than the five of columns
-    /// here.
+    /// A value that is not of its column's type, a row of another width, or a type other than the five types of
+    /// columns.
     #[error("a value is none of its column's type")]
     BadValue,
     /// A new row has the values of another row in the columns of the replica identity.

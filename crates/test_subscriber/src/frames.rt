@@ -32,7 +32,7 @@ fn code_in(body: &[u8]) -> Option<[u8; 5]>
     }
 }
 
-/// What an ErrorResponse tells.
+/// What an ErrorResponse reports.
 fn refusal(body: &[u8]) -> SubFault
     ensures { result ≡ refusal (code_in body.now) }
 {
@@ -164,7 +164,7 @@ impl Replica {
         Ok(())
     }
 
-    /// Hears a frame. An error leaves what stays after a fault.
+    /// Hears a frame. An error keeps what stays after a fault.
     pub(crate) fn hear_frame(&mut self, frame: &Frame) -> Result<(), SubFault>
         ensures { Hears (hear_frame frame.now) self.old result self.new }
     {

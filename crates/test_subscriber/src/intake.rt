@@ -16,7 +16,7 @@ use crate::phase::Phase;
 use crate::replica::Replica;
 use copy_frames::{Deframer, FrameFault};
 
-/// Takes a piece. The answer is the fault of a length, which comes after the frames before it.
+/// Accepts a piece. Returns the fault of a length, which comes after the frames before it.
 fn take_piece(inbox: &mut Deframer, piece: &[u8]) -> Result<Option<FrameFault>, SubFault>
     requires { inbox.old.fault ≡ None }
     ensures ok { IfOk result (TakesPiece inbox.old piece.now inbox.new) }
@@ -45,7 +45,7 @@ fn hear_held(replica: &mut Replica, inbox: &mut Deframer) -> Result<(), SubFault
     Ok(())
 }
 
-/// Takes a piece where there is a connection, and hears each frame that is whole then.
+/// Accepts a piece if there is a connection, and hears each frame that is then whole.
 pub(crate) fn hear_piece(
     replica: &mut Replica,
     inbox: &mut Deframer,

@@ -1,4 +1,4 @@
-//! The subscriber at the other end of a replication connection: it starts a stream and applies what comes.
+//! The subscriber at the other end of a replication connection: it starts a stream and applies what it receives.
 #![tactic(auto)]
 
 mod fault;

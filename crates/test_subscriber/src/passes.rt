@@ -15,7 +15,7 @@ pub(crate) fn settle(copies: &mut [TableCopy])
     }
 }
 
-/// Forgets what is staged, and which Relations came.
+/// Discards what is staged, and forgets which Relations came.
 pub(crate) fn forget(copies: &mut [TableCopy])
     ensures { (oid : ℕ) → OfEach ForgetsCopy (copy_of copies.old oid) (copy_of copies.new oid) }
 {

@@ -9,7 +9,7 @@ use pgoutput_msgs::{Cell, value_of};
 use std::alloc::{AllocError, Global};
 
 /// The row that a tuple has for columns of these types, if it has one: as many values, each a value of its type. Its
-/// texts are those of the cells, without a copy. The only error is want of memory.
+/// texts are those of the cells, without a copy. The only error is out of memory.
 #[tactic(auto, using(crate::proofs::GatherLemmas::other_width))]
 pub(crate) fn row_of(
     alloc: Global,

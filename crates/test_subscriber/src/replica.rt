@@ -10,7 +10,7 @@ use filter_tree::Row;
 use pgoutput_msgs::{Msg, OldTuple, Relation, Tuple};
 use std::alloc::{AllocError, Global};
 
-/// What a subscriber has: how far it is, and its copies of tables.
+/// What a subscriber has: its progress, and its copies of tables.
 #[derive(Drop)]
 pub(crate) struct Replica {
     pub(crate) alloc: Global,
@@ -31,7 +31,7 @@ impl Replica {
     ghost use Rattle.test_subscriber.specs.Hearing.{committed, hear_commit, hear_idle, hear_busy, hear};
     ghost use Rattle.test_subscriber.specs.Hearing.{hear_relation, hear_insert, hear_update, hear_delete, hear_empty, hear_truncate};
 
-    /// Copies of the rows that are kept of the table with this OID, in the order of rows. The only error is want of
+    /// Copies of the rows that are kept of the table with this OID, in the order of rows. The only error is out of
     /// memory.
     pub(crate) fn rows(&self, oid: u32) -> Result<Vec<Row>, AllocError>
         ensures shows { IfOk result (λ rows. IsInOrder (listed_in (copy_of self.now.copies.items oid)) rows.items) }
@@ -119,7 +119,7 @@ impl Replica {
         self.copies[place].update(self.alloc, old, new)
     }
 
-    /// Stages that a row of the table with this OID is gone.
+    /// Stages that a row of the table with this OID is deleted.
     fn delete(&mut self, oid: u32, old: OldTuple) -> Result<(), SubFault>
         ensures { Stages (hear_delete oid old) self.old result self.new }
     {
@@ -199,7 +199,7 @@ impl Replica {
         Ok(())
     }
 
-    /// Hears a message of the stream. An error leaves what stays after a fault.
+    /// Hears a message of the stream. An error keeps what stays after a fault.
     pub(crate) fn hear(&mut self, message: Msg) -> Result<(), SubFault>
         ensures { Hears (hear message) self.old result self.new }
     {

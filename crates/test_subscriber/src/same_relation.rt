@@ -1,4 +1,4 @@
-//! Whether two Relation messages say the same.
+//! Whether two Relation messages are equal.
 
 ghost use Rattle.std.specs.Prelude.{◌≡◌};
 ghost use Rattle.test_subscriber.specs.SameRelation as spec;
@@ -35,7 +35,7 @@ fn same_columns(one: &[RelationColumn], other: &[RelationColumn]) -> bool
     true
 }
 
-/// Whether two Relation messages say the same.
+/// Whether two Relation messages are equal.
 pub(crate) fn same_relation(one: &Relation, other: &Relation) -> bool
     ensures { result ≡ spec.same_relation one.now other.now }
 {

@@ -32,7 +32,7 @@ fn kind_with(oid: u32) -> Option<ColType>
     }
 }
 
-/// The types of the columns, if each has one that is known. The only error is want of memory.
+/// The types of the columns, if each has one that is known. The only error is out of memory.
 #[tactic(auto, using(crate::proofs::GatherLemmas::kind_made))]
 fn kinds_of(alloc: Global, columns: &[RelationColumn]) -> Result<Option<Items<ColType>>, AllocError>
     ensures { IfOk result (λ kinds. kinds ≡ kinds_of columns.now) }
@@ -47,7 +47,7 @@ fn kinds_of(alloc: Global, columns: &[RelationColumn]) -> Result<Option<Items<Co
     Ok(Some(Items::from_vec(kinds)))
 }
 
-/// The numbers of the columns that are flagged. The only error is want of memory.
+/// The numbers of the columns that are flagged. The only error is out of memory.
 fn flagged(alloc: Global, columns: &[RelationColumn]) -> Result<Items<usize>, AllocError>
     ensures { IfOk result (λ key. key ≡ flagged_from 0 columns.now) }
 {
@@ -64,7 +64,7 @@ impl TableShape {
     ghost use Rattle.std.specs.Prelude.{◌≡◌, IfOk};
     ghost use Rattle.test_subscriber.specs.Shapes.{shape_of};
 
-    /// What the Relation says of its table, if the types of all columns are known. The only error is want of memory.
+    /// What the Relation says of its table, if the types of all columns are known. The only error is out of memory.
     pub(crate) fn of(alloc: Global, relation: Relation) -> Result<Option<TableShape>, AllocError>
         ensures { IfOk result (λ shape. shape ≡ shape_of relation) }
     {

@@ -10,7 +10,7 @@ use bytes::BytesMut;
 use copy_frames::{FrameFault, put, put_int32};
 use std::alloc::{AllocError, Global};
 
-/// Appends bytes between quotes, with each quote in them twice. The only error is want of memory.
+/// Appends bytes between quotes, with each quote in them doubled. The only error is out of memory.
 fn put_quoted(text: &mut Vec<u8>, quote: u8, inner: &[u8]) -> Result<(), AllocError>
     ensures { OnOk result (text.new.items ≡ text.old.items ++ in_quotes quote inner.now) }
 {
@@ -25,7 +25,7 @@ fn put_quoted(text: &mut Vec<u8>, quote: u8, inner: &[u8]) -> Result<(), AllocEr
     Ok(())
 }
 
-/// Names between double quotes, with a comma between each two. The only error is want of memory.
+/// Names between double quotes, separated by commas. The only error is out of memory.
 fn names_text(alloc: Global, names: &[String]) -> Result<Vec<u8>, AllocError>
     ensures { IfOk result (λ text. text.items ≡ spec.names_text (map string_bytes names.now)) }
 {
@@ -40,7 +40,7 @@ fn names_text(alloc: Global, names: &[String]) -> Result<Vec<u8>, AllocError>
     Ok(text)
 }
 
-/// The text of a place in the log, in bytes ("8.20. pg_lsn Type"). The only error is want of memory.
+/// The text of a place in the log, in bytes ("8.20. pg_lsn Type"). The only error is out of memory.
 fn lsn_text(alloc: Global, lsn: u64) -> Result<String, AllocError>
     ensures { IfOk result (λ text. string_bytes text ≡ spec.lsn_text lsn) }
 {
@@ -49,7 +49,7 @@ fn lsn_text(alloc: Global, lsn: u64) -> Result<String, AllocError>
     format!(in alloc; "{high:X}/{low:X}")
 }
 
-/// The command that starts the stream of a slot at a place in the log, in bytes. The only error is want of memory.
+/// The command that starts the stream of a slot at a place in the log, in bytes. The only error is out of memory.
 fn start_text(
     alloc: Global,
     slot: &str,
@@ -72,7 +72,7 @@ fn start_text(
     Ok(text)
 }
 
-/// How long the text of a Query may be, so that the length of its frame is at most 65,536.
+/// The greatest length of the text of a Query, so that the length of its frame is at most 65,536.
 const LONGEST: usize = 65_531;
 
 /// Appends a text as a Query.
@@ -90,11 +90,11 @@ fn append_query(out: &mut BytesMut, text: &[u8]) -> Result<(), SubFault>
     Ok(())
 }
 
-/// Appends the frame that asks for the stream of a slot at a place in the log, in bytes.
+/// Appends the frame that requests the stream of a slot at a place in the log, in bytes.
 ///
 /// # Errors
 ///
-/// `Frame(FrameTooLong)` where the frame's length is more than 65,536; `OutOfMemory`. Each leaves `out` as it was.
+/// `Frame(FrameTooLong)` if the frame's length is more than 65,536; `OutOfMemory`. Each leaves `out` as it was.
 pub(crate) fn append_start(
     alloc: Global,
     out: &mut BytesMut,

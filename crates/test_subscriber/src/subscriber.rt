@@ -12,14 +12,14 @@ use copy_frames::{Deframer, Status, append_status};
 use filter_tree::Row;
 use std::alloc::{AllocError, Global};
 
-/// The length of a frame, which counts itself and not the kind, is at most this.
+/// The greatest length of a frame, which counts itself and not the kind.
 const LIMIT: u32 = 16_777_216;
 
-/// A subscriber: it asks for the stream of its slot, applies what comes in whatever pieces, and says how far it is.
-/// Over connections it keeps its position, its rows, and what each Relation said of its table.
+/// A subscriber: it requests the stream of its slot, applies what comes in whatever pieces, and reports its progress.
+/// Across connections it keeps its position, its rows, and what each Relation said of its table.
 ///
-/// The first fault closes it, and so do want of memory and `lose`. From then on and before the first `open`, `feed` and
-/// `status` answer `Closed`, and no output waits.
+/// The first fault closes it, and so do out of memory and `lose`. From then on, and before the first `open`, `feed` and
+/// `status` return `Closed`, and no output waits.
 ///
 /// PostgreSQL 15, 31.2. Subscription, 55.4. Streaming Replication Protocol, 55.5. Logical Streaming Replication
 /// Protocol.
@@ -72,14 +72,14 @@ impl Subscriber {
         }
     }
 
-    /// Begins a new connection: drops what was half read and what waits, and asks for the stream of the slot at the
+    /// Begins a new connection: drops what was half read and what waits, and requests the stream of the slot at the
     /// subscriber's own position ("55.4. Streaming Replication Protocol", START_REPLICATION SLOT LOGICAL). Position and
     /// rows stay.
     ///
     /// # Errors
     ///
-    /// `Frame(FrameTooLong)` where the names are so long that the length of the Query is more than 65,536;
-    /// `OutOfMemory`. Each leaves what `lose` leaves.
+    /// `Frame(FrameTooLong)` if the names are so long that the length of the Query is more than 65,536; `OutOfMemory`.
+    /// Each leaves what `lose` leaves.
     pub fn open(&mut self) -> Result<(), SubFault>
         ensures ok { OnOk result (spec.Opens self.old self.new) }
         ensures fault { IfErr result (RefusedBy
@@ -99,14 +99,14 @@ impl Subscriber {
         Ok(())
     }
 
-    /// Takes the next bytes of the connection and applies each frame that is whole then. The changes of a transaction
+    /// Accepts the next bytes of the connection and applies each frame that is then whole. The changes of a transaction
     /// are shown at its Commit, all at once.
     ///
     /// # Errors
     ///
-    /// The first fault of the frames in their order, that of a length after the frames before it; `Closed` where there
-    /// is no connection. It leaves the rows of the last applied transaction, and the position that the frames before it
-    /// gave. `OutOfMemory` leaves those after some of the frames that came, the first ones.
+    /// The first fault of the frames in their order, that of a length after the frames before it; `Closed` if there is
+    /// no connection. It leaves the rows of the last applied transaction, and the position that the frames before it
+    /// gave. `OutOfMemory` leaves those after the first few of the frames that came.
     pub fn feed(&mut self, piece: &[u8]) -> Result<(), SubFault>
         ensures ok { OnOk result (spec.Feeds self.old piece.now self.new) }
         ensures stops { IfErr result (λ error. spec.FeedStops self.old piece.now error self.new) }
@@ -121,13 +121,13 @@ impl Subscriber {
         fed
     }
 
-    /// Says how far it is: a status that has its position as written, flushed and applied. `now` is its clock, in
-    /// microseconds since 2000-01-01; a wanted reply is a keepalive ("55.4. Streaming Replication Protocol", Standby
+    /// Sends a status, with its position as written, flushed and applied. `now` is its clock, in microseconds since
+    /// 2000-01-01; the reply, if `want` asks for one, is a keepalive ("55.4. Streaming Replication Protocol", Standby
     /// status update).
     ///
     /// # Errors
     ///
-    /// `Closed` where there is no connection; `OutOfMemory`. Each leaves what `lose` leaves.
+    /// `Closed` if there is no connection; `OutOfMemory`. Each leaves what `lose` leaves.
     pub fn status(&mut self, now: u64, want: bool) -> Result<(), SubFault>
         ensures ok { OnOk result (spec.Reports self.old now want self.new) }
         ensures fault { IfErr result (RefusedBy (spec.status_answer (sub_machine self.old).phase)) }
@@ -187,7 +187,7 @@ impl Subscriber {
         self.output.as_slice()
     }
 
-    /// Drops so many of the first bytes that wait, or all where fewer wait.
+    /// Drops this number of the first bytes that wait, or all if fewer wait.
     pub fn passed(&mut self, count: usize)
         ensures { spec.Passes self.old count self.new }
     {
@@ -200,7 +200,7 @@ impl Subscriber {
 
     /// Copies of the rows of the table with this OID, as the last applied transaction left them, in their order: NULL
     /// first, numbers by their size, FALSE before TRUE, texts byte by byte, by the first column in which the rows
-    /// differ. There are none of a table whose Relation did not come. The only error is want of memory.
+    /// differ. There are none if the table's Relation did not come. The only error is out of memory.
     ///
     /// PostgreSQL 15, 7.5 Sorting Rows.
     pub fn rows(&self, oid: u32) -> Result<Vec<Row>, AllocError>
@@ -210,8 +210,8 @@ impl Subscriber {
         self.replica.rows(oid)
     }
 
-    /// The place in the log, in bytes, up to which all is applied: where the last applied transaction ends, or that of
-    /// a later keepalive outside a transaction, if that is greater.
+    /// The place in the log, in bytes, up to which all is applied: where the last applied transaction ends, or the
+    /// place of a later keepalive outside a transaction, if that is greater.
     pub fn position(&self) -> u64
         ensures { result ≡ (sub_machine self.now).position }
     {

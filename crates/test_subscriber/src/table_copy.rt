@@ -22,7 +22,7 @@ pub(crate) struct TableCopy {
     pub(crate) rows: Staged<Row>,
 }
 
-/// Copies of the rows. The only error is want of memory.
+/// Copies of the rows. The only error is out of memory.
 fn copies(alloc: Global, rows: &[&Row]) -> Result<Vec<Row>, AllocError>
     ensures { IfOk result (λ copies. copies.items ≡ map (λ row. row.now) rows.now) }
 {
@@ -75,7 +75,7 @@ impl TableCopy {
         }
     }
 
-    /// Copies of the rows that are kept, in the order of rows. The only error is want of memory.
+    /// Copies of the rows that are kept, in the order of rows. The only error is out of memory.
     pub(crate) fn kept_rows(&self, alloc: Global) -> Result<Vec<Row>, AllocError>
         ensures shows { IfOk result (λ rows. IsInOrder (kept_values self.now.rows) rows.items) }
         ensures found { OnOk result (ListsFound (kept self.now.rows) (kept_values self.now.rows)) }
@@ -96,15 +96,15 @@ impl TableCopy {
         }
     }
 
-    /// The row's values in the columns of the replica identity. The only error is want of memory.
+    /// The row's values in the columns of the replica identity. The only error is out of memory.
     fn key_of(&self, alloc: Global, row: &Row) -> Result<Row, AllocError>
         ensures { IfOk result (λ key. key ≡ values_at self.now.shape.key row.now) }
     {
         Ok(values_at(alloc, self.shape.key.as_slice(), row)?)
     }
 
-    /// The row's values in the columns of the replica identity, without a copy where these are all columns. The only
-    /// error is want of memory.
+    /// The row's values in the columns of the replica identity, without a copy if these are all columns. The only error
+    /// is out of memory.
     fn into_key(&self, alloc: Global, row: Row) -> Result<Row, AllocError>
         ensures { IfOk result (λ key. key ≡ values_at self.now.shape.key row) }
     {
@@ -114,7 +114,7 @@ impl TableCopy {
         self.key_of(alloc, &row)
     }
 
-    /// Stages a row under its key, where there is none.
+    /// Stages a row under its key, if there is none.
     fn place(&mut self, key: Row, row: Row) -> Result<(), SubFault>
         ensures { ChangesCopy (λ shape found. placed found key row) self.old result self.new }
     {
@@ -145,8 +145,7 @@ impl TableCopy {
         Ok(self.into_key(alloc, part)?)
     }
 
-    /// The key of the row that gives way to this one: by what is sent of the old row, or by the new row where nothing
-    /// is.
+    /// The key of the row that this one replaces: by what is sent of the old row, or by the new row if nothing is sent.
     fn gone_key(&self, alloc: Global, old: Option<OldTuple>, row: &Row) -> Result<Row, SubFault>
         ensures { Answers (λ key. key) told (gone_of self.now.shape old row.now) result }
     {
@@ -207,7 +206,7 @@ impl TableCopy {
         self.rows.settle();
     }
 
-    /// Forgets what is staged, and that the Relation came.
+    /// Discards what is staged, and forgets that the Relation came.
     pub(crate) fn forget(&mut self)
         ensures { ForgetsCopy self.old self.new }
     {

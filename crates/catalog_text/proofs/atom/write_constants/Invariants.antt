@@ -6,7 +6,7 @@ use Rattle.filter_tree.specs.Values.{constant_view}
 use Rattle.catalog_text.specs.FilterText.{constant_text}
 use Rattle.catalog_text.proofs.atom.write_constants.Given as goal
 
--- what is written, and the constants that are left after a comma each, make the text of all
+-- what is written, and the constants that are left, each after a comma, make up the text of all
 abbrev pub invariant-loop-constant : goal.invariant-loop-constant
 invariant-loop-constant l =
     string_bytes l.text ++ flat_map (λ constant. codes ", " ++ constant_text constant)

@@ -6,7 +6,7 @@ use Rattle.pub_catalog.specs.CatalogView.{publication_view}
 use Rattle.catalog_text.specs.CatalogText.{publication_name}
 use Rattle.catalog_text.proofs.catalog.write_publication_names.Given as goal
 
--- what is written, and the publications that are left after a comma each, make the text of all
+-- what is written, and the publications that are left, each after a comma, make up the text of all
 abbrev pub invariant-loop-number : goal.invariant-loop-number
 invariant-loop-number l =
     string_bytes l.text ++ flat_map (λ number. codes ", " ++ publication_name (map publication_view l.publications) number)

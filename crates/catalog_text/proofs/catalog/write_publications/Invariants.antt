@@ -5,7 +5,7 @@ use Rattle.pub_catalog.specs.CatalogView.{publication_view}
 use Rattle.catalog_text.specs.CatalogText.{publication_text}
 use Rattle.catalog_text.proofs.catalog.write_publications.Given as goal
 
--- what is written, and the publications that are left, make the text of all
+-- what is written, and the publications that are left, make up the text of all
 abbrev pub invariant-loop-publication : goal.invariant-loop-publication
 invariant-loop-publication l =
     string_bytes l.text ++ flat_map (publication_text l.tables)

@@ -5,7 +5,7 @@ use Rattle.pub_catalog.specs.CatalogView.{publication_view}
 use Rattle.catalog_text.specs.CatalogText.{subscription_text}
 use Rattle.catalog_text.proofs.catalog.write_subscriptions.Given as goal
 
--- what is written, and the subscriptions that are left, make the text of all
+-- what is written, and the subscriptions that are left, make up the text of all
 abbrev pub invariant-loop-subscription : goal.invariant-loop-subscription
 invariant-loop-subscription l =
     string_bytes l.text ++ flat_map (subscription_text (map publication_view l.publications))

@@ -3,7 +3,7 @@ use Rattle.std.specs.String.{string_bytes}
 use Rattle.catalog_text.specs.Waiting.{waiting_steps, waiting_text}
 use Rattle.catalog_text.proofs.filter.write_waiting.Given as goal
 
--- what is written, and what waits, make the whole text
+-- what is written, and what waits, make up the whole text
 abbrev pub invariant-loop-piece : goal.invariant-loop-piece
 invariant-loop-piece l =
     string_bytes l.text ++ waiting_text l.columns l.waiting.items ≡ string_bytes l.initial.text

@@ -3,7 +3,7 @@ use Rattle.pub_catalog.specs.CatalogView.{entry_view}
 use Rattle.catalog_text.specs.CatalogText.{have_entries}
 use Rattle.catalog_text.proofs.objects.have_entries.Given as goal
 
--- the tables that are left, the first of which has this number, say it of all
+-- the test holds for the tables that are left, the first of which has this number, exactly if it holds for all
 abbrev pub invariant-loop-rest : goal.invariant-loop-rest
 invariant-loop-rest l = record {
   within : l.number + length l.rest ≡ length l.tables;

@@ -3,7 +3,7 @@ use Rattle.pub_catalog.specs.CatalogView.{entry_view}
 use Rattle.catalog_text.specs.CatalogText.{named_before}
 use Rattle.catalog_text.proofs.objects.named_before.Given as goal
 
--- so many are named, and those that the rest has
+-- this number of entries are named, plus those that are named in the rest
 abbrev pub invariant-loop-rest : goal.invariant-loop-rest
 invariant-loop-rest l = record {
   within : l.number + length l.rest ≡ length l.entries;

@@ -6,7 +6,7 @@ use Rattle.pub_catalog.specs.CatalogView.{entry_view}
 use Rattle.catalog_text.specs.CatalogText.{object_text}
 use Rattle.catalog_text.proofs.objects.write_named.Given as goal
 
--- what is written, and the entries that are left after a comma each, make the text of all
+-- what is written, and the entries that are left, each after a comma, make up the text of all
 abbrev pub invariant-loop-entry : goal.invariant-loop-entry
 invariant-loop-entry l =
     string_bytes l.text ++ flat_map (λ entry. codes ", " ++ object_text l.tables entry)

@@ -5,7 +5,7 @@ use Rattle.std.specs.String.{string_bytes}
 use Rattle.catalog_text.specs.FilterText.{column_name}
 use Rattle.catalog_text.proofs.tables.write_column_names.Given as goal
 
--- what is written, and the columns that are left after a comma each, make the text of all
+-- what is written, and the columns that are left, each after a comma, make up the text of all
 abbrev pub invariant-loop-number : goal.invariant-loop-number
 invariant-loop-number l =
     string_bytes l.text ++ flat_map (λ number. codes ", " ++ column_name l.columns number)

@@ -4,7 +4,7 @@ use Rattle.std.specs.String.{string_bytes}
 use Rattle.catalog_text.specs.CatalogText.{column_text}
 use Rattle.catalog_text.proofs.tables.write_columns.Given as goal
 
--- what is written, and the columns that are left, make the text of all
+-- what is written, and the columns that are left, make up the text of all
 abbrev pub invariant-loop-column : goal.invariant-loop-column
 invariant-loop-column l =
     string_bytes l.text ++ flat_map column_text (drop l.column-index l.columns)

@@ -6,7 +6,7 @@ use Rattle.pub_reader.specs.DraftView.{draft_view}
 use Rattle.pub_reader.proofs.KeptNames.{statement_named}
 use Rattle.pub_reader.proofs.statement.statements.Goals as goal
 
--- a statement keeps what is said of names, since a reader's tokens are those of a text
+-- a statement preserves what is stated about names, since a reader's tokens are those of a text
 pub loop-r-preserved : goal.loop-r-preserved
 loop-r-preserved c = (
   grind (arith, turns, c.loop-r.invariant.0, c.in_ok-ended_statement.ensures.0, c.in_ok-more_ahead.ensures.answer),

@@ -8,7 +8,7 @@ use Rattle.pub_reader.proofs.KeptLimits.{resolved_limited}
 use Rattle.pub_reader.proofs.OwnNames.{none_named, resolved_named}
 use Rattle.pub_reader.proofs.statement.whole_catalog.Goals as goal
 
--- what was read is named, since a reader's tokens are those of a text
+-- what was read has proper names, since a reader's tokens are those of a text
 pub finish-requires-clause-limits : goal.finish-requires-clause-limits
 finish-requires-clause-limits c =
     resolved_limited as_filter (items_of c.args.text.now) (draft_view c.statements.new.draft)

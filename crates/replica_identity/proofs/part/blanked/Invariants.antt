@@ -3,7 +3,7 @@ use Rattle.filter_tree.specs.Values.{datum_view}
 use Rattle.table_changes.specs.Columns.{blanked_from}
 use Rattle.replica_identity.proofs.part.blanked.Given as goal
 
--- the values so far, and those of the others, are the row's
+-- the values so far, and those that are left, are the row's
 abbrev pub invariant-loop-column : goal.invariant-loop-column
 invariant-loop-column l =
     map datum_view l.kept.items

@@ -3,7 +3,7 @@ use Rattle.replica_identity.specs.Shares.{share_view}
 use Rattle.shard_checker.proofs.StepLemmas.{filters_more}
 use Rattle.shard_checker.proofs.formulas.add_share.Goals as goal
 
--- the share's filter is among the steps, and the others stay
+-- the share's filter is among the steps, and the others stay as they are
 pub returns : goal.returns
 returns g c = λ shares before.
     filters_more (atoms_view c.args.atoms.now) shares c.args.formulas.now

@@ -6,7 +6,7 @@ use Rattle.shard_checker.specs.declared.steps.Step.TheVariants.{Const}
 use Rattle.shard_checker.proofs.BlockLemmas.{told_same, told_again}
 use Rattle.shard_checker.proofs.masks.tell.Goals as goal
 
--- the set is another, and the steps that it is a part of have to be computed again
+-- the set has changed, and the steps of which it is a part must be recomputed
 pub returns-then-not-is_at : goal.returns-then-not-is_at
 returns-then-not-is_at c =
     let steps = c.args.steps.now in
@@ -24,7 +24,7 @@ returns-then-not-is_at c =
     (ap (λ v. v.items) c.put.ensures.stale) c.mark.ensures.stale))
     (number + 1) refl
 
--- the set is what it was
+-- the set has not changed
 pub returns-else-not-is_at : goal.returns-else-not-is_at
 returns-else-not-is_at c =
     let steps = c.args.steps.now in

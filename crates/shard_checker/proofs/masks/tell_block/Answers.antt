@@ -2,7 +2,7 @@ use Rattle.std.proofs.Common.{arith, ap}
 use Rattle.shard_checker.proofs.BlockLemmas.{told_block}
 use Rattle.shard_checker.proofs.masks.tell_block.Goals as goal
 
--- all steps of the block were told
+-- all steps of the block were recomputed
 pub returns : goal.returns
 returns c =
     told_block c.args.block c.loop-number.number c.args.steps.now c.args.atoms.now c.loop-number.masks

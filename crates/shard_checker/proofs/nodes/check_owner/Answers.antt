@@ -7,7 +7,7 @@ use Rattle.shard_checker.specs.Refusal.{subject_view}
 use Rattle.shard_checker.proofs.WalkInvariantLemmas.{owner_unknown, owner_refused, owner_found}
 use Rattle.shard_checker.proofs.nodes.check_owner.Goals as goal
 
--- there is a step for each share, and no other
+-- there is a step for each share, and no others
 pub returns-in-None : goal.returns-in-None
 returns-in-None g c =
     let subject = c.args.subject.now in

@@ -34,7 +34,7 @@ same_subject columns columns2 atoms atoms2 terms terms2 sets same_columns same_a
     (subst (λ (found : List Term). AreCandidateSets (candidates_in columns atoms found) atoms found sets) same_terms
     are))
 
--- the filters of the shares have no other atoms than the numbered ones
+-- the filters of the shares have no atoms other than the numbered ones
 pub formulas_of-requires : goal.formulas_of-requires
 formulas_of-requires g c =
     let shares = shares_view c.args.shares.now in
@@ -42,7 +42,7 @@ formulas_of-requires g c =
     ∙ c.in_ok-atoms.ensures in
     subst (λ (found : List AtomOf). all_name_only found shares ≡ true) (sym atoms) (numbered_names shares)
 
--- the numbered atoms are told from one another
+-- the numbered atoms are distinct
 pub check_subject-requires : goal.check_subject-requires
 check_subject-requires g c =
     let shares = shares_view c.args.shares.now in

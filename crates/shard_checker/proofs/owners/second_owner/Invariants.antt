@@ -3,7 +3,7 @@ use Rattle.std.specs.Prelude.{map}
 use Rattle.shard_checker.specs.Steps.{mask_in, second_among}
 use Rattle.shard_checker.proofs.owners.second_owner.Given as goal
 
--- the answer for the shares that are left is that for all
+-- the result for the shares that are left is that for all
 abbrev pub invariant-loop-number : goal.invariant-loop-number
 invariant-loop-number l =
     second_among l.owner l.number (map (mask_in l.masks) (drop l.number l.roots))

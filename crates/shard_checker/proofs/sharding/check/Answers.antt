@@ -34,7 +34,7 @@ pub returns-clause-divided : goal.returns-clause-divided
 returns-clause-divided g c =
     own_divided (catalog_view c.args.catalog) (plan_view c.args.plan) c.requires (returns-clause-sound g c)
 
--- what was found with the code's own test, each test that tells the same finds
+-- what was found with the program's own test, each equivalent test finds
 pub returns-in_err-check_sharding-clause-exact : goal.returns-in_err-check_sharding-clause-exact
 returns-in_err-check_sharding-clause-exact g c =
     refused_by_any (catalog_view c.args.catalog) (plan_view c.args.plan) (map tree_view c.args.certs.now)

@@ -8,7 +8,7 @@ use Rattle.shard_checker.specs.declared.steps.Step.TheVariants.{Is}
 use Rattle.shard_checker.proofs.StepLemmas.{compiled_is}
 use Rattle.shard_checker.proofs.steps.+compile.Goals as goal
 
--- the part is there, and the test after it
+-- the part exists, and the test after it
 pub returns-in_ok-part-in-Is : goal.returns-in_ok-part-in-Is
 returns-in_ok-part-in-Is g t c =
     let atoms = atoms_view c.args.atoms.now in

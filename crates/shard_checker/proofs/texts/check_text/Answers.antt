@@ -37,7 +37,7 @@ pub returns-clause-divided : goal.returns-clause-divided
 returns-clause-divided c =
     own_divided (catalog_view c.args.catalog) (plan_view c.args.plan) c.requires (returns-clause-sound c)
 
--- what was found with the code's own test, each test that tells the same finds
+-- what was found with the program's own test, each equivalent test finds
 pub returns-clause-exact : goal.returns-clause-exact
 returns-clause-exact c = λ test tells.
     text_by_any test tells (catalog_view c.args.catalog) (plan_view c.args.plan) (texts_view c.args.texts.now) None

@@ -6,7 +6,7 @@ use Rattle.shard_checker.specs.Candidates.{is_empty}
 use Rattle.shard_checker.specs.Walking.{Passes, place_of}
 use Rattle.shard_checker.proofs.walk.visit_text.Given as goal
 
--- the text's nodes are refused as those that are left are from here
+-- the text's nodes are refused just as the nodes that are left are refused from here
 abbrev pub invariant-loop-node : goal.invariant-loop-node
 invariant-loop-node g l = record {
   passes : Passes is_empty (subject_view l.subject) (nodes_in l.text).nodes (place_of l.fn.walk) l.reader.nodes

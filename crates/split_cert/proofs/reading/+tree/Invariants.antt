@@ -1,7 +1,7 @@
 use Rattle.std.proofs.Common.{◌+◌, ◌*◌, length}
 use Rattle.split_cert.proofs.reading.+tree.Given as goal
 
--- the nodes that are left, where a tree goes before what comes after its first node, and branches before their trees
+-- the nodes that are left; a tree is before what comes after its first node, and branches are before their trees
 abbrev pub decreases-tree : goal.decreases-tree
 decreases-tree g l = 4 * length l.reader.now.nodes
 

@@ -8,7 +8,7 @@ use Rattle.sql_reader.proofs.limits.+gather_atoms.Given as goal
 abbrev pub decreases-gather_atoms : goal.decreases-gather_atoms
 decreases-gather_atoms l = nodes (expr_view l.filter.now)
 
--- the atoms of the part that is left make the list whole
+-- the atoms of the part that is left complete the list
 abbrev pub invariant-loop-part : goal.invariant-loop-part
 invariant-loop-part l = record {
   smaller : nodes (expr_view l.part) ≤ nodes (expr_view l.filter);

@@ -6,7 +6,7 @@ use Rattle.sql_reader.specs.Limits.{exprs_view}
 use Rattle.sql_reader.specs.Counting.{atoms_backwards, gathered}
 use Rattle.sql_reader.proofs.limits.has_too_many_atoms.Given as goal
 
--- the atoms of the filters that are left make the list whole
+-- the atoms of the filters that are left complete the list
 abbrev pub invariant-loop-filter : goal.invariant-loop-filter
 invariant-loop-filter l =
     fold gathered (atoms_view l.atoms.items) (flat_map atoms_backwards (exprs_view (drop l.filter-index l.filters)))

@@ -6,7 +6,7 @@ use Rattle.sql_reader.specs.Reading.{item_ahead, place_ahead, written_ahead, res
 use Rattle.sql_reader.proofs.Ahead.{rest_of_name_is_fewer}
 use Rattle.sql_reader.proofs.name.read_name.Goals as goal
 
--- a name is ahead, and is taken
+-- a name is ahead, and is consumed
 pub returns : goal.returns
 unfolding spec.name
 returns c =

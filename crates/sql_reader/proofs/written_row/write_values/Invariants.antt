@@ -6,7 +6,7 @@ use Rattle.filter_tree.specs.Values.{datum_view}
 use Rattle.sql_reader.specs.WrittenRows.{value_text}
 use Rattle.sql_reader.proofs.written_row.write_values.Given as goal
 
--- what is written, and the values that are left after a comma each, make the text of all
+-- what is written, and the values that are left, each after a comma, make up the text of all
 abbrev pub invariant-loop-value : goal.invariant-loop-value
 invariant-loop-value g l =
     string_bytes l.text ++ flat_map (λ cell. codes ", " ++ value_text cell)

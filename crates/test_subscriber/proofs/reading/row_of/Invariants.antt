@@ -4,7 +4,7 @@ use Rattle.pgoutput_msgs.specs.ValueText.{row_in}
 use Rattle.test_subscriber.proofs.GatherLemmas.{after}
 use Rattle.test_subscriber.proofs.reading.row_of.Given as goal
 
--- the values so far, and those that are left
+-- the values so far, and the remaining ones
 abbrev pub invariant-loop-cell : goal.invariant-loop-cell
 invariant-loop-cell l =
     (length l.values.items ≡ length l.yielded)

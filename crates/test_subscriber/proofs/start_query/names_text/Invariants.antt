@@ -6,7 +6,7 @@ use Rattle.sql_tokens.specs.Doubled.{in_quotes}
 use Rattle.test_subscriber.specs.StartQuery.{names_text}
 use Rattle.test_subscriber.proofs.start_query.names_text.Given as goal
 
--- what is written, and the names that are left after a comma each, make the text of all
+-- what is written, and the remaining names after a comma each, make the text of all
 abbrev pub invariant-loop-name : goal.invariant-loop-name
 invariant-loop-name l =
     l.text.items ++ flat_map (λ name. codes "," ++ in_quotes 34 name) (map string_bytes (drop l.name-index l.others))

@@ -1,8 +1,8 @@
 use Rattle.std.proofs.Common.{◌+◌, ◌*◌}
 use Rattle.cert_search.proofs.search.Search.+tree.Given as goal
 
--- the splits that the path may still have, where a split goes before its branches, a branch before its tree, and a tree
--- before what is made of it
+-- the splits that the path may still have; a split is before its branches, a branch before its tree, and a tree before
+-- what is made of it
 abbrev pub decreases-branch : goal.decreases-branch
 decreases-branch l = 4 * l.may_split + 2
 

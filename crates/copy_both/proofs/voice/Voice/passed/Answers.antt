@@ -2,7 +2,7 @@ use Rattle.std.proofs.Common.{◌≡◌, length, drop, sym, ap, ◌∙◌, arith
 use Rattle.std.proofs.lemmas.List.{length-drop}
 use Rattle.copy_both.proofs.voice.Voice.passed.Goals as goal
 
--- where fewer bytes are passed than wait, some wait still
+-- if fewer bytes are passed than wait, some still wait
 pub returns-then-count-len-clause-room : goal.returns-then-count-len-clause-room
 returns-then-count-len-clause-room c = λ none.
     let gone : length (drop c.args.count c.args.self.now.out.items) ≡ 0 =

@@ -6,7 +6,7 @@ use Rattle.shard_checker.proofs.SoundFacts.{kept_sound}
 use Rattle.shard_checker.proofs.StandingLemmas.{own_covered, own_apart, own_divided}
 use Rattle.shard_checker.proofs.checked.Checked.catalog.Goals as goal
 
--- what the fields keep, of which there is one proof at most
+-- what the fields keep, of which there is at most one proof
 pub returns-clause-sound : goal.returns-clause-sound
 returns-clause-sound c = kept_sound (catalog_view c.args.self.now.catalog) c.args.self.now.sound
 

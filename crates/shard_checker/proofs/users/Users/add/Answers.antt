@@ -3,7 +3,7 @@ use Rattle.std.specs.Vec.{with_items}
 use Rattle.shard_checker.proofs.BlockLemmas.{lists_within, lists_atom, lists_part, lists_parts}
 use Rattle.shard_checker.proofs.users.Users.add.Goals as goal
 
--- the block is listed for the part, or for both parts, and the other lists stay
+-- the block is listed for the part, or for both parts, and the other lists stay as they are
 pub returns-in_ok-list-in-Atom : goal.returns-in_ok-list-in-Atom
 returns-in_ok-list-in-Atom c =
     let users = c.args.self.now in

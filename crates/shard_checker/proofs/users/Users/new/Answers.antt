@@ -15,7 +15,7 @@ loop-number-preserved c =
       for_steps = added.steps_sized ∙ c.loop-number.invariant.for_steps;
     }
 
--- those of all steps are
+-- those of all steps are listed
 pub returns-clause-used : goal.returns-clause-used
 returns-clause-used c =
     users_all c.loop-number.number c.args.steps.now c.loop-number.users c.loop-number.invariant.so_far

@@ -5,7 +5,7 @@ use Rattle.sql_reader.specs.Reading.{place_ahead, rest_of, refusal}
 use Rattle.sql_reader.proofs.Ahead.{rest_is_fewer}
 use Rattle.sql_reader.proofs.reader.Reader.expect.Goals as goal
 
--- the token is ahead, and is taken
+-- the token is ahead, and is consumed
 pub returns-clause-takes : goal.returns-clause-takes
 unfolding spec.expect
 returns-clause-takes c =

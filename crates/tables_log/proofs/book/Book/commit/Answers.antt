@@ -82,6 +82,6 @@ invariant_of-self-2 c = record {
   bounded = grind (arith, common_steps, bounded_more);
 }
 
--- a full log is told without memory
+-- a full log is reported without memory
 pub returns-then-count-self-clause-memory : goal.returns-then-count-self-clause-memory
 returns-then-count-self-clause-memory c = λ same. absurd cc
