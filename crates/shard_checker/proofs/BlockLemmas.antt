@@ -11,18 +11,18 @@ use Rattle.filter_tree.specs.Logic.{and_of, or_of, not_of, is_of}
 use Rattle.filter_tree.specs.Mask.{lift_one, lift_two}
 use Rattle.filter_tree.specs.declared.filter.Test.{Test}
 use Rattle.filter_tree.specs.declared.mask.Mask.{Mask}
-use Rattle.shard_checker.specs.Blocks.{block_of, blocks_in, IsListed, AreListed, AreUsersBefore, AreUsers, Lists, ListsParts, is_stale, Marks, IsSettledBut}
+use Rattle.shard_checker.specs.Blocks.{block_of, blocks_in, IsListed, AreListed, AreDependentsBefore, AreDependents, Lists, ListsParts, is_stale, Marks, IsSettledBut}
 use Rattle.shard_checker.specs.Steps.{IsOrdered, IsSettled, mask_in, step_mask}
 use Rattle.shard_checker.specs.declared.masks.Masks.{Masks}
-use Rattle.shard_checker.specs.declared.steps.Step.{Step}
-use Rattle.shard_checker.specs.declared.steps.Step.TheVariants.{Const, Atom, Not, And, Or, Is}
-use Rattle.shard_checker.specs.declared.users.Users.{Users}
+use Rattle.shard_checker.specs.declared.steps.FormulaNode.{FormulaNode}
+use Rattle.shard_checker.specs.declared.steps.FormulaNode.TheVariants.{Const, Atom, Not, And, Or, Is}
+use Rattle.shard_checker.specs.declared.dependents.Dependents.{Dependents}
 use Rattle.shard_checker.proofs.MaskLemmas.{step_before, parts_earlier}
 
--- ---- the blocks of users
+-- ---- the blocks of dependents
 
-listed_still : (old new : Users) (block : ℕ) (last : Step) → ListsParts old new block last
-    → (earlier : ℕ) (step : Step) → AreListed old earlier step → AreListed new earlier step
+listed_still : (old new : Dependents) (block : ℕ) (last : FormulaNode) → ListsParts old new block last
+    → (earlier : ℕ) (step : FormulaNode) → AreListed old earlier step → AreListed new earlier step
 listed_still old new block last lists earlier (Const known) h = tt
 listed_still old new block last lists earlier (Atom place) h = lists.atoms_kept place earlier h
 listed_still old new block last lists earlier (Not part) h = lists.steps_kept part earlier h
@@ -39,7 +39,7 @@ lists_within lists old new number block is changed =
     (sym (with_items_is lists new (changed.sized ∙ ap length is ∙ sym lists.ok.0)))
     (subst (λ (before : List (Vec ℕ)). Lists before new number block) is changed)
 
-module _ (old new : Users) (block : ℕ) (step : Step) where
+module _ (old new : Dependents) (block : ℕ) (step : FormulaNode) where
   pub lists_atom : (place : ℕ) → step ≡ Atom place → Lists old.of_atoms.items new.of_atoms.items place block
       → new.of_steps.items ≡ old.of_steps.items → ListsParts old new block step
   lists_atom place is lists others = record {
@@ -80,14 +80,14 @@ module _ (old new : Users) (block : ℕ) (step : Step) where
     steps_sized = second.sized ∙ first.sized;
   }
 
-pub users_none : (steps : List Step) (users : Users) → AreUsersBefore 0 steps users
-users_none steps users = record { each = λ number step less h. absurd (omega arith) }
+pub dependents_none : (steps : List FormulaNode) (dependents : Dependents) → AreDependentsBefore 0 steps dependents
+dependents_none steps dependents = record { each = λ number step less h. absurd (omega arith) }
 
-pub users_more : (count next : ℕ) (steps : List Step) (old new : Users) (default : Step)
-    → AreUsersBefore count steps old
+pub dependents_more : (count next : ℕ) (steps : List FormulaNode) (old new : Dependents) (default : FormulaNode)
+    → AreDependentsBefore count steps old
     → ListsParts old new (block_of count) (get_or steps count default) → count < length steps → next ≡ count + 1
-    → AreUsersBefore next steps new
-users_more count next steps old new default before lists within after = record {
+    → AreDependentsBefore next steps new
+dependents_more count next steps old new default before lists within after = record {
   each = λ number step less h.
       elim (cases_eq number count) [
         | inl same ↦
@@ -101,10 +101,10 @@ users_more count next steps old new default before lists within after = record {
       ];
 }
 
-pub users_all : (count : ℕ) (steps : List Step) (users : Users) → AreUsersBefore count steps users
+pub dependents_all : (count : ℕ) (steps : List FormulaNode) (dependents : Dependents) → AreDependentsBefore count steps dependents
     → length steps ≤ count
-    → length users.of_steps.items ≡ length steps → AreUsers steps users
-users_all count steps users before all sized = record {
+    → length dependents.of_steps.items ≡ length steps → AreDependents steps dependents
+dependents_all count steps dependents before all sized = record {
   each = λ number step h. before.each number step (let within = slice_get_within steps number step h in omega arith) h;
   sized = sized;
 }
@@ -138,26 +138,26 @@ part_same lists old new number part block listed within marks fresh masks mask =
       | inr other ↦ get_or-set_other masks number part mask _ other
     ]
 
-module _ (users : Users) (old new : List Bool) (number block : ℕ) (fresh : is_stale new block ≡ false) where
-  pub atom_changed : number < length users.of_atoms.items → Marks old new (blocks_in users.of_atoms.items number)
-      → (step : Step) → AreListed users block step
+module _ (dependents : Dependents) (old new : List Bool) (number block : ℕ) (fresh : is_stale new block ≡ false) where
+  pub atom_changed : number < length dependents.of_atoms.items → Marks old new (blocks_in dependents.of_atoms.items number)
+      → (step : FormulaNode) → AreListed dependents block step
       → (atoms masks : List Mask) (mask : Mask)
       → step_mask (slice_set atoms number mask) masks step ≡ step_mask atoms masks step
   atom_changed within marks (Const known) listed atoms masks mask = refl
   atom_changed within marks (Atom place) listed atoms masks mask =
-      part_same users.of_atoms.items old new number place block listed within marks fresh atoms mask
+      part_same dependents.of_atoms.items old new number place block listed within marks fresh atoms mask
   atom_changed within marks (Not part) listed atoms masks mask = refl
   atom_changed within marks (And left right) listed atoms masks mask = refl
   atom_changed within marks (Or left right) listed atoms masks mask = refl
   atom_changed within marks (Is test part) listed atoms masks mask = refl
 
-  module _ (within : number < length users.of_steps.items)
-      (marks : Marks old new (blocks_in users.of_steps.items number)) (atoms masks : List Mask) (mask : Mask) where
-    same : (part : ℕ) → IsListed users.of_steps.items part block
+  module _ (within : number < length dependents.of_steps.items)
+      (marks : Marks old new (blocks_in dependents.of_steps.items number)) (atoms masks : List Mask) (mask : Mask) where
+    same : (part : ℕ) → IsListed dependents.of_steps.items part block
         → mask_in (slice_set masks number mask) part ≡ mask_in masks part
-    same part listed = part_same users.of_steps.items old new number part block listed within marks fresh masks mask
+    same part listed = part_same dependents.of_steps.items old new number part block listed within marks fresh masks mask
 
-    pub step_changed : (step : Step) → AreListed users block step
+    pub step_changed : (step : FormulaNode) → AreListed dependents block step
         → step_mask atoms (slice_set masks number mask) step ≡ step_mask atoms masks step
     step_changed (Const known) listed = refl
     step_changed (Atom place) listed = refl
@@ -172,7 +172,7 @@ module _ (users : Users) (old new : List Bool) (number block : ℕ) (fresh : is_
 
 -- ---- a step is recomputed
 
-module _ (count : ℕ) (steps : List Step) (atoms : List Mask) (old : Masks) (step : Step) (mask : Mask)
+module _ (count : ℕ) (steps : List FormulaNode) (atoms : List Mask) (old : Masks) (step : FormulaNode) (mask : Mask)
     (ordered : IsOrdered steps) (before : IsSettledBut count steps atoms old)
     (got : slice_get steps count ≡ Some step) (is : mask ≡ step_mask atoms old.list.items step) where
   pub told_same : (next : ℕ) → mask_in old.list.items count ≡ mask → next ≡ count + 1
@@ -190,13 +190,13 @@ module _ (count : ℕ) (steps : List Step) (atoms : List Mask) (old : Masks) (st
         ];
   }
 
-  module _ (new : Masks) (users : Users) (are : AreUsers steps users)
+  module _ (new : Masks) (dependents : Dependents) (are : AreDependents steps dependents)
       (put : new.list.items ≡ slice_set old.list.items count mask)
-      (marks : Marks old.stale.items new.stale.items (blocks_in users.of_steps.items count)) where
+      (marks : Marks old.stale.items new.stale.items (blocks_in dependents.of_steps.items count)) where
     within : count < length steps
     within = slice_get_within steps count step got
 
-    here_is : (number : ℕ) (found : Step) → slice_get steps number ≡ Some found → number ≡ count
+    here_is : (number : ℕ) (found : FormulaNode) → slice_get steps number ≡ Some found → number ≡ count
         → mask_in (slice_set old.list.items count mask) number
         ≡ step_mask atoms (slice_set old.list.items count mask) found
     here_is number found h here =
@@ -207,7 +207,7 @@ module _ (count : ℕ) (steps : List Step) (atoms : List Mask) (old : Masks) (st
         ∙ ap (step_mask atoms old.list.items) (same_Some step found (sym got ∙ at))
         ∙ sym (step_before atoms old.list.items count mask found (ordered.each count found at)))
 
-    less_is : (number : ℕ) (found : Step) → slice_get steps number ≡ Some found → number ≢ count → number < count
+    less_is : (number : ℕ) (found : FormulaNode) → slice_get steps number ≡ Some found → number ≢ count → number < count
         → mask_in (slice_set old.list.items count mask) number
         ≡ step_mask atoms (slice_set old.list.items count mask) found
     less_is number found h other less =
@@ -215,16 +215,16 @@ module _ (count : ℕ) (steps : List Step) (atoms : List Mask) (old : Masks) (st
         ∙ sym (step_before atoms old.list.items count mask found
         (parts_earlier number count found (omega (arith, less)) (ordered.each number found h)))
 
-    fresh_is : (number : ℕ) (found : Step) → slice_get steps number ≡ Some found → number ≢ count
+    fresh_is : (number : ℕ) (found : FormulaNode) → slice_get steps number ≡ Some found → number ≢ count
         → is_stale new.stale.items (block_of number) ≡ false
         → mask_in (slice_set old.list.items count mask) number
         ≡ step_mask atoms (slice_set old.list.items count mask) found
     fresh_is number found h other fresh =
         get_or-set_other old.list.items count number mask _ other
         ∙ before.each number found h
-        (inr (fresh_before old.stale.items new.stale.items (blocks_in users.of_steps.items count) marks
+        (inr (fresh_before old.stale.items new.stale.items (blocks_in dependents.of_steps.items count) marks
         (block_of number) fresh))
-        ∙ sym (step_changed users old.stale.items new.stale.items count (block_of number) fresh
+        ∙ sym (step_changed dependents old.stale.items new.stale.items count (block_of number) fresh
         (omega (arith, are.sized, within)) marks atoms old.list.items mask found (are.each number found h))
 
     pub told_again : (next : ℕ) → next ≡ count + 1 → IsSettledBut next steps atoms new
@@ -250,7 +250,7 @@ in_block number block h = (div-lt_iff_lt-mul {k = 8} {x = number} {y = block + 1
 block_is : (number block : ℕ) → block * 8 ≤ number → number < (block + 1) * 8 → number / 8 ≡ block
 block_is number block low high = div-eq_of_lt-le {k = block} 8 {m = number} low high
 
-pub told_skipped : (block : ℕ) (steps : List Step) (atoms : List Mask) (masks : Masks)
+pub told_skipped : (block : ℕ) (steps : List FormulaNode) (atoms : List Mask) (masks : Masks)
     → IsSettledBut (block * 8) steps atoms masks → is_stale masks.stale.items block ≡ false
     → IsSettledBut ((block + 1) * 8) steps atoms masks
 told_skipped block steps atoms masks before fresh = record {
@@ -266,7 +266,7 @@ told_skipped block steps atoms masks before fresh = record {
       ]);
 }
 
-pub told_block : (block end : ℕ) (steps : List Step) (atoms : List Mask) (old new : Masks)
+pub told_block : (block end : ℕ) (steps : List FormulaNode) (atoms : List Mask) (old new : Masks)
     → IsSettledBut end steps atoms old → min (length steps) ((block + 1) * 8) ≤ end
     → new.list.items ≡ old.list.items → new.stale.items ≡ slice_set old.stale.items block false
     → IsSettledBut ((block + 1) * 8) steps atoms new
@@ -288,14 +288,14 @@ told_block block end steps atoms old new before far list_same put = record {
       ]);
 }
 
-pub told_whole : (count : ℕ) (steps : List Step) (atoms : List Mask) (masks : Masks)
+pub told_whole : (count : ℕ) (steps : List FormulaNode) (atoms : List Mask) (masks : Masks)
     → IsSettledBut count steps atoms masks → length steps ≤ count → IsSettled steps atoms masks.list.items
 told_whole count steps atoms masks before all = record {
   each = λ number step h. before.each number step h
       (inl (let within = slice_get_within steps number step h in omega arith));
 }
 
-pub stays_settled : (steps : List Step) (atoms : List Mask) (masks : Masks) → IsSettled steps atoms masks.list.items
+pub stays_settled : (steps : List FormulaNode) (atoms : List Mask) (masks : Masks) → IsSettled steps atoms masks.list.items
     → length masks.list.items ≡ length steps → IsSettledBut 0 steps atoms masks
 stays_settled steps atoms masks settled sized =
     record { each = λ number step h case. settled.each number step h; sized = sized }
@@ -307,7 +307,7 @@ always_stale zero block = refl
 always_stale (suc count) zero = refl
 always_stale (suc count) (suc block) = always_stale count block
 
-pub begins_stale : (count : ℕ) (steps : List Step) (atoms : List Mask) (masks : Masks)
+pub begins_stale : (count : ℕ) (steps : List FormulaNode) (atoms : List Mask) (masks : Masks)
     → length masks.list.items ≡ length steps → masks.stale.items ≡ replicate count true
     → IsSettledBut 0 steps atoms masks
 begins_stale count steps atoms masks sized all = record {
@@ -323,12 +323,12 @@ begins_stale count steps atoms masks sized all = record {
 
 -- ---- an atom is found to have a value, or no longer
 
-pub marked_atom : (number : ℕ) (steps : List Step) (atoms : List Mask) (mask : Mask) (users : Users) (old new : Masks)
-    → AreUsers steps users → IsSettledBut 0 steps atoms old
-    → new.list.items ≡ old.list.items → Marks old.stale.items new.stale.items (blocks_in users.of_atoms.items number)
-    → number < length users.of_atoms.items
+pub marked_atom : (number : ℕ) (steps : List FormulaNode) (atoms : List Mask) (mask : Mask) (dependents : Dependents) (old new : Masks)
+    → AreDependents steps dependents → IsSettledBut 0 steps atoms old
+    → new.list.items ≡ old.list.items → Marks old.stale.items new.stale.items (blocks_in dependents.of_atoms.items number)
+    → number < length dependents.of_atoms.items
     → IsSettledBut 0 steps (slice_set atoms number mask) new
-marked_atom number steps atoms mask users old new are before list_same marks within = record {
+marked_atom number steps atoms mask dependents old new are before list_same marks within = record {
   sized = ap length list_same ∙ before.sized;
   each = λ number' step h case.
       subst (λ (masks : List Mask). mask_in masks number' ≡ step_mask (slice_set atoms number mask) masks step)
@@ -337,9 +337,9 @@ marked_atom number steps atoms mask users old new are before list_same marks wit
         | inl less ↦ absurd (omega (arith, less))
         | inr fresh ↦
             before.each number' step h
-            (inr (fresh_before old.stale.items new.stale.items (blocks_in users.of_atoms.items number) marks
+            (inr (fresh_before old.stale.items new.stale.items (blocks_in dependents.of_atoms.items number) marks
             (block_of number') fresh))
-            ∙ sym (atom_changed users old.stale.items new.stale.items number (block_of number') fresh within marks
+            ∙ sym (atom_changed dependents old.stale.items new.stale.items number (block_of number') fresh within marks
             step (are.each number' step h) atoms old.list.items mask)
       ]);
 }

@@ -10,9 +10,9 @@ use Rattle.filter_tree.specs.Same.{same_atom}
 use Rattle.filter_tree.specs.declared.tri.Tri.{Tri}
 use Rattle.filter_tree.specs.declared.tri.Tri.TheVariants.{True, False, Null}
 use Rattle.filter_tree.proofs.SameLemmas.{same_atom_is, same_atom_of_equal}
-use Rattle.shard_checker.specs.KnownAtoms.{Differ, atom_mask, atom_masks, met, AreBefore, before_of, IsKnown, Learns, TakesBack}
+use Rattle.shard_checker.specs.KnownAtoms.{Differ, atom_mask, atom_masks, met, AreUndos, undo_of, IsKnown, Learns, TakesBack}
 use Rattle.shard_checker.specs.Steps.{mask_in}
-use Rattle.shard_checker.specs.declared.known.Before.{Before}
+use Rattle.shard_checker.specs.declared.known.Undo.{Undo}
 use Rattle.shard_checker.specs.declared.known.Known.{Known}
 use Rattle.shard_checker.proofs.MaskLemmas.{atom_there}
 use Rattle.filter_tree.proofs.Tests.{by_test}
@@ -126,42 +126,42 @@ masks_taken_back (first ∷ atoms) (suc number) atom value path differ there =
 
 -- ---- what was there before
 
-before_more : (atoms : List AtomOf) (done : Path) (befores : List Before) (path : Path) (before : Before)
-    (entry : AtomOf × Tri) → AreBefore atoms done befores path
+before_more : (atoms : List AtomOf) (done : Path) (undos : List Undo) (path : Path) (before : Undo)
+    (entry : AtomOf × Tri) → AreUndos atoms done undos path
     → slice_get atoms before.number ≡ Some entry.0 → before.mask ≡ atom_mask (done ++ path) entry.0
-    → AreBefore atoms done (befores ++ before ∷ []) (path ++ entry ∷ [])
+    → AreUndos atoms done (undos ++ before ∷ []) (path ++ entry ∷ [])
 before_more atoms done [] [] before entry h there was =
     ((there, was ∙ ap (λ (p : Path). atom_mask p entry.0) (append-nil done)), tt)
 before_more atoms done [] (e ∷ path) before entry h there was = absurd h
-before_more atoms done (b ∷ befores) [] before entry h there was = absurd h
-before_more atoms done (b ∷ befores) (e ∷ path) before entry h there was = (
+before_more atoms done (b ∷ undos) [] before entry h there was = absurd h
+before_more atoms done (b ∷ undos) (e ∷ path) before entry h there was = (
   h.0,
-  before_more atoms (done ++ e ∷ []) befores path before entry h.1 there
+  before_more atoms (done ++ e ∷ []) undos path before entry h.1 there
       (was ∙ ap (λ (p : Path). atom_mask p entry.0) (sym (append_assoc done (e ∷ []) path))),
 )
 
 none_before : (atoms : List AtomOf) (done path : Path) (entry : AtomOf × Tri)
-    → AreBefore atoms done [] (path ++ entry ∷ []) → ⊥
+    → AreUndos atoms done [] (path ++ entry ∷ []) → ⊥
 none_before atoms done [] entry h = h
 none_before atoms done (e ∷ path) entry h = h
 
-none_on_path : (atoms : List AtomOf) (done : Path) (befores : List Before) (before : Before)
-    → AreBefore atoms done (befores ++ before ∷ []) [] → ⊥
+none_on_path : (atoms : List AtomOf) (done : Path) (undos : List Undo) (before : Undo)
+    → AreUndos atoms done (undos ++ before ∷ []) [] → ⊥
 none_on_path atoms done [] before h = h
-none_on_path atoms done (b ∷ befores) before h = h
+none_on_path atoms done (b ∷ undos) before h = h
 
-before_less : (atoms : List AtomOf) (done : Path) (befores : List Before) (path : Path) (before : Before)
+before_less : (atoms : List AtomOf) (done : Path) (undos : List Undo) (path : Path) (before : Undo)
     (entry : AtomOf × Tri)
-    → AreBefore atoms done (befores ++ before ∷ []) (path ++ entry ∷ [])
-    → AreBefore atoms done befores path
+    → AreUndos atoms done (undos ++ before ∷ []) (path ++ entry ∷ [])
+    → AreUndos atoms done undos path
     × ((slice_get atoms before.number ≡ Some entry.0) × (before.mask ≡ atom_mask (done ++ path) entry.0))
 before_less atoms done [] [] before entry h =
     (tt, (h.0.0, h.0.1 ∙ ap (λ (p : Path). atom_mask p entry.0) (sym (append-nil done))))
 before_less atoms done [] (e ∷ path) before entry h = absurd (none_before atoms (done ++ e ∷ []) path entry h.1)
-before_less atoms done (b ∷ befores) [] before entry h =
-    absurd (none_on_path atoms (done ++ entry ∷ []) befores before h.1)
-before_less atoms done (b ∷ befores) (e ∷ path) before entry h =
-    let rest = before_less atoms (done ++ e ∷ []) befores path before entry h.1 in
+before_less atoms done (b ∷ undos) [] before entry h =
+    absurd (none_on_path atoms (done ++ entry ∷ []) undos before h.1)
+before_less atoms done (b ∷ undos) (e ∷ path) before entry h =
+    let rest = before_less atoms (done ++ e ∷ []) undos path before entry h.1 in
     ((h.0, rest.0), (rest.1.0, rest.1.1 ∙ ap (λ (p : Path). atom_mask p entry.0) (append_assoc done (e ∷ []) path)))
 
 -- ---- what is known
@@ -172,26 +172,26 @@ pub known_learned : (atoms : List AtomOf) (old new : Known) (path : Path) (numbe
 known_learned atoms old new path number atom value differ known there learns = record {
   masks = learns.masks ∙ ap (λ ms. slice_set ms number (met (mask_in ms number) value)) known.masks
       ∙ masks_learned atoms number atom value path differ there;
-  befores = subst (λ bs. AreBefore atoms [] bs (path ++ (atom, value) ∷ [])) (sym learns.befores)
-      (before_more atoms [] old.befores.items path (before_of number (mask_in old.atoms.items number)) (atom, value)
-      known.befores there
+  undos = subst (λ bs. AreUndos atoms [] bs (path ++ (atom, value) ∷ [])) (sym learns.undos)
+      (before_more atoms [] old.undos.items path (undo_of number (mask_in old.atoms.items number)) (atom, value)
+      known.undos there
       (ap (λ ms. mask_in ms number) known.masks ∙ atom_there atoms path number atom there));
 }
 
-module _ (atoms : List AtomOf) (old new : Known) (path : Path) (before : Before) (atom : AtomOf) (value : Tri)
+module _ (atoms : List AtomOf) (old new : Known) (path : Path) (before : Undo) (atom : AtomOf) (value : Tri)
     (known : IsKnown atoms old (path ++ (atom, value) ∷ []))
     (takes : TakesBack old new before) where
-  parts : AreBefore atoms [] new.befores.items path
+  parts : AreUndos atoms [] new.undos.items path
       × ((slice_get atoms before.number ≡ Some atom) × (before.mask ≡ atom_mask path atom))
-  parts = before_less atoms [] new.befores.items path before (atom, value)
-      (subst (λ bs. AreBefore atoms [] bs (path ++ (atom, value) ∷ [])) takes.befores known.befores)
+  parts = before_less atoms [] new.undos.items path before (atom, value)
+      (subst (λ bs. AreUndos atoms [] bs (path ++ (atom, value) ∷ [])) takes.undos known.undos)
 
   pub known_taken_back : Differ atoms → IsKnown atoms new path
   known_taken_back differ = record {
     masks = takes.masks ∙ ap (λ ms. slice_set ms before.number before.mask) known.masks
         ∙ ap (slice_set (atom_masks atoms (path ++ (atom, value) ∷ [])) before.number) parts.1.1
         ∙ masks_taken_back atoms before.number atom value path differ parts.1.0;
-    befores = parts.0;
+    undos = parts.0;
   }
 
   pub was_named : slice_get atoms before.number ≡ Some atom

@@ -13,15 +13,15 @@ use Rattle.filter_tree.specs.Paths.{Path, possible_of}
 use Rattle.filter_tree.specs.declared.mask.Mask.{Mask}
 use Rattle.shard_checker.specs.KnownAtoms.{atom_mask, atom_masks}
 use Rattle.shard_checker.specs.Steps.{Stands, IsFilter, PartsBefore, mask_in, step_mask, IsSettled}
-use Rattle.shard_checker.specs.declared.steps.Step.{Step}
-use Rattle.shard_checker.specs.declared.steps.Step.TheVariants.{Const, Atom, Not, And, Or, Is}
+use Rattle.shard_checker.specs.declared.steps.FormulaNode.{FormulaNode}
+use Rattle.shard_checker.specs.declared.steps.FormulaNode.TheVariants.{Const, Atom, Not, And, Or, Is}
 
 set_other : (masks : List Mask) (number part : ℕ) (mask : Mask) → part < number
     → mask_in (slice_set masks number mask) part ≡ mask_in masks part
 set_other masks number part mask h = get_or-set_other masks number part mask _ (omega arith)
 
 -- a step's set does not depend on its own and later sets
-pub step_before : (atoms masks : List Mask) (number : ℕ) (mask : Mask) (step : Step) → PartsBefore number step
+pub step_before : (atoms masks : List Mask) (number : ℕ) (mask : Mask) (step : FormulaNode) → PartsBefore number step
     → step_mask atoms (slice_set masks number mask) step ≡ step_mask atoms masks step
 step_before atoms masks number mask (Const known) h = refl
 step_before atoms masks number mask (Atom place) h = refl
@@ -34,7 +34,7 @@ step_before atoms masks number mask (Or left right) h =
     ∙ ap (lift_two or_of (mask_in masks left)) (set_other masks number right mask h.1)
 step_before atoms masks number mask (Is test part) h = ap (lift_one (is_of test)) (set_other masks number part mask h)
 
-pub parts_earlier : (number count : ℕ) (step : Step) → number ≤ count → PartsBefore number step → PartsBefore count step
+pub parts_earlier : (number count : ℕ) (step : FormulaNode) → number ≤ count → PartsBefore number step → PartsBefore count step
 parts_earlier number count (Const known) le h = tt
 parts_earlier number count (Atom place) le h = tt
 parts_earlier number count (Not part) le h = omega arith
@@ -50,7 +50,7 @@ atom_there atoms path place atom h =
     get_or_from_slice_get (atom_masks atoms path) place (atom_mask path atom) _
     (slice_get-map (atom_mask path) atoms place ∙ ap (option_map (atom_mask path)) h)
 
-module _ (atoms : List AtomOf) (path : Path) (steps : List Step) (masks : List Mask)
+module _ (atoms : List AtomOf) (path : Path) (steps : List FormulaNode) (masks : List Mask)
     (settled : IsSettled steps (atom_masks atoms path) masks) where
   stands_for : (number : ℕ) (filter : Expr) → Stands atoms steps number filter
       → mask_in masks number ≡ possible_of filter path

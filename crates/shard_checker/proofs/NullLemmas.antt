@@ -9,8 +9,8 @@ use Rattle.filter_tree.specs.Same.{same_atom}
 use Rattle.filter_tree.specs.declared.tri.Tri.TheVariants.{Null}
 use Rattle.filter_tree.proofs.SameLemmas.{same_atom_is, same_atom_of_equal}
 use Rattle.shard_checker.specs.Facts.{is_this_null, has_null}
-use Rattle.shard_checker.specs.KnownAtoms.{Differ, AreBefore, null_at}
-use Rattle.shard_checker.specs.declared.known.Before.{Before}
+use Rattle.shard_checker.specs.KnownAtoms.{Differ, AreUndos, null_at}
+use Rattle.shard_checker.specs.declared.known.Undo.{Undo}
 use Rattle.shard_checker.proofs.KnownLemmas.{not_there}
 use Rattle.shard_checker.proofs.Testing.{same_number, not_true_false, number_itself, right_true, two_false}
 use Rattle.filter_tree.proofs.Tests.{by_test}
@@ -47,36 +47,36 @@ by_number atoms number named wanted atom differ there found = by_test (same_atom
 module _ (atoms : List AtomOf) (number : ℕ) (wanted : AtomOf) (differ : Differ atoms)
     (there : slice_get atoms number ≡ Some wanted) where
   -- some entry, or none
-  null_in : (done : Path) (befores : List Before) (path : Path) (place : ℕ) → AreBefore atoms done befores path
-      → null_at number (slice_get befores place) (slice_get path place) ≡ true → has_null wanted path ≡ true
+  null_in : (done : Path) (undos : List Undo) (path : Path) (place : ℕ) → AreUndos atoms done undos path
+      → null_at number (slice_get undos place) (slice_get path place) ≡ true → has_null wanted path ≡ true
   null_in done [] [] place are h = absurd cc
   null_in done [] (e ∷ path) place are h = absurd are
-  null_in done (b ∷ befores) [] place are h = absurd are
-  null_in done (b ∷ befores) (e ∷ path) zero are h =
+  null_in done (b ∷ undos) [] place are h = absurd are
+  null_in done (b ∷ undos) (e ∷ path) zero are h =
       ap (λ x. x || has_null wanted path)
       (sym (ap (λ x. x && same_tri e.1 Null) (by_number atoms number b.number wanted e.0 differ there are.0.0))
       ∙ h)
-  null_in done (b ∷ befores) (e ∷ path) (suc place) are h =
-      right_true (is_this_null wanted e.0 e.1) _ (null_in (done ++ e ∷ []) befores path place are.1 h)
+  null_in done (b ∷ undos) (e ∷ path) (suc place) are h =
+      right_true (is_this_null wanted e.0 e.1) _ (null_in (done ++ e ∷ []) undos path place are.1 h)
 
-  null_not_in : (done : Path) (befores : List Before) (path : Path) → AreBefore atoms done befores path
-      → ((place : ℕ) → place < length path → null_at number (slice_get befores place) (slice_get path place) ≡ false)
+  null_not_in : (done : Path) (undos : List Undo) (path : Path) → AreUndos atoms done undos path
+      → ((place : ℕ) → place < length path → null_at number (slice_get undos place) (slice_get path place) ≡ false)
       → has_null wanted path ≡ false
-  null_not_in done befores [] are h = refl
+  null_not_in done undos [] are h = refl
   null_not_in done [] (e ∷ path) are h = absurd are
-  null_not_in done (b ∷ befores) (e ∷ path) are h =
+  null_not_in done (b ∷ undos) (e ∷ path) are h =
       two_false (is_this_null wanted e.0 e.1) _
       (sym (ap (λ x. x && same_tri e.1 Null) (by_number atoms number b.number wanted e.0 differ there are.0.0))
       ∙ h 0 (omega arith))
-      (null_not_in (done ++ e ∷ []) befores path are.1 (λ place within. h (suc place) (omega arith)))
+      (null_not_in (done ++ e ∷ []) undos path are.1 (λ place within. h (suc place) (omega arith)))
 
-  pub null_found : (befores : List Before) (path : Path) (place : ℕ) → AreBefore atoms [] befores path
-      → null_at number (slice_get befores place) (slice_get path place) ≡ true → has_null wanted path ≡ true
-  null_found befores path place are h = null_in [] befores path place are h
+  pub null_found : (undos : List Undo) (path : Path) (place : ℕ) → AreUndos atoms [] undos path
+      → null_at number (slice_get undos place) (slice_get path place) ≡ true → has_null wanted path ≡ true
+  null_found undos path place are h = null_in [] undos path place are h
 
-  pub null_nowhere : (befores : List Before) (path : Path) → AreBefore atoms [] befores path
-      → ((place : ℕ) → place < length path → null_at number (slice_get befores place) (slice_get path place) ≡ false)
+  pub null_nowhere : (undos : List Undo) (path : Path) → AreUndos atoms [] undos path
+      → ((place : ℕ) → place < length path → null_at number (slice_get undos place) (slice_get path place) ≡ false)
       → has_null wanted path ≡ false
-  null_nowhere befores path are h = null_not_in [] befores path are h
+  null_nowhere undos path are h = null_not_in [] undos path are h
 
 pub ruleset nulls = (null_found, null_nowhere)

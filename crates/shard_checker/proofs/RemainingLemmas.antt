@@ -11,7 +11,7 @@ use Rattle.filter_tree.specs.declared.tri.Tri.TheVariants.{True, False, Null}
 use Rattle.shard_checker.specs.BitSets.{has}
 use Rattle.shard_checker.specs.Candidates.{Candidate, leaves_candidate, remains}
 use Rattle.shard_checker.specs.CandidateSets.{passes, IsSetWhere, AreAtomSets, set_at}
-use Rattle.shard_checker.specs.Remaining.{IsAll, Keeps, Restores, AreBefore, Remain}
+use Rattle.shard_checker.specs.Remaining.{IsAll, Keeps, Restores, AreUndos, Remain}
 use Rattle.shard_checker.specs.declared.bit_sets.BitSet.{BitSet}
 use Rattle.shard_checker.specs.declared.candidate_sets.AtomSets.{AtomSets}
 use Rattle.shard_checker.specs.declared.remaining.Remaining.{Remaining}
@@ -36,7 +36,7 @@ all_remain candidates count remaining long all = record {
   places = record {
     each = λ place. all.each place ∙ ap (nat_lt place) long ∙ all_pass candidates place;
   };
-  befores = subst (λ (befores : List BitSet). AreBefore candidates [] befores []) (sym all.befores) tt;
+  undos = subst (λ (undos : List BitSet). AreUndos candidates [] undos []) (sym all.undos) tt;
 }
 
 -- ---- one more entry
@@ -61,17 +61,17 @@ passes_both path atom value (Some candidate) =
     ((atom, value) ∷ [])
     ∙ ap (λ (b : Bool). remains path candidate && b) (and_true (leaves_candidate candidate atom value)))
 
-before_more : (candidates : List Candidate) (done : Path) (befores : List BitSet) (path : Path) (before : BitSet)
-    (entry : AtomOf × Tri) → AreBefore candidates done befores path
+before_more : (candidates : List Candidate) (done : Path) (undos : List BitSet) (path : Path) (before : BitSet)
+    (entry : AtomOf × Tri) → AreUndos candidates done undos path
     → IsSetWhere candidates (remains (done ++ path)) before
-    → AreBefore candidates done (befores ++ before ∷ []) (path ++ entry ∷ [])
+    → AreUndos candidates done (undos ++ before ∷ []) (path ++ entry ∷ [])
 before_more candidates done [] [] before entry h set =
     (subst (λ (p : Path). IsSetWhere candidates (remains p) before) (append-nil done) set, tt)
 before_more candidates done [] (e ∷ path) before entry h set = absurd h
-before_more candidates done (b ∷ befores) [] before entry h set = absurd h
-before_more candidates done (b ∷ befores) (e ∷ path) before entry h set = (
+before_more candidates done (b ∷ undos) [] before entry h set = absurd h
+before_more candidates done (b ∷ undos) (e ∷ path) before entry h set = (
   h.0,
-  before_more candidates (done ++ e ∷ []) befores path before entry h.1
+  before_more candidates (done ++ e ∷ []) undos path before entry h.1
       (subst (λ (p : Path). IsSetWhere candidates (remains p) before)
       (sym (append_assoc done (e ∷ []) path)) set),
 )
@@ -88,36 +88,36 @@ more_known candidates old new path atom value sets remain are keeps =
             ∙ ap (λ (b : Bool). passes (remains path) (slice_get candidates place) && b) (kept.each place)
             ∙ passes_both path atom value (slice_get candidates place);
       };
-      befores = subst (λ (befores : List BitSet). AreBefore candidates [] befores (path ++ (atom, value) ∷ []))
-          (sym keeps.befores)
-          (before_more candidates [] old.befores.items path old.places (atom, value) remain.befores remain.places);
+      undos = subst (λ (undos : List BitSet). AreUndos candidates [] undos (path ++ (atom, value) ∷ []))
+          (sym keeps.undos)
+          (before_more candidates [] old.undos.items path old.places (atom, value) remain.undos remain.places);
     }
 
 -- ---- one entry fewer
 
 -- what remained before the last entry
 record HadBefore (candidates : List Candidate) (done : Path) (all : List BitSet) (path : Path) : Type 0 where
-  befores : List BitSet
+  undos : List BitSet
   before : BitSet
-  is : all ≡ befores ++ before ∷ []
-  are : AreBefore candidates done befores path
+  is : all ≡ undos ++ before ∷ []
+  are : AreUndos candidates done undos path
   set : IsSetWhere candidates (remains (done ++ path)) before
 
 none_before : (candidates : List Candidate) (done path : Path) (entry : AtomOf × Tri)
-    → AreBefore candidates done [] (path ++ entry ∷ []) → ⊥
+    → AreUndos candidates done [] (path ++ entry ∷ []) → ⊥
 none_before candidates done [] entry h = h
 none_before candidates done (e ∷ path) entry h = h
 
-none_more : (candidates : List Candidate) (done : Path) (befores : List BitSet)
-    → AreBefore candidates done befores [] → befores ≡ []
+none_more : (candidates : List Candidate) (done : Path) (undos : List BitSet)
+    → AreUndos candidates done undos [] → undos ≡ []
 none_more candidates done [] h = refl
-none_more candidates done (b ∷ befores) h = absurd h
+none_more candidates done (b ∷ undos) h = absurd h
 
 before_less : (candidates : List Candidate) (done : Path) (all : List BitSet) (path : Path) (entry : AtomOf × Tri)
-    → AreBefore candidates done all (path ++ entry ∷ []) → HadBefore candidates done all path
+    → AreUndos candidates done all (path ++ entry ∷ []) → HadBefore candidates done all path
 before_less candidates done [] path entry h = absurd (none_before candidates done path entry h)
 before_less candidates done (b ∷ all) [] entry h = record {
-  befores = [];
+  undos = [];
   before = b;
   is = ap (λ (rest : List BitSet). b ∷ rest) (none_more candidates (done ++ entry ∷ []) all h.1);
   are = tt;
@@ -126,7 +126,7 @@ before_less candidates done (b ∷ all) [] entry h = record {
 before_less candidates done (b ∷ all) (e ∷ path) entry h =
     let rest = before_less candidates (done ++ e ∷ []) all path entry h.1 in
     record {
-      befores = b ∷ rest.befores;
+      undos = b ∷ rest.undos;
       before = rest.before;
       is = ap (λ (found : List BitSet). b ∷ found) rest.is;
       are = (h.0, rest.are);
@@ -137,9 +137,9 @@ before_less candidates done (b ∷ all) (e ∷ path) entry h =
 pub less_known : (candidates : List Candidate) (old new : Remaining) (path : Path) (entry : AtomOf × Tri)
     → Remain candidates old (path ++ entry ∷ []) → Restores old new → Remain candidates new path
 less_known candidates old new path entry remain restores =
-    let had = before_less candidates [] old.befores.items path entry remain.befores in
-    let restored = restores.each had.befores had.before had.is in
+    let had = before_less candidates [] old.undos.items path entry remain.undos in
+    let restored = restores.each had.undos had.before had.is in
     record {
       places = subst (λ (set : BitSet). IsSetWhere candidates (remains path) set) (sym restored.0) had.set;
-      befores = subst (λ (befores : List BitSet). AreBefore candidates [] befores path) (sym restored.1) had.are;
+      undos = subst (λ (undos : List BitSet). AreUndos candidates [] undos path) (sym restored.1) had.are;
     }

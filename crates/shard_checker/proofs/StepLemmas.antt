@@ -13,23 +13,23 @@ use Rattle.replica_identity.specs.declared.share.Share.{Share}
 use Rattle.shard_checker.specs.Owners.{shares_view}
 use Rattle.shard_checker.specs.Steps.{Stands, IsFilter, PartsBefore, IsOrdered, Extends, Adds, Compiles, filter_of, AreFilters, IsCompiled}
 use Rattle.shard_checker.specs.declared.formulas.Formulas.{Formulas}
-use Rattle.shard_checker.specs.declared.steps.Step.{Step}
-use Rattle.shard_checker.specs.declared.steps.Step.TheVariants.{Const, Atom, Not, And, Or, Is}
+use Rattle.shard_checker.specs.declared.steps.FormulaNode.{FormulaNode}
+use Rattle.shard_checker.specs.declared.steps.FormulaNode.TheVariants.{Const, Atom, Not, And, Or, Is}
 
 -- ---- one more step
 
-got_before : (old : List Step) (step last : Step) (number : ℕ) → slice_get old number ≡ Some step
+got_before : (old : List FormulaNode) (step last : FormulaNode) (number : ℕ) → slice_get old number ≡ Some step
     → slice_get (old ++ last ∷ []) number ≡ Some step
 got_before [] step last number h = absurd cc
 got_before (first ∷ old) step last zero h = h
 got_before (first ∷ old) step last (suc number) h = got_before old step last number h
 
-got_last : (old : List Step) (last : Step) → slice_get (old ++ last ∷ []) (length old) ≡ Some last
+got_last : (old : List FormulaNode) (last : FormulaNode) → slice_get (old ++ last ∷ []) (length old) ≡ Some last
 got_last [] last = refl
 got_last (first ∷ old) last = got_last old last
 
 -- a step existed before, or it is the last one
-got_among : (old : List Step) (last step : Step) (number : ℕ) → slice_get (old ++ last ∷ []) number ≡ Some step
+got_among : (old : List FormulaNode) (last step : FormulaNode) (number : ℕ) → slice_get (old ++ last ∷ []) number ≡ Some step
     → (slice_get old number ≡ Some step) ⊎ ((number ≡ length old) × (last ≡ step))
 got_among [] last step zero h = inr (refl, same_Some last step h)
 got_among [] last step (suc number) h = absurd cc
@@ -37,17 +37,17 @@ got_among (first ∷ old) last step zero h = inl h
 got_among (first ∷ old) last step (suc number) h =
     elim (got_among old last step number h) [ inl there ↦ inl there | inr (at, same) ↦ inr (ap suc at, same) ]
 
-pub adds_pushed : (old new : List Step) (number : ℕ) (step : Step) → new ≡ old ++ step ∷ [] → number ≡ length old
+pub adds_pushed : (old new : List FormulaNode) (number : ℕ) (step : FormulaNode) → new ≡ old ++ step ∷ [] → number ≡ length old
     → Adds old new number step
 adds_pushed old new number step e n = record {
-  there = subst (λ (steps : List Step). slice_get steps number ≡ Some step) (sym e)
+  there = subst (λ (steps : List FormulaNode). slice_get steps number ≡ Some step) (sym e)
       (subst (λ k. slice_get (old ++ step ∷ []) k ≡ Some step) (sym n) (got_last old step));
   extends = record {
     each =
-        λ k found h. subst (λ (steps : List Step). slice_get steps k ≡ Some found) (sym e)
+        λ k found h. subst (λ (steps : List FormulaNode). slice_get steps k ≡ Some found) (sym e)
         (got_before old found step k h);
   };
-  ordered = λ before parts. subst (λ (steps : List Step). IsOrdered steps) (sym e) (record {
+  ordered = λ before parts. subst (λ (steps : List FormulaNode). IsOrdered steps) (sym e) (record {
     each = λ k found h.
         elim (got_among old step found k h) [
           | inl there ↦ before.each k found there
@@ -56,7 +56,7 @@ adds_pushed old new number step e n = record {
   });
 }
 
-pub adds_found : (steps : List Step) (number : ℕ) (step : Step) → slice_get steps number ≡ Some step
+pub adds_found : (steps : List FormulaNode) (number : ℕ) (step : FormulaNode) → slice_get steps number ≡ Some step
     → Adds steps steps number step
 adds_found steps number step there =
     record { there = there; extends = record { each = λ k found h. h }; ordered = λ before parts. before }
@@ -65,7 +65,7 @@ pub ruleset adding = (adds_pushed, adds_found)
 
 -- ---- a filter
 
-stands_more : (atoms : List AtomOf) (old new : List Step) → Extends old new → (number : ℕ) (filter : Expr)
+stands_more : (atoms : List AtomOf) (old new : List FormulaNode) → Extends old new → (number : ℕ) (filter : Expr)
     → Stands atoms old number filter → Stands atoms new number filter
 stands_more atoms old new more number (e.Const known) h = more.each _ _ h
 stands_more atoms old new more number (e.Atom atom) h = (h.0, (more.each _ _ h.1.0, h.1.1))
@@ -94,12 +94,12 @@ stands_more atoms old new more number (e.Or left right) h = (
 stands_more atoms old new more number (e.Is test part) h =
     (h.0, (more.each _ _ h.1.0, stands_more atoms old new more h.0 part h.1.1))
 
-pub filter_more : (atoms : List AtomOf) (old new : List Step) (number : ℕ) (filter : Expr) → Extends old new
+pub filter_more : (atoms : List AtomOf) (old new : List FormulaNode) (number : ℕ) (filter : Expr) → Extends old new
     → IsFilter atoms old number filter → IsFilter atoms new number filter
 filter_more atoms old new number filter more h =
     record { stands = stands_more atoms old new more number filter h.stands }
 
-stands_within : (atoms : List AtomOf) (steps : List Step) (number : ℕ) (filter : Expr)
+stands_within : (atoms : List AtomOf) (steps : List FormulaNode) (number : ℕ) (filter : Expr)
     → Stands atoms steps number filter → number < length steps
 stands_within atoms steps number (e.Const known) h = slice_get_within steps number _ h
 stands_within atoms steps number (e.Atom atom) h = slice_get_within steps number _ h.1.0
@@ -108,18 +108,18 @@ stands_within atoms steps number (e.And left right) h = slice_get_within steps n
 stands_within atoms steps number (e.Or left right) h = slice_get_within steps number _ h.1.1.0
 stands_within atoms steps number (e.Is test part) h = slice_get_within steps number _ h.1.0
 
-filter_within : (atoms : List AtomOf) (steps : List Step) (number : ℕ) (filter : Expr)
+filter_within : (atoms : List AtomOf) (steps : List FormulaNode) (number : ℕ) (filter : Expr)
     → IsFilter atoms steps number filter → number < length steps
 filter_within atoms steps number filter h = stands_within atoms steps number filter h.stands
 
-pub extends_self : (steps : List Step) → Extends steps steps
+pub extends_self : (steps : List FormulaNode) → Extends steps steps
 extends_self steps = record { each = λ number step h. h }
 
-pub extends_on : (old middle new : List Step) → Extends old middle → Extends middle new → Extends old new
+pub extends_on : (old middle new : List FormulaNode) → Extends old middle → Extends middle new → Extends old new
 extends_on old middle new first second =
     record { each = λ number step h. second.each number step (first.each number step h) }
 
-module _ (atoms : List AtomOf) (old new : List Step) (number : ℕ) where
+module _ (atoms : List AtomOf) (old new : List FormulaNode) (number : ℕ) where
   pub compiled_const : (known : Bool) → Adds old new number (Const known)
       → Compiles atoms old new number (e.Const known)
   compiled_const known added =
@@ -140,7 +140,7 @@ module _ (atoms : List AtomOf) (old new : List Step) (number : ℕ) where
             λ before. added.ordered before tt;
       }
 
-  module _ (middle : List Step) (first : ℕ) (part : Expr) (compiled : Compiles atoms old middle first part) where
+  module _ (middle : List FormulaNode) (first : ℕ) (part : Expr) (compiled : Compiles atoms old middle first part) where
     pub compiled_not : Adds middle new number (Not first) → Compiles atoms old new number (e.Not part)
     compiled_not added = record {
       there = record {
@@ -164,7 +164,7 @@ module _ (atoms : List AtomOf) (old new : List Step) (number : ℕ) where
           (filter_within atoms middle first part compiled.there);
     }
 
-  module _ (one two : List Step) (first second : ℕ) (left right : Expr) (at_left : Compiles atoms old one first left)
+  module _ (one two : List FormulaNode) (first second : ℕ) (left right : Expr) (at_left : Compiles atoms old one first left)
       (at_right : Compiles atoms one two second right) where
     parts_within : (first < length two) × (second < length two)
     parts_within = (
@@ -217,7 +217,7 @@ pub ruleset compiling = (compiled_const, compiled_atom, compiled_not, compiled_i
 
 -- ---- the filters of shares
 
-filters_kept : (atoms : List AtomOf) (old new : List Step) (more : Extends old new) (roots : List ℕ)
+filters_kept : (atoms : List AtomOf) (old new : List FormulaNode) (more : Extends old new) (roots : List ℕ)
     (shares : List ShareOf) → AreFilters atoms old roots shares → AreFilters atoms new roots shares
 filters_kept atoms old new more [] [] h = tt
 filters_kept atoms old new more [] (share ∷ shares) h = absurd h
@@ -225,7 +225,7 @@ filters_kept atoms old new more (root ∷ roots) [] h = absurd h
 filters_kept atoms old new more (root ∷ roots) (share ∷ shares) h =
     (filter_more atoms old new root (filter_of share) more h.0, filters_kept atoms old new more roots shares h.1)
 
-filters_then : (atoms : List AtomOf) (steps : List Step) (roots : List ℕ) (shares : List ShareOf) (root : ℕ)
+filters_then : (atoms : List AtomOf) (steps : List FormulaNode) (roots : List ℕ) (shares : List ShareOf) (root : ℕ)
     (share : ShareOf) → AreFilters atoms steps roots shares
     → IsFilter atoms steps root (filter_of share) → AreFilters atoms steps (roots ++ root ∷ []) (shares ++ share ∷ [])
 filters_then atoms steps [] [] root share h last = (last, tt)
@@ -249,7 +249,7 @@ filters_more atoms shares old new root share before compiled pushed = record {
 pub none_compiled : (atoms : List AtomOf) (formulas : Formulas) → formulas.steps.list.items ≡ []
     → formulas.roots.items ≡ [] → IsCompiled atoms [] formulas
 none_compiled atoms formulas steps roots = record {
-  ordered = subst (λ (steps : List Step). IsOrdered steps) (sym steps) (record { each = λ number step h. absurd cc });
+  ordered = subst (λ (steps : List FormulaNode). IsOrdered steps) (sym steps) (record { each = λ number step h. absurd cc });
   filters = subst (λ roots. AreFilters atoms formulas.steps.list.items roots []) (sym roots) tt;
 }
 

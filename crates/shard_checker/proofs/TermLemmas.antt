@@ -10,39 +10,39 @@ use Rattle.filter_tree.specs.declared.filter.Term.{Term}
 use Rattle.shard_checker.specs.BitSets.{TellsMeeting}
 use Rattle.shard_checker.specs.Candidates.{is_empty, remains}
 use Rattle.shard_checker.specs.CandidateSets.{IsTermSet}
-use Rattle.shard_checker.specs.KnownAtoms.{AreBefore}
+use Rattle.shard_checker.specs.KnownAtoms.{AreUndos}
 use Rattle.shard_checker.specs.Refusal.{Subject}
 use Rattle.shard_checker.specs.WalkInvariants.{AgreesWithPath, candidates_of_table}
 use Rattle.shard_checker.specs.declared.bit_sets.BitSet.{BitSet}
 use Rattle.shard_checker.specs.declared.candidate_sets.CandidateSets.{CandidateSets}
 use Rattle.shard_checker.specs.declared.formulas.Formulas.{Formulas}
-use Rattle.shard_checker.specs.declared.known.Before.{Before}
+use Rattle.shard_checker.specs.declared.known.Undo.{Undo}
 use Rattle.shard_checker.specs.declared.known.Known.{Known}
 use Rattle.shard_checker.specs.declared.masks.Masks.{Masks}
 use Rattle.shard_checker.specs.declared.remaining.Remaining.{Remaining}
-use Rattle.shard_checker.specs.declared.users.Users.{Users}
+use Rattle.shard_checker.specs.declared.dependents.Dependents.{Dependents}
 use Rattle.shard_checker.proofs.CandidateLemmas.{told_by_candidates}
 use Rattle.shard_checker.proofs.CandidateSetLemmas.{zip_read, meeting_is}
 use Rattle.shard_checker.proofs.Testing.{by_either}
 
-path_among : (atoms : List AtomOf) (done : Path) (befores : List Before) (path : Path)
-    → AreBefore atoms done befores path → (test : AtomOf → Bool)
+path_among : (atoms : List AtomOf) (done : Path) (undos : List Undo) (path : Path)
+    → AreUndos atoms done undos path → (test : AtomOf → Bool)
     → list_any (λ entry. test entry.0) path ≡ true → list_any test atoms ≡ true
 path_among atoms done [] [] h test some = absurd cc
 path_among atoms done [] (entry ∷ path) h test some = absurd h
-path_among atoms done (before ∷ befores) [] h test some = absurd h
-path_among atoms done (before ∷ befores) (entry ∷ path) h test some =
+path_among atoms done (before ∷ undos) [] h test some = absurd h
+path_among atoms done (before ∷ undos) (entry ∷ path) h test some =
     by_either (test entry.0) (list_any (λ entry. test entry.0) path) some
     (λ here. any_passes_from_place test atoms before.number entry.0 h.0.0 here)
-    (λ there. path_among atoms (done ++ entry ∷ []) befores path h.1 test there)
+    (λ there. path_among atoms (done ++ entry ∷ []) undos path h.1 test there)
 
 not_not : (b : Bool) → not (not b) ≡ b
 not_not true = refl
 not_not false = refl
 
-module _ (subject : Subject) (formulas : Formulas) (users : Users) (sets : CandidateSets) (known : Known)
+module _ (subject : Subject) (formulas : Formulas) (dependents : Dependents) (sets : CandidateSets) (known : Known)
     (masks : Masks) (remaining : Remaining) (path : Path)
-    (agrees : AgreesWithPath subject formulas users sets known masks remaining path) (number : ℕ) (set : BitSet)
+    (agrees : AgreesWithPath subject formulas dependents sets known masks remaining path) (number : ℕ) (set : BitSet)
     (at : set ≡ get_or sets.of_terms.items number set) (meets : Bool)
     (told : TellsMeeting remaining.places set meets) where
   told_of : (found : Option Term) → slice_get subject.terms number ≡ found
@@ -55,7 +55,7 @@ module _ (subject : Subject) (formulas : Formulas) (users : Users) (sets : Candi
       (meeting_is (candidates_of_table subject) (remains path) (λ candidate. same_term candidate.term term)
       remaining.places set meets agrees.left.places is told
       ∙ told_by_candidates subject.columns subject.atoms subject.terms number term path
-      (record { each = path_among subject.atoms [] known.befores.items path agrees.knows.befores }) there)
+      (record { each = path_among subject.atoms [] known.undos.items path agrees.knows.undos }) there)
       ∙ not_not (is_empty subject.columns term path)
 
   pub empty_is_told : IfSome (slice_get subject.terms number) (λ term. not meets ≡ is_empty subject.columns term path)

@@ -15,7 +15,7 @@ use Rattle.filter_tree.specs.declared.tri.Tri.TheVariants.{True, False, Null}
 use Rattle.replica_identity.specs.Shares.{ShareOf, Nothing, Everything, Where}
 use Rattle.shard_checker.specs.Blocks.{Marks, IsSettledBut, blocks_in}
 use Rattle.shard_checker.specs.Checks.{Finds}
-use Rattle.shard_checker.specs.KnownAtoms.{AreBefore, IsKnown, Learns, TakesBack, atom_masks, met}
+use Rattle.shard_checker.specs.KnownAtoms.{AreUndos, IsKnown, Learns, TakesBack, atom_masks, met}
 use Rattle.shard_checker.specs.Owners.{is_surely_true, must_take, may_take, second_owner}
 use Rattle.shard_checker.specs.CandidateSets.{AreAtomSets}
 use Rattle.shard_checker.specs.Remaining.{Keeps, Restores, Remain}
@@ -28,12 +28,12 @@ use Rattle.shard_checker.specs.declared.error.CheckError.TheVariants.{BadIndex, 
 use Rattle.shard_checker.specs.declared.candidate_sets.AtomSets.{AtomSets}
 use Rattle.shard_checker.specs.declared.candidate_sets.CandidateSets.{CandidateSets}
 use Rattle.shard_checker.specs.declared.formulas.Formulas.{Formulas}
-use Rattle.shard_checker.specs.declared.known.Before.{Before}
+use Rattle.shard_checker.specs.declared.known.Undo.{Undo}
 use Rattle.shard_checker.specs.declared.known.Known.{Known}
 use Rattle.shard_checker.specs.declared.masks.Masks.{Masks}
 use Rattle.shard_checker.specs.declared.remaining.Remaining.{Remaining}
-use Rattle.shard_checker.specs.declared.steps.Step.{Step}
-use Rattle.shard_checker.specs.declared.users.Users.{Users}
+use Rattle.shard_checker.specs.declared.steps.FormulaNode.{FormulaNode}
+use Rattle.shard_checker.specs.declared.dependents.Dependents.{Dependents}
 use Rattle.shard_checker.proofs.BlockLemmas.{marked_atom}
 use Rattle.shard_checker.proofs.CandidateSetLemmas.{zip_read}
 use Rattle.shard_checker.proofs.KnownLemmas.{known_learned, known_taken_back, was_named}
@@ -43,28 +43,28 @@ use Rattle.shard_checker.proofs.OnwardLemmas.{onward_true, onward_false, onward_
 
 -- ---- a branch is entered
 
-changed_ready : (subject : Subject) (formulas : Formulas) (users : Users) (sets : CandidateSets) (old new : Known)
+changed_ready : (subject : Subject) (formulas : Formulas) (dependents : Dependents) (sets : CandidateSets) (old new : Known)
     (was masks : Masks) (left : Remaining) (path : Path) (number : ℕ) (mask : Mask) (atom : AtomOf)
-    → AgreesWithPath subject formulas users sets old was left path → slice_get subject.atoms number ≡ Some atom
+    → AgreesWithPath subject formulas dependents sets old was left path → slice_get subject.atoms number ≡ Some atom
     → new.atoms.items ≡ slice_set old.atoms.items number mask → masks.list.items ≡ was.list.items
-    → Marks was.stale.items masks.stale.items (blocks_in users.of_atoms.items number)
+    → Marks was.stale.items masks.stale.items (blocks_in dependents.of_atoms.items number)
     → IsSettledBut 0 formulas.steps.list.items new.atoms.items masks
-changed_ready subject formulas users sets old new was masks left path number mask atom ready named put list_same marks =
+changed_ready subject formulas dependents sets old new was masks left path number mask atom ready named put list_same marks =
     let within : number < length subject.atoms = slice_get_within subject.atoms number atom named in
     subst (λ (atoms : List Mask). IsSettledBut 0 formulas.steps.list.items atoms masks) (sym put)
-    (marked_atom number formulas.steps.list.items old.atoms.items mask users was masks ready.prepared.used
+    (marked_atom number formulas.steps.list.items old.atoms.items mask dependents was masks ready.prepared.used
     ready.settled list_same marks (omega (arith, within, ready.prepared.sized)))
 
-pub ready_entered : {A : _} (subject : Subject) (formulas : Formulas) (users : Users) (sets : CandidateSets)
+pub ready_entered : {A : _} (subject : Subject) (formulas : Formulas) (dependents : Dependents) (sets : CandidateSets)
     (found : AtomSets) (old new : Known) (was masks : Masks) (left kept : Remaining)
     (entries more : List (Bor (Atom A) × Tri)) (number : ℕ) (atom : Bor (Atom A)) (value : Tri)
-    → AgreesWithPath subject formulas users sets old was left (path_view entries)
+    → AgreesWithPath subject formulas dependents sets old was left (path_view entries)
     → Some (atom_view atom.now) ≡ slice_get subject.atoms number → Learns old new number value
     → more ≡ entries ++ (atom, value) ∷ [] → masks.list.items ≡ was.list.items
-    → Marks was.stale.items masks.stale.items (blocks_in users.of_atoms.items number)
+    → Marks was.stale.items masks.stale.items (blocks_in dependents.of_atoms.items number)
     → found ≡ get_or sets.of_atoms.items number found → Keeps left kept found value
-    → AgreesWithPath subject formulas users sets new masks kept (path_view more)
-ready_entered {A} subject formulas users sets found old new was masks left kept entries more number atom value ready
+    → AgreesWithPath subject formulas dependents sets new masks kept (path_view more)
+ready_entered {A} subject formulas dependents sets found old new was masks left kept entries more number atom value ready
     named learns pushed list_same marks is keeps = record {
       prepared = ready.prepared;
       knows = subst (λ (path : Path). IsKnown subject.atoms new path)
@@ -72,7 +72,7 @@ ready_entered {A} subject formulas users sets found old new was masks left kept 
           ∙ ap path_view (sym pushed))
           (known_learned subject.atoms old new (path_view entries) number (atom_view atom.now) value
           ready.prepared.differ ready.knows (sym named) learns);
-      settled = changed_ready subject formulas users sets old new was masks left (path_view entries) number
+      settled = changed_ready subject formulas dependents sets old new was masks left (path_view entries) number
           (met (mask_in old.atoms.items number) value) (atom_view atom.now) ready (sym named)
           learns.masks list_same marks;
       left = subst (λ (path : Path). Remain (candidates_of_table subject) kept path)
@@ -87,19 +87,19 @@ pub ruleset entering = (ready_entered)
 
 -- ---- a branch is left
 
-nothing_before : (atoms : List AtomOf) (done : Path) (befores : List Before) (path : Path)
-    → AreBefore atoms done befores path → befores ≡ [] → path ≡ []
+nothing_before : (atoms : List AtomOf) (done : Path) (undos : List Undo) (path : Path)
+    → AreUndos atoms done undos path → undos ≡ [] → path ≡ []
 nothing_before atoms done [] [] h e = refl
 nothing_before atoms done [] (entry ∷ path) h e = absurd h
-nothing_before atoms done (before ∷ befores) path h e = absurd cc
+nothing_before atoms done (before ∷ undos) path h e = absurd cc
 
 not_at_end : (path : Path) (entry : AtomOf × Tri) → path ++ entry ∷ [] ≡ [] → ⊥
 not_at_end [] entry e = cc
 not_at_end (first ∷ path) entry e = cc
 
-module _ {A : _} (subject : Subject) (formulas : Formulas) (users : Users) (sets : CandidateSets) (was now : Known)
+module _ {A : _} (subject : Subject) (formulas : Formulas) (dependents : Dependents) (sets : CandidateSets) (was now : Known)
     (held : Masks) (left : Remaining) (old new : List (Bor (Atom A) × Tri)) (last : Bor (Atom A) × Tri)
-    (ready : AgreesWithPath subject formulas users sets was held left (path_view old)) (pops : old ≡ new ++ last ∷ [])
+    (ready : AgreesWithPath subject formulas dependents sets was held left (path_view old)) (pops : old ≡ new ++ last ∷ [])
   where
     whole : path_view old ≡ path_view new ++ (atom_view last.0.now, last.1) ∷ []
     whole = ap path_view pops ∙ map-append (λ (e : Bor (Atom A) × Tri). (atom_view e.0.now, e.1)) new (last ∷ [])
@@ -107,15 +107,15 @@ module _ {A : _} (subject : Subject) (formulas : Formulas) (users : Users) (sets
     knew : IsKnown subject.atoms was (path_view new ++ (atom_view last.0.now, last.1) ∷ [])
     knew = subst (λ (path : Path). IsKnown subject.atoms was path) whole ready.knows
 
-    pub back_ready : (before : Before) (masks : Masks) (kept : Remaining) → TakesBack was now before
+    pub back_ready : (before : Undo) (masks : Masks) (kept : Remaining) → TakesBack was now before
         → masks.list.items ≡ held.list.items
-        → Marks held.stale.items masks.stale.items (blocks_in users.of_atoms.items before.number)
-        → Restores left kept → AgreesWithPath subject formulas users sets now masks kept (path_view new)
+        → Marks held.stale.items masks.stale.items (blocks_in dependents.of_atoms.items before.number)
+        → Restores left kept → AgreesWithPath subject formulas dependents sets now masks kept (path_view new)
     back_ready before masks kept takes list_same marks restores = record {
       prepared = ready.prepared;
       knows = known_taken_back subject.atoms was now (path_view new) before (atom_view last.0.now) last.1 knew takes
           ready.prepared.differ;
-      settled = changed_ready subject formulas users sets was now held masks left (path_view old) before.number
+      settled = changed_ready subject formulas dependents sets was now held masks left (path_view old) before.number
           before.mask (atom_view last.0.now) ready
           (was_named subject.atoms was now (path_view new) before (atom_view last.0.now) last.1 knew takes) takes.masks
           list_same marks;
@@ -123,7 +123,7 @@ module _ {A : _} (subject : Subject) (formulas : Formulas) (users : Users) (sets
           (subst (λ (path : Path). Remain (candidates_of_table subject) left path) whole ready.left) restores;
     }
 
-    pub goes_back : (before : Before) → TakesBack was now before
+    pub goes_back : (before : Undo) → TakesBack was now before
         → GoesBack subject.atoms (path_view old) (path_view new) before.number last.1
     goes_back before takes = record {
       atom = atom_view last.0.now;
@@ -131,9 +131,9 @@ module _ {A : _} (subject : Subject) (formulas : Formulas) (users : Users) (sets
       named = was_named subject.atoms was now (path_view new) before (atom_view last.0.now) last.1 knew takes;
     }
 
-    pub always_known : was.befores.items ≡ [] → ⊥
+    pub always_known : was.undos.items ≡ [] → ⊥
     always_known e = not_at_end (path_view new) (atom_view last.0.now, last.1)
-        (nothing_before subject.atoms [] was.befores.items _ knew.befores e)
+        (nothing_before subject.atoms [] was.undos.items _ knew.undos e)
 
 pub ruleset returning = (back_ready, goes_back)
 
@@ -189,7 +189,7 @@ second_by_masks owner number (share ∷ shares) path =
     ∙ ap (λ next. if not (number == owner) && (share_mask path share).truth then Some number else next)
     (second_by_masks owner (number + 1) shares path)
 
-roots_masks : (atoms : List AtomOf) (path : Path) (steps : List Step) (masks : List Mask)
+roots_masks : (atoms : List AtomOf) (path : Path) (steps : List FormulaNode) (masks : List Mask)
     → IsSettled steps (atom_masks atoms path) masks → (roots : List ℕ) (shares : List ShareOf)
     → AreFilters atoms steps roots shares → map (mask_in masks) roots ≡ map (share_mask path) shares
 roots_masks atoms path steps masks settled [] [] h = refl
@@ -199,9 +199,9 @@ roots_masks atoms path steps masks settled (root ∷ roots) (share ∷ shares) h
     ap (λ m. m ∷ map (mask_in masks) roots) (filter_mask atoms path steps masks settled root (filter_of share) h.0)
     ∙ ap (λ ms. share_mask path share ∷ ms) (roots_masks atoms path steps masks settled roots shares h.1)
 
-module _ (subject : Subject) (formulas : Formulas) (users : Users) (sets : CandidateSets) (known : Known)
+module _ (subject : Subject) (formulas : Formulas) (dependents : Dependents) (sets : CandidateSets) (known : Known)
     (held : Masks) (left : Remaining) (path : Path)
-    (ready : AgreesWithPath subject formulas users sets known held left path)
+    (ready : AgreesWithPath subject formulas dependents sets known held left path)
     (settled : IsSettled formulas.steps.list.items known.atoms.items held.list.items) (node number : ℕ) where
   same_masks : map (mask_in held.list.items) formulas.roots.items ≡ map (share_mask path) subject.shares
   same_masks = roots_masks subject.atoms path formulas.steps.list.items held.list.items

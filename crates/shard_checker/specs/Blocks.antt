@@ -6,9 +6,9 @@ use Rattle.std.specs.Global.{Vec}
 use Rattle.filter_tree.specs.declared.mask.Mask.{Mask}
 use Rattle.shard_checker.specs.Steps.{mask_in, step_mask}
 use Rattle.shard_checker.specs.declared.masks.Masks.{Masks}
-use Rattle.shard_checker.specs.declared.steps.Step.{Step}
-use Rattle.shard_checker.specs.declared.steps.Step.TheVariants.{Const, Atom, Not, And, Or, Is}
-use Rattle.shard_checker.specs.declared.users.Users.{Users}
+use Rattle.shard_checker.specs.declared.steps.FormulaNode.{FormulaNode}
+use Rattle.shard_checker.specs.declared.steps.FormulaNode.TheVariants.{Const, Atom, Not, And, Or, Is}
+use Rattle.shard_checker.specs.declared.dependents.Dependents.{Dependents}
 
 -- the block of the step of this number
 abbrev pub block_of : ℕ → ℕ
@@ -29,25 +29,25 @@ abbrev pub IsListed : List (Vec ℕ) → ℕ → ℕ → Type 0
 IsListed lists number block = number < length lists → Contains (blocks_in lists number) block
 
 -- the block is listed for each part of the step
-abbrev pub AreListed : Users → ℕ → Step → Type 0
-AreListed users block (Const known) = Unit {0}
-AreListed users block (Atom place) = IsListed users.of_atoms.items place block
-AreListed users block (Not part) = IsListed users.of_steps.items part block
-AreListed users block (And left right) = IsListed users.of_steps.items left block
-    × IsListed users.of_steps.items right block
-AreListed users block (Or left right) = IsListed users.of_steps.items left block
-    × IsListed users.of_steps.items right block
-AreListed users block (Is test part) = IsListed users.of_steps.items part block
+abbrev pub AreListed : Dependents → ℕ → FormulaNode → Type 0
+AreListed dependents block (Const known) = Unit {0}
+AreListed dependents block (Atom place) = IsListed dependents.of_atoms.items place block
+AreListed dependents block (Not part) = IsListed dependents.of_steps.items part block
+AreListed dependents block (And left right) = IsListed dependents.of_steps.items left block
+    × IsListed dependents.of_steps.items right block
+AreListed dependents block (Or left right) = IsListed dependents.of_steps.items left block
+    × IsListed dependents.of_steps.items right block
+AreListed dependents block (Is test part) = IsListed dependents.of_steps.items part block
 
 -- each block is listed for the parts of its steps before this number
-pub record AreUsersBefore (count : ℕ) (steps : List Step) (users : Users) : Type 0 where
-  pub each : (number : ℕ) (step : Step) → number < count → slice_get steps number ≡ Some step
-      → AreListed users (block_of number) step
+pub record AreDependentsBefore (count : ℕ) (steps : List FormulaNode) (dependents : Dependents) : Type 0 where
+  pub each : (number : ℕ) (step : FormulaNode) → number < count → slice_get steps number ≡ Some step
+      → AreListed dependents (block_of number) step
 
 -- there is a list for each step, and each block is listed for the parts of its steps
-pub record AreUsers (steps : List Step) (users : Users) : Type 0 where
-  pub each : (number : ℕ) (step : Step) → slice_get steps number ≡ Some step → AreListed users (block_of number) step
-  pub sized : length users.of_steps.items ≡ length steps
+pub record AreDependents (steps : List FormulaNode) (dependents : Dependents) : Type 0 where
+  pub each : (number : ℕ) (step : FormulaNode) → slice_get steps number ≡ Some step → AreListed dependents (block_of number) step
+  pub sized : length dependents.of_steps.items ≡ length steps
 
 -- the block was put in the list of this number, and all that were listed still are
 pub record Lists (old new : List (Vec ℕ)) (number block : ℕ) : Type 0 where
@@ -56,7 +56,7 @@ pub record Lists (old new : List (Vec ℕ)) (number block : ℕ) : Type 0 where
   pub sized : length new ≡ length old
 
 -- the block was listed for each part of the step, and all that were listed still are
-pub record ListsParts (old new : Users) (block : ℕ) (step : Step) : Type 0 where
+pub record ListsParts (old new : Dependents) (block : ℕ) (step : FormulaNode) : Type 0 where
   pub listed : AreListed new block step
   pub atoms_kept : (other earlier : ℕ) → IsListed old.of_atoms.items other earlier
       → IsListed new.of_atoms.items other earlier
@@ -78,8 +78,8 @@ pub record Marks (old new : List Bool) (blocks : List ℕ) : Type 0 where
 
 -- each step that is before this number, or in a block that isn't stale, has the set that follows from the sets of its
 -- parts
-pub record IsSettledBut (count : ℕ) (steps : List Step) (atoms : List Mask) (masks : Masks) : Type 0 where
-  pub each : (number : ℕ) (step : Step) → slice_get steps number ≡ Some step
+pub record IsSettledBut (count : ℕ) (steps : List FormulaNode) (atoms : List Mask) (masks : Masks) : Type 0 where
+  pub each : (number : ℕ) (step : FormulaNode) → slice_get steps number ≡ Some step
       → (number < count) ⊎ (is_stale masks.stale.items (block_of number) ≡ false)
       → mask_in masks.list.items number ≡ step_mask atoms masks.list.items step
   pub sized : length masks.list.items ≡ length steps

@@ -9,7 +9,7 @@ use Rattle.filter_tree.specs.Same.{same_atom}
 use Rattle.filter_tree.specs.declared.mask.Mask.{Mask}
 use Rattle.filter_tree.specs.declared.tri.Tri.{Tri}
 use Rattle.filter_tree.specs.declared.tri.Tri.TheVariants.{Null}
-use Rattle.shard_checker.specs.declared.known.Before.{Before}
+use Rattle.shard_checker.specs.declared.known.Undo.{Undo}
 use Rattle.shard_checker.specs.declared.known.Known.{Known}
 use Rattle.shard_checker.specs.Steps.{mask_in}
 
@@ -29,33 +29,33 @@ atom_masks atoms path = map (atom_mask path) atoms
 abbrev pub met : Mask → Tri → Mask
 met mask value = if mask.truth && mask.falsity then single_of value else mask
 
-abbrev pub before_of : ℕ → Mask → Before
-before_of number mask = record { number = number; mask = mask }
+abbrev pub undo_of : ℕ → Mask → Undo
+undo_of number mask = record { number = number; mask = mask }
 
 -- for each entry of a path, one after another, the number of its atom and what that atom might be before the entry
-abbrev pub AreBefore : List AtomOf → Path → List Before → Path → Type 0
-AreBefore atoms done [] [] = Unit {0}
-AreBefore atoms done (before ∷ befores) (entry ∷ path) =
+abbrev pub AreUndos : List AtomOf → Path → List Undo → Path → Type 0
+AreUndos atoms done [] [] = Unit {0}
+AreUndos atoms done (before ∷ undos) (entry ∷ path) =
     ((slice_get atoms before.number ≡ Some entry.0) × (before.mask ≡ atom_mask done entry.0))
-    × AreBefore atoms (done ++ entry ∷ []) befores path
-AreBefore atoms done befores path = ⊥
+    × AreUndos atoms (done ++ entry ∷ []) undos path
+AreUndos atoms done undos path = ⊥
 
 -- an entry of the path has the atom of the number, and the value null
-abbrev pub null_at : ℕ → Option Before → Option (AtomOf × Tri) → Bool
+abbrev pub null_at : ℕ → Option Undo → Option (AtomOf × Tri) → Bool
 null_at number (Some before) (Some entry) = (before.number == number) && same_tri entry.1 Null
 null_at number before entry = false
 
 -- what is known is what the path says
 pub record IsKnown (atoms : List AtomOf) (known : Known) (path : Path) : Type 0 where
   pub masks : known.atoms.items ≡ atom_masks atoms path
-  pub befores : AreBefore atoms [] known.befores.items path
+  pub undos : AreUndos atoms [] known.undos.items path
 
 -- the atom of the number was found to have the value
 pub record Learns (old new : Known) (number : ℕ) (value : Tri) : Type 0 where
   pub masks : new.atoms.items ≡ slice_set old.atoms.items number (met (mask_in old.atoms.items number) value)
-  pub befores : new.befores.items ≡ old.befores.items ++ before_of number (mask_in old.atoms.items number) ∷ []
+  pub undos : new.undos.items ≡ old.undos.items ++ undo_of number (mask_in old.atoms.items number) ∷ []
 
 -- what was found last is undone
-pub record TakesBack (old new : Known) (before : Before) : Type 0 where
+pub record TakesBack (old new : Known) (before : Undo) : Type 0 where
   pub masks : new.atoms.items ≡ slice_set old.atoms.items before.number before.mask
-  pub befores : old.befores.items ≡ new.befores.items ++ before ∷ []
+  pub undos : old.undos.items ≡ new.undos.items ++ before ∷ []

@@ -10,8 +10,8 @@ use Rattle.filter_tree.specs.Same.{same_atom}
 use Rattle.filter_tree.specs.declared.mask.Mask.{Mask}
 use Rattle.replica_identity.specs.Shares.{ShareOf, Nothing, Everything, Where}
 use Rattle.shard_checker.specs.declared.formulas.Formulas.{Formulas}
-use Rattle.shard_checker.specs.declared.steps.Step.{Step}
-use Rattle.shard_checker.specs.declared.steps.Step.TheVariants.{Const, Atom, Not, And, Or, Is}
+use Rattle.shard_checker.specs.declared.steps.FormulaNode.{FormulaNode}
+use Rattle.shard_checker.specs.declared.steps.FormulaNode.TheVariants.{Const, Atom, Not, And, Or, Is}
 
 -- ---- filters
 
@@ -25,7 +25,7 @@ names_only atoms (e.Or left right) = names_only atoms left && names_only atoms r
 names_only atoms (e.Is test part) = names_only atoms part
 
 -- the step of this number is the filter, and each part of the filter is a step too
-abbrev pub Stands : List AtomOf → List Step → ℕ → Expr → Type 0
+abbrev pub Stands : List AtomOf → List FormulaNode → ℕ → Expr → Type 0
 Stands atoms steps number (e.Const known) = slice_get steps number ≡ Some (Const known)
 Stands atoms steps number (e.Atom atom) = (place : ℕ)
     × ((slice_get steps number ≡ Some (Atom place)) × (slice_get atoms place ≡ Some atom))
@@ -42,11 +42,11 @@ Stands atoms steps number (e.Or left right) =
 Stands atoms steps number (e.Is test part) = (first : ℕ)
     × ((slice_get steps number ≡ Some (Is test first)) × Stands atoms steps first part)
 
-pub record IsFilter (atoms : List AtomOf) (steps : List Step) (number : ℕ) (filter : Expr) : Type 0 where
+pub record IsFilter (atoms : List AtomOf) (steps : List FormulaNode) (number : ℕ) (filter : Expr) : Type 0 where
   pub stands : Stands atoms steps number filter
 
 -- the parts of a step are before this number
-abbrev pub PartsBefore : ℕ → Step → Type 0
+abbrev pub PartsBefore : ℕ → FormulaNode → Type 0
 PartsBefore number (Const known) = Unit {0}
 PartsBefore number (Atom place) = Unit {0}
 PartsBefore number (Not part) = part < number
@@ -55,21 +55,21 @@ PartsBefore number (Or left right) = (left < number) × (right < number)
 PartsBefore number (Is test part) = part < number
 
 -- each step is after its parts
-pub record IsOrdered (steps : List Step) : Type 0 where
-  pub each : (number : ℕ) (step : Step) → slice_get steps number ≡ Some step → PartsBefore number step
+pub record IsOrdered (steps : List FormulaNode) : Type 0 where
+  pub each : (number : ℕ) (step : FormulaNode) → slice_get steps number ≡ Some step → PartsBefore number step
 
 -- the steps exist with the same numbers among more steps
-pub record Extends (old new : List Step) : Type 0 where
-  pub each : (number : ℕ) (step : Step) → slice_get old number ≡ Some step → slice_get new number ≡ Some step
+pub record Extends (old new : List FormulaNode) : Type 0 where
+  pub each : (number : ℕ) (step : FormulaNode) → slice_get old number ≡ Some step → slice_get new number ≡ Some step
 
 -- the step is added to the others, or exists already
-pub record Adds (old new : List Step) (number : ℕ) (step : Step) : Type 0 where
+pub record Adds (old new : List FormulaNode) (number : ℕ) (step : FormulaNode) : Type 0 where
   pub there : slice_get new number ≡ Some step
   pub extends : Extends old new
   pub ordered : IsOrdered old → PartsBefore (length old) step → IsOrdered new
 
 -- the filter is added to the others
-pub record Compiles (atoms : List AtomOf) (old new : List Step) (number : ℕ) (filter : Expr) : Type 0 where
+pub record Compiles (atoms : List AtomOf) (old new : List FormulaNode) (number : ℕ) (filter : Expr) : Type 0 where
   pub there : IsFilter atoms new number filter
   pub extends : Extends old new
   pub ordered : IsOrdered old → IsOrdered new
@@ -81,7 +81,7 @@ abbrev pub mask_in : List Mask → ℕ → Mask
 mask_in masks number = slice_index_or masks number (mask_where (λ value. false))
 
 -- what a step may be, from what the atoms and the steps may be
-abbrev pub step_mask : List Mask → List Mask → Step → Mask
+abbrev pub step_mask : List Mask → List Mask → FormulaNode → Mask
 step_mask atoms masks (Const known) = single_of (tri_of known)
 step_mask atoms masks (Atom place) = mask_in atoms place
 step_mask atoms masks (Not part) = lift_one not_of (mask_in masks part)
@@ -90,8 +90,8 @@ step_mask atoms masks (Or left right) = lift_two or_of (mask_in masks left) (mas
 step_mask atoms masks (Is test part) = lift_one (is_of test) (mask_in masks part)
 
 -- each step has the set that follows from the sets of its parts
-pub record IsSettled (steps : List Step) (atoms masks : List Mask) : Type 0 where
-  pub each : (number : ℕ) (step : Step) → slice_get steps number ≡ Some step
+pub record IsSettled (steps : List FormulaNode) (atoms masks : List Mask) : Type 0 where
+  pub each : (number : ℕ) (step : FormulaNode) → slice_get steps number ≡ Some step
       → mask_in masks number ≡ step_mask atoms masks step
 
 -- ---- the shares of a table
@@ -108,7 +108,7 @@ all_name_only atoms [] = true
 all_name_only atoms (share ∷ shares) = names_only atoms (filter_of share) && all_name_only atoms shares
 
 -- the steps of these numbers are the filters of the shares, each in its place
-abbrev pub AreFilters : List AtomOf → List Step → List ℕ → List ShareOf → Type 0
+abbrev pub AreFilters : List AtomOf → List FormulaNode → List ℕ → List ShareOf → Type 0
 AreFilters atoms steps [] [] = Unit {0}
 AreFilters atoms steps (root ∷ roots) (share ∷ shares) = IsFilter atoms steps root (filter_of share)
     × AreFilters atoms steps roots shares

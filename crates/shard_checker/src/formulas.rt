@@ -6,7 +6,7 @@ ghost use Rattle.replica_identity.specs.Shares.{ShareOf, share_view};
 ghost use Rattle.shard_checker.specs.Owners.{shares_view};
 ghost use Rattle.shard_checker.specs.Steps as spec;
 
-use crate::steps::{Step, Steps, compile};
+use crate::steps::{FormulaNode, Steps, compile};
 use filter_tree::Atom;
 use replica_identity::Share;
 use std::alloc::{AllocError, Allocator, Global};
@@ -30,8 +30,8 @@ fn compile_share<A: Allocator>(
         number (spec.filter_of (share_view share.now))) }
 {
     match share {
-        Share::Nothing => steps.add(Step::Const(false)),
-        Share::Everything => steps.add(Step::Const(true)),
+        Share::Nothing => steps.add(FormulaNode::Const(false)),
+        Share::Everything => steps.add(FormulaNode::Const(true)),
         Share::Where(filter) => compile(atoms, steps, filter),
     }
 }

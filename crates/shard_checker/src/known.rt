@@ -10,7 +10,7 @@ use std::alloc::{AllocError, Allocator, Global};
 
 /// The number of an atom, and what it might be before the atom was found to have a value.
 #[derive(Clone, Copy, Debug, PartialEq, Eq)]
-pub struct Before {
+pub struct Undo {
     pub number: u32,
     pub mask: Mask,
 }
@@ -19,7 +19,7 @@ pub struct Before {
 #[derive(Drop)]
 pub struct Known {
     pub atoms: Vec<Mask>,
-    pub befores: Vec<Before>,
+    pub undos: Vec<Undo>,
 }
 
 /// What an atom may be while nothing is known about it.
@@ -59,7 +59,7 @@ impl Known {
         }
         Ok(Known {
             atoms: masks,
-            befores: Vec::new(alloc),
+            undos: Vec::new(alloc),
         })
     }
 
@@ -68,16 +68,16 @@ impl Known {
         ensures { OnOk result (spec.Learns self.old self.new number value) }
     {
         let mask = mask_at(&self.atoms, number as usize);
-        self.befores.push(Before { number, mask })?;
+        self.undos.push(Undo { number, mask })?;
         put(&mut self.atoms, number as usize, met(mask, value));
         Ok(())
     }
 
     /// Undoes what was found last.
-    pub fn take_back(&mut self) -> Option<Before>
-        ensures { MatchOption result (self.old.befores.items ≡ []) (λ before. spec.TakesBack self.old self.new before) }
+    pub fn take_back(&mut self) -> Option<Undo>
+        ensures { MatchOption result (self.old.undos.items ≡ []) (λ before. spec.TakesBack self.old self.new before) }
     {
-        let before = self.befores.pop()?;
+        let before = self.undos.pop()?;
         put(&mut self.atoms, before.number as usize, before.mask);
         Some(before)
     }

@@ -7,6 +7,7 @@ mod candidate_sets;
 mod candidates;
 mod checked;
 mod covering;
+mod dependents;
 mod domain;
 mod error;
 mod facts;
@@ -28,7 +29,6 @@ mod steps;
 mod subject;
 mod text_error;
 mod texts;
-mod users;
 mod values;
 mod walk;
 

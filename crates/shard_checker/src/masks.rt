@@ -6,8 +6,8 @@ ghost use Rattle.filter_tree.specs.Mask.{lift_two};
 ghost use Rattle.shard_checker.specs.Blocks as stale_spec;
 ghost use Rattle.shard_checker.specs.Steps as spec;
 
-use crate::steps::Step;
-use crate::users::{BLOCK, Users, blocks_in};
+use crate::dependents::{BLOCK, Dependents, blocks_in};
+use crate::steps::FormulaNode;
 use filter_tree::{Mask, Tri};
 use std::alloc::{AllocError, Allocator, Global};
 
@@ -71,16 +71,16 @@ fn either(left: Mask, right: Mask) -> Mask
 }
 
 /// What a step may be, from what the atoms and the steps may be.
-fn mask_of(step: Step, atoms: &[Mask], masks: &[Mask]) -> Mask
+fn mask_of(step: FormulaNode, atoms: &[Mask], masks: &[Mask]) -> Mask
     ensures { result ≡ spec.step_mask atoms.now masks.now step }
 {
     match step {
-        Step::Const(known) => Mask::single(Tri::from(known)),
-        Step::Atom(number) => mask_at(atoms, number),
-        Step::Not(part) => mask_at(masks, part).not(),
-        Step::And(left, right) => both(mask_at(masks, left), mask_at(masks, right)),
-        Step::Or(left, right) => either(mask_at(masks, left), mask_at(masks, right)),
-        Step::Is(test, part) => mask_at(masks, part).is(test),
+        FormulaNode::Const(known) => Mask::single(Tri::from(known)),
+        FormulaNode::Atom(number) => mask_at(atoms, number),
+        FormulaNode::Not(part) => mask_at(masks, part).not(),
+        FormulaNode::And(left, right) => both(mask_at(masks, left), mask_at(masks, right)),
+        FormulaNode::Or(left, right) => either(mask_at(masks, left), mask_at(masks, right)),
+        FormulaNode::Is(test, part) => mask_at(masks, part).is(test),
     }
 }
 
@@ -155,60 +155,78 @@ impl Masks {
 
 /// Recomputes what a step may be. If that is new, notes that the steps of which it is a part must be recomputed.
 #[tactic(auto, using(crate::proofs::BlockLemmas::telling))]
-fn tell(steps: &[Step], users: &Users, atoms: &[Mask], masks: &mut Masks, number: usize)
+fn tell(
+    steps: &[FormulaNode],
+    dependents: &Dependents,
+    atoms: &[Mask],
+    masks: &mut Masks,
+    number: usize,
+)
     requires there { number < length steps.now }
     requires ordered { spec.IsOrdered steps.now }
-    requires used { stale_spec.AreUsers steps.now users.now }
+    requires used { stale_spec.AreDependents steps.now dependents.now }
     requires settled { stale_spec.IsSettledBut number steps.now atoms.now masks.old }
     ensures { stale_spec.IsSettledBut (number + 1) steps.now atoms.now masks.new }
 {
     let mask = mask_of(steps[number], atoms, &masks.list);
     if !is_at(&masks.list, number, mask) {
         masks.put(number, mask);
-        masks.mark(blocks_in(&users.of_steps, number));
+        masks.mark(blocks_in(&dependents.of_steps, number));
     }
 }
 
 /// Recomputes what the steps of a block may be.
 #[tactic(auto, using(crate::proofs::BlockLemmas::telling))]
-fn tell_block(steps: &[Step], users: &Users, atoms: &[Mask], masks: &mut Masks, block: usize)
+fn tell_block(
+    steps: &[FormulaNode],
+    dependents: &Dependents,
+    atoms: &[Mask],
+    masks: &mut Masks,
+    block: usize,
+)
     requires there { block * 8 ≤ length steps.now }
     requires ordered { spec.IsOrdered steps.now }
-    requires used { stale_spec.AreUsers steps.now users.now }
+    requires used { stale_spec.AreDependents steps.now dependents.now }
     requires settled { stale_spec.IsSettledBut (block * 8) steps.now atoms.now masks.old }
     ensures { stale_spec.IsSettledBut ((block + 1) * 8) steps.now atoms.now masks.new }
 {
     let start = block * BLOCK;
     for number in start..steps.len().min(start.saturating_add(BLOCK)) {
-        tell(steps, users, atoms, masks, number);
+        tell(steps, dependents, atoms, masks, number);
     }
     masks.unmark(block);
 }
 
 /// Recomputes what the steps of a block may be, if they must be recomputed.
 #[tactic(auto, using(crate::proofs::BlockLemmas::telling))]
-fn refresh_block(steps: &[Step], users: &Users, atoms: &[Mask], masks: &mut Masks, block: usize)
+fn refresh_block(
+    steps: &[FormulaNode],
+    dependents: &Dependents,
+    atoms: &[Mask],
+    masks: &mut Masks,
+    block: usize,
+)
     requires there { block * 8 ≤ length steps.now }
     requires ordered { spec.IsOrdered steps.now }
-    requires used { stale_spec.AreUsers steps.now users.now }
+    requires used { stale_spec.AreDependents steps.now dependents.now }
     requires settled { stale_spec.IsSettledBut (block * 8) steps.now atoms.now masks.old }
     ensures { stale_spec.IsSettledBut ((block + 1) * 8) steps.now atoms.now masks.new }
 {
     if is_stale(&masks.stale, block) {
-        tell_block(steps, users, atoms, masks, block);
+        tell_block(steps, dependents, atoms, masks, block);
     }
 }
 
 /// Determines for each step what it may be.
 #[tactic(auto, using(crate::proofs::BlockLemmas::telling))]
-pub fn refresh(steps: &[Step], users: &Users, atoms: &[Mask], masks: &mut Masks)
+pub fn refresh(steps: &[FormulaNode], dependents: &Dependents, atoms: &[Mask], masks: &mut Masks)
     requires ordered { spec.IsOrdered steps.now }
-    requires used { stale_spec.AreUsers steps.now users.now }
+    requires used { stale_spec.AreDependents steps.now dependents.now }
     requires settled { stale_spec.IsSettledBut 0 steps.now atoms.now masks.old }
     ensures settled { spec.IsSettled steps.now atoms.now masks.new.list.items }
     ensures kept { stale_spec.IsSettledBut 0 steps.now atoms.now masks.new }
 {
     for block in 0..steps.len() / BLOCK + 1 {
-        refresh_block(steps, users, atoms, masks, block);
+        refresh_block(steps, dependents, atoms, masks, block);
     }
 }

@@ -17,10 +17,10 @@ use std::alloc::Allocator;
 /// Whether the entry at this place of the path has the atom of this number, with the value null. Atoms are compared by
 /// their numbers.
 fn is_null_at<A: Allocator>(walk: &Walk<'_, A>, place: usize, number: usize) -> bool
-    ensures { result ≡ null_at number (slice_get walk.now.known.befores.items place)
+    ensures { result ≡ null_at number (slice_get walk.now.known.undos.items place)
         (slice_get (path_view walk.now.path.items) place) }
 {
-    match (walk.known.befores.get(place), walk.path.get(place)) {
+    match (walk.known.undos.get(place), walk.path.get(place)) {
         (Some(before), Some((_, value))) => {
             before.number as usize == number && matches!(*value, Tri::Null)
         }

@@ -15,12 +15,12 @@ ghost use Rattle.shard_checker.specs.Truth.{CertificateIsWrong};
 ghost use Rattle.shard_checker.specs.Walking.{walk, nodes_refusal};
 
 use crate::candidate_sets::CandidateSets;
+use crate::dependents::Dependents;
 use crate::error::CheckError;
 use crate::formulas::formulas_of;
 use crate::numbering::{numbered_atoms, numbered_terms};
 use crate::source::Source;
 use crate::subject::Subject;
-use crate::users::Users;
 use crate::walk::begin;
 use filter_tree::Table;
 use replica_identity::Share;
@@ -56,7 +56,7 @@ pub fn check_table<A: Allocator, C: Source>(
     let atoms = numbered_atoms(alloc, shares)?;
     let terms = numbered_terms(alloc, shares)?;
     let formulas = formulas_of(alloc, &atoms, shares)?;
-    let users = Users::new(alloc, atoms.len(), &formulas.steps.list)?;
+    let dependents = Dependents::new(alloc, atoms.len(), &formulas.steps.list)?;
     let candidates = CandidateSets::new(alloc, table.columns.as_slice(), &atoms, &terms)?;
     let subject = Subject {
         table: number,
@@ -65,7 +65,7 @@ pub fn check_table<A: Allocator, C: Source>(
         atoms: &atoms,
         terms: &terms,
         formulas: &formulas,
-        users: &users,
+        dependents: &dependents,
         candidates: &candidates,
     };
     check_subject(alloc, &subject, cert)

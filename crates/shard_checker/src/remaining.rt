@@ -14,7 +14,7 @@ use std::mem;
 pub struct Remaining {
     alloc: Global,
     pub places: BitSet,
-    pub befores: Vec<BitSet>,
+    pub undos: Vec<BitSet>,
 }
 
 impl Remaining {
@@ -25,7 +25,7 @@ impl Remaining {
         Ok(Remaining {
             alloc,
             places: BitSet::below(alloc, count)?,
-            befores: Vec::new(alloc),
+            undos: Vec::new(alloc),
         })
     }
 
@@ -35,7 +35,7 @@ impl Remaining {
     {
         let places = self.places.both(self.alloc, sets.at(value))?;
         let before = mem::replace(&mut self.places, places);
-        self.befores.push(before)?;
+        self.undos.push(before)?;
         Ok(())
     }
 
@@ -43,7 +43,7 @@ impl Remaining {
     pub fn restore(&mut self)
         ensures { spec.Restores self.old self.new }
     {
-        if let Some(before) = self.befores.pop() {
+        if let Some(before) = self.undos.pop() {
             self.places = before;
         }
     }

@@ -11,7 +11,7 @@ use std::alloc::{AllocError, Allocator, Global};
 
 /// A filter whose parts are identified by the numbers of their steps, and whose atom is identified by its own number.
 #[derive(Clone, Copy, Debug, PartialEq, Eq)]
-pub enum Step {
+pub enum FormulaNode {
     Const(bool),
     Atom(usize),
     Not(usize),
@@ -36,7 +36,7 @@ fn number_of<A: Allocator>(atoms: &[&Atom<A>], atom: &Atom<A>) -> usize
 /// Steps, each of them once, and an index by which they are found again.
 #[derive(Drop)]
 pub struct Steps {
-    pub list: Vec<Step>,
+    pub list: Vec<FormulaNode>,
     /// For each key, the last step with that key.
     latest: Vec<usize>,
     /// For each step, the last step before it with the same key.
@@ -52,7 +52,7 @@ fn number_at(numbers: &[usize], place: usize) -> usize {
 }
 
 /// Whether the step has this number.
-fn is_at(list: &[Step], number: usize, step: Step) -> bool
+fn is_at(list: &[FormulaNode], number: usize, step: FormulaNode) -> bool
     ensures { IsTrue result → slice_get list.now number ≡ Some step }
 {
     match list.get(number) {
@@ -62,11 +62,11 @@ fn is_at(list: &[Step], number: usize, step: Step) -> bool
 }
 
 /// A number that equal steps share, and few others: the number of the atom, or of the last part.
-fn key_of(step: Step) -> usize {
+fn key_of(step: FormulaNode) -> usize {
     match step {
-        Step::Const(_) => 0,
-        Step::Atom(part) | Step::Not(part) | Step::Is(_, part) => part,
-        Step::And(left, right) | Step::Or(left, right) => left.max(right),
+        FormulaNode::Const(_) => 0,
+        FormulaNode::Atom(part) | FormulaNode::Not(part) | FormulaNode::Is(_, part) => part,
+        FormulaNode::And(left, right) | FormulaNode::Or(left, right) => left.max(right),
     }
 }
 
@@ -83,7 +83,7 @@ impl Steps {
     }
 
     /// The number of the step, if it exists.
-    fn find(&self, step: Step) -> Option<usize>
+    fn find(&self, step: FormulaNode) -> Option<usize>
         ensures { IfSome result (λ number. slice_get self.now.list.items number ≡ Some step) }
     {
         let mut number = number_at(&self.latest, key_of(step));
@@ -102,7 +102,7 @@ impl Steps {
 
     /// Adds the step at the end.
     #[tactic(auto, using(crate::proofs::StepLemmas::adding))]
-    fn push(&mut self, step: Step) -> Result<usize, AllocError>
+    fn push(&mut self, step: FormulaNode) -> Result<usize, AllocError>
         ensures { IfOk result (λ number. spec.Adds self.old.list.items self.new.list.items number step) }
     {
         let number = self.list.len();
@@ -118,7 +118,7 @@ impl Steps {
 
     /// Adds the step to the others, unless it exists, and returns its number.
     #[tactic(auto, using(crate::proofs::StepLemmas::adding))]
-    pub fn add(&mut self, step: Step) -> Result<usize, AllocError>
+    pub fn add(&mut self, step: FormulaNode) -> Result<usize, AllocError>
         ensures { IfOk result (λ number. spec.Adds self.old.list.items self.new.list.items number step) }
     {
         match self.find(step) {
@@ -140,26 +140,26 @@ pub fn compile<A: Allocator>(
         number (expr_view filter.now)) }
 {
     match filter {
-        Filter::Const(known) => steps.add(Step::Const(*known)),
-        Filter::Atom(atom) => steps.add(Step::Atom(number_of(atoms, atom))),
+        Filter::Const(known) => steps.add(FormulaNode::Const(*known)),
+        Filter::Atom(atom) => steps.add(FormulaNode::Atom(number_of(atoms, atom))),
         Filter::Not(part) => {
             let part = compile(atoms, steps, part)?;
-            steps.add(Step::Not(part))
+            steps.add(FormulaNode::Not(part))
         }
         Filter::And(left, right) => {
             let left = compile(atoms, steps, left)?;
             let right = compile(atoms, steps, right)?;
-            steps.add(Step::And(left, right))
+            steps.add(FormulaNode::And(left, right))
         }
         Filter::Or(left, right) => {
             let left = compile(atoms, steps, left)?;
             let right = compile(atoms, steps, right)?;
-            steps.add(Step::Or(left, right))
+            steps.add(FormulaNode::Or(left, right))
         }
         Filter::Is(test, part) => {
             let test = *test;
             let part = compile(atoms, steps, part)?;
-            steps.add(Step::Is(test, part))
+            steps.add(FormulaNode::Is(test, part))
         }
     }
 }

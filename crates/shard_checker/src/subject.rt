@@ -5,8 +5,8 @@ ghost use Rattle.std.specs.Option.{option_map};
 ghost use Rattle.filter_tree.specs.Shape.{atom_view, atoms_view};
 
 use crate::candidate_sets::CandidateSets;
+use crate::dependents::Dependents;
 use crate::formulas::Formulas;
-use crate::users::Users;
 use filter_tree::{Atom, Column, Term};
 use replica_identity::Share;
 use std::alloc::Allocator;
@@ -23,7 +23,7 @@ pub struct Subject<'a, A: Allocator> {
     /// The shares' filters.
     pub formulas: &'a Formulas,
     /// The steps of which the atoms and the filters' steps are parts.
-    pub users: &'a Users,
+    pub dependents: &'a Dependents,
     /// What is tried for the terms.
     pub candidates: &'a CandidateSets,
 }

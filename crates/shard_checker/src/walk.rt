@@ -13,13 +13,13 @@ ghost use Rattle.shard_checker.specs.Refusal.{subject_view};
 ghost use Rattle.shard_checker.specs.Candidates.{is_empty};
 ghost use Rattle.shard_checker.specs.Walking as spec;
 
+use crate::dependents::blocks_in;
 use crate::error::CheckError;
 use crate::known::Known;
 use crate::masks::{Masks, refresh};
 use crate::nodes::{check_empty, check_never_null, check_owner, check_split};
 use crate::remaining::Remaining;
 use crate::subject::{Subject, atom_at};
-use crate::users::blocks_in;
 use filter_tree::{Atom, Tri};
 use split_cert::{Cert, Node, NodeReader};
 use std::alloc::{AllocError, Allocator, Global};
@@ -98,7 +98,7 @@ fn enter<'a, A: Allocator>(
         Some(atom) => {
             walk.known.learn(number, value)?;
             walk.masks
-                .mark(blocks_in(&subject.users.of_atoms, number as usize));
+                .mark(blocks_in(&subject.dependents.of_atoms, number as usize));
             walk.remaining
                 .keep(&subject.candidates.of_atoms[number as usize], value)?;
             extend(&mut walk.path, atom, value)?;
@@ -120,8 +120,7 @@ fn go_back<'a, A: Allocator>(subject: &Subject<'a, A>, walk: &mut Walk<'a, A>) -
 {
     let (_, value) = walk.path.pop()?;
     let before = walk.known.take_back()?;
-    walk.masks
-        .mark(blocks_in(&subject.users.of_atoms, before.number as usize));
+    walk.masks.mark(blocks_in(&subject.dependents.of_atoms, before.number as usize));
     walk.remaining.restore();
     Some((before.number, value))
 }
@@ -180,7 +179,7 @@ fn settle<A: Allocator>(subject: &Subject<'_, A>, walk: &mut Walk<'_, A>)
 {
     refresh(
         &subject.formulas.steps.list,
-        subject.users,
+        subject.dependents,
         &walk.known.atoms,
         &mut walk.masks,
     );

@@ -2,7 +2,7 @@ use Rattle.std.proofs.Common.{◌+◌, ◌∙◌, false, List, Bool, refl, sym, 
 use Rattle.std.proofs.lemmas.Option.{slice_get-get_or}
 use Rattle.shard_checker.specs.Blocks.{Marks, blocks_in}
 use Rattle.shard_checker.specs.Steps.{mask_in, step_mask}
-use Rattle.shard_checker.specs.declared.steps.Step.TheVariants.{Const}
+use Rattle.shard_checker.specs.declared.steps.FormulaNode.TheVariants.{Const}
 use Rattle.shard_checker.proofs.BlockLemmas.{told_same, told_again}
 use Rattle.shard_checker.proofs.masks.tell.Goals as goal
 
@@ -17,7 +17,7 @@ returns-then-not-is_at c =
     (slice_get-get_or steps number (Const false) c.requires.there)
     (c.mask_of-mask.ensures
     ∙ ap (λ masks. step_mask c.args.atoms.now masks (get_or steps number (Const false))) c.deref.ensures.value)
-    c.mark.new.self c.args.users.now c.requires.used (ap (λ v. v.items) c.mark.ensures.list ∙ c.put.ensures.list)
+    c.mark.new.self c.args.dependents.now c.requires.used (ap (λ v. v.items) c.mark.ensures.list ∙ c.put.ensures.list)
     (subst (λ blocks. Marks old.stale.items c.mark.new.self.stale.items blocks)
     (c.blocks_in.ensures ∙ ap (λ lists. blocks_in lists number) c.deref-then-not-is_at.ensures.value)
     (subst (λ (stale : List Bool). Marks stale c.mark.new.self.stale.items c.blocks_in.result.now)

@@ -12,7 +12,7 @@ pub returns-in-None : goal.returns-in-None
 returns-in-None g c =
     let subject = c.args.subject.now in
     let walk = c.args.walk.now in
-    owner_unknown (subject_view subject) subject.formulas.now subject.users.now subject.candidates.now
+    owner_unknown (subject_view subject) subject.formulas.now subject.dependents.now subject.candidates.now
     walk.known walk.masks walk.remaining (path_view walk.path.items) c.requires.ready c.requires.settled walk.node
     c.args.number
     (ap (λ roots. slice_get roots c.args.number) (sym c.deref.ensures.value) ∙ sym c.root_at.ensures ∙ c.in-None.is)
@@ -23,7 +23,7 @@ returns-in-Some g c =
     let subject = c.args.subject.now in
     let walk = c.args.walk.now in
     let sure : is_surely_true (mask_in walk.masks.list.items c.in-Some.root) ≡ true = grind arith in
-    owner_found (subject_view subject) subject.formulas.now subject.users.now subject.candidates.now
+    owner_found (subject_view subject) subject.formulas.now subject.dependents.now subject.candidates.now
     walk.known walk.masks walk.remaining (path_view walk.path.items) c.requires.ready c.requires.settled walk.node
     c.args.number
     c.in-Some.root c.check_others.result
@@ -36,7 +36,7 @@ returns-in-Some-2 g c =
     let subject = c.args.subject.now in
     let walk = c.args.walk.now in
     let not_sure : is_surely_true (mask_in walk.masks.list.items c.in-Some.root) ≡ false = grind arith in
-    owner_refused (subject_view subject) subject.formulas.now subject.users.now subject.candidates.now
+    owner_refused (subject_view subject) subject.formulas.now subject.dependents.now subject.candidates.now
     walk.known walk.masks walk.remaining (path_view walk.path.items) c.requires.ready c.requires.settled walk.node
     c.args.number
     c.in-Some.root (ap (λ roots. slice_get roots c.args.number) (sym c.deref.ensures.value) ∙ sym c.root_at.ensures

@@ -14,5 +14,5 @@ returns g c =
     let walk = c.args.walk.now in
     let sized : length (path_view walk.path.items) ≡ length walk.path.items = length-map walk.path.items _ in
     sym (null_nowhere subject.atoms c.args.number (atom_view c.args.atom.now) c.requires.ready.prepared.differ
-    c.requires.atom walk.known.befores.items (path_view walk.path.items)
-    c.requires.ready.knows.befores (λ place within. c.loop-place.invariant place (omega arith)))
+    c.requires.atom walk.known.undos.items (path_view walk.path.items)
+    c.requires.ready.knows.undos (λ place within. c.loop-place.invariant place (omega arith)))

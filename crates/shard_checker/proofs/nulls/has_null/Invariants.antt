@@ -8,5 +8,5 @@ use Rattle.shard_checker.proofs.nulls.has_null.Given as goal
 -- the atom is null at no place so far
 abbrev pub invariant-loop-place : goal.invariant-loop-place
 invariant-loop-place g l = (place : ℕ) → place < l.place
-    → null_at l.number (slice_get l.walk.known.befores.items place) (slice_get (path_view l.walk.path.items) place)
+    → null_at l.number (slice_get l.walk.known.undos.items place) (slice_get (path_view l.walk.path.items) place)
     ≡ false

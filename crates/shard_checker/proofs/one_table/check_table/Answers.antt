@@ -5,7 +5,7 @@ use Rattle.filter_tree.specs.Expr.{AtomOf}
 use Rattle.filter_tree.specs.Shape.{atoms_view}
 use Rattle.filter_tree.specs.declared.filter.Term.{Term}
 use Rattle.filter_tree.specs.declared.table.Column.{Column}
-use Rattle.shard_checker.specs.Blocks.{AreUsers}
+use Rattle.shard_checker.specs.Blocks.{AreDependents}
 use Rattle.shard_checker.specs.Candidates.{candidates_in}
 use Rattle.shard_checker.specs.CandidateSets.{AreCandidateSets}
 use Rattle.shard_checker.specs.Checks.{Checks}
@@ -17,7 +17,7 @@ use Rattle.shard_checker.specs.Steps.{all_name_only, IsCompiled}
 use Rattle.shard_checker.specs.Candidates.{is_empty}
 use Rattle.shard_checker.specs.Walking.{walk}
 use Rattle.shard_checker.specs.declared.candidate_sets.CandidateSets.{CandidateSets}
-use Rattle.shard_checker.specs.declared.steps.Step.{Step}
+use Rattle.shard_checker.specs.declared.steps.FormulaNode.{FormulaNode}
 use Rattle.shard_checker.proofs.NamingLemmas.{numbered_differ, numbered_names}
 use Rattle.shard_checker.proofs.one_table.check_table.Goals as goal
 
@@ -54,14 +54,14 @@ check_subject-requires g c =
       differ = subst (λ (found : List AtomOf). Differ found) (sym atoms) (numbered_differ shares);
       compiled = subst (λ (found : List AtomOf). IsCompiled found shares c.in_ok-formulas.formulas)
           (first ∙ sym atoms) c.in_ok-formulas.ensures;
-      used = subst (λ (steps : List Step). AreUsers steps c.in_ok-users.users) c.deref-2.ensures.value
-          c.in_ok-users.ensures.used;
+      used = subst (λ (steps : List FormulaNode). AreDependents steps c.in_ok-dependents.dependents) c.deref-2.ensures.value
+          c.in_ok-dependents.ensures.used;
       tried = same_subject c.as_slice.result.now c.as_slice-2.result.now (atoms_view c.deref-3.result.now)
           (atoms_view c.deref-5.result.now) c.deref-4.result.now c.deref-6.result.now c.in_ok-candidates.candidates
           (c.as_slice.ensures ∙ sym c.as_slice-2.ensures)
           (ap atoms_view (c.deref-3.ensures.value ∙ sym c.deref-5.ensures.value))
           (c.deref-4.ensures.value ∙ sym c.deref-6.ensures.value) c.in_ok-candidates.ensures;
-      sized = c.in_ok-users.ensures.atoms ∙ c.len.ensures ∙ sym c.deref-5.ensures.len
+      sized = c.in_ok-dependents.ensures.atoms ∙ c.len.ensures ∙ sym c.deref-5.ensures.len
           ∙ sym (length-map c.deref-5.result.now _);
     }
 

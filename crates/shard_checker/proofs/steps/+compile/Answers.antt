@@ -4,7 +4,7 @@ use Rattle.filter_tree.specs.Expr as e
 use Rattle.filter_tree.specs.Expr.{Expr}
 use Rattle.filter_tree.specs.Shape.{atoms_view, expr_view}
 use Rattle.shard_checker.specs.Steps.{Adds, Compiles}
-use Rattle.shard_checker.specs.declared.steps.Step.TheVariants.{Is}
+use Rattle.shard_checker.specs.declared.steps.FormulaNode.TheVariants.{Is}
 use Rattle.shard_checker.proofs.StepLemmas.{compiled_is}
 use Rattle.shard_checker.proofs.steps.+compile.Goals as goal
 

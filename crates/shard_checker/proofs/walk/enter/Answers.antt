@@ -25,7 +25,7 @@ pub returns-in_ok-extend-in-Some-clause-ready : goal.returns-in_ok-extend-in-Som
 returns-in_ok-extend-in-Some-clause-ready g c =
     let subject = c.args.subject.now in
     let walk = c.args.walk.now in
-    ready_entered (subject_view subject) subject.formulas.now subject.users.now subject.candidates.now
+    ready_entered (subject_view subject) subject.formulas.now subject.dependents.now subject.candidates.now
     c.index.result.now walk.known c.learn.new.self walk.masks c.mark.new.self walk.remaining c.keep.new.self
     walk.path.items c.extend.new.path.items c.args.number c.in-Some.atom c.args.value
     c.requires.ready c.in-Some.ensures c.in_ok-learn-in-Some.ensures c.in_ok-extend-in-Some.ensures

@@ -9,7 +9,7 @@ pub returns-clause-ready : goal.returns-clause-ready
 returns-clause-ready g c =
     let subject = c.args.subject.now in
     let walk = c.args.walk.now in
-    back_ready (subject_view subject) subject.formulas.now subject.users.now subject.candidates.now walk.known
+    back_ready (subject_view subject) subject.formulas.now subject.dependents.now subject.candidates.now walk.known
     c.take_back.new.self walk.masks walk.remaining walk.path.items c.pop.new.self.items
     (c.in_ok-value.field-0-0, c.in_ok-value.value)
     c.requires c.in_ok-value.ensures.items c.in_ok-before.before c.mark.new.self c.restore.new.self
@@ -24,7 +24,7 @@ pub returns-clause-path : goal.returns-clause-path
 returns-clause-path g c =
     let subject = c.args.subject.now in
     let walk = c.args.walk.now in
-    goes_back (subject_view subject) subject.formulas.now subject.users.now subject.candidates.now walk.known
+    goes_back (subject_view subject) subject.formulas.now subject.dependents.now subject.candidates.now walk.known
     c.take_back.new.self walk.masks walk.remaining walk.path.items c.pop.new.self.items
     (c.in_ok-value.field-0-0, c.in_ok-value.value)
     c.requires c.in_ok-value.ensures.items c.in_ok-before.before c.in_ok-before.ensures

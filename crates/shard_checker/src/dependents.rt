@@ -3,7 +3,7 @@
 ghost use Rattle.std.specs.Prelude.{◌≡◌, IfOk, OnOk, length};
 ghost use Rattle.shard_checker.specs.Blocks as spec;
 
-use crate::steps::Step;
+use crate::steps::FormulaNode;
 use std::alloc::{AllocError, Allocator, Global};
 
 /// How many steps there are in a block.
@@ -11,7 +11,7 @@ pub const BLOCK: usize = 8;
 
 /// For each atom and for each step, by its number, the blocks of the steps of which it is a part.
 #[derive(Drop)]
-pub struct Users {
+pub struct Dependents {
     pub of_atoms: Vec<Vec<usize>>,
     pub of_steps: Vec<Vec<usize>>,
 }
@@ -48,16 +48,20 @@ fn list(lists: &mut [Vec<usize>], number: usize, block: usize) -> Result<(), All
     Ok(())
 }
 
-impl Users {
+impl Dependents {
     /// Lists the block for each part of the step.
-    fn add(&mut self, block: usize, step: Step) -> Result<(), AllocError>
+    fn add(&mut self, block: usize, step: FormulaNode) -> Result<(), AllocError>
         ensures { OnOk result (spec.ListsParts self.old self.new block step) }
     {
         match step {
-            Step::Const(_) => {}
-            Step::Atom(place) => list(&mut self.of_atoms, place, block)?,
-            Step::Not(part) | Step::Is(_, part) => list(&mut self.of_steps, part, block)?,
-            Step::And(left, right) | Step::Or(left, right) => {
+            FormulaNode::Const(_) => {}
+            FormulaNode::Atom(place) => list(&mut self.of_atoms, place, block)?,
+            FormulaNode::Not(part) | FormulaNode::Is(_, part) => list(
+                &mut self.of_steps,
+                part,
+                block,
+            )?,
+            FormulaNode::And(left, right) | FormulaNode::Or(left, right) => {
                 list(&mut self.of_steps, left, block)?;
                 list(&mut self.of_steps, right, block)?;
             }
@@ -66,17 +70,17 @@ impl Users {
     }
 
     /// The steps of which this number of atoms and these steps are parts. The only error is out of memory.
-    pub fn new(alloc: Global, atoms: usize, steps: &[Step]) -> Result<Users, AllocError>
-        ensures used { IfOk result (λ users. spec.AreUsers steps.now users) }
-        ensures atoms { IfOk result (λ users. length users.of_atoms.items ≡ atoms) }
+    pub fn new(alloc: Global, atoms: usize, steps: &[FormulaNode]) -> Result<Dependents, AllocError>
+        ensures used { IfOk result (λ dependents. spec.AreDependents steps.now dependents) }
+        ensures atoms { IfOk result (λ dependents. length dependents.of_atoms.items ≡ atoms) }
     {
-        let mut users = Users {
+        let mut dependents = Dependents {
             of_atoms: empty_lists(alloc, atoms)?,
             of_steps: empty_lists(alloc, steps.len())?,
         };
         for (number, step) in steps.iter().enumerate() {
-            users.add(number / BLOCK, *step)?;
+            dependents.add(number / BLOCK, *step)?;
         }
-        Ok(users)
+        Ok(dependents)
     }
 }
