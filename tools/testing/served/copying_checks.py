@@ -8,7 +8,7 @@ from programs import without_subscriptions
 from server import Server
 from tally import Tally
 
-from .program import SECONDS, Started, fronting, serving
+from .program import SECONDS, fronting, serving
 from .shop import SHOP
 from .subscribers_checks import SETTINGS, check_rows, transaction_text
 
@@ -16,6 +16,9 @@ CONNECTIONS = 60
 
 # So many workers copy tables at a time. With two workers for two subscriptions and these, tables wait for each other.
 WORKERS = "ALTER SYSTEM SET max_sync_workers_per_subscription = 1;"
+
+# The process of the subscription that was sent something.
+HEARS = "SELECT pid FROM pg_stat_subscription WHERE subname = 's' AND relid IS NULL AND last_msg_receipt_time IS NOT NULL;"
 
 # What psql prints of the slots, which FEEDING.md quotes.
 CREATED = 'NOTICE:  created replication slot "{slot}" on publisher\n'
@@ -46,13 +49,13 @@ def check_copies(tally: Tally, server: Server) -> None:
         file.flush()
         with serving(SHOP.input(), "--connections", str(CONNECTIONS)) as (_, port):
             for version in "15.18", "13.18":
-                with fronting(port, "--catalog", file.name, "--server-version", version) as (front, front_port):
+                with fronting(port, "--catalog", file.name, "--server-version", version) as (_, front_port):
                     if version == "15.18":
                         for name in "a first subscription", "a second one":
                             check_copied(tally, server, front_port, name)
                         check_existing(tally, server, front_port)
                     else:
-                        check_stale(tally, server, front_port, front)
+                        check_stale(tally, server, front_port)
     server.psql("postgres", WORKERS.replace("= 1", "= 2"))
 
 
@@ -89,13 +92,14 @@ def check_existing(tally: Tally, server: Server, port: int) -> None:
     tally.check(f"the rows of {slot} without its slot", found, shards)
 
 
-def check_stale(tally: Tally, server: Server, port: int, front: Started) -> None:
+def check_stale(tally: Tally, server: Server, port: int) -> None:
     """A front that was started anew does not know what was before: it says so, and nothing is copied or dropped."""
     slot = "london"
+    before = server.psql(MADE[slot], HEARS)
     server.psql(MADE[slot], f"ALTER SUBSCRIPTION s CONNECTION '{connection(port)}';")
     until = time.monotonic() + SECONDS
     # A slot that no client has started is dropped: its next start has to prove that it begins afresh.
-    while not any(f" {slot} from " in line for line in front.log) and time.monotonic() < until:
+    while server.psql(MADE[slot], HEARS) in ("", before) and time.monotonic() < until:
         time.sleep(0.1)
     found = server.told(MADE[slot], "DROP SUBSCRIPTION s;")
     tally.check("a slot whose begin is not known is not dropped", found, STALE.format(slot=slot))

@@ -18,9 +18,11 @@ HALF_READ = 5
 # How many bytes more a client reads each time before it is lost.
 MORE = 61
 
-# The system's connections, and its number of the state of one whose end no program has closed.
+# The system's connections, each with its own port, the other one, its state, and what was sent and not taken yet.
 CONNECTIONS = pathlib.Path("/proc/net/tcp")
-ESTABLISHED = "01"
+
+# For how many seconds a client that doesn't read waits after what it said was read, until it is heard.
+UNTIL_HEARD = 1
 
 
 def lost_and_back(port: int, publisher: Publisher) -> Findings:
@@ -99,7 +101,7 @@ def confirms_what_is_on_its_way(port: int, publisher: Publisher) -> Findings:
         other.start(S0)
         yield from got_whole(other, publisher, S0)
         slow.send(messages.status(publisher.end()))
-        await_closed(port, slow)
+        await_heard(port, slow)
         found = slow.receive_all()
         yield "whether a slow client is sent all", len(found) < len(stream), True
         yield "what it is sent", stream.startswith(found), True
@@ -107,20 +109,21 @@ def confirms_what_is_on_its_way(port: int, publisher: Publisher) -> Findings:
         yield from got_whole(again, publisher, S1)
 
 
-def await_closed(port: int, made: Connection) -> None:
-    """Waits until a server has closed its end of a connection, of which the client learns only by reading."""
+def await_heard(port: int, made: Connection) -> None:
+    """Waits until a server has read and heard all that a client has said."""
     until = time.monotonic() + SECONDS
-    while is_open(port, made.opened.getsockname()[1]) and time.monotonic() < until:
+    while not is_read(port, made.opened.getsockname()[1]) and time.monotonic() < until:
         time.sleep(0.05)
+    time.sleep(UNTIL_HEARD)
 
 
-def is_open(port: int, other: int) -> bool:
-    """Whether the connection of a port to another one has its end."""
+def is_read(port: int, other: int) -> bool:
+    """Whether nothing waits to be read on the connection of a port to another one."""
     for line in CONNECTIONS.read_text(encoding="ascii").splitlines()[1:]:
-        _, local, remote, state, *_ = line.split()
+        _, local, remote, _, queues, *_ = line.split()
         if local.endswith(f":{port:04X}") and remote.endswith(f":{other:04X}"):
-            return state == ESTABLISHED
-    return False
+            return int(queues.partition(":")[2], 16) == 0
+    return True
 
 
 def confirms_what_it_was_sent(port: int, publisher: Publisher) -> Findings:
