@@ -25,7 +25,7 @@ SUBSCRIBERS = 6
 # A second of each file of this process is left for others.
 FILES = JUNK + 500
 # How long the streams may take beside junk, in seconds, and the end.
-PATIENCE = 3 * SECONDS
+PATIENCE = 2 * SECONDS
 # When all have their streams: so long a rest, the processor time that it may take, and the memory, in bytes.
 REST, MOST_BUSY, MOST_MEMORY = 3.0, 0.5, 100_000_000
 # How the answer begins where a client tries again: while many wait, also the end of the connection. The system may hand

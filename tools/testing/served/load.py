@@ -29,7 +29,7 @@ LOST = 8
 READ_BEFORE_LOSS = (3, 50, 20_000, 100_001, 250_007)
 
 # How long the clients of a run wait for each other.
-TOGETHER = 5 * SECONDS
+TOGETHER = 2 * SECONDS
 
 # What was found, with a name, and what should have been found.
 Found = list[tuple[str, object, object]]

@@ -13,7 +13,7 @@ from collections.abc import Iterator
 from programs import PGSHARD, TOOLS, decoded
 
 # How long anything here may take, on a machine that does much else, too.
-SECONDS = 60
+SECONDS = 120
 
 # How many ports are tried, and the status of a program that can't have one.
 PORTS = 3
