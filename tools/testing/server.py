@@ -12,6 +12,8 @@ import tempfile
 
 PROGRAMS = pathlib.Path("/usr/lib/postgresql/15/bin")
 USER = "postgres"
+# How long a server may take to start or to stop, on a machine that does much else, too.
+SECONDS = 600
 # By these a program is asked to end.
 ENDINGS = (signal.SIGTERM, signal.SIGINT, signal.SIGHUP)
 
@@ -112,9 +114,9 @@ def start(data, folder, settings=""):
     run_as_user(PROGRAMS / "initdb", "-D", data, "-U", USER, "-A", "trust", "-E", "UTF8", "--locale=C", "--no-sync")
     # Nothing of the server's own changes tables, or locks them, while they are looked at.
     options = f"-k {folder} -c listen_addresses='' -c wal_level=logical -c fsync=off -c autovacuum=off {settings}"
-    run_as_user(PROGRAMS / "pg_ctl", "-D", data, "-o", options, "-l", folder / "log", "-w", "start")
+    run_as_user(PROGRAMS / "pg_ctl", "-D", data, "-o", options, "-l", folder / "log", "-w", "-t", SECONDS, "start")
 
 
 def stop(data):
     if (data / "postmaster.pid").exists():
-        run_as_user(PROGRAMS / "pg_ctl", "-D", data, "-m", "immediate", "-w", "stop")
+        run_as_user(PROGRAMS / "pg_ctl", "-D", data, "-m", "immediate", "-w", "-t", SECONDS, "stop")
