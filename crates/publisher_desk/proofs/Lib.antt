@@ -2,3 +2,4 @@ pub mod Crossing
 pub mod HeldLemmas
 pub mod RefusalLemmas
 pub mod SeatLemmas
+pub mod StepLemmas

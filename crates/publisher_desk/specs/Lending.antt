@@ -1,18 +1,21 @@
 -- What is done with a book that is lent under a publisher's lock, and what senders are told to do next: PostgreSQL
 -- 15, "Logical Replication", 31.2.1 Replication Slot Management, and 55.4. Streaming Replication Protocol.
-use Rattle.std.specs.Prelude.{◌≡◌, ℕ, List, length, Some, None}
+use Rattle.std.specs.Prelude.{◌≡◌, ℕ, ◌-◌, ◌<◌, List, length, map, true, Some, None}
 use Rattle.std.specs.Arc.{arc_value}
+use Rattle.replica_identity.specs.Plans.{PlanOf}
+use Rattle.row_owners.specs.Owners.{concerns}
 use Rattle.shard_checker.specs.CheckedView.{CheckedOf}
 use Rattle.tables_log.specs.BookView.{book_checked, book_log, book_slots}
 use Rattle.tables_log.specs.Commits.{CommitOf}
 use Rattle.tables_log.specs.Committing.{ChangesSlots}
 use Rattle.tables_log.specs.Logs.{entry_at}
+use Rattle.tables_log.specs.Routes.{ArePassed, passed_over}
 use Rattle.tables_log.specs.Slots.{end_after}
 use Rattle.tables_log.specs.StandsFor.{Transaction, StandsFor}
 use Rattle.tables_log.specs.declared.book.Book.{Book}
 use Rattle.publisher_desk.specs.Held.{AreSentUpTo}
 use Rattle.publisher_desk.specs.declared.step.Step.{Step}
-use Rattle.publisher_desk.specs.declared.step.Step.TheVariants.{Entry, Reply, Ended, Finished, OutOfMemory}
+use Rattle.publisher_desk.specs.declared.step.Step.TheVariants.{Entry, Skip, Reply, Ended, Finished, OutOfMemory}
 use Rattle.publisher_desk.specs.declared.wish.Wish.{Wish}
 
 -- A user was lent a book of the checked catalog and of some list of transactions. It changed its slots, and did what
@@ -30,18 +33,37 @@ pub record IsLent {U A : Type 0} (did : U → U → Book → Book → List Wish 
   pub sent : AreSentUpTo (end_after (length (book_log old))) wishes
   pub does : did before after old new wishes left answer
 
--- A step that tells of a commit tells of the log's entry of this number.
-abbrev pub IsStepOf : List CommitOf → ℕ → Step → Type 0
-IsStepOf log number (Entry commit) = entry_at log number ≡ Some (arc_value commit)
-IsStepOf log number Reply = Unit {0}
-IsStepOf log number Ended = Unit {0}
-IsStepOf log number Finished = entry_at log number ≡ None
-IsStepOf log number OutOfMemory = Unit {0}
+-- how many commits a step tells of or passes over
+abbrev pub commits_in : Step → ℕ
+commits_in (Entry commit) = 1
+commits_in (Skip commits) = length commits.items
+commits_in Reply = 0
+commits_in Ended = 0
+commits_in Finished = 0
+commits_in OutOfMemory = 0
 
--- And outside the lock: of a commit of this number.
-abbrev pub IsNext : ℕ → Step → Type 0
-IsNext number (Entry commit) = (arc_value commit).number ≡ number
-IsNext number Reply = Unit {0}
-IsNext number Ended = Unit {0}
-IsNext number Finished = Unit {0}
-IsNext number OutOfMemory = Unit {0}
+-- What a step says of the log, for the sender of this slot that has told of all commits before this number. It tells of
+-- the log's entry of this number only if the slot's subscriber gets something of it. Otherwise it passes over that entry
+-- and those after it, up to the first of which the subscriber gets something, and at most 64.
+abbrev pub IsStepOf : PlanOf → ℕ → List CommitOf → ℕ → Step → Type 0
+IsStepOf plan slot log number (Entry commit) =
+    (entry_at log number ≡ Some (arc_value commit)) × (concerns plan (arc_value commit).changes slot ≡ true)
+IsStepOf plan slot log number (Skip commits) =
+    (map (λ commit. arc_value commit) commits.items ≡ passed_over plan slot log (number - 1))
+    × (0 < length commits.items)
+IsStepOf plan slot log number Reply = Unit {0}
+IsStepOf plan slot log number Ended = Unit {0}
+IsStepOf plan slot log number Finished = entry_at log number ≡ None
+IsStepOf plan slot log number OutOfMemory = Unit {0}
+
+-- And outside the lock: of a commit of this number; or of commits from this number on, of which the subscriber gets
+-- nothing.
+abbrev pub IsNext : PlanOf → ℕ → ℕ → Step → Type 0
+IsNext plan slot number (Entry commit) =
+    ((arc_value commit).number ≡ number) × (concerns plan (arc_value commit).changes slot ≡ true)
+IsNext plan slot number (Skip commits) =
+    ArePassed plan slot (number - 1) (map (λ commit. arc_value commit) commits.items)
+IsNext plan slot number Reply = Unit {0}
+IsNext plan slot number Ended = Unit {0}
+IsNext plan slot number Finished = Unit {0}
+IsNext plan slot number OutOfMemory = Unit {0}

@@ -1,9 +1,11 @@
 //! What a publisher's lock holds.
 
-ghost use Rattle.std.specs.Prelude.{◌≡◌, ◌+◌, ◌<◌, ◌≤◌, map, length, IfOk, IfErr, OnOk, OnErr};
+ghost use Rattle.std.specs.Prelude.{◌≡◌, ◌+◌, ◌<◌, ◌≤◌, map, length, IfOk, IfErr, IfSome, IfNone, OnOk, OnErr, None};
 ghost use Rattle.table_changes.specs.Commands.{command_view};
-ghost use Rattle.tables_log.specs.BookView.{book_log, book_rows};
+ghost use Rattle.tables_log.specs.BookView.{book_checked, book_log, book_rows};
 ghost use Rattle.tables_log.specs.Committing.{Commits, IsKept, RefusedBy};
+ghost use Rattle.tables_log.specs.Logs.{entry_at};
+ghost use Rattle.publisher_desk.specs.Lending.{IsNext, IsStepOf, commits_in};
 
 use crate::auditing::audit_all;
 use crate::naming::Publishing;
@@ -21,6 +23,9 @@ use std::sync::ledger::Share;
 use std::sync::{Arc, ledger};
 use table_changes::Command;
 use tables_log::{Book, CommitError};
+
+/// Every so many commits a sender that is as many behind is woken, so that none waits twice as many behind.
+const TOGETHER: u32 = 32;
 
 /// The book, the ledger's total of its commits, what is wanted of each slot's connection, and whether no further commit
 /// comes. Contracts see the log.
@@ -88,8 +93,44 @@ fn look_up(
     Ok((book.log_len(), answer))
 }
 
+/// The number of a commit, where some log may have one of this number.
+fn commit_number(number: u64) -> Option<u32>
+    ensures is { IfSome result (λ found. found ≡ number) }
+    ensures some { IfSome result (λ found. 1 ≤ found) }
+{
+    if number == 0 {
+        return None;
+    }
+    u32::try_from(number).ok()
+}
+
+/// What the sender of the slot is told of the log next, where it has told of all commits before this number, and the
+/// number of the last commit of that; none at the log's end. The only errors are want of memory, and that a commit is
+/// shared too often.
+fn next_commits(book: &Book, slot: usize, number: u32) -> Result<Option<(Step, u32)>, AllocError>
+    requires few { slot < 32 }
+    requires some { 1 ≤ number }
+    ensures entry { IfOk result (λ found. IfSome found (λ next.
+        IsStepOf (book_checked book.now).plan slot (book_log book.now) number next.0)) }
+    ensures next { IfOk result (λ found. IfSome found (λ next.
+        IsNext (book_checked book.now).plan slot number next.0)) }
+    ensures last { IfOk result (λ found. IfSome found (λ next. next.1 + 1 ≡ number + commits_in next.0)) }
+    ensures within { IfOk result (λ found. IfSome found (λ next. next.1 ≤ length (book_log book.now))) }
+    ensures none { IfOk result (λ found. IfNone found (entry_at (book_log book.now) number ≡ None)) }
+{
+    let passed = book.passed_over(slot, number - 1)?;
+    if let Some(last) = passed.last() {
+        let last = last.number();
+        return Ok(Some((Step::Skip(passed), last)));
+    }
+    let Some(commit) = book.shared(number)? else {
+        return Ok(None);
+    };
+    Ok(Some((Step::Entry(commit), number)))
+}
+
 impl<P: Publishing> Desk<P> {
-    ghost use Rattle.std.specs.Prelude.{◌≡◌, ◌+◌, ◌<◌, ◌≤◌, [], map, length, Some, IfOk, IfErr, IfSome, OnOk, OnErr};
+    ghost use Rattle.std.specs.Prelude.{◌≡◌, ◌+◌, ◌<◌, ◌≤◌, [], map, length, Some, IfOk, IfErr, IfSome, IfNone, OnOk, OnErr, None};
     ghost use Rattle.std.specs.Arc.{arc_value};
     ghost use Rattle.shard_checker.specs.CheckedView.{checked_view, setting_in};
     ghost use Rattle.table_changes.specs.Commands.{command_view};
@@ -173,12 +214,17 @@ impl<P: Publishing> Desk<P> {
         look_up(alloc, &self.book, table, key)
     }
 
-    /// What the sender of the slot does next, where it has told of all commits before this number; none where it waits.
-    /// A reply that is wanted goes before an end. Of a number that no log has it ends.
+    /// What the sender of the slot does next, where it has told of all commits before this number; none where it waits,
+    /// and then the log has no commit of this number. A reply that is wanted goes before an end. Of a number that no log
+    /// has it ends.
+    ///
+    /// It tells of the commit of this number where the slot's subscriber gets something of it. Otherwise it passes over
+    /// that commit and those after it, up to the first of which the subscriber gets something, and at most 64.
     pub(crate) fn step(&mut self, slot: usize, number: u64) -> Option<Step>
         ensures log { self.new ≡ self.old }
-        ensures entry { IfSome result (IsStepOf self.old number) }
-        ensures next { IfSome result (IsNext number) }
+        ensures entry { IfSome result (IsStepOf P.checked.plan slot self.old number) }
+        ensures next { IfSome result (IsNext P.checked.plan slot number) }
+        ensures waits { IfNone result (entry_at self.old number ≡ None) }
     {
         let Some(wish) = self.wishes.get(slot).copied() else {
             return Some(Step::Ended);
@@ -194,24 +240,24 @@ impl<P: Publishing> Desk<P> {
         if wish.has_ended {
             return Some(Step::Ended);
         }
-        let Ok(number) = u32::try_from(number) else {
+        let Some(number) = commit_number(number) else {
             return Some(Step::Ended);
         };
-        let Ok(found) = self.book.shared(number) else {
+        let Ok(found) = next_commits(&self.book, slot, number) else {
             return Some(Step::OutOfMemory);
         };
-        let Some(commit) = found else {
+        let Some((step, last)) = found else {
             if self.is_finished {
                 return Some(Step::Finished);
             }
             return None;
         };
         self.wishes[slot] = Wish {
-            sent: 64 * u64::from(number) + 64,
+            sent: 64 * u64::from(last) + 64,
             wants_reply: false,
             has_ended: false,
         };
-        Some(Step::Entry(commit))
+        Some(step)
     }
 
     /// The subscribers that get something of the commit of this number.
@@ -219,6 +265,23 @@ impl<P: Publishing> Desk<P> {
         ensures { OwnedWhere result (gets_some P.checked.plan (entry_at self.now number)) }
     {
         self.book.concerned(number)
+    }
+
+    /// The slots whose sender is to pass over commits before it waits further: at each multiple of `TOGETHER`, those that
+    /// are so many commits behind that of this number.
+    pub(crate) fn behind(&self, number: u32) -> OwnerSet {
+        let mut slots = OwnerSet::none();
+        if number % TOGETHER != 0 {
+            return slots;
+        }
+        let end = 64 * u64::from(number) + 64;
+        for (slot, wish) in self.wishes.iter().enumerate() {
+            if slot < 32 {
+                let commits = end.saturating_sub(wish.sent) / 64;
+                slots.put(slot, commits >= u64::from(TOGETHER));
+            }
+        }
+        slots
     }
 
     /// The slots whose sender has something to do beside commits.

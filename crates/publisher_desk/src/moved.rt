@@ -4,9 +4,6 @@ use row_owners::OwnerSet;
 use std::alloc::{AllocError, Global};
 use std::sync::Condvar;
 
-/// Every so many commits all senders are woken, so that none is further behind than that.
-const TOGETHER: u32 = 64;
-
 /// What the sender of each slot waits for, by the number of the slot: that it has something to do.
 #[derive(Drop)]
 pub(crate) struct Moved {
@@ -41,16 +38,6 @@ impl Moved {
     pub(crate) fn wake_all(&self) {
         for moved in self.slots.as_slice() {
             moved.notify_all();
-        }
-    }
-
-    /// Wakes the senders of these slots, whose subscribers get something of the commit of this number; all where it is
-    /// a multiple of `TOGETHER`.
-    pub(crate) fn wake_for(&self, number: u32, concerned: OwnerSet) {
-        if number % TOGETHER == 0 {
-            self.wake_all();
-        } else {
-            self.wake(concerned);
         }
     }
 }

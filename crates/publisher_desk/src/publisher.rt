@@ -123,8 +123,10 @@ impl<P: Publishing> Publisher<P> {
             Err(error) => return Err(error),
         };
         let concerned = desk.concerned(number);
+        let behind = desk.behind(number);
         drop(desk);
-        self.moved.wake_for(number, concerned);
+        self.moved.wake(concerned);
+        self.moved.wake(behind);
         *high = (*high).max(number);
         notes.push_reserved(Note::Committed(Receipt::new(number, commands, time)));
         Ok(number)
@@ -190,8 +192,11 @@ impl<P: Publishing> Publisher<P> {
     /// What the sender of the slot does next, where it has told of all commits before this number. It waits until there
     /// is something to do. A reply that is wanted goes before an end. Of a slot that isn't there, and of a number that
     /// no log has, it ends.
+    ///
+    /// It tells of the commit of this number where the slot's subscriber gets something of it. Otherwise it passes over
+    /// that commit and those after it, up to the first of which the subscriber gets something, and at most 64.
     pub fn next_step<R: Wait>(&self, rt: &R, slot: usize, number: u64) -> Step
-        ensures { IsNext number result }
+        ensures { IsNext P.checked.plan slot number result }
     {
         let Some(moved) = self.moved.of(slot) else {
             return Step::Ended;
@@ -208,7 +213,7 @@ impl<P: Publishing> Publisher<P> {
 
     /// What the sender of the slot does next, as `next_step` says, if there is something to do now.
     pub fn step_now<R: Wait>(&self, rt: &R, slot: usize, number: u64) -> Option<Step>
-        ensures { IfSome result (IsNext number) }
+        ensures { IfSome result (IsNext P.checked.plan slot number) }
     {
         self.desk.lock(rt).step(slot, number)
     }

@@ -31,7 +31,7 @@ fn given<P: Publishing, R: Wait>(
 ) -> Option<Arc<Commit, Global>> {
     match publisher.next_step(rt, 0, number) {
         Step::Entry(commit) => Some(commit),
-        Step::Reply | Step::Ended | Step::Finished | Step::OutOfMemory => None,
+        Step::Skip(_) | Step::Reply | Step::Ended | Step::Finished | Step::OutOfMemory => None,
     }
 }
 

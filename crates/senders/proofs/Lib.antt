@@ -10,6 +10,7 @@ pub mod RefusedLemmas
 pub mod ReplayLemmas
 pub mod SendingLemmas
 pub mod ServingLemmas
+pub mod SkippingLemmas
 pub mod SpeakingLemmas
 pub mod StreamingLemmas
 pub mod TakenLemmas

@@ -14,7 +14,7 @@ use Rattle.copy_both.specs.declared.voice.Voice.{Voice}
 use Rattle.copy_both.proofs.VoiceStreams.{voice_keeps, voice_stops, voice_takes}
 use Rattle.stream_laws.specs.LayoutRoom.{IsClocked}
 use Rattle.senders.specs.Flushing.{Flushes}
-use Rattle.senders.specs.Sending.{Breaks, Follows, GoesOn, IsQuiet, Spells, StopsAs, TellsAs, TellsOn}
+use Rattle.senders.specs.Sending.{Breaks, Follows, GoesOn, IsQuiet, Spells, StopsAs, TakesUp, TellsAs, TellsOn}
 use Rattle.senders.specs.declared.stop.Stop.{Stop}
 use Rattle.senders.specs.declared.stop.Stop.TheVariants as stop
 use Rattle.senders.proofs.FlushingLemmas.{tells_flushed}
@@ -254,3 +254,16 @@ module _ {X : Type 0} (view : X → CommitOf) (before middle after : Option (Lis
       → TellsOn before after (map view kept) new told
   tells_reply new clock want timed says =
       keeps_alive before after told (map view kept) between new clock want timed tells_kept says
+
+  pub tells_skips : (pushed commits : List X) (new : Voice) → TakesUp (map view commits) between new
+      → pushed ≡ kept ++ commits → TellsOn before after (map view pushed) new told
+  tells_skips pushed commits new skips more =
+      subst (λ (taken : List CommitOf). TellsOn before after taken new told)
+      (sym (ap (map view) more ∙ map-append view kept commits))
+      (skips before after (map view kept) told tells_kept)
+
+  pub breaks_unchanged : (left : List X) (new : Voice) → left ≡ kept → new ≡ between
+      → Breaks before after (map view left) new told
+  breaks_unchanged left new left_is new_is =
+      subst (λ (commits : List X). Breaks before after (map view commits) new told) (sym left_is)
+      (subst (λ (voice : Voice). Breaks before after (map view kept) voice told) (sym new_is) breaks_kept)

@@ -3,11 +3,13 @@ use Rattle.std.specs.Prelude.{◌≡◌, ℕ, List, [], ◌++◌, All, length, O
 use Rattle.std.specs.Io.KnownBytes.{Appends}
 use Rattle.shard_checker.specs.CheckedView.{CheckedOf}
 use Rattle.tables_log.specs.Commits.{CommitOf}
+use Rattle.tables_log.specs.Routes.{ArePassed}
 use Rattle.copy_both.specs.LinkLaws.{started_at}
 use Rattle.copy_both.specs.Streams.{stream}
 use Rattle.copy_both.specs.Tellings.{telling_of}
 use Rattle.copy_both.specs.VoiceLaws.{AreAt, Follow, Told, IsTelling, first_of, takes_in}
-use Rattle.copy_both.specs.Voices.{voice_output}
+use Rattle.copy_both.specs.Voices as voices
+use Rattle.copy_both.specs.Voices.{StageOf, voice_output}
 use Rattle.copy_both.specs.declared.voice.Voice.{Voice}
 use Rattle.stream_laws.specs.LayoutRoom.{IsClocked}
 use Rattle.senders.specs.declared.stop.Stop.{Stop}
@@ -47,6 +49,17 @@ pub record TellsOn (before after : Option (List ℕ)) (taken : List CommitOf) (v
   pub follows : Follows told now taken bytes
   pub clocks : All IsClocked now.moves
   pub tells : IsTelling voice now
+
+-- Whatever it told and took before, it has taken these commits up too, and has written nothing more.
+abbrev pub TakesUp : List CommitOf → Voice → Voice → Type 0
+TakesUp commits old new = (before after : Option (List ℕ)) (taken : List CommitOf) (told : Told)
+    → TellsOn before after taken old told → TellsOn before after (taken ++ commits) new told
+
+-- They are the next ones of a stream that runs, and its subscriber gets nothing of any.
+abbrev pub AreQuietFor : CheckedOf → StageOf → List CommitOf → Type 0
+AreQuietFor checked voices.NotStarted commits = Unit {0}
+AreQuietFor checked (voices.Started place) commits = ArePassed checked.plan place.slot place.done commits
+AreQuietFor checked voices.Closed commits = Unit {0}
 
 -- The voice goes on with what it told, and these bytes were written, which are all.
 pub record GoesOn (before after : Option (List ℕ)) (taken : List CommitOf) (voice : Voice) (told : Told) : Type 0 where

@@ -6,7 +6,7 @@ use crate::calls::{commit, put};
 use crate::checks::same;
 use crate::sharding::accepted;
 use crate::threads::WHOLE;
-use publisher_desk::{Publisher, Publishing, SlotUse, Step, Wish};
+use publisher_desk::{Publisher, Publishing, Seat, SlotUse, Step, Wish};
 use shard_checker::Checked;
 use std::alloc::Global;
 use std::marker::Brand;
@@ -29,10 +29,14 @@ impl SlotUse for Count {
     }
 }
 
-/// A code for a step: the number of its commit, or 1,000 and more for the others.
+/// A code for a step: the number of its commit, 2,000 and the number of commits that it passes over, or 1,000 and more
+/// for the others.
 fn code(step: Step) -> u32 {
     match step {
         Step::Entry(commit) => commit.number(),
+        Step::Skip(commits) => {
+            u32::try_from(commits.len()).map_or(0, |count| count.saturating_add(2_000))
+        }
         Step::Reply => 1_000,
         Step::Ended => 1_001,
         Step::Finished => 1_002,
@@ -84,5 +88,63 @@ fn a_sender_is_told_what_to_do(rt: HostRuntime) -> Result<(), Fail> {
     let checked = accepted(alloc, WHOLE, &["o 0"])?;
     let told = steps::<Brand, _>(&rt, alloc, Blank::new(1_000), checked)?;
     same(&rt, told, ((1, 1_002, 1_001), (1, 0), 1));
+    Ok(())
+}
+
+/// A table of numbered rows, of which one subscriber takes those below 100, and another the others.
+const HALVES: &str = "CREATE TABLE t (id integer PRIMARY KEY, word text);
+CREATE PUBLICATION pa FOR TABLE t WHERE (id < 100);
+CREATE PUBLICATION pb FOR TABLE t WHERE (id >= 100);
+CREATE SUBSCRIPTION s0 CONNECTION '' PUBLICATION pa;
+CREATE SUBSCRIPTION s1 CONNECTION '' PUBLICATION pb;";
+
+/// Makes 70 commits of a row of the first subscriber each, and then one of a row of the second.
+fn commit_halves<P: Publishing, R: Wait>(
+    rt: &R,
+    alloc: Global,
+    publisher: &Publisher<P>,
+    seat: &mut Seat<P>,
+) -> Result<(), Fail> {
+    for number in 0..71i64 {
+        let key = if number < 70 { number } else { 100 };
+        commit(rt, publisher, seat, vec![in alloc; put(alloc, key, "a")?]?)?;
+    }
+    Ok(())
+}
+
+/// The steps of the first subscriber's sender, at the first commit and at the last, and of the second's, which passes
+/// over the first 64 commits, and over the six after them.
+fn halves<P: Publishing, R: Wait>(
+    rt: &R,
+    alloc: Global,
+    blank: Blank,
+    checked: Arc<Checked, Global>,
+) -> Result<((u32, u32, u32), (u32, u32, u32)), Fail>
+    requires name { blank.name ≡ P.name }
+    requires parts { blank.parts ≡ P.parts }
+    requires seats { blank.parts ≡ 1000 }
+    requires checked { checked_view (arc_value checked) ≡ P.checked }
+    requires limit { 71 ≡ P.limit }
+{
+    let (publisher, mut seats) = Publisher::<P>::new(alloc, blank, checked, 71)?;
+    let Some(mut seat) = seats.seat() else {
+        return Err(Fail::from("no seat"));
+    };
+    commit_halves(rt, alloc, &publisher, &mut seat)?;
+    let first = code(publisher.next_step(rt, 0, 1));
+    let last = code(publisher.next_step(rt, 0, 71));
+    let later = code_now(publisher.step_now(rt, 0, 72));
+    let many = code(publisher.next_step(rt, 1, 1));
+    let few = code(publisher.next_step(rt, 1, 65));
+    let own = code(publisher.next_step(rt, 1, 71));
+    Ok(((first, last, later), (many, few, own)))
+}
+
+#[test]
+fn a_sender_passes_over_what_others_get(rt: HostRuntime) -> Result<(), Fail> {
+    let alloc = rt.alloc();
+    let checked = accepted(alloc, HALVES, &["s 0 s 1 e 0 o 0 n 1 s 1 o 1 e 0 n 1 n 0"])?;
+    let told = halves::<Brand, _>(&rt, alloc, Blank::new(1_000), checked)?;
+    same(&rt, told, ((1, 2_001, 0), (2_064, 2_006, 71)));
     Ok(())
 }

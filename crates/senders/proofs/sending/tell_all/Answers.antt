@@ -1,13 +1,15 @@
-use Rattle.std.proofs.Common.{List, map, ap, subst, sym}
+use Rattle.std.proofs.Common.{List, map, ap, subst, sym, ◌∙◌}
 use Rattle.std.specs.Prelude.{false}
 use Rattle.std.proofs.lemmas.List.Elements.{All-nil}
 use Rattle.stream_laws.specs.LayoutRoom.{IsClocked}
 use Rattle.tables_log.specs.Commits.{CommitOf}
 use Rattle.std.specs.Arc.{arc_value}
+use Rattle.copy_both.specs.Voices.{next_of}
 use Rattle.copy_frames.specs.Contents.{copy_both_response}
 use Rattle.publisher_desk.specs.Lending.{IsNext}
 use Rattle.senders.specs.Sending.{TellsOn, started_telling}
-use Rattle.senders.proofs.SendingLemmas.{breaks_at, breaks_kept, on_err, on_ok, tells_entry, tells_first, tells_kept, tells_reply}
+use Rattle.senders.proofs.SendingLemmas.{breaks_at, breaks_kept, breaks_unchanged, on_err, on_ok, tells_entry, tells_first, tells_kept, tells_reply, tells_skips}
+use Rattle.senders.proofs.SkippingLemmas.{next_are_quiet}
 use Rattle.senders.proofs.sending.tell_all.Goals as goal
 
 pub loop-init : goal.loop-init
@@ -29,7 +31,8 @@ loop-preserved-in-Sent g c =
     c.await_step.new.voice c.loop.invariant c.await_step.ensures.flushes c.reserve.ensures.items
     c.push_reserved.new.self.items c.in-Entry.commit c.deref.result.now c.take_entry.new.self
     c.next-in-loop.result c.in-Some-next.number c.clock.result c.clock.ensures c.next-in-loop.ensures
-    c.in-Some-next.is (subst (IsNext c.in-Some-next.number) c.in-Entry.is c.in-Ok.ensures.next) c.deref.ensures
+    c.in-Some-next.is (subst (IsNext g.P.Publishing.checked.plan c.args.started.0 c.in-Some-next.number) c.in-Entry.is
+    c.in-Ok.ensures.next).0 c.deref.ensures
     c.in-Ok-take_entry.ensures.ok c.push_reserved.ensures.items
 
 pub loop-preserved-in_default-told : goal.loop-preserved-in_default-told
@@ -41,8 +44,45 @@ loop-preserved-in_default-told g c =
     c.await_step.new.voice c.loop.invariant c.await_step.ensures.flushes c.reserve.ensures.items
     c.push_reserved.new.self.items c.in-Entry.commit c.deref.result.now c.take_entry.new.self
     c.next-in-loop.result c.in-Some-next.number c.clock.result c.clock.ensures c.next-in-loop.ensures
-    c.in-Some-next.is (subst (IsNext c.in-Some-next.number) c.in-Entry.is c.in-Ok.ensures.next) c.deref.ensures
+    c.in-Some-next.is (subst (IsNext g.P.Publishing.checked.plan c.args.started.0 c.in-Some-next.number) c.in-Entry.is
+    c.in-Ok.ensures.next).0 c.deref.ensures
     c.in-Ok-take_entry.ensures.ok c.push_reserved.ensures.items
+
+-- commits that are passed over are the next ones, and the subscriber gets nothing of any
+pub pass_over-requires : goal.pass_over-requires
+pass_over-requires g c =
+    let taken = g.W.Sink.taken in
+    let told = started_telling g.P.Publishing.checked c.args.started.0 c.args.started.1 copy_both_response in
+    next_are_quiet (taken c.args.writer.now) (taken c.await_step.new.writer)
+    (map (λ commit. arc_value commit) c.reserve.new.self.items)
+    (map (λ commit. arc_value commit) c.in-Skip.commits.items) c.await_step.new.voice g.P.Publishing.checked
+    c.args.started.0 c.args.started.1 c.in-Some-next.number copy_both_response
+    (tells_kept (λ commit. arc_value commit) (taken c.args.writer.now) (taken c.loop.writer)
+    (taken c.await_step.new.writer) told c.loop.taken.items c.reserve.new.self.items c.loop.voice
+    c.await_step.new.voice c.loop.invariant c.await_step.ensures.flushes c.reserve.ensures.items)
+    (ap next_of c.await_step.ensures.flushes.stage_is ∙ sym c.next-in-loop.ensures ∙ c.in-Some-next.is)
+    (subst (IsNext g.P.Publishing.checked.plan c.args.started.0 c.in-Some-next.number) c.in-Skip.is
+    c.in-Ok.ensures.next)
+
+pub loop-preserved-in-Skip : goal.loop-preserved-in-Skip
+loop-preserved-in-Skip g c =
+    let taken = g.W.Sink.taken in
+    let told = started_telling g.P.Publishing.checked c.args.started.0 c.args.started.1 copy_both_response in
+    tells_skips (λ commit. arc_value commit) (taken c.args.writer.now) (taken c.loop.writer)
+    (taken c.await_step.new.writer) told c.loop.taken.items c.reserve.new.self.items c.loop.voice
+    c.await_step.new.voice c.loop.invariant c.await_step.ensures.flushes c.reserve.ensures.items
+    c.pass_over.new.taken.items c.in-Skip.commits.items c.pass_over.new.voice c.in-Ok-pass_over.ensures.ok
+    c.in-Ok-pass_over.ensures.taken
+
+pub returns-in_default-pass_over-clause-tells : goal.returns-in_default-pass_over-clause-tells
+returns-in_default-pass_over-clause-tells g c =
+    let taken = g.W.Sink.taken in
+    let told = started_telling g.P.Publishing.checked c.args.started.0 c.args.started.1 copy_both_response in
+    breaks_unchanged (λ commit. arc_value commit) (taken c.args.writer.now) (taken c.loop.writer)
+    (taken c.await_step.new.writer) told c.loop.taken.items c.reserve.new.self.items c.loop.voice
+    c.await_step.new.voice c.loop.invariant c.await_step.ensures.flushes c.reserve.ensures.items
+    c.pass_over.new.taken.items c.pass_over.new.voice c.in_default-pass_over.ensures.kept
+    c.in_default-pass_over.ensures.err
 
 pub loop-preserved : goal.loop-preserved
 loop-preserved g c =
