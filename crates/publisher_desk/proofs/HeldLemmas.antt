@@ -1,6 +1,6 @@
 -- What is so of a publisher's book stays so, and what it makes of answers.
 use Rattle.std.proofs.Common.{◌≡◌, ℕ, ◌+◌, ◌≤◌, List, [], ◌∷◌, ◌++◌, length, sym, ◌∙◌, ap, subst, arith, length-append, refl}
-use Rattle.std.specs.Prelude.{All, Option, Result, Ok, Err, IfOk, IfErr, OnOk, OnErr, replicate}
+use Rattle.std.specs.Prelude.{All, Option, replicate, true}
 use Rattle.std.proofs.lemmas.List.{length-replicate}
 use Rattle.std.proofs.lemmas.List.Elements.{All-replicate}
 use Rattle.filter_tree.specs.Datum.{Datum}
@@ -24,6 +24,10 @@ use Rattle.tables_log.specs.declared.slots.Slot.{Slot}
 use Rattle.tables_log.proofs.StandLemmas.{new_stands, each_is_logged, commits_add_one, slots_keep_it}
 use Rattle.publisher_desk.specs.Answers.{IsMade, IsFound, IsRefused}
 use Rattle.publisher_desk.specs.Held.{IsLogOf, AddsEntry, IsBookOf, IsHeldFor}
+use Rattle.publisher_desk.specs.Logged.{IsHistoryOf}
+use Rattle.publisher_desk.specs.Receipts.{transactions_of}
+use Rattle.publisher_desk.specs.Sights.{view_of}
+use Rattle.publisher_desk.specs.declared.sight.View.{View}
 use Rattle.publisher_desk.specs.declared.wish.Wish.{Wish}
 
 sent_longer : (wishes : List Wish) (commits more : ℕ) → commits ≤ more
@@ -40,29 +44,32 @@ log_of checked book transactions named stands =
     (record { accepted = stands.accepted; entries = stands.log })
 
 pub new_held : (one checked : CheckedOf) (book : Book) (limit most total count : ℕ) (idle : Wish) (wishes : List Wish)
-    → IsNew book one limit → one ≡ checked → limit ≡ most → total ≡ 0
+    (history : View) → IsNew book one limit → one ≡ checked → limit ≡ most → total ≡ 0
     → idle.sent ≡ 0 → wishes ≡ replicate count idle → count ≡ length checked.catalog.subscriptions
-    → IsHeldFor checked most book total wishes
-new_held one checked book limit most total count idle wishes new same bound none unsent all long = record {
-  is = record {
-    named = new.checked_is ∙ same;
-    limited = new.limit_is ∙ bound;
-    transactions = [];
-    stands =
-        new_stands book one limit new;
-  };
-  counted = ap length new.log ∙ sym none;
-  slots = ap length all ∙ length-replicate count idle ∙ long;
-  sent = subst (All (λ (wish : Wish). wish.sent ≤ end_after (length (book_log book)))) (sym all)
-      (All-replicate (λ (wish : Wish). wish.sent ≤ end_after (length (book_log book))) count idle
-      (omega (arith, unsent)));
-}
+    → history ≡ view_of true [] [] → IsHeldFor checked most book total wishes history
+new_held one checked book limit most total count idle wishes history new same bound none unsent all long empty =
+    let stands : StandsFor book [] = new_stands book one limit new in
+    record {
+      is = record {
+        named = new.checked_is ∙ same;
+        limited = new.limit_is ∙ bound;
+        transactions = [];
+        stands = stands;
+      };
+      counted = ap length new.log ∙ sym none;
+      slots = ap length all ∙ length-replicate count idle ∙ long;
+      sent = subst (All (λ (wish : Wish). wish.sent ≤ end_after (length (book_log book)))) (sym all)
+          (All-replicate (λ (wish : Wish). wish.sent ≤ end_after (length (book_log book))) count idle
+          (omega (arith, unsent)));
+      told = subst (IsHistoryOf book) (sym empty) (record { stands = stands; idle = refl });
+    }
 
-commit_held : (checked : CheckedOf) (limit : ℕ) (old new : Book) (commands : List Command)
-    (time number total more : ℕ) (wishes : List Wish) → Commits old new commands time number → more ≡ total + 1
-    → IsHeldFor checked limit old total wishes → IsHeldFor checked limit new more wishes
-commit_held checked limit old new commands time number total more wishes commits one held =
-    let longer : length (book_log new) ≡ length (book_log old) + 1 = ap length commits.log
+pub commit_held : (checked : CheckedOf) (limit : ℕ) (old new : Book) (commands : List Command)
+    (time number total more : ℕ) (wishes : List Wish) (history longer : View) → Commits old new commands time number
+    → more ≡ total + 1 → IsHistoryOf new longer
+    → IsHeldFor checked limit old total wishes history → IsHeldFor checked limit new more wishes longer
+commit_held checked limit old new commands time number total more wishes history longer commits one told held =
+    let count : length (book_log new) ≡ length (book_log old) + 1 = ap length commits.log
     ∙ length-append (book_log old) _ in
     record {
       is = record {
@@ -71,15 +78,16 @@ commit_held checked limit old new commands time number total more wishes commits
         transactions = held.is.transactions ++ record { commands = commands; time = time } ∷ [];
         stands = commits_add_one old new commands time number commits held.is.transactions held.is.stands;
       };
-      counted = omega (arith, longer, held.counted, one);
+      counted = omega (arith, count, held.counted, one);
       slots = held.slots;
-      sent = sent_longer wishes (length (book_log old)) (length (book_log new)) (omega (arith, longer)) held.sent;
+      sent = sent_longer wishes (length (book_log old)) (length (book_log new)) (omega (arith, count)) held.sent;
+      told = told;
     }
 
 slots_held : (checked : CheckedOf) (limit : ℕ) (old new : Book) (slots : List Slot) (total : ℕ) (wishes : List Wish)
-    → ChangesSlots old new slots
-    → IsHeldFor checked limit old total wishes → IsHeldFor checked limit new total wishes
-slots_held checked limit old new slots total wishes changes held = record {
+    (history : View) → ChangesSlots old new slots
+    → IsHeldFor checked limit old total wishes history → IsHeldFor checked limit new total wishes history
+slots_held checked limit old new slots total wishes history changes held = record {
   is = record {
     named = changes.checked ∙ held.is.named;
     limited = changes.limit ∙ held.is.limited;
@@ -89,18 +97,18 @@ slots_held checked limit old new slots total wishes changes held = record {
   counted = ap length changes.log ∙ held.counted;
   slots = held.slots;
   sent = subst (λ log. All (λ (wish : Wish). wish.sent ≤ end_after (length log)) wishes) (sym changes.log) held.sent;
+  told = record {
+    stands = slots_keep_it old new slots changes (transactions_of history.all) held.told.stands;
+    idle = held.told.idle;
+  };
 }
 
-pub made_held : (checked : CheckedOf) (limit : ℕ) (old new : Book) (commands : List Command) (time total more : ℕ)
-    (wishes : List Wish) (result : Result ℕ CommitError)
-    → IfOk result (λ number. Commits old new commands time number) → OnErr result (IsKept old new)
-    → OnOk result (more ≡ total + 1) → OnErr result (more ≡ total)
-    → IsHeldFor checked limit old total wishes → IsHeldFor checked limit new more wishes
-made_held checked limit old new commands time total more wishes (Ok number) commits kept one same held =
-    commit_held checked limit old new commands time number total more wishes commits one held
-made_held checked limit old new commands time total more wishes (Err error) commits kept one same held =
-    subst (λ (n : ℕ). IsHeldFor checked limit new n wishes) (sym same)
-    (slots_held checked limit old new (book_slots old) total wishes kept held)
+pub kept_held : (checked : CheckedOf) (limit : ℕ) (old new : Book) (total more : ℕ) (wishes : List Wish)
+    (history : View) → IsKept old new → more ≡ total → IsHeldFor checked limit old total wishes history
+    → IsHeldFor checked limit new more wishes history
+kept_held checked limit old new total more wishes history kept same held =
+    subst (λ (n : ℕ). IsHeldFor checked limit new n wishes history) (sym same)
+    (slots_held checked limit old new (book_slots old) total wishes history kept held)
 
 -- ---- answers
 
@@ -128,19 +136,23 @@ module _ (checked : CheckedOf) (limit : ℕ) (old : Book) (is : IsBookOf checked
         accepted = (adds_entry new commands time number commits).now.accepted;
       }
 
-  pub commits_add : (new : Book) (commands : List Command) (time : ℕ) (result : Result ℕ CommitError)
-      → IfOk result (λ number. Commits old new commands time number)
-      → IfOk result (AddsEntry checked (book_log old) (book_log new) commands time)
-  commits_add new commands time (Ok number) commits = adds_entry new commands time number commits
-  commits_add new commands time (Err error) commits = tt
+  pub adds_as : (new : Book) (commands told : List Command) (time number own : ℕ) (seen : List CommitOf)
+      → Commits old new commands time number → book_log old ≡ seen → commands ≡ told → number ≡ own
+      → AddsEntry checked seen (book_log new) told time own
+  adds_as new commands told time number own seen commits seen_is told_is own_is =
+      subst (λ (n : ℕ). AddsEntry checked seen (book_log new) told time n) own_is
+      (subst (λ (list : List Command). AddsEntry checked seen (book_log new) list time number) told_is
+      (subst (λ (log : List CommitOf). AddsEntry checked log (book_log new) commands time number) seen_is
+      (adds_entry new commands time number commits)))
 
-  pub commits_make : (new : Book) (commands : List Command) (time : ℕ) (result : Result ℕ CommitError)
-      → IfOk result (λ number. Commits old new commands time number)
-      → IfOk result (IsMade checked limit commands time)
-  commits_make new commands time (Ok number) commits = is_made new commands time number commits
-  commits_make new commands time (Err error) commits = tt
+  pub made_as : (new : Book) (commands told : List Command) (time number own : ℕ)
+      → Commits old new commands time number → commands ≡ told → number ≡ own → IsMade checked limit told time own
+  made_as new commands told time number own commits told_is own_is =
+      subst (λ (n : ℕ). IsMade checked limit told time n) own_is
+      (subst (λ (list : List Command). IsMade checked limit list time number) told_is
+      (is_made new commands time number commits))
 
-  is_found : (table number : ℕ) (key : List Datum) (answer : Option (List Datum)) → number ≡ length (book_log old)
+  pub is_found : (table number : ℕ) (key : List Datum) (answer : Option (List Datum)) → number ≡ length (book_log old)
       → answer ≡ book_rows old table 0 key
       → IsFound checked table key number answer
   is_found table number key answer number_is answer_is =
@@ -152,13 +164,6 @@ module _ (checked : CheckedOf) (limit : ℕ) (old : Book) (is : IsBookOf checked
         answer_is = answer_is ∙ is.stands.rows table 0 key
             ∙ ap (λ (one : CheckedOf). after (setting_in one) is.transactions table 0 key) is.named;
       }
-
-  pub looks_up : {E : Type 0} (table : ℕ) (key : List Datum) (result : Result (ℕ × Option (List Datum)) E)
-      → IfOk result (λ found. found.0 ≡ length (book_log old))
-      → IfOk result (λ found. found.1 ≡ book_rows old table 0 key)
-      → IfOk result (λ found. IsFound checked table key found.0 found.1)
-  looks_up table key (Ok found) number_is answer_is = is_found table found.0 key found.1 number_is answer_is
-  looks_up table key (Err error) number_is answer_is = tt
 
   refused_in : (commands : List Command) (error : CommitError) → RefusedBy old commands error
       → IsRefused (book_checked old) (book_limit old) commands error
@@ -183,17 +188,12 @@ module _ (checked : CheckedOf) (limit : ℕ) (old : Book) (is : IsBookOf checked
       }
   refused_in commands e.OutOfMemory refused = tt
 
-  is_refused : (commands : List Command) (error : CommitError) → RefusedBy old commands error
+  pub is_refused : (commands : List Command) (error : CommitError) → RefusedBy old commands error
       → IsRefused checked limit commands error
   is_refused commands error refused =
       subst (λ (n : ℕ). IsRefused checked n commands error) is.limited
       (subst (λ (one : CheckedOf). IsRefused one (book_limit old) commands error) is.named
       (refused_in commands error refused))
-
-  pub commits_refuse : (commands : List Command) (result : Result ℕ CommitError)
-      → IfErr result (RefusedBy old commands) → IfErr result (IsRefused checked limit commands)
-  commits_refuse commands (Ok number) refused = tt
-  commits_refuse commands (Err error) refused = is_refused commands error refused
 
 -- for users of a lent book: whatever is said of its slots, they are those that it has
 pub slots_left : (old new : Book) (slots : List Slot) → ChangesSlots old new slots

@@ -1,6 +1,5 @@
 -- What a book refuses, whatever rows there are.
-use Rattle.std.proofs.Common.{◌≡◌, ℕ, List, refl, subst}
-use Rattle.std.specs.Prelude.{IfErr, Result, Ok, Err}
+use Rattle.std.proofs.Common.{◌≡◌, List, refl, subst}
 use Rattle.shard_checker.specs.CheckedView.{CheckedOf, setting_in}
 use Rattle.table_changes.specs.Commands.{Command, NoTable, Unfit}
 use Rattle.table_changes.proofs.AlwaysLemmas.{faults_of_commands_stay}
@@ -25,16 +24,9 @@ has_fault_in book commands (e.At number f.NoSuchRow) refused = tt
 has_fault_in book commands (e.At number f.DuplicateKey) refused = tt
 has_fault_in book commands e.OutOfMemory refused = tt
 
-has_fault : (checked : CheckedOf) (book : Book) (commands : List Command) (error : CommitError)
+pub has_fault : (checked : CheckedOf) (book : Book) (commands : List Command) (error : CommitError)
     → book_checked book ≡ checked → RefusedBy book commands error
     → HasFault (setting_in checked) commands error
 has_fault checked book commands error named refused =
     subst (λ (one : CheckedOf). HasFault (setting_in one) commands error) named
     (has_fault_in book commands error refused)
-
-pub commits_have_faults : (checked : CheckedOf) (book : Book) (commands : List Command) → book_checked book ≡ checked
-    → (result : Result ℕ CommitError) → IfErr result (RefusedBy book commands)
-    → IfErr result (HasFault (setting_in checked) commands)
-commits_have_faults checked book commands named (Ok number) refused = tt
-commits_have_faults checked book commands named (Err error) refused =
-    has_fault checked book commands error named refused

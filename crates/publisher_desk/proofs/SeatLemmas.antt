@@ -1,14 +1,11 @@
 -- What a seat keeps as a note is added.
-use Rattle.std.proofs.Common.{◌≡◌, ◌≢◌, ℕ, zero, suc, ◌+◌, ◌<◌, ◌≤◌, ◌^◌, max, List, [], ◌∷◌, ◌++◌, length, refl, sym, ◌∙◌, ap, subst, arith, ltb}
+use Rattle.std.proofs.Common.{◌≡◌, ◌≢◌, ℕ, zero, suc, ◌+◌, ◌<◌, ◌≤◌, ◌^◌, max, List, [], ◌∷◌, ◌++◌, length, sym, ◌∙◌, ap, subst, arith}
 use Rattle.std.specs.Prelude.{Some, ◌==◌, slice_get}
-use Rattle.std.proofs.lemmas.Bool.{ltb-true, ltb-false}
 use Rattle.std.proofs.lemmas.List.Elements.{All-nil, All-push}
 use Rattle.std.proofs.lemmas.Option.{slice_get_within}
 use Rattle.table_changes.proofs.TableLemmas.{some_is}
 use Rattle.tables_log.proofs.PlaceLemmas.{number_is, number_apart, get_front, get_last}
-use Rattle.shard_checker.specs.CheckedView.{CheckedOf}
-use Rattle.publisher_desk.specs.Refusals.{IsReached}
-use Rattle.publisher_desk.specs.Seats.{number_of, receipts, highest, AreTimed, HasLater, HasTime, AreUpTo, IsForward, IsSeat}
+use Rattle.publisher_desk.specs.Seats.{number_of, receipts, highest, AreTimed, HasTime, AreUpTo, IsForward, IsSeat}
 use Rattle.publisher_desk.specs.declared.note.Note.{Note}
 use Rattle.publisher_desk.specs.declared.note.Note.TheVariants.{Committed, Looked}
 use Rattle.publisher_desk.specs.declared.note.Reading.{Reading}
@@ -33,40 +30,8 @@ up_to_highest (first ∷ notes) zero note at = let same : first ≡ note = some_
 up_to_highest (first ∷ notes) (suc place) note at = let later = up_to_highest notes place note at in
     omega (arith, later)
 
-later_of : (notes : List Note) (number : ℕ) → number < highest notes → HasLater notes number
-later_of [] number low = absurd (omega arith)
-later_of (first ∷ notes) number low = by_test (ltb number (number_of first))
-    (λ here. record { place = 0; note = first; at = refl; later = ltb-true number (number_of first) here })
-    (λ beside.
-    let rest : HasLater notes number =
-    later_of notes number (omega (arith, ltb-false number (number_of first) beside)) in
-    record { place = suc rest.place; note = rest.note; at = rest.at; later = rest.later })
-
-later_found : (notes seen : List Note) (high number : ℕ) → notes ≡ seen → high ≡ highest notes → number < high
-    → HasLater seen number
-later_found notes seen high number same high_is low =
-    subst (λ (list : List Note). HasLater list number) same (later_of notes number (omega (arith, high_is)))
-
 up_to_number : (notes : List Note) (high number : ℕ) → high ≡ highest notes → high ≤ number → AreUpTo number notes
 up_to_number notes high number is low place note at = let one = up_to_highest notes place note at in omega (arith, one)
-
--- the ledger counts its receipts
-pub receipts_seen : (notes seen : List Note) (amount count : ℕ) → notes ≡ seen → amount ≡ receipts notes
-    → amount ≤ count → receipts seen ≤ count
-receipts_seen notes seen amount count same is low = let receipts_are : receipts notes ≡ receipts seen =
-    ap receipts same in omega (arith, is, low, receipts_are)
-
--- a later note than those of the log
-pub behind : (notes seen : List Note) (high number amount tables table : ℕ) (checked : CheckedOf) → notes ≡ seen
-    → high ≡ highest notes → amount ≡ receipts notes → number < high → amount ≤ number → table < tables
-    → IsReached checked number
-    → HasLater seen number × (receipts seen ≤ number) × (table < tables) × IsReached checked number
-behind notes seen high number amount tables table checked same high_is counted low bound there reached = (
-  later_found notes seen high number same high_is low,
-  receipts_seen notes seen amount number same counted bound,
-  there,
-  reached,
-)
 
 pub up_to_seen : (notes seen : List Note) (high number : ℕ) → notes ≡ seen → high ≡ highest notes → high ≤ number
     → AreUpTo number seen
@@ -125,6 +90,13 @@ reading_kept notes reading high last parts more amount count last_is low same st
       (λ other same. let number : reading.number ≡ other.number = ap number_of same in
       up_to_number notes high other.number seat.high_is (omega (arith, number))) seat.forward;
 }
+
+pub seat_stays : (notes roomy : List Note) (high parts more amount count : ℕ) → roomy ≡ notes → more ≡ parts
+    → count ≡ amount → IsSeat notes high parts amount → IsSeat roomy high more count
+seat_stays notes roomy high parts more amount count same more_is count_is seat =
+    subst (λ (list : List Note). IsSeat list high more count) (sym same)
+    (subst (λ (n : ℕ). IsSeat notes high n count) (sym more_is)
+    (subst (λ (n : ℕ). IsSeat notes high parts n) (sym count_is) seat))
 
 -- ---- notes that were pushed onto a list with room
 

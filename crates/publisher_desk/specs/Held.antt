@@ -9,6 +9,8 @@ use Rattle.tables_log.specs.Commits.{CommitOf}
 use Rattle.tables_log.specs.Slots.{end_after}
 use Rattle.tables_log.specs.StandsFor.{Transaction, AreAccepted, StandsFor, entries_from}
 use Rattle.tables_log.specs.declared.book.Book.{Book}
+use Rattle.publisher_desk.specs.Logged.{IsHistoryOf}
+use Rattle.publisher_desk.specs.declared.sight.View.{View}
 use Rattle.publisher_desk.specs.declared.wish.Wish.{Wish}
 
 -- No client was sent the log past this position.
@@ -36,9 +38,12 @@ pub record IsBookOf (checked : CheckedOf) (limit : ℕ) (book : Book) : Type 0 w
   pub transactions : List Transaction
   pub stands : StandsFor book transactions
 
--- So is the book; the total is the number of its commits, and no slot's client was sent the log past its end.
-pub record IsHeldFor (checked : CheckedOf) (limit : ℕ) (book : Book) (total : ℕ) (wishes : List Wish) : Type 0 where
+-- So is the book; the total is the number of its commits, no slot's client was sent the log past its end, and the
+-- history tells its transactions.
+pub record IsHeldFor (checked : CheckedOf) (limit : ℕ) (book : Book) (total : ℕ) (wishes : List Wish)
+    (history : View) : Type 0 where
   pub is : IsBookOf checked limit book
   pub counted : length (book_log book) ≡ total
   pub slots : length wishes ≡ length checked.catalog.subscriptions
   pub sent : AreSentUpTo (end_after (length (book_log book))) wishes
+  pub told : IsHistoryOf book history

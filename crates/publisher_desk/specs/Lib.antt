@@ -2,7 +2,10 @@ pub mod Answers
 pub mod Counting
 pub mod Held
 pub mod Lending
+pub mod Logged
+pub mod Naming
 pub mod Nothing
 pub mod Receipts
 pub mod Refusals
 pub mod Seats
+pub mod Sights

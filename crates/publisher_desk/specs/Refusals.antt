@@ -1,18 +1,14 @@
 -- What refusals say of what was handed in, whatever rows there are: PostgreSQL 15, 3.4. Transactions, and Chapter 6
 -- Data Manipulation.
 use Rattle.std.specs.Prelude.{◌≡◌, ℕ, ◌<◌, ◌≤◌, List, [], length}
-use Rattle.shard_checker.specs.CheckedView.{CheckedOf, setting_in}
+use Rattle.shard_checker.specs.CheckedView.{CheckedOf}
 use Rattle.table_changes.specs.Always.{HasAlways}
 use Rattle.table_changes.specs.Commands.{Command}
 use Rattle.table_changes.specs.Commands as c
 use Rattle.table_changes.specs.Setting.{Setting}
-use Rattle.table_changes.specs.Tables.{no_rows}
-use Rattle.tables_log.specs.StandsFor.{Transaction, AreAccepted}
 use Rattle.tables_log.specs.declared.error.CommandFault.TheVariants as f
 use Rattle.tables_log.specs.declared.error.CommitError.{CommitError}
 use Rattle.tables_log.specs.declared.error.CommitError.TheVariants as e
-use Rattle.publisher_desk.specs.Seats.{HasLater, receipts}
-use Rattle.publisher_desk.specs.declared.note.Note.{Note}
 use Rattle.publisher_desk.specs.declared.read_fault.ReadFault.{ReadFault}
 use Rattle.publisher_desk.specs.declared.read_fault.ReadFault.TheVariants as r
 
@@ -28,16 +24,7 @@ HasFault setting commands (e.At number f.DuplicateKey) = Unit {0}
 HasFault setting commands e.LogFull = Unit {0}
 HasFault setting commands e.OutOfMemory = Unit {0}
 
--- A log has this number of commits: so many transactions were accepted, one after another.
-pub record IsReached (checked : CheckedOf) (number : ℕ) : Type 0 where
-  pub transactions : List Transaction
-  pub number_is : number ≡ length transactions
-  pub accepted : AreAccepted (setting_in checked) no_rows transactions
-
--- why a row isn't read: the log has so many commits, no fewer than the seat has receipts, and a note of the seat has a
--- greater number; or there is no such table
-abbrev pub HasReadFault : CheckedOf → List Note → ℕ → ReadFault → Type 0
-HasReadFault checked notes table (r.Behind number) = HasLater notes number × (receipts notes ≤ number)
-    × (table < length checked.catalog.tables) × IsReached checked number
-HasReadFault checked notes table r.NoTable = length checked.catalog.tables ≤ table
-HasReadFault checked notes table r.OutOfMemory = table < length checked.catalog.tables
+-- why a row isn't read: there is no such table
+abbrev pub HasReadFault : CheckedOf → ℕ → ReadFault → Type 0
+HasReadFault checked table r.NoTable = length checked.catalog.tables ≤ table
+HasReadFault checked table r.OutOfMemory = table < length checked.catalog.tables

@@ -20,13 +20,6 @@ abbrev pub highest : List Note → ℕ
 highest [] = 0
 highest (note ∷ notes) = max (number_of note) (highest notes)
 
--- One of them is of a later number.
-pub record HasLater (notes : List Note) (number : ℕ) : Type 0 where
-  pub place : ℕ
-  pub note : Note
-  pub at : slice_get notes place ≡ Some note
-  pub later : number < number_of note
-
 -- Each of them is of this number or an earlier one.
 abbrev pub AreUpTo : ℕ → List Note → Type 0
 AreUpTo number notes = (place : ℕ) (note : Note) → slice_get notes place ≡ Some note → number_of note ≤ number

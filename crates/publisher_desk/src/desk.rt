@@ -8,8 +8,10 @@ ghost use Rattle.tables_log.specs.Logs.{entry_at};
 ghost use Rattle.publisher_desk.specs.Lending.{IsNext, IsStepOf, commits_in};
 
 use crate::auditing::audit_all;
+use crate::history::{History, Token};
 use crate::naming::Publishing;
 use crate::note::copy_found;
+use crate::receipt::Receipt;
 use crate::seat::Seat;
 use crate::slot_use::SlotUse;
 use crate::step::Step;
@@ -27,14 +29,15 @@ use tables_log::{Book, CommitError};
 /// Every so many commits a sender that is as many behind is woken, so that none waits twice as many behind.
 const TOGETHER: u32 = 32;
 
-/// The book, the ledger's total of its commits, what is wanted of each slot's connection, and whether no further commit
-/// comes. Contracts see the log.
+/// The book, the ledger's total of its commits, what is wanted of each slot's connection, whether no further commit comes,
+/// and the history, which tells the book's transactions. Contracts see the log.
 #[derive(Drop)]
 pub(crate) struct Desk<P: Publishing> {
     book: Book,
     counted: ledger::Book<P>,
     wishes: Vec<Wish>,
     is_finished: bool,
+    history: History<P>,
 }
 
 impl<P: Publishing> Model for Desk<P> {
@@ -47,7 +50,7 @@ impl<P: Publishing> Model for Desk<P> {
 
     ghost view = { λ d. book_log d.book };
 
-    ghost invariant = { λ d. IsHeldFor P.checked P.limit d.book d.counted.total d.wishes.items };
+    ghost invariant = { λ d. IsHeldFor P.checked P.limit d.book d.counted.total d.wishes.items d.history };
 }
 
 /// Makes the commands one commit of the book, and counts it in the ledger.
@@ -130,7 +133,7 @@ fn next_commits(book: &Book, slot: usize, number: u32) -> Result<Option<(Step, u
 }
 
 impl<P: Publishing> Desk<P> {
-    ghost use Rattle.std.specs.Prelude.{◌≡◌, ◌+◌, ◌<◌, ◌≤◌, [], map, length, Some, IfOk, IfErr, IfSome, IfNone, OnOk, OnErr, None};
+    ghost use Rattle.std.specs.Prelude.{◌≡◌, ◌+◌, ◌<◌, ◌≤◌, [], map, length, true, Some, IfOk, IfErr, IfSome, IfNone, OnOk, OnErr, None};
     ghost use Rattle.std.specs.Arc.{arc_value};
     ghost use Rattle.shard_checker.specs.CheckedView.{checked_view, setting_in};
     ghost use Rattle.table_changes.specs.Commands.{command_view};
@@ -142,7 +145,10 @@ impl<P: Publishing> Desk<P> {
     ghost use Rattle.publisher_desk.specs.Answers.{IsFound, IsMade, IsRefused};
     ghost use Rattle.publisher_desk.specs.Held.{AddsEntry, IsBookOf};
     ghost use Rattle.publisher_desk.specs.Lending.{IsLent, IsStepOf, IsNext};
+    ghost use Rattle.publisher_desk.specs.Logged.{IsLogOfSeats, Looks, Records};
+    ghost use Rattle.publisher_desk.specs.Receipts.{receipt_of};
     ghost use Rattle.publisher_desk.specs.Refusals.{HasFault};
+    ghost use Rattle.publisher_desk.specs.Sights.{sight_of, view_of};
 
     /// A book without commits, of which nothing was sent.
     pub(crate) fn new(
@@ -150,10 +156,12 @@ impl<P: Publishing> Desk<P> {
         checked: Arc<Checked, Global>,
         limit: u32,
         counted: ledger::Book<P>,
+        history: History<P>,
     ) -> Result<Desk<P>, AllocError>
         requires checked { checked_view (arc_value checked) ≡ P.checked }
         requires limit { limit ≡ P.limit }
         requires total { counted.total ≡ 0 }
+        requires history { history ≡ view_of true [] [] }
         requires some { 1 ≤ limit }
         requires within { limit ≤ 1000000000 }
         ensures { IfOk result (λ desk. desk ≡ []) }
@@ -170,48 +178,76 @@ impl<P: Publishing> Desk<P> {
             counted,
             wishes,
             is_finished: false,
+            history,
         })
     }
 
-    /// Makes the commands one commit, and counts it in the ledger. With an error nothing changes.
+    /// Makes the commands one commit, counts it in the ledger, and gives the receipt, which the seat's token then has seen in
+    /// the history. With an error nothing changes.
     pub(crate) fn commit(
         &mut self,
         mark: &mut Share<P>,
-        commands: &[Command],
+        token: &mut Option<Token<P>>,
+        commands: Vec<Command>,
         time: u64,
-    ) -> Result<u32, CommitError>
+    ) -> Result<Receipt, CommitError>
         requires { 0 < mark.old.parts }
-        ensures ok { IfOk result (AddsEntry P.checked self.old self.new (map command_view commands.now) time) }
-        ensures made { IfOk result (IsMade P.checked P.limit (map command_view commands.now) time) }
-        ensures above { IfOk result (λ number. mark.old.amount < number) }
-        ensures fault { IfErr result (HasFault (setting_in P.checked) (map command_view commands.now)) }
-        ensures refused { IfErr result (IsRefused P.checked P.limit (map command_view commands.now)) }
+        ensures is { IfOk result (λ receipt.
+            receipt ≡ receipt_of receipt.number (map command_view commands.items) time) }
+        ensures ok { IfOk result (λ receipt.
+            AddsEntry P.checked self.old self.new (map command_view commands.items) time receipt.number) }
+        ensures made { IfOk result (λ receipt.
+            IsMade P.checked P.limit (map command_view commands.items) time receipt.number) }
+        ensures above { IfOk result (λ receipt. mark.old.amount < receipt.number) }
+        ensures seen { IfOk result (λ receipt. Records receipt (sight_of token.old) (sight_of token.new)) }
+        ensures fault { IfErr result (HasFault (setting_in P.checked) (map command_view commands.items)) }
+        ensures refused { IfErr result (IsRefused P.checked P.limit (map command_view commands.items)) }
         ensures err { OnErr result (self.new ≡ self.old) }
+        ensures unseen { OnErr result (token.new ≡ token.old) }
         ensures counted { OnOk result (mark.new.amount ≡ mark.old.amount + 1) }
         ensures uncounted { OnErr result (mark.new.amount ≡ mark.old.amount) }
         ensures parts { mark.new.parts ≡ mark.old.parts }
     {
-        make_commit(&mut self.book, &mut self.counted, mark, commands, time)
+        match make_commit(
+            &mut self.book,
+            &mut self.counted,
+            mark,
+            commands.as_slice(),
+            time,
+        ) {
+            Ok(number) => {
+                let receipt = Receipt::new(number, commands, time);
+                self.history.record(token, &receipt);
+                Ok(receipt)
+            }
+            Err(error) => Err(error),
+        }
     }
 
     /// The number of commits, and a copy of the row that the key names after them; they are no fewer than the share
-    /// counts. The only error is want of memory.
+    /// counts, and the seat's token then has seen them all. The only error is want of memory.
     pub(crate) fn look(
         &mut self,
         alloc: Global,
         mark: &mut Share<P>,
+        token: &mut Option<Token<P>>,
         table: usize,
         key: &Row,
     ) -> Result<(u32, Option<Row>), AllocError>
         ensures number { IfOk result (λ found. found.0 ≡ length self.old) }
         ensures row { IfOk result (λ found. IsFound P.checked table key.now found.0 found.1) }
         ensures above { IfOk result (λ found. mark.old.amount ≤ found.0) }
+        ensures seen { IfOk result (λ found.
+            Looks (setting_in P.checked) table key.now found.0 found.1 (sight_of token.old) (sight_of token.new)) }
+        ensures unseen { OnErr result (token.new ≡ token.old) }
         ensures same { self.new ≡ self.old }
         ensures amount { mark.new.amount ≡ mark.old.amount }
         ensures parts { mark.new.parts ≡ mark.old.parts }
     {
         self.counted.audit(mark);
-        look_up(alloc, &self.book, table, key)
+        let found = look_up(alloc, &self.book, table, key)?;
+        self.history.look(token);
+        Ok(found)
     }
 
     /// What the sender of the slot does next, where it has told of all commits before this number; none where it waits,
@@ -310,12 +346,14 @@ impl<P: Publishing> Desk<P> {
         self.is_finished = true;
     }
 
-    /// The book, whose commits the ledger compares with the receipts of the seats. `rest` has the parts of the ledger
-    /// of the seats that were never handed out.
+    /// The book, whose commits the ledger compares with the receipts of the seats, and whose transactions the history
+    /// compares with what the seats know. `rest` has the parts of the ledger of the seats that were never handed out.
+    #[tactic(auto, using(crate::proofs::LoggedLemmas::logged_seats))]
     pub(crate) fn into_counted(self, rest: Share<P>, seats: &mut [Seat<P>]) -> Book
         requires none { rest.amount ≡ 0 }
         ensures is { IsBookOf P.checked P.limit result }
         ensures counted { IsCounted P.parts rest.parts seats.old (length (book_log result)) }
+        ensures logged { IsLogOfSeats P.checked seats.old result }
         ensures same { seats.new ≡ seats.old }
     {
         let Desk {
@@ -323,9 +361,10 @@ impl<P: Publishing> Desk<P> {
             mut counted,
             wishes: _,
             is_finished: _,
+            mut history,
         } = self;
         let mut all = rest;
-        audit_all(&mut counted, &mut all, seats);
+        audit_all(&mut counted, &mut all, &mut history, seats);
         book
     }
 }

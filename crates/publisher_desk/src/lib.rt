@@ -4,15 +4,18 @@
 
 mod auditing;
 mod desk;
+mod history;
 mod laws;
 mod moved;
 mod naming;
 mod note;
+mod opening;
 mod publisher;
 mod read_fault;
 mod receipt;
 mod seat;
 mod seats;
+mod sight;
 mod slot_use;
 mod step;
 mod wish;
@@ -20,6 +23,7 @@ mod wish;
 pub use laws::threads_share_publishers;
 pub use naming::Publishing;
 pub use note::{Note, Reading};
+pub use opening::Opening;
 pub use publisher::Publisher;
 pub use read_fault::ReadFault;
 pub use receipt::Receipt;

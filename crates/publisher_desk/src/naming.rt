@@ -7,16 +7,24 @@ ghost use Rattle.publisher_desk.specs.Nothing.{nothing_checked};
 use std::marker::Brand;
 use std::sync::ledger::Ledger;
 
-/// Names a publisher in contracts: the ledger that counts its commits, the checked catalog that it was made from, and how
-/// many commits its log takes.
+/// Names a publisher in contracts: the ledger that counts its commits, the checked catalog that it was made from, how
+/// many commits its log takes, and the history that ties receipts and readings to the log.
 pub trait Publishing: Ledger {
+    ghost use Rattle.atomic_table.specs.Seated.{TableId};
+
     ghost checked: { CheckedOf };
 
     ghost limit: { ℕ };
+
+    ghost history: { TableId };
 }
 
 impl Publishing for Brand {
+    ghost use Rattle.publisher_desk.specs.Sights.{no_table};
+
     ghost checked = { nothing_checked };
 
     ghost limit = { 0 };
+
+    ghost history = { no_table };
 }

@@ -3,11 +3,12 @@
 ghost use Rattle.std.specs.Prelude.{◌≡◌};
 
 use crate::desk::Desk;
+use crate::history::History;
 use crate::moved::Moved;
 use crate::naming::Publishing;
 use crate::note::{Note, Reading};
+use crate::opening::Opening;
 use crate::read_fault::ReadFault;
-use crate::receipt::Receipt;
 use crate::seat::Seat;
 use crate::seats::Seats;
 use crate::slot_use::SlotUse;
@@ -16,7 +17,6 @@ use filter_tree::Row;
 use shard_checker::Checked;
 use std::alloc::{AllocError, Global};
 use std::marker::Model;
-use std::sync::ledger::Blank;
 use std::sync::{Arc, Mutex, Wait};
 use table_changes::Command;
 use tables_log::{Book, CommitError};
@@ -56,22 +56,23 @@ impl<P: Publishing> Publisher<P> {
     ghost use Rattle.publisher_desk.specs.Counting.{IsCounted};
     ghost use Rattle.publisher_desk.specs.Held.{IsBookOf};
     ghost use Rattle.publisher_desk.specs.Lending.{IsLent, IsNext};
+    ghost use Rattle.publisher_desk.specs.Logged.{IsLogOfSeats};
     ghost use Rattle.publisher_desk.specs.Receipts.{receipt_of};
     ghost use Rattle.publisher_desk.specs.Refusals.{HasFault, HasReadFault};
     ghost use Rattle.publisher_desk.specs.Seats.{AreUpTo, receipts};
     ghost use Rattle.publisher_desk.specs.declared.note.Note.TheVariants.{Committed, Looked};
 
-    /// A publisher without commits, whose log may have so many, and the seats of its sessions, 1,000. `blank` is the
-    /// ledger that counts the commits. The only error is want of memory.
+    /// A publisher without commits, whose log may have so many, and the seats of its sessions, 1,000. `opening` has the
+    /// ledger that counts the commits, and the history. The only error is want of memory.
     pub fn new(
         alloc: Global,
-        blank: Blank,
+        opening: Opening,
         checked: Arc<Checked, Global>,
         limit: u32,
     ) -> Result<(Publisher<P>, Seats<P>), AllocError>
-        requires name { blank.name ≡ P.name }
-        requires parts { blank.parts ≡ P.parts }
-        requires seats { blank.parts ≡ 1000 }
+        requires name { opening.name ≡ P.name }
+        requires parts { opening.parts ≡ P.parts }
+        requires history { opening.history ≡ P.history }
         requires checked { checked_view (arc_value checked) ≡ P.checked }
         requires limit { limit ≡ P.limit }
         requires some { 1 ≤ limit }
@@ -79,10 +80,15 @@ impl<P: Publishing> Publisher<P> {
         ensures publisher { IfOk result (λ made. made.0 ≡ length P.checked.catalog.tables) }
         ensures seats { IfOk result (λ made. made.1 ≡ 1000) }
     {
+        let Opening {
+            blank,
+            table,
+            keeper,
+        } = opening;
         let (counted, share) = blank.open::<P>();
         let slots = checked.catalog().subscriptions.len();
         let book_of = Arc::try_clone(&checked)?;
-        let desk = Desk::new(alloc, book_of, limit, counted)?;
+        let desk = Desk::new(alloc, book_of, limit, counted, History::new(table, keeper))?;
         let publisher = Publisher {
             alloc,
             checked,
@@ -115,20 +121,26 @@ impl<P: Publishing> Publisher<P> {
         ensures refused { IfErr result (IsRefused P.checked P.limit (map command_view commands.items)) }
         ensures err { OnErr result (seat.new ≡ seat.old) }
     {
-        let Seat { notes, high, mark } = seat;
+        let Seat {
+            notes,
+            high,
+            mark,
+            token,
+        } = seat;
         notes.reserve(1)?;
         let mut desk = self.desk.lock(rt);
-        let number = match desk.commit(mark, commands.as_slice(), time) {
-            Ok(number) => number,
+        let receipt = match desk.commit(mark, token, commands, time) {
+            Ok(receipt) => receipt,
             Err(error) => return Err(error),
         };
+        let number = receipt.number();
         let concerned = desk.concerned(number);
         let behind = desk.behind(number);
         drop(desk);
         self.moved.wake(concerned);
         self.moved.wake(behind);
         *high = (*high).max(number);
-        notes.push_reserved(Note::Committed(Receipt::new(number, commands, time)));
+        notes.push_reserved(Note::Committed(receipt));
         Ok(number)
     }
 
@@ -137,8 +149,7 @@ impl<P: Publishing> Publisher<P> {
     ///
     /// # Errors
     ///
-    /// The first of `NoTable`, `OutOfMemory`, and `Behind` with the number of commits in the log, where the seat knows
-    /// of more, since it is not one of this publisher.
+    /// The first of `NoTable` and `OutOfMemory`.
     pub fn read<R: Wait>(
         &self,
         rt: &R,
@@ -153,18 +164,23 @@ impl<P: Publishing> Publisher<P> {
         ensures forward { IfOk result (λ reading. AreUpTo reading.number seat.old) }
         ensures above { IfOk result (λ reading. receipts seat.old ≤ reading.number) }
         ensures known { OnOk result (table < length P.checked.catalog.tables) }
-        ensures refused { IfErr result (HasReadFault P.checked seat.old table) }
+        ensures refused { IfErr result (HasReadFault P.checked table) }
         ensures err { OnErr result (seat.new ≡ seat.old) }
     {
         if table >= self.checked.catalog().tables.len() {
             return Err(ReadFault::NoTable);
         }
-        let Seat { notes, high, mark } = seat;
+        let Seat {
+            notes,
+            high,
+            mark,
+            token,
+        } = seat;
         notes.reserve(1)?;
-        let (number, answer) = self.desk.lock(rt).look(self.alloc, mark, table, &key)?;
-        if number < *high {
-            return Err(ReadFault::Behind(number));
-        }
+        let (number, answer) = self
+            .desk
+            .lock(rt)
+            .look(self.alloc, mark, token, table, &key)?;
         let reading = Reading {
             number,
             table,
@@ -239,11 +255,13 @@ impl<P: Publishing> Publisher<P> {
 
     /// The book, when the sessions are over: it is of the checked catalog and of some list of transactions. `rest` are
     /// the seats that were never handed out, and `seats` those that come back. The log has no fewer commits than these
-    /// have receipts, and exactly as many if no seat is held back: the ledger of commits says so. It takes time for the
-    /// notes of the seats.
+    /// have receipts, and exactly as many if no seat is held back: the ledger of commits says so. Each receipt stands in
+    /// the log at its number, no two have one number, and each reading is right: the history says so. It takes time for
+    /// the notes of the seats.
     pub fn into_counted(self, rest: Seats<P>, seats: &mut [Seat<P>]) -> Book
         ensures is { IsBookOf P.checked P.limit result }
         ensures counted { IsCounted P.parts rest seats.old (length (book_log result)) }
+        ensures logged { IsLogOfSeats P.checked seats.old result }
         ensures same { seats.new ≡ seats.old }
     {
         let Seats { share, .. } = rest;

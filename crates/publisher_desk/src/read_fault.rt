@@ -6,10 +6,6 @@ use thiserror::Error;
 /// Why a row isn't read.
 #[derive(Clone, Copy, Debug, PartialEq, Eq, Error)]
 pub enum ReadFault {
-    /// The log has this many commits, and the seat has a receipt or a reading of a later number. So the seat is not one
-    /// of this publisher.
-    #[error("the log has {0} commits, and the seat knows of more")]
-    Behind(u32),
     /// There is no table of this number.
     #[error("there is no such table")]
     NoTable,

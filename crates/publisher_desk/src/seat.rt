@@ -2,6 +2,7 @@
 
 ghost use Rattle.std.specs.Prelude.{◌≡◌, []};
 
+use crate::history::Token;
 use crate::naming::Publishing;
 use crate::note::Note;
 use std::alloc::Global;
@@ -9,24 +10,29 @@ use std::marker::Model;
 use std::sync::ledger::Share;
 
 /// A session's place at a publisher: its commits and what it read, in their order. Contracts see the list of these
-/// notes. No row was read of fewer commits than an earlier note knows of.
+/// notes. No row was read of fewer commits than an earlier note knows of. Each receipt and each reading is what the log
+/// says.
 #[derive(Drop)]
 pub struct Seat<P: Publishing> {
     pub(crate) notes: Vec<Note>,
     pub(crate) high: u32,
     pub(crate) mark: Share<P>,
+    pub(crate) token: Option<Token<P>>,
 }
 
 impl<P: Publishing> Model for Seat<P> {
     ghost use Rattle.std.specs.Prelude.{List};
+    ghost use Rattle.shard_checker.specs.CheckedView.{setting_in};
+    ghost use Rattle.publisher_desk.specs.Logged.{IsSighted};
     ghost use Rattle.publisher_desk.specs.Seats.{IsSeat};
+    ghost use Rattle.publisher_desk.specs.Sights.{sight_of};
     ghost use Rattle.publisher_desk.specs.declared.note.Note.{Note};
 
     ghost Value = { List Note };
 
     ghost view = { λ s. s.notes.items };
 
-    ghost invariant = { λ s. IsSeat s.notes.items s.high s.mark.parts s.mark.amount };
+    ghost invariant = { λ s. IsSeat s.notes.items s.high s.mark.parts s.mark.amount × IsSighted (setting_in P.checked) s.notes.items (sight_of s.token) };
 }
 
 impl<P: Publishing> Seat<P> {
@@ -34,7 +40,7 @@ impl<P: Publishing> Seat<P> {
     ghost use Rattle.publisher_desk.specs.Seats.{AreTimed, IsForward};
 
     /// A seat without notes, which has this part of the ledger.
-    #[tactic(auto, using(crate::proofs::SeatLemmas::new_seat))]
+    #[tactic(auto, using(crate::proofs::SeatLemmas::new_seat, crate::proofs::LoggedLemmas::new_sighted))]
     pub(crate) fn new(alloc: Global, mark: Share<P>) -> Seat<P>
         requires part { mark.parts ≡ 1 }
         requires none { mark.amount ≡ 0 }
@@ -44,6 +50,7 @@ impl<P: Publishing> Seat<P> {
             notes: Vec::new(alloc),
             high: 0,
             mark,
+            token: None,
         }
     }
 

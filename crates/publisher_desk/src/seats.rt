@@ -3,13 +3,11 @@
 ghost use Rattle.std.specs.Prelude.{◌≡◌};
 
 use crate::naming::Publishing;
+use crate::opening::SEATS;
 use crate::seat::Seat;
 use std::alloc::Global;
 use std::marker::Model;
 use std::sync::ledger::Share;
-
-/// How many seats a publisher has.
-const SEATS: u64 = 1_000;
 
 /// The seats of a publisher that no session has yet, with a part of the ledger for each. Contracts see how many they
 /// are. They are beside the publisher and not in it, so that nobody who shares it has a part of the ledger but that of

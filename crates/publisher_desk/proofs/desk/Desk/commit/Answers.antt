@@ -1,43 +1,65 @@
-use Rattle.std.proofs.Common.{List, map, subst}
-use Rattle.std.specs.Prelude.{IfOk}
+use Rattle.std.proofs.Common.{List, map, sym, ◌∙◌, ap, subst, arith}
+use Rattle.shard_checker.specs.CheckedView.{setting_in}
 use Rattle.table_changes.specs.Commands.{command_view}
-use Rattle.tables_log.specs.BookView.{book_log}
-use Rattle.tables_log.specs.Commits.{CommitOf}
-use Rattle.publisher_desk.specs.Held.{AddsEntry}
-use Rattle.publisher_desk.proofs.HeldLemmas.{made_held, commits_add, commits_make, commits_refuse}
-use Rattle.publisher_desk.proofs.RefusalLemmas.{commits_have_faults}
+use Rattle.table_changes.specs.declared.command.Command.{Command}
+use Rattle.publisher_desk.specs.Answers.{IsRefused}
+use Rattle.publisher_desk.specs.Receipts.{ReceiptOf}
+use Rattle.publisher_desk.specs.Refusals.{HasFault}
+use Rattle.publisher_desk.proofs.HeldLemmas.{commit_held, adds_as, made_as, is_refused}
+use Rattle.publisher_desk.proofs.LoggedLemmas.{history_adds, history_long}
+use Rattle.publisher_desk.proofs.RefusalLemmas.{has_fault}
 use Rattle.publisher_desk.proofs.desk.Desk.commit.Goals as goal
+
+-- the receipt is of the next commit
+pub record-requires-clause-number : goal.record-requires-clause-number
+record-requires-clause-number g c =
+    omega (
+      arith,
+      ap (λ (receipt : ReceiptOf). receipt.number) c.new-receipt.ensures,
+      c.in-Ok.ensures.ok.number_is,
+      history_long c.self.inside.book c.self.inside.history c.self.invariant.told,
+    )
 
 pub invariant_of-self : goal.invariant_of-self
 invariant_of-self g c =
-    made_held g.P.Publishing.checked g.P.Publishing.limit c.self.inside.book c.make_commit.new.book
-    (map command_view c.args.commands.now) c.args.time c.self.inside.counted.total
-    c.make_commit.new.counted.total c.self.inside.wishes.items c.make_commit.result c.make_commit.ensures.ok
-    c.make_commit.ensures.err c.make_commit.ensures.total c.make_commit.ensures.same_total
+    commit_held g.P.Publishing.checked g.P.Publishing.limit c.self.inside.book c.make_commit.new.book
+    (map command_view c.as_slice.result.now) c.args.time c.in-Ok.number c.self.inside.counted.total
+    c.make_commit.new.counted.total c.self.inside.wishes.items c.self.inside.history c.record.new.self
+    c.in-Ok.ensures.ok c.in-Ok.ensures.total
+    (history_adds c.self.inside.book c.self.inside.history c.self.invariant.told c.make_commit.new.book
+    (map command_view c.as_slice.result.now) c.args.time c.in-Ok.number c.new-receipt.result c.record.new.self
+    c.in-Ok.ensures.ok
+    (ap (λ (receipt : ReceiptOf). receipt.commands) c.new-receipt.ensures
+    ∙ sym (ap (λ (list : List Command). map command_view list) c.as_slice.ensures.value))
+    (ap (λ (receipt : ReceiptOf). receipt.time) c.new-receipt.ensures) c.record.ensures.log)
     c.self.invariant
 
-pub returns-clause-ok : goal.returns-clause-ok
-returns-clause-ok g c =
-    subst (λ (log : List CommitOf). IfOk c.make_commit.result
-    (AddsEntry g.P.Publishing.checked log (book_log c.make_commit.new.book) (map command_view c.args.commands.now)
-    c.args.time))
-    c.self.view_is
-    (commits_add g.P.Publishing.checked g.P.Publishing.limit c.self.inside.book c.self.invariant.is
-    c.make_commit.new.book (map command_view c.args.commands.now) c.args.time c.make_commit.result
-    c.make_commit.ensures.ok)
+pub returns-in-Ok-clause-ok : goal.returns-in-Ok-clause-ok
+returns-in-Ok-clause-ok g c =
+    adds_as g.P.Publishing.checked g.P.Publishing.limit c.self.inside.book c.self.invariant.is
+    c.make_commit.new.book (map command_view c.as_slice.result.now) (map command_view c.args.commands.items)
+    c.args.time c.in-Ok.number c.new-receipt.result.number c.args.self.now c.in-Ok.ensures.ok c.self.view_is
+    (ap (λ (list : List Command). map command_view list) c.as_slice.ensures.value)
+    (sym (ap (λ (receipt : ReceiptOf). receipt.number) c.new-receipt.ensures))
 
-pub returns-clause-made : goal.returns-clause-made
-returns-clause-made g c =
-    commits_make g.P.Publishing.checked g.P.Publishing.limit c.self.inside.book c.self.invariant.is
-    c.make_commit.new.book (map command_view c.args.commands.now) c.args.time c.make_commit.result
-    c.make_commit.ensures.ok
+pub returns-in-Ok-clause-made : goal.returns-in-Ok-clause-made
+returns-in-Ok-clause-made g c =
+    made_as g.P.Publishing.checked g.P.Publishing.limit c.self.inside.book c.self.invariant.is
+    c.make_commit.new.book (map command_view c.as_slice.result.now) (map command_view c.args.commands.items)
+    c.args.time c.in-Ok.number c.new-receipt.result.number c.in-Ok.ensures.ok
+    (ap (λ (list : List Command). map command_view list) c.as_slice.ensures.value)
+    (sym (ap (λ (receipt : ReceiptOf). receipt.number) c.new-receipt.ensures))
 
-pub returns-clause-fault : goal.returns-clause-fault
-returns-clause-fault g c =
-    commits_have_faults g.P.Publishing.checked c.self.inside.book (map command_view c.args.commands.now)
-    c.self.invariant.is.named c.make_commit.result c.make_commit.ensures.refused
+pub returns-in-Err-clause-fault : goal.returns-in-Err-clause-fault
+returns-in-Err-clause-fault g c =
+    subst (λ (list : List Command). HasFault (setting_in g.P.Publishing.checked) (map command_view list)
+    c.in-Err.error) c.as_slice.ensures.value
+    (has_fault g.P.Publishing.checked c.self.inside.book (map command_view c.as_slice.result.now) c.in-Err.error
+    c.self.invariant.is.named c.in-Err.ensures.refused)
 
-pub returns-clause-refused : goal.returns-clause-refused
-returns-clause-refused g c =
-    commits_refuse g.P.Publishing.checked g.P.Publishing.limit c.self.inside.book c.self.invariant.is
-    (map command_view c.args.commands.now) c.make_commit.result c.make_commit.ensures.refused
+pub returns-in-Err-clause-refused : goal.returns-in-Err-clause-refused
+returns-in-Err-clause-refused g c =
+    subst (λ (list : List Command). IsRefused g.P.Publishing.checked g.P.Publishing.limit (map command_view list)
+    c.in-Err.error) c.as_slice.ensures.value
+    (is_refused g.P.Publishing.checked g.P.Publishing.limit c.self.inside.book c.self.invariant.is
+    (map command_view c.as_slice.result.now) c.in-Err.error c.in-Err.ensures.refused)

@@ -1,7 +1,17 @@
-use Rattle.publisher_desk.proofs.HeldLemmas.{looks_up}
+use Rattle.publisher_desk.specs.Sights.{sight_of}
+use Rattle.publisher_desk.proofs.HeldLemmas.{is_found}
+use Rattle.publisher_desk.proofs.LoggedLemmas.{looks_in}
 use Rattle.publisher_desk.proofs.desk.Desk.look.Goals as goal
 
 pub returns-clause-row : goal.returns-clause-row
 returns-clause-row g c =
-    looks_up g.P.Publishing.checked g.P.Publishing.limit c.self.inside.book c.self.invariant.is c.args.table
-    c.args.key.now c.look_up.result c.look_up.ensures.number c.look_up.ensures.row
+    is_found g.P.Publishing.checked g.P.Publishing.limit c.self.inside.book c.self.invariant.is c.args.table
+    c.in_ok-found.found.0 c.args.key.now c.in_ok-found.found.1 c.in_ok-found.ensures.number
+    c.in_ok-found.ensures.row
+
+pub returns-clause-seen : goal.returns-clause-seen
+returns-clause-seen g c =
+    looks_in c.self.inside.book c.self.inside.history c.self.invariant.told g.P.Publishing.checked c.args.table
+    c.in_ok-found.found.0 c.args.key.now c.in_ok-found.found.1 (sight_of c.args.token.now)
+    (sight_of c.look.new.token) c.self.invariant.is.named c.in_ok-found.ensures.number c.in_ok-found.ensures.row
+    c.look.ensures.seen

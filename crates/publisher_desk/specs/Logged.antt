@@ -1,0 +1,101 @@
+-- How a seat's receipts and readings stand to the log: PostgreSQL 15, 3.4. Transactions, and Chapter 7 Queries.
+use Rattle.std.specs.Prelude.{◌≡◌, ℕ, ◌+◌, ◌<◌, ◌≤◌, All, List, [], ◌∷◌, ◌++◌, length, true, Option}
+use Rattle.filter_tree.specs.Datum.{Datum}
+use Rattle.shard_checker.specs.CheckedView.{CheckedOf, setting_in}
+use Rattle.table_changes.specs.Setting.{Setting}
+use Rattle.tables_log.specs.StandsFor.{StandsFor, after}
+use Rattle.tables_log.specs.declared.book.Book.{Book}
+use Rattle.publisher_desk.specs.Receipts.{ReceiptOf, transactions_of}
+use Rattle.publisher_desk.specs.Sights.{AddsTo, AreSeen, Sees, drawn_in, times, view_of}
+use Rattle.publisher_desk.specs.declared.note.Note.{Note}
+use Rattle.publisher_desk.specs.declared.note.Note.TheVariants.{Committed, Looked}
+use Rattle.publisher_desk.specs.declared.note.Reading.{Reading}
+use Rattle.publisher_desk.specs.declared.sight.Sight.{Sight}
+use Rattle.publisher_desk.specs.declared.sight.View.{View}
+
+-- ---- notes
+
+-- The receipt stands in the log, at its number.
+pub record StandsIn (log : List ReceiptOf) (receipt : ReceiptOf) : Type 0 where
+  pub earlier : List ReceiptOf
+  pub later : List ReceiptOf
+  pub log_is : log ≡ earlier ++ receipt ∷ later
+  pub number_is : receipt.number ≡ length earlier + 1
+
+-- The answer is the row of the key after the log's first transactions, as many as the reading tells.
+pub record IsReadIn (setting : Setting) (log : List ReceiptOf) (reading : Reading) : Type 0 where
+  pub earlier : List ReceiptOf
+  pub later : List ReceiptOf
+  pub log_is : log ≡ earlier ++ later
+  pub number_is : reading.number ≡ length earlier
+  pub answer_is : reading.answer ≡ after setting (transactions_of earlier) reading.table 0 reading.key
+
+abbrev pub IsNoted : Setting → List ReceiptOf → Note → Type 0
+IsNoted setting log (Committed receipt) = StandsIn log receipt
+IsNoted setting log (Looked reading) = IsReadIn setting log reading
+
+abbrev pub AreNoted : Setting → List ReceiptOf → List Note → Type 0
+AreNoted setting log notes = All (IsNoted setting log) notes
+
+-- ---- numbers
+
+-- the numbers of a seat's receipts, in its order
+abbrev pub own_numbers : List Note → List ℕ
+own_numbers [] = []
+own_numbers (Committed receipt ∷ notes) = receipt.number ∷ own_numbers notes
+own_numbers (Looked reading ∷ notes) = own_numbers notes
+
+-- Each number is greater than the one before, and the first than `low`. None is above `high`.
+abbrev pub RiseTo : ℕ → ℕ → List ℕ → Type 0
+RiseTo high low [] = Unit {0}
+RiseTo high low (number ∷ numbers) = (low < number) × (number ≤ high) × RiseTo high number numbers
+
+-- how many receipts of these seats have this number
+abbrev pub drawn_by : ℕ → List (List Note) → ℕ
+drawn_by n [] = 0
+drawn_by n (notes ∷ seats) = times n (own_numbers notes) + drawn_by n seats
+
+-- ---- seats
+
+-- The seat's notes are what the beginning of the log says that it has seen, and the receipts are its own.
+pub record IsSighted (setting : Setting) (notes : List Note) (sight : Sight) : Type 0 where
+  pub noted : AreNoted setting sight.seen notes
+  pub own : sight.own ≡ own_numbers notes
+  pub rising : RiseTo (length sight.seen) 0 sight.own
+
+-- The seats' notes are what the log says. The numbers of each seat's receipts rise, and no two receipts have one number,
+-- nor has one a number of the sights beside them.
+pub record AreLogged (setting : Setting) (log : View) (seats : List (List Note)) : Type 0 where
+  pub seen : AreSeen log.all log.sights
+  pub noted : All (AreNoted setting log.all) seats
+  pub rising : All (λ (notes : List Note). RiseTo (length log.all) 0 (own_numbers notes)) seats
+  pub once : (n : ℕ) → drawn_in n log.sights + drawn_by n seats ≤ 1
+
+-- The history tells the book's transactions, and no sight is taken in.
+pub record IsHistoryOf (book : Book) (history : View) : Type 0 where
+  pub stands : StandsFor book (transactions_of history.all)
+  pub idle : history ≡ view_of true history.all []
+
+-- The book is of the transactions of a log in which all receipts of these seats stand at their numbers, which rise in
+-- each seat and of which no two are equal. Each reading is right by the log's beginning.
+pub record IsLogOfSeats (checked : CheckedOf) (seats : List (List Note)) (book : Book) : Type 0 where
+  pub log : List ReceiptOf
+  pub stands : StandsFor book (transactions_of log)
+  pub noted : All (AreNoted (setting_in checked) log) seats
+  pub rising : All (λ (notes : List Note). RiseTo (length log) 0 (own_numbers notes)) seats
+  pub once : (n : ℕ) → drawn_by n seats ≤ 1
+
+-- ---- calls
+
+-- The seat has seen the whole log, and the receipt that comes next.
+pub record Records (receipt : ReceiptOf) (old new : Sight) : Type 0 where
+  pub log : List ReceiptOf
+  pub adds : AddsTo log receipt old new
+
+-- The seat has seen the whole log, of so many commits. The answer is the row of the key after them.
+pub record Looks (setting : Setting) (table : ℕ) (key : List Datum) (number : ℕ) (answer : Option (List Datum))
+    (old new : Sight) : Type 0 where
+  pub log : List ReceiptOf
+  pub sees : Sees log old new
+  pub number_is : number ≡ length log
+  pub answer_is : answer ≡ after setting (transactions_of log) table 0 key
