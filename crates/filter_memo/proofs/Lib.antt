@@ -1,4 +1,7 @@
 pub mod Alike
+pub mod BitLemmas
 pub mod Finding
+pub mod Judging
 pub mod Memos
+pub mod Planning
 pub mod Sides

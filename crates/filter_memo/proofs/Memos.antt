@@ -1,107 +1,212 @@
--- Rows at the same places have the same text.
-use Rattle.std.proofs.Common.{◌≡◌, ℕ, true, ◌&&◌, List, [], ◌∷◌, ◌<◌, length, get_or, refl, sym, ap, subst, ◌∙◌}
-use Rattle.std.specs.Prelude.{Some, None, slice_get}
+-- Rows of which the atoms say the same have the same text.
+use Rattle.std.proofs.Common.{◌≡◌, ℕ, true, false, List, [], ◌∷◌, ◌<◌, length, get_or, refl, sym, ap, subst, ◌∙◌}
+use Rattle.std.specs.Prelude.{◌==◌, Option, Some, None, slice_get, All}
+use Rattle.std.proofs.lemmas.Bool.{eqb-true}
+use Rattle.std.specs.Option.{MatchOption, IsSomeAnd}
 use Rattle.std.specs.String.{string_bytes}
 use Rattle.std.proofs.lemmas.Option.{get_or_from_slice_get, slice_get_within}
-use Rattle.std.specs.List.{list_all}
+use Rattle.std.proofs.lemmas.Slice.Zip.{AllZip-left}
 use Rattle.std.specs.List.Sorted.{IsSorted}
 use Rattle.std.proofs.lemmas.List.Elements.{All-nil, All-cons, All-head, All-tail}
 use Rattle.filter_tree.specs.Datum.{Datum}
 use Rattle.filter_tree.specs.Expr.{AtomOf, term_of, term_value, atom_meaning, said_of, Expr, Const, Atom, Not, And, Or, Is, meaning}
 use Rattle.filter_tree.specs.Logic.{not_of, is_of}
 use Rattle.filter_tree.specs.Same.{same_term}
+use Rattle.filter_tree.specs.declared.filter.Filter.{Filter}
+use Rattle.filter_tree.specs.declared.filter.Term.{Term}
+use Rattle.filter_tree.specs.declared.value.Value.{Value}
 use Rattle.filter_tree.proofs.SameLemmas.{same_term_is}
 use Rattle.filter_tree.proofs.Tests.{by_test, both_true}
-use Rattle.filter_memo.specs.Covering.{has_constants, covers_atom, covers}
-use Rattle.filter_memo.specs.Memos.{SayTheSame, Follows, IsSettled, IsKept, IsMemoOf, AreEmpty}
-use Rattle.filter_memo.specs.Places.{value_cmp, AreSorted, IsPlace, ArePlaces}
+use Rattle.filter_memo.specs.Covering.{has_constants, covers}
+use Rattle.filter_memo.specs.Memos.{says, SayTheSame, Follows, IsKept, IsMemoOf, IsLocated, AreEmpty}
+use Rattle.filter_memo.specs.Places.{value_cmp, IsPlace}
+use Rattle.filter_memo.specs.Plans.{said_by, IsPlanOf, IsPlanFor, ArePlans}
+use Rattle.filter_memo.specs.Telling.{part_at, told_at, Tells, IsSettled, AreSettled, IsCell, AreCells, AreTold}
 use Rattle.filter_memo.specs.declared.memo.Kept.{Kept}
 use Rattle.filter_memo.specs.declared.memo.Memo.{Memo}
 use Rattle.filter_memo.specs.declared.place.Place.{Place}
+use Rattle.filter_memo.specs.declared.plan.Plan.{Plan}
+use Rattle.filter_memo.specs.declared.said.Said.{Said}
 use Rattle.filter_memo.specs.declared.scale.Scale.{Scale}
 use Rattle.filter_memo.proofs.Alike.{atom_alike}
 use Rattle.filter_memo.proofs.Sides.{same_side}
 
-abbrev sorted_scale : Scale → Type 0
-sorted_scale scale = IsSorted value_cmp scale.bounds.items
+-- ---- rows at the same place
 
-module _ (one other : List Datum) where
-  -- the atom is of the scale's term, and its constants are bounds
-  at_scale : (scale : Scale) (place : Place) → IsSorted value_cmp scale.bounds.items
-      → IsPlace scale.bounds.items (term_value scale.term one) place
-      → IsPlace scale.bounds.items (term_value scale.term other) place
-      → (atom : AtomOf) → same_term scale.term (term_of atom) ≡ true → has_constants scale.bounds.items atom ≡ true
+module _ {A : _} (term : Term) (bounds : List (Value A)) (sorted : IsSorted value_cmp bounds) (one other : List Datum)
+    (place : Place) (at_one : IsPlace bounds (term_value term one) place)
+    (at_other : IsPlace bounds (term_value term other) place) where
+  -- the atom is of the term, and its constants are bounds
+  atom_says : (atom : AtomOf) → same_term term (term_of atom) ≡ true → has_constants bounds atom ≡ true
       → atom_meaning atom one ≡ atom_meaning atom other
-  at_scale scale place sorted at_one at_other atom same constants =
-      let term : scale.term ≡ term_of atom = same_term_is scale.term (term_of atom) same in
-      let v = term_value scale.term one in
-      let w = term_value scale.term other in
+  atom_says atom same constants =
+      let is : term ≡ term_of atom = same_term_is term (term_of atom) same in
+      let v = term_value term one in
+      let w = term_value term other in
       let said : said_of atom v ≡ said_of atom w =
-      atom_alike scale.bounds.items v w (sym at_one.kind ∙ at_other.kind)
-      (same_side scale.bounds.items sorted v w place at_one at_other) atom constants in
-      ap (λ t. said_of atom (term_value t one)) (sym term)
-      ∙ (said ∙ ap (λ t. said_of atom (term_value t other)) term)
+      atom_alike bounds v w (sym at_one.kind ∙ at_other.kind) (same_side bounds sorted v w place at_one at_other) atom
+      constants in
+      ap (λ t. said_of atom (term_value t one)) (sym is)
+      ∙ (said ∙ ap (λ t. said_of atom (term_value t other)) is)
 
-  atoms_say : (scales : List Scale) (places : List Place) → AreSorted scales → ArePlaces scales one places
-      → ArePlaces scales other places → (atom : AtomOf) → covers_atom scales atom ≡ true
-      → atom_meaning atom one ≡ atom_meaning atom other
-  atoms_say [] places sorted at_one at_other atom h = absurd cc
-  atoms_say (scale ∷ scales) [] sorted at_one at_other atom h = absurd at_one
-  atoms_say (scale ∷ scales) (place ∷ places) sorted at_one at_other atom h =
-      by_test (same_term scale.term (term_of atom) && has_constants scale.bounds.items atom)
-      (λ here. let both = both_true _ _ here in
-      at_scale scale place (All-head sorted_scale scale scales sorted) at_one.0 at_other.0 atom both.0 both.1)
-      (λ no. let later : covers_atom scales atom ≡ true = rw no at h in
-      atoms_say scales places (All-tail sorted_scale scale scales sorted) at_one.1 at_other.1 atom later)
+  filter_says : (filter : Expr) → covers term bounds filter ≡ true → meaning filter one ≡ meaning filter other
+  filter_says (Const known) h = refl
+  filter_says (Atom atom) h =
+      let both = both_true (same_term term (term_of atom)) (has_constants bounds atom) h in
+      atom_says atom both.0 both.1
+  filter_says (Not part) h = ap not_of (filter_says part h)
+  filter_says (And left right) h =
+      let both = both_true (covers term bounds left) (covers term bounds right) h in
+      let first = filter_says left both.0 in
+      let second = filter_says right both.1 in
+      rw (first, second) refl
+  filter_says (Or left right) h =
+      let both = both_true (covers term bounds left) (covers term bounds right) h in
+      let first = filter_says left both.0 in
+      let second = filter_says right both.1 in
+      rw (first, second) refl
+  filter_says (Is test part) h = ap (is_of test) (filter_says part h)
 
-  module _ (scales : List Scale) (places : List Place) (sorted : AreSorted scales)
-      (at_one : ArePlaces scales one places)
-      (at_other : ArePlaces scales other places) where
-    filters_say : (filter : Expr) → covers scales filter ≡ true → meaning filter one ≡ meaning filter other
-    filters_say (Const known) h = refl
-    filters_say (Atom atom) h = atoms_say scales places sorted at_one at_other atom h
-    filters_say (Not part) h = ap not_of (filters_say part h)
-    filters_say (And left right) h =
-        let both = both_true (covers scales left) (covers scales right) h in
-        let first = filters_say left both.0 in
-        let second = filters_say right both.1 in
-        rw (first, second) refl
-    filters_say (Or left right) h =
-        let both = both_true (covers scales left) (covers scales right) h in
-        let first = filters_say left both.0 in
-        let second = filters_say right both.1 in
-        rw (first, second) refl
-    filters_say (Is test part) h = ap (is_of test) (filters_say part h)
+  -- what filters that are covered say
+  told_alike : {B : _} (parts : List (Filter B)) (numbers : List ℕ)
+      → All (λ number. covers term bounds (part_at parts number) ≡ true) numbers → (number : ℕ)
+      → told_at parts numbers one number ≡ told_at parts numbers other number
+  told_alike parts [] covered number = refl
+  told_alike parts (own ∷ numbers) covered number =
+      let later : told_at parts numbers one number ≡ told_at parts numbers other number =
+      told_alike parts numbers
+      (All-tail (λ n. covers term bounds (part_at parts n) ≡ true) own numbers covered) number in
+      by_test (number == own)
+      (λ here.
+      let same : number ≡ own = eqb-true number own here in
+      let said : meaning (part_at parts number) one ≡ meaning (part_at parts number) other =
+      filter_says (part_at parts number) (subst (λ (n : ℕ). covers term bounds (part_at parts n) ≡ true) (sym same)
+      (All-head (λ n. covers term bounds (part_at parts n) ≡ true) own numbers covered)) in
+      rw here said)
+      (λ apart. rw apart later)
 
-    all_say : (filters : List Expr) → list_all (covers scales) filters ≡ true → SayTheSame filters one other
-    all_say [] h = All-nil (λ it. meaning it one ≡ meaning it other)
-    all_say (filter ∷ filters) h =
-        let both = both_true (covers scales filter) (list_all (covers scales) filters) h in
-        All-cons (λ it. meaning it one ≡ meaning it other) filter filters (filters_say filter both.0)
-        (all_say filters both.1)
-
-settled : (scales : List Scale) (filters : List Expr) (text_of : List Datum → List ℕ) → AreSorted scales
-    → list_all (covers scales) filters ≡ true → Follows filters text_of → IsSettled scales text_of
-settled scales filters text_of sorted covered follows = record {
-  same = λ one other places at_one at_other.
-      follows.same one other (all_say one other scales places sorted at_one at_other filters covered);
+pub scale_settled : {B : _} (scale : Scale) (parts : List (Filter B)) → IsSorted value_cmp scale.bounds.items
+    → All (λ number. covers scale.term scale.bounds.items (part_at parts number) ≡ true) scale.numbers.items
+    → IsSettled parts scale
+scale_settled scale parts sorted covered = record {
+  same = λ one other place said at_one at_other told. record {
+    each = λ number within. told.each number within
+        ∙ told_alike scale.term scale.bounds.items sorted one other place at_one at_other parts scale.numbers.items
+        covered number;
+  };
 }
+
+-- ---- memos
+
+no_text : {A : _} (parts : List (Filter A)) (text_of : List Datum → List ℕ) (slots : List (Option Kept))
+    → AreEmpty slots → All (IsKept parts text_of) slots
+no_text parts text_of slots empty =
+    λ k d within. subst (λ slot. IsKept parts text_of slot) (sym (empty k d within)) tt
+
+-- the filters say the same of rows of which the parts say the same
+filters_say : {A : _} (parts : List (Filter A)) (one other : List Datum) (said : Said) → Tells parts one said
+    → Tells parts other said → (filters : List (Option Expr)) (plans : List Plan) → ArePlans parts filters plans
+    → SayTheSame filters one other
+filters_say parts one other said at_one at_other [] plans are = All-nil (λ it. says one it ≡ says other it)
+filters_say parts one other said at_one at_other (filter ∷ filters) [] are = absurd are
+filters_say parts one other said at_one at_other (filter ∷ filters) (plan ∷ plans) are =
+    All-cons (λ it. says one it ≡ says other it) filter filters (first filter plan are.0)
+    (filters_say parts one other said at_one at_other filters plans are.1) where
+  first : (own : Option Expr) (its : Plan) → IsPlanFor parts own its → says one own ≡ says other own
+  first None its is = refl
+  first (Some own) its is = ap Some (sym (is.says one said at_one) ∙ is.says other said at_other)
 
 -- a memo that has no text yet
-pub fresh : (memo : Memo) (filters : List Expr) (text_of : List Datum → List ℕ) → AreSorted memo.scales.items
-    → (memo.is_used ≡ true → list_all (covers memo.scales.items) filters ≡ true) → AreEmpty memo.slots.items
-    → Follows filters text_of → IsMemoOf text_of memo
-fresh memo filters text_of sorted covered empty follows = record {
-  kept = λ k d within. subst (λ slot. IsKept memo.scales.items text_of slot) (sym (empty k d within)) tt;
-  settled = λ used. settled memo.scales.items filters text_of sorted (covered used) follows;
+pub fresh : (memo : Memo) (filters : List (Option Expr)) (text_of : List Datum → List ℕ)
+    → AreSettled memo.parts.items memo.scales.items → All (λ cell. cell ≡ None) memo.cells.items
+    → AreTold memo.scales.items (length memo.parts.items) → ArePlans memo.parts.items filters memo.plans.items
+    → AreEmpty memo.slots.items → Follows filters text_of → IsMemoOf filters text_of memo
+fresh memo filters text_of settled empty told plans no_slot follows = record {
+  cells = record {
+    settled = settled;
+    each = λ k d within. subst (λ cell. IsCell memo.parts.items memo.scales.items cell) (sym (empty k d within)) tt;
+  };
+  told = λ used. told;
+  plans = λ used. plans;
+  text = λ used. record {
+    same = λ one other said at_one at_other. follows.same one other
+        (filters_say memo.parts.items one other said at_one at_other filters memo.plans.items plans);
+  };
+  kept = no_text memo.parts.items text_of memo.slots.items no_slot;
 }
 
--- what is kept in a slot is the text of each row at its places
-pub kept_text : (memo : Memo) (text_of : List Datum → List ℕ) (row : List Datum) (slot : ℕ) (kept : Kept)
-    → IsMemoOf text_of memo → slice_get memo.slots.items slot ≡ Some (Some kept)
-    → ArePlaces memo.scales.items row kept.places.items → string_bytes kept.text ≡ text_of row
-kept_text memo text_of row slot kept is found at =
-    let within : slot < length memo.slots.items = slice_get_within memo.slots.items slot (Some kept) found in
-    let held : get_or memo.slots.items slot None ≡ Some kept =
-    get_or_from_slice_get memo.slots.items slot (Some kept) None found in
-    (subst (λ it. IsKept memo.scales.items text_of it) held (is.kept slot None within)) row at
+-- a memo that is not used
+pub unused : (memo : Memo) (filters : List (Option Expr)) (text_of : List Datum → List ℕ) → memo.is_used ≡ false
+    → memo.scales.items ≡ [] → memo.cells.items ≡ [] → memo.slots.items ≡ [] → IsMemoOf filters text_of memo
+unused memo filters text_of not_used no_scale no_cell no_slot = record {
+  cells = record {
+    settled = subst (λ scales. AreSettled memo.parts.items scales) (sym no_scale) (All-nil (IsSettled memo.parts.items));
+    each = subst (λ cells. All (IsCell memo.parts.items memo.scales.items) cells) (sym no_cell)
+        (All-nil (IsCell memo.parts.items memo.scales.items));
+  };
+  told = λ used. absurd (never used);
+  plans = λ used. absurd (never used);
+  text = λ used. absurd (never used);
+  kept = subst (λ slots. All (IsKept memo.parts.items text_of) slots) (sym no_slot)
+      (All-nil (IsKept memo.parts.items text_of));
+} where
+  never : memo.is_used ≡ true → ⊥
+  never used = let both : true ≡ false = sym used ∙ not_used in absurd cc
+
+module _ (memo : Memo) (filters : List (Option Expr)) (text_of : List Datum → List ℕ)
+    (is : IsMemoOf filters text_of memo) (row : List Datum) (said : Said) (located : IsLocated memo row said)
+    (used : memo.is_used ≡ true) where
+  -- what a plan says
+  pub plan_says : (number : ℕ) (plan : Plan) (filter : Expr) → slice_get memo.plans.items number ≡ Some plan
+      → slice_get filters number ≡ Some (Some filter) → said_by plan said ≡ meaning filter row
+  plan_says number plan filter found asked =
+      let all = AllZip-left (IsPlanFor memo.parts.items) filters memo.plans.items (is.plans used) number in
+      let at : IsSomeAnd (slice_get memo.plans.items number) (IsPlanFor memo.parts.items (Some filter)) =
+      subst (λ (own : Option (Option Expr)). MatchOption own (Unit {0})
+      (λ it. IsSomeAnd (slice_get memo.plans.items number) (IsPlanFor memo.parts.items it))) asked all in
+      let its : IsPlanOf memo.parts.items filter plan =
+      subst (λ (own : Option Plan). IsSomeAnd own (IsPlanFor memo.parts.items (Some filter))) found at in
+      its.says row said (located.tells used)
+
+  -- what is kept in a slot is the text of each row of which the parts say this
+  pub kept_text : (slot : ℕ) (kept : Kept) → slice_get memo.slots.items slot ≡ Some (Some kept) → kept.said ≡ said
+      → string_bytes kept.text ≡ text_of row
+  kept_text slot kept found same =
+      let within : slot < length memo.slots.items = slice_get_within memo.slots.items slot (Some kept) found in
+      let held : get_or memo.slots.items slot None ≡ Some kept =
+      get_or_from_slice_get memo.slots.items slot (Some kept) None found in
+      (subst (λ it. IsKept memo.parts.items text_of it) held (is.kept slot None within)) row
+      (subst (λ (own : Said). Tells memo.parts.items row own) (sym same) (located.tells used))
+
+  -- a text that is kept now
+  pub new_text : (kept : Kept) → kept.said ≡ said → string_bytes kept.text ≡ text_of row
+      → IsKept memo.parts.items text_of (Some kept)
+  new_text kept same text later at_later =
+      text ∙ (is.text used).same row later said (located.tells used)
+      (subst (λ (own : Said). Tells memo.parts.items later own) same at_later)
+
+-- other cells
+pub other_cells : (old new : Memo) (filters : List (Option Expr)) (text_of : List Datum → List ℕ)
+    → IsMemoOf filters text_of old → new.parts ≡ old.parts → new.plans ≡ old.plans → new.scales ≡ old.scales
+    → new.slots ≡ old.slots → new.is_used ≡ old.is_used
+    → AreCells old.parts.items old.scales.items new.cells.items → IsMemoOf filters text_of new
+other_cells old new filters text_of is parts plans scales slots used cells = record {
+  cells = rw (parts, scales) cells;
+  told = λ own. rw (parts, scales) (is.told (sym used ∙ own));
+  plans = λ own. rw (parts, plans) (is.plans (sym used ∙ own));
+  text = λ own. rw parts (is.text (sym used ∙ own));
+  kept = rw (parts, slots) is.kept;
+}
+
+-- other slots
+pub other_slots : (old new : Memo) (filters : List (Option Expr)) (text_of : List Datum → List ℕ)
+    → IsMemoOf filters text_of old → new.parts ≡ old.parts → new.plans ≡ old.plans → new.scales ≡ old.scales
+    → new.cells ≡ old.cells → new.is_used ≡ old.is_used → All (IsKept old.parts.items text_of) new.slots.items
+    → IsMemoOf filters text_of new
+other_slots old new filters text_of is parts plans scales cells used kept = record {
+  cells = rw (parts, scales, cells) is.cells;
+  told = λ own. rw (parts, scales) (is.told (sym used ∙ own));
+  plans = λ own. rw (parts, plans) (is.plans (sym used ∙ own));
+  text = λ own. rw parts (is.text (sym used ∙ own));
+  kept = rw parts kept;
+}

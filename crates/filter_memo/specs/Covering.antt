@@ -1,5 +1,5 @@
--- Which filters compare the terms of scales with nothing but the scales' bounds: row filters of PostgreSQL 15, "Logical
--- Replication", 31.3 Row Filters.
+-- Which filters compare one term with nothing but some bounds: row filters of PostgreSQL 15, "Logical Replication", 31.3
+-- Row Filters.
 use Rattle.std.specs.Prelude.{Bool, true, ◌&&◌, List}
 use Rattle.std.specs.List.{list_any, list_all}
 use Rattle.std.specs.Ordering.{eq_by_cmp}
@@ -8,8 +8,8 @@ use Rattle.filter_tree.specs.Expr.{AtomOf, Cmp, IsNull, In, Between, Distinct, t
 use Rattle.filter_tree.specs.Order.{datum_cmp}
 use Rattle.filter_tree.specs.Same.{same_term}
 use Rattle.filter_tree.specs.Values.{datum_view}
+use Rattle.filter_tree.specs.declared.filter.Term.{Term}
 use Rattle.filter_tree.specs.declared.value.Value.{Value}
-use Rattle.filter_memo.specs.declared.scale.Scale.{Scale}
 
 -- the constant is a bound
 abbrev pub has : {A : _} → List (Value A) → Constant → Bool
@@ -23,15 +23,14 @@ has_constants bounds (In term constants) = list_all (has bounds) constants
 has_constants bounds (Between term low high) = has bounds (Number low) && has bounds (Number high)
 has_constants bounds (Distinct term constant) = has bounds constant
 
--- some scale is of the atom's term, and has its constants
-abbrev pub covers_atom : List Scale → AtomOf → Bool
-covers_atom scales atom =
-    list_any (λ scale. same_term scale.term (term_of atom) && has_constants scale.bounds.items atom) scales
+-- the atom is of the term, and its constants are bounds
+abbrev pub covers_atom : {A : _} → Term → List (Value A) → AtomOf → Bool
+covers_atom term bounds atom = same_term term (term_of atom) && has_constants bounds atom
 
-abbrev pub covers : List Scale → Expr → Bool
-covers scales (Const known) = true
-covers scales (Atom atom) = covers_atom scales atom
-covers scales (Not part) = covers scales part
-covers scales (And left right) = covers scales left && covers scales right
-covers scales (Or left right) = covers scales left && covers scales right
-covers scales (Is test part) = covers scales part
+abbrev pub covers : {A : _} → Term → List (Value A) → Expr → Bool
+covers term bounds (Const known) = true
+covers term bounds (Atom atom) = covers_atom term bounds atom
+covers term bounds (Not part) = covers term bounds part
+covers term bounds (And left right) = covers term bounds left && covers term bounds right
+covers term bounds (Or left right) = covers term bounds left && covers term bounds right
+covers term bounds (Is test part) = covers term bounds part

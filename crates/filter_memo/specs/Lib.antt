@@ -1,3 +1,6 @@
+pub mod Bits
 pub mod Covering
 pub mod Memos
 pub mod Places
+pub mod Plans
+pub mod Telling

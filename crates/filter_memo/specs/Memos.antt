@@ -1,48 +1,52 @@
 -- Texts that follow from what filters say of a row, and a memo of such texts: row filters of PostgreSQL 15, "Logical
 -- Replication", 31.3 Row Filters.
-use Rattle.std.specs.Prelude.{◌≡◌, ℕ, true, List, map, Option, Some, None, All}
-use Rattle.std.specs.Borrow.{Bor}
+use Rattle.std.specs.Prelude.{◌≡◌, ℕ, true, List, length, Option, Some, None, All}
+use Rattle.std.specs.Option.{option_map}
 use Rattle.std.specs.String.{string_bytes}
 use Rattle.filter_tree.specs.Datum.{Datum}
 use Rattle.filter_tree.specs.Expr.{Expr, meaning}
-use Rattle.filter_tree.specs.Shape.{expr_view}
 use Rattle.filter_tree.specs.declared.filter.Filter.{Filter}
-use Rattle.filter_memo.specs.Places.{ArePlaces}
+use Rattle.filter_tree.specs.declared.tri.Tri.{Tri}
+use Rattle.filter_memo.specs.Plans.{ArePlans}
+use Rattle.filter_memo.specs.Telling.{Tells, AreTold, AreCells}
 use Rattle.filter_memo.specs.declared.memo.Kept.{Kept}
 use Rattle.filter_memo.specs.declared.memo.Memo.{Memo}
-use Rattle.filter_memo.specs.declared.place.Place.{Place}
-use Rattle.filter_memo.specs.declared.scale.Scale.{Scale}
+use Rattle.filter_memo.specs.declared.said.Said.{Said}
 
-abbrev pub filters_view : {A : _} → List (Bor (Filter A)) → List Expr
-filters_view filters = map (λ filter. expr_view filter.now) filters
+-- what a filter says, where there is one
+abbrev pub says : List Datum → Option Expr → Option Tri
+says row filter = option_map (λ own. meaning own row) filter
 
 -- the filters say the same of both rows
-abbrev pub SayTheSame : List Expr → List Datum → List Datum → Type 0
-SayTheSame filters one other = All (λ filter. meaning filter one ≡ meaning filter other) filters
+abbrev pub SayTheSame : List (Option Expr) → List Datum → List Datum → Type 0
+SayTheSame filters one other = All (λ filter. says one filter ≡ says other filter) filters
 
 -- the text of a row follows from what the filters say of it
-pub record Follows (filters : List Expr) (text_of : List Datum → List ℕ) : Type 0 where
+pub record Follows (filters : List (Option Expr)) (text_of : List Datum → List ℕ) : Type 0 where
   pub same : (one other : List Datum) → SayTheSame filters one other → text_of one ≡ text_of other
 
--- rows at the same places have the same text
-pub record IsSettled (scales : List Scale) (text_of : List Datum → List ℕ) : Type 0 where
-  pub same : (one other : List Datum) (places : List Place)
-      → ArePlaces scales one places → ArePlaces scales other places → text_of one ≡ text_of other
+-- rows of which the parts say the same have the same text
+pub record IsText {A : _} (parts : List (Filter A)) (text_of : List Datum → List ℕ) : Type 0 where
+  pub same : (one other : List Datum) (said : Said) → Tells parts one said → Tells parts other said
+      → text_of one ≡ text_of other
 
--- what is kept is the text of each row at these places
-abbrev pub IsKept : List Scale → (List Datum → List ℕ) → Option Kept → Type 0
-IsKept scales text_of None = Unit {0}
-IsKept scales text_of (Some kept) =
-    (row : List Datum) → ArePlaces scales row kept.places.items → string_bytes kept.text ≡ text_of row
+-- what is kept is the text of each row of which the parts say this
+abbrev pub IsKept : {A : _} → List (Filter A) → (List Datum → List ℕ) → Option Kept → Type 0
+IsKept parts text_of None = Unit {0}
+IsKept parts text_of (Some kept) =
+    (row : List Datum) → Tells parts row kept.said → string_bytes kept.text ≡ text_of row
 
--- the memo has this text of each row that it has a text of
-pub record IsMemoOf (text_of : List Datum → List ℕ) (memo : Memo) : Type 0 where
-  pub kept : All (IsKept memo.scales.items text_of) memo.slots.items
-  pub settled : memo.is_used ≡ true → IsSettled memo.scales.items text_of
+-- the memo is of these filters, and has this text of each row that it has a text of
+pub record IsMemoOf (filters : List (Option Expr)) (text_of : List Datum → List ℕ) (memo : Memo) : Type 0 where
+  pub cells : AreCells memo.parts.items memo.scales.items memo.cells.items
+  pub told : memo.is_used ≡ true → AreTold memo.scales.items (length memo.parts.items)
+  pub plans : memo.is_used ≡ true → ArePlans memo.parts.items filters memo.plans.items
+  pub text : memo.is_used ≡ true → IsText memo.parts.items text_of
+  pub kept : All (IsKept memo.parts.items text_of) memo.slots.items
 
--- the places are those of the row
-pub record IsLocated (memo : Memo) (row : List Datum) (places : List Place) : Type 0 where
-  pub are : ArePlaces memo.scales.items row places
+-- the values are those of the row
+pub record IsLocated (memo : Memo) (row : List Datum) (said : Said) : Type 0 where
+  pub tells : memo.is_used ≡ true → Tells memo.parts.items row said
 
 -- nothing is kept
 abbrev pub AreEmpty : List (Option Kept) → Type 0

@@ -1,12 +1,12 @@
-//! The scales of filters. What they cover is tested afterwards.
+//! The bounds of filters. What they cover is tested afterwards.
 
 ghost use Rattle.std.specs.Prelude.{◌≡◌, IfOk};
+ghost use Rattle.std.specs.List.Sorted.{IsSorted};
 ghost use Rattle.filter_tree.specs.Datum.{Known};
 ghost use Rattle.filter_tree.specs.Values.{constant_view, datum_view};
-ghost use Rattle.filter_memo.specs.Places.{AreSorted};
+ghost use Rattle.filter_memo.specs.Places.{value_cmp};
 
-use crate::scale::{Scale, sort_bounds};
-use filter_tree::{Atom, Filter, Literal, Text, Value, same_term};
+use filter_tree::{Atom, Filter, Literal, Term, Text, Value, same_term};
 use std::alloc::{AllocError, Global};
 
 /// A constant as the value that is equal to it.
@@ -51,41 +51,18 @@ fn add_constants(alloc: Global, bounds: &mut Vec<Value>, atom: &Atom) -> Result<
     }
 }
 
-/// Adds what an atom compares with what.
-fn add_atom(alloc: Global, scales: &mut Vec<Scale>, atom: &Atom) -> Result<(), AllocError> {
-    let term = atom.term();
-    for scale in scales.iter_mut() {
-        if same_term(scale.term, term) {
-            return add_constants(alloc, &mut scale.bounds, atom);
-        }
-    }
-    let mut bounds = Vec::new(alloc);
-    add_constants(alloc, &mut bounds, atom)?;
-    scales.push(Scale { term, bounds })?;
-    Ok(())
-}
-
-/// Adds what a filter compares with what.
-fn add_filter(alloc: Global, scales: &mut Vec<Scale>, filter: &Filter) -> Result<(), AllocError> {
-    match filter {
-        Filter::Const(_) => Ok(()),
-        Filter::Atom(atom) => add_atom(alloc, scales, atom),
-        Filter::Not(part) | Filter::Is(_, part) => add_filter(alloc, scales, part),
-        Filter::And(left, right) | Filter::Or(left, right) => {
-            add_filter(alloc, scales, left)?;
-            add_filter(alloc, scales, right)
-        }
-    }
-}
-
-/// A scale for each term of the filters. The only error is want of memory.
-pub fn scales_of(alloc: Global, filters: &[&Filter]) -> Result<Vec<Scale>, AllocError>
-    ensures { IfOk result (λ scales. AreSorted scales.items) }
+/// The constants that the filters compare the term with, in order. The only error is want of memory.
+pub fn bounds_of(alloc: Global, term: Term, parts: &[Filter]) -> Result<Vec<Value>, AllocError>
+    ensures { IfOk result (λ bounds. IsSorted value_cmp bounds.items) }
 {
-    let mut scales = Vec::new(alloc);
-    for filter in filters {
-        add_filter(alloc, &mut scales, *filter)?;
+    let mut bounds = Vec::new(alloc);
+    for part in parts {
+        if let Filter::Atom(atom) = part {
+            if same_term(atom.term(), term) {
+                add_constants(alloc, &mut bounds, atom)?;
+            }
+        }
     }
-    sort_bounds(scales.as_mut_slice());
-    Ok(scales)
+    bounds.sort_unstable();
+    Ok(bounds)
 }

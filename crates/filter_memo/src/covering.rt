@@ -1,4 +1,4 @@
-//! Whether scales have all that filters compare.
+//! Whether bounds have all that filters compare.
 
 ghost use Rattle.std.specs.Prelude.{◌≡◌, true, map, IfOk, IsTrue};
 ghost use Rattle.std.specs.List.{list_all};
@@ -6,11 +6,9 @@ ghost use Rattle.filter_tree.specs.Datum.{Known, Number};
 ghost use Rattle.filter_tree.specs.Shape.{atom_view, expr_view};
 ghost use Rattle.filter_tree.specs.Values.{constant_view, datum_view};
 ghost use Rattle.filter_memo.specs.Covering as spec;
-ghost use Rattle.filter_memo.specs.Memos.{filters_view};
 
 use crate::bounds::value_of;
-use crate::scale::Scale;
-use filter_tree::{Atom, Filter, Literal, Value, same_term};
+use filter_tree::{Atom, Filter, Literal, Term, Value, same_term};
 use std::alloc::{AllocError, Global};
 
 /// A number as a value.
@@ -61,48 +59,29 @@ fn has_constants(alloc: Global, bounds: &[Value], atom: &Atom) -> Result<bool, A
     }
 }
 
-fn covers_atom(alloc: Global, scales: &[Scale], atom: &Atom) -> Result<bool, AllocError>
-    ensures { IfOk result (λ it. IsTrue it → spec.covers_atom scales.now (atom_view atom.now) ≡ true) }
-{
-    match scales {
-        [] => Ok(false),
-        [scale, rest @ ..] => {
-            if same_term(scale.term, atom.term()) {
-                return has_constants(alloc, &scale.bounds, atom);
-            }
-            covers_atom(alloc, rest, atom)
-        }
-    }
-}
-
-/// Whether the filter compares terms of scales with bounds of them alone. A no may be wrong.
-fn covers(alloc: Global, scales: &[Scale], filter: &Filter) -> Result<bool, AllocError>
-    ensures { IfOk result (λ it. IsTrue it → spec.covers scales.now (expr_view filter.now) ≡ true) }
+/// Whether the filter compares the term with bounds alone. A no may be wrong. The only error is want of memory.
+pub fn covers(
+    alloc: Global,
+    term: Term,
+    bounds: &[Value],
+    filter: &Filter,
+) -> Result<bool, AllocError>
+    ensures { IfOk result (λ it. IsTrue it → spec.covers term bounds.now (expr_view filter.now) ≡ true) }
 {
     match filter {
         Filter::Const(_) => Ok(true),
-        Filter::Atom(atom) => covers_atom(alloc, scales, atom),
-        Filter::Not(part) | Filter::Is(_, part) => covers(alloc, scales, part),
-        Filter::And(left, right) | Filter::Or(left, right) => {
-            if !covers(alloc, scales, left)? {
+        Filter::Atom(atom) => {
+            if !same_term(term, atom.term()) {
                 return Ok(false);
             }
-            covers(alloc, scales, right)
+            has_constants(alloc, bounds, atom)
         }
-    }
-}
-
-/// Whether each of the filters does. A no may be wrong. The only error is want of memory.
-pub fn covers_all(alloc: Global, scales: &[Scale], filters: &[&Filter]) -> Result<bool, AllocError>
-    ensures { IfOk result (λ all. IsTrue all → list_all (spec.covers scales.now) (filters_view filters.now) ≡ true) }
-{
-    match filters {
-        [] => Ok(true),
-        [filter, rest @ ..] => {
-            if !covers(alloc, scales, *filter)? {
+        Filter::Not(part) | Filter::Is(_, part) => covers(alloc, term, bounds, part),
+        Filter::And(left, right) | Filter::Or(left, right) => {
+            if !covers(alloc, term, bounds, left)? {
                 return Ok(false);
             }
-            covers_all(alloc, scales, rest)
+            covers(alloc, term, bounds, right)
         }
     }
 }

@@ -1,12 +1,17 @@
-//! A memo of texts that follow from what row filters say of a row. Rows whose values lie at the same places among the
-//! constants of the filters have the same text, which is made once.
+//! A memo of texts that follow from what row filters say of a row. Each atom of the filters is evaluated once for all
+//! values that lie at the same place among its constants, and rows of which all atoms say the same have the same text,
+//! which is made once.
 #![tactic(auto)]
 
 mod bounds;
 mod covering;
-mod locating;
 mod memo;
 mod place;
+mod plan;
+mod said;
 mod scale;
+mod scales;
+mod telling;
 
-pub use memo::{Memo, Places};
+pub use memo::Memo;
+pub use said::Said;

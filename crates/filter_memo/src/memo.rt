@@ -1,31 +1,26 @@
 //! The memo.
 
-ghost use Rattle.std.specs.Prelude.{◌≡◌, ℕ, List, slice_get, IfOk, IfSome, OnOk};
+ghost use Rattle.std.specs.Prelude.{◌≡◌, ℕ, List, Option, Some, slice_get, IfOk, IfSome, OnOk};
 ghost use Rattle.filter_tree.specs.Datum.{Datum};
+ghost use Rattle.filter_tree.specs.Expr.{Expr, meaning};
 ghost use Rattle.filter_memo.specs.Memos as spec;
-ghost use Rattle.filter_memo.specs.Places.{ArePlaces};
+ghost use Rattle.filter_memo.specs.Plans.{filters_view};
 
-use crate::bounds::scales_of;
-use crate::covering::covers_all;
-use crate::locating::push_places;
-use crate::place::{Kind, Place, same_places};
+use crate::plan::{Plan, parts_of, plans_of};
+use crate::said::Said;
 use crate::scale::Scale;
-use filter_tree::{Filter, Row};
+use crate::scales::{are_told, cell_count, scales_of};
+use crate::telling::{Cell, empty_cells, look_all};
+use filter_tree::{Filter, Row, Tri};
 use std::alloc::{AllocError, Global};
 
-/// The most texts that are kept.
-const MAX_TEXTS: usize = 1_024;
+/// How many texts are kept.
+const TEXTS: usize = 1_024;
 
-/// The places of a row, in memory that is kept from row to row.
-#[derive(Drop)]
-pub struct Places {
-    pub list: Vec<Place>,
-}
-
-/// A text, and the places of the rows that have it.
+/// A text, and what the atoms say of the rows that have it.
 #[derive(Drop)]
 pub struct Kept {
-    pub places: Vec<Place>,
+    pub said: Said,
     pub text: String,
 }
 
@@ -33,56 +28,19 @@ pub struct Kept {
 #[derive(Drop)]
 pub struct Memo {
     pub alloc: Global,
+    pub parts: Vec<Filter>,
+    pub plans: Vec<Plan>,
     pub scales: Vec<Scale>,
+    pub cells: Vec<Option<Cell>>,
     pub slots: Vec<Option<Kept>>,
     pub is_used: bool,
 }
 
-impl Places {
-    /// No places, and no memory yet.
-    pub fn new(alloc: Global) -> Places {
-        Places {
-            list: Vec::new(alloc),
-        }
-    }
-}
-
-/// How many numbers of places there are on a scale.
-fn width(scale: &Scale) -> usize {
-    scale.bounds.len().saturating_mul(2).saturating_add(2)
-}
-
-/// The number of a place on its scale, which places of one kind and of null do not share.
-fn number_of(place: &Place) -> usize {
-    match (place.kind, place.found) {
-        (Kind::Null, _) => 0,
-        (Kind::Int | Kind::Bool | Kind::Text, Err(index)) => index.wrapping_mul(2).wrapping_add(1),
-        (Kind::Int | Kind::Bool | Kind::Text, Ok(index)) => index.wrapping_mul(2).wrapping_add(2),
-    }
-}
-
-/// How many slots there are: one for each list of places, if these are not too many.
-fn slot_count(scales: &[Scale]) -> usize {
-    let mut count: usize = 1;
-    for scale in scales {
-        count = count.saturating_mul(width(scale)).min(MAX_TEXTS);
-    }
-    count
-}
-
-/// The slot of places, of so many.
-fn slot_of(scales: &[Scale], places: &[Place], count: usize) -> usize {
-    let mut number: usize = 0;
-    for (scale, place) in scales.iter().zip(places) {
-        number = number
-            .wrapping_mul(width(scale))
-            .wrapping_add(number_of(place));
-    }
-    if number < count {
-        number
-    } else {
-        number % count.max(1)
-    }
+/// The slot of truth values.
+fn slot_of(said: Said) -> usize {
+    let mixed = said.truths.wrapping_mul(0x9e37_79b9_7f4a_7c15)
+        ^ said.nulls.wrapping_mul(0xc2b2_ae3d_27d4_eb4f);
+    ((mixed >> 32) as usize) % TEXTS
 }
 
 /// So many slots with nothing in them.
@@ -106,71 +64,111 @@ fn kept_at(slots: &[Option<Kept>], slot: usize) -> Option<&Kept>
     }
 }
 
-/// A copy of the places.
-fn copied(alloc: Global, places: &[Place]) -> Result<Vec<Place>, AllocError>
-    ensures { IfOk result (λ copy. copy.items ≡ places.now) }
+fn plan_at(plans: &[Plan], number: usize) -> Option<&Plan>
+    ensures { IfSome result (λ plan. slice_get plans.now number ≡ Some plan.now) }
 {
-    let mut copy = Vec::with_capacity(alloc, places.len())?;
-    copy.extend_from_slice(places)?;
-    Ok(copy)
+    plans.get(number)
 }
 
 impl Memo {
-    /// A memo of texts that follow from what these filters say, with no text yet. The only error is want of memory.
-    pub fn new(alloc: Global, filters: &[&Filter]) -> Result<Memo, AllocError>
-        ensures { IfOk result (λ memo. (text_of : List Datum → List ℕ)
-            → spec.Follows (spec.filters_view filters.now) text_of → spec.IsMemoOf text_of memo) }
+    /// A memo that is not used.
+    #[tactic(auto, using(crate::proofs::Memos::unused))]
+    fn unused(alloc: Global) -> Memo
+        ensures { (filters : List (Option Expr)) (text_of : List Datum → List ℕ) → spec.IsMemoOf filters text_of result }
     {
-        let scales = scales_of(alloc, filters)?;
-        let is_used = covers_all(alloc, &scales, filters)?;
-        let count = if is_used { slot_count(&scales) } else { 0 };
+        Memo {
+            alloc,
+            parts: Vec::new(alloc),
+            plans: Vec::new(alloc),
+            scales: Vec::new(alloc),
+            cells: Vec::new(alloc),
+            slots: Vec::new(alloc),
+            is_used: false,
+        }
+    }
+
+    /// A memo of texts that follow from what these filters say, with no text yet. The only error is want of memory.
+    pub fn new(alloc: Global, filters: &[Option<&Filter>]) -> Result<Memo, AllocError>
+        ensures { IfOk result (λ memo. (text_of : List Datum → List ℕ)
+            → spec.Follows (filters_view filters.now) text_of
+            → spec.IsMemoOf (filters_view filters.now) text_of memo) }
+    {
+        let parts = parts_of(alloc, filters)?;
+        let Some(plans) = plans_of(alloc, &parts, filters)? else {
+            return Ok(Memo::unused(alloc));
+        };
+        let scales = scales_of(alloc, &parts)?;
+        if !are_told(&scales, parts.len()) {
+            return Ok(Memo::unused(alloc));
+        }
+        let cells = empty_cells(alloc, cell_count(&scales))?;
         Ok(Memo {
             alloc,
+            parts,
+            plans,
             scales,
-            slots: empty_slots(alloc, count)?,
-            is_used,
+            cells,
+            slots: empty_slots(alloc, TEXTS)?,
+            is_used: true,
         })
     }
 
-    /// Leaves the places of a row, and nothing else. The only error is want of memory.
-    pub fn locate(&self, places: &mut Places, row: &Row) -> Result<(), AllocError>
-        ensures { OnOk result (spec.IsLocated self.now row.now places.new.list.items) }
+    /// What the atoms of the filters say of the row. It allocates nothing.
+    pub fn look(&mut self, row: &Row) -> Said
+        ensures memo { (filters : List (Option Expr)) (text_of : List Datum → List ℕ)
+            → spec.IsMemoOf filters text_of self.old → spec.IsMemoOf filters text_of self.new }
+        ensures located { (filters : List (Option Expr)) (text_of : List Datum → List ℕ)
+            → spec.IsMemoOf filters text_of self.old → spec.IsLocated self.new row.now result }
     {
-        places.list.clear();
-        push_places(&mut places.list, &self.scales, row)
+        look_all(&mut self.cells, &self.parts, &self.scales, row)
     }
 
-    /// The text of the rows at these places, if it is kept.
-    #[tactic(auto, using(crate::proofs::Memos::kept_text))]
-    pub fn text(&self, places: &Places) -> Option<&str>
-        ensures { IfSome result (λ text. (text_of : List Datum → List ℕ) (row : List Datum)
-            → spec.IsMemoOf text_of self.now → spec.IsLocated self.now row places.now.list.items
+    /// What the filter of this number says of the rows of which the atoms say this; `None` if it has to be evaluated.
+    pub fn answer(&self, said: Said, number: usize) -> Option<Tri>
+        ensures { IfSome result (λ answer. (filters : List (Option Expr)) (text_of : List Datum → List ℕ)
+            (row : List Datum) (filter : Expr) → spec.IsMemoOf filters text_of self.now
+            → spec.IsLocated self.now row said → slice_get filters number ≡ Some (Some filter)
+            → answer ≡ meaning filter row) }
+    {
+        if !self.is_used {
+            return None;
+        }
+        let plan = plan_at(&self.plans, number)?;
+        Some(plan.tell(said))
+    }
+
+    /// The text of the rows of which the atoms say this, if it is kept.
+    pub fn text(&self, said: Said) -> Option<&str>
+        ensures { IfSome result (λ text. (filters : List (Option Expr)) (text_of : List Datum → List ℕ)
+            (row : List Datum) → spec.IsMemoOf filters text_of self.now → spec.IsLocated self.now row said
             → text.now ≡ text_of row) }
     {
-        let slot = slot_of(&self.scales, &places.list, self.slots.len());
-        let kept = kept_at(&self.slots, slot)?;
-        if !same_places(&kept.places, &places.list) {
+        if !self.is_used {
+            return None;
+        }
+        let kept = kept_at(&self.slots, slot_of(said))?;
+        if kept.said != said {
             return None;
         }
         Some(kept.text.as_str())
     }
 
-    /// Keeps the text of the rows at these places. The only error is want of memory.
-    pub fn keep(&mut self, places: &Places, text: &str) -> Result<(), AllocError>
-        ensures { OnOk result ((text_of : List Datum → List ℕ) (row : List Datum)
-            → spec.IsMemoOf text_of self.old → spec.IsLocated self.old row places.now.list.items
-            → text.now ≡ text_of row → spec.IsMemoOf text_of self.new) }
+    /// Keeps the text of the rows of which the atoms say this. The only error is want of memory.
+    pub fn keep(&mut self, said: Said, text: &str) -> Result<(), AllocError>
+        ensures { OnOk result ((filters : List (Option Expr)) (text_of : List Datum → List ℕ) (row : List Datum)
+            → spec.IsMemoOf filters text_of self.old → spec.IsLocated self.old row said
+            → text.now ≡ text_of row → spec.IsMemoOf filters text_of self.new) }
     {
         if !self.is_used {
             return Ok(());
         }
-        let slot = slot_of(&self.scales, &places.list, self.slots.len());
         let kept = Kept {
-            places: copied(self.alloc, &places.list)?,
+            said,
             text: String::from_str(self.alloc, text)?,
         };
-        if let Some(held) = self.slots.get_mut(slot) {
-            *held = Some(kept);
+        let slot = slot_of(said);
+        if slot < self.slots.len() {
+            self.slots[slot] = Some(kept);
         }
         Ok(())
     }

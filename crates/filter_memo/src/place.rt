@@ -1,6 +1,6 @@
 //! Places of values among sorted values.
 
-ghost use Rattle.std.specs.Prelude.{◌≡◌, IsTrue};
+ghost use Rattle.std.specs.Prelude.{◌≡◌};
 ghost use Rattle.filter_tree.specs.Values.{datum_view};
 ghost use Rattle.filter_memo.specs.Places.{IsPlace, kind_of};
 
@@ -46,17 +46,11 @@ pub fn place_of(bounds: &[Value], value: &Value) -> Place
     }
 }
 
-/// Whether the lists have the same places in the same order.
-pub fn same_places(one: &[Place], other: &[Place]) -> bool
-    ensures { IsTrue result → one.now ≡ other.now }
-{
-    match one {
-        [] => other.is_empty(),
-        [place, rest @ ..] => match other {
-            [] => false,
-            [other_place, other_rest @ ..] => {
-                *place == *other_place && same_places(rest, other_rest)
-            }
-        },
+/// The number of a place, which places of one kind and of null do not share.
+pub fn number_of(place: &Place) -> usize {
+    match (place.kind, place.found) {
+        (Kind::Null, _) => 0,
+        (Kind::Int | Kind::Bool | Kind::Text, Err(index)) => index.wrapping_mul(2).wrapping_add(1),
+        (Kind::Int | Kind::Bool | Kind::Text, Ok(index)) => index.wrapping_mul(2).wrapping_add(2),
     }
 }

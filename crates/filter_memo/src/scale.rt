@@ -1,34 +1,26 @@
 //! Scales: a term of filters, and the constants that it is compared with.
 
 ghost use Rattle.std.specs.Prelude.{◌≡◌};
-ghost use Rattle.std.specs.List.Sorted.{IsSorted};
 ghost use Rattle.filter_tree.specs.Expr.{remainder_of, term_value};
 ghost use Rattle.filter_tree.specs.Values.{datum_view};
-ghost use Rattle.filter_memo.specs.Places.{AreSorted, IsPlace, value_cmp};
+ghost use Rattle.filter_memo.specs.Places.{IsPlace};
 
 use crate::place::{Place, place_of};
 use filter_tree::{Row, Term, Value};
 
-/// A term, and in ascending order the values that filters compare it with.
+/// A term, in ascending order the values that filters compare it with, and the numbers of these filters. Its cells
+/// begin at `base`.
 #[derive(Drop)]
 pub struct Scale {
     pub term: Term,
     pub bounds: Vec<Value>,
+    pub numbers: Vec<usize>,
+    pub base: usize,
 }
 
-fn sort_scale(scale: &mut Scale)
-    ensures { IsSorted value_cmp scale.new.bounds.items }
-{
-    scale.bounds.sort_unstable();
-}
-
-/// Puts the bounds of each scale in order.
-pub fn sort_bounds(scales: &mut [Scale])
-    ensures { AreSorted scales.new }
-{
-    for scale in scales.iter_mut() {
-        sort_scale(scale);
-    }
+/// How many cells a scale with so many bounds has.
+pub fn width(bounds: usize) -> usize {
+    bounds.saturating_mul(2).saturating_add(2)
 }
 
 /// Where the remainder of the value lies. A remainder has the sign of the value.

@@ -1,14 +1,34 @@
-use Rattle.std.proofs.Common.{◌≡◌, true, subst}
-use Rattle.std.specs.List.{list_all}
-use Rattle.filter_memo.specs.Covering.{covers}
-use Rattle.filter_memo.specs.Memos.{filters_view}
-use Rattle.filter_memo.specs.declared.scale.Scale.{Scale}
-use Rattle.std.proofs.Common.{List}
+use Rattle.std.proofs.Common.{rules, ◌≡◌, true, List, Global, length, subst}
+use Rattle.std.specs.Prelude.{IfSome}
+use Rattle.filter_tree.specs.declared.filter.Filter.{Filter}
+use Rattle.filter_memo.specs.Plans.{ArePlans, filters_view}
+use Rattle.filter_memo.specs.Telling.{AreSettled, AreTold}
+use Rattle.filter_memo.proofs.Judging.{told_as}
 use Rattle.filter_memo.proofs.Memos.{fresh}
 use Rattle.filter_memo.proofs.memo.Memo.new.Goals as goal
 
+pub returns-in_default : goal.returns-in_default
+returns-in_default c = λ text_of follows. c.unused.ensures (filters_view c.args.filters.now) text_of
+
+pub returns-then-not-are_told : goal.returns-then-not-are_told
+returns-then-not-are_told c = λ text_of follows.
+    c.unused-then-not-are_told.ensures (filters_view c.args.filters.now) text_of
+
 pub returns : goal.returns
-returns c = λ text_of follows. fresh _ (filters_view c.args.filters.now) text_of c.in_ok-scales.ensures
-    (λ used. subst (λ (scales : List Scale). list_all (covers scales) (filters_view c.args.filters.now) ≡ true)
-    c.deref.ensures.value (c.in_ok-is_used.ensures used))
+returns c = λ text_of follows.
+    let tested : c.are_told.result ≡ true = search rules in
+    let count : c.len.result ≡ length c.in_ok-parts.parts.items = search rules in
+    let settled : AreSettled c.in_ok-parts.parts.items c.in_ok-scales.scales.items =
+    subst (λ (parts : List (Filter Global)). AreSettled parts c.in_ok-scales.scales.items) c.deref-2.ensures.value
+    c.in_ok-scales.ensures in
+    let told : AreTold c.in_ok-scales.scales.items (length c.in_ok-parts.parts.items) =
+    told_as c.deref-3.result.now c.in_ok-scales.scales.items c.len.result (length c.in_ok-parts.parts.items)
+    c.deref-3.ensures.value count (c.are_told.ensures tested) in
+    let planned : ArePlans c.deref.result.now (filters_view c.args.filters.now) c.in-Some.plans.items =
+    subst (λ found. IfSome found (λ plans. ArePlans c.deref.result.now (filters_view c.args.filters.now) plans.items))
+    c.in-Some.is c.in_ok-plans.ensures in
+    let plans : ArePlans c.in_ok-parts.parts.items (filters_view c.args.filters.now) c.in-Some.plans.items =
+    subst (λ (parts : List (Filter Global)).
+    ArePlans parts (filters_view c.args.filters.now) c.in-Some.plans.items) c.deref.ensures.value planned in
+    fresh _ (filters_view c.args.filters.now) text_of settled c.in_ok-cells.ensures told plans
     c.in_ok-empty_slots.ensures follows
