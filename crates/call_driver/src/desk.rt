@@ -4,7 +4,7 @@ use anyhow::{Context, Result};
 use bytes::BytesMut;
 use copy_both::{Ear, Link, Voice};
 use copy_frames::Deframer;
-use filter_memo::{Memo, Places};
+use filter_memo::{Memo, Said};
 use filter_tree::{Filter, Row, Table};
 use pub_catalog::Catalog;
 use replica_identity::{Change, Plan};
@@ -27,8 +27,8 @@ pub struct Desk {
     /// A filter whose atoms are on a path.
     pub path: Option<Filter>,
     pub memo: Option<Memo>,
-    pub places: Vec<Places>,
-    /// The row with which changes begin.
+    pub said: Vec<Said>,
+    /// The row that changes begin with.
     pub old: Option<Row>,
     pub change: Option<Change>,
     pub checked: Option<Arc<Checked, Global>>,
@@ -56,7 +56,7 @@ impl Desk {
             filter: None,
             path: None,
             memo: None,
-            places: Vec::new(alloc),
+            said: Vec::new(alloc),
             old: None,
             change: None,
             checked: None,

@@ -5,19 +5,17 @@ use crate::cells::{count, first, row};
 use crate::desk::Desk;
 use crate::escapes::unescaped;
 use anyhow::{Context, Result};
-use filter_memo::{Memo, Places};
-use filter_tree::{Filter, Row};
+use filter_memo::{Memo, Said};
+use filter_tree::{Filter, Row, Tri};
 use pub_catalog::Catalog;
 use std::alloc::{AllocError, Global};
 
 /// The filters of all publications.
-fn filters(alloc: Global, catalog: &Catalog) -> Result<Vec<&Filter>> {
+fn filters(alloc: Global, catalog: &Catalog) -> Result<Vec<Option<&Filter>>> {
     let mut filters = Vec::new(alloc);
     for publication in &catalog.publications {
         for entry in &publication.entries {
-            if let Some(filter) = &entry.filter {
-                filters.push(filter)?;
-            }
+            filters.push(entry.filter.as_ref())?;
         }
     }
     Ok(filters)
@@ -35,70 +33,78 @@ fn begin(desk: &mut Desk) -> Result<String> {
     Ok(String::from_str(desk.alloc, "ok")?)
 }
 
-fn locate(memo: &Memo, places: &mut Places, row: &Row) -> Result<(), AllocError> {
-    memo.locate(places, row)
+fn look(memo: &mut Memo, row: &Row) -> Said {
+    memo.look(row)
 }
 
-/// Locates a row. Its places get the next number, from 0.
-fn located(desk: &mut Desk, given: &str) -> Result<String> {
+/// Looks at a row. What the atoms say of it gets the next number, from 0.
+fn seen(desk: &mut Desk, given: &str) -> Result<String> {
     let row = row(desk.alloc, given)?;
-    let mut places = Places::new(desk.alloc);
-    locate(
-        desk.memo.as_ref().context("there is no memo")?,
-        &mut places,
-        &row,
-    )?;
-    let number = desk.places.len();
-    desk.places.push(places)?;
+    let said = look(desk.memo.as_mut().context("there is no memo")?, &row);
+    let number = desk.said.len();
+    desk.said.push(said)?;
     Ok(format!(in desk.alloc; "{number}")?)
 }
 
-/// The text that the memo has for the places.
-fn found<'a>(memo: &'a Memo, places: &Places) -> Option<&'a str> {
-    memo.text(places)
+/// What the atoms say of the row of this number.
+fn said_of(desk: &Desk, number: &str) -> Result<Said> {
+    Ok(
+        *desk
+            .said
+            .get(count(number)?)
+            .context("there is no such row")?,
+    )
 }
 
-/// The text of the places, or `none`.
+/// The text that the memo has of rows of which the atoms say this.
+fn found(memo: &Memo, said: Said) -> Option<&str> {
+    memo.text(said)
+}
+
+/// The text of the row, or `none`.
 fn text(desk: &Desk, given: &str) -> Result<String> {
     let memo = desk.memo.as_ref().context("there is no memo")?;
-    let places = desk
-        .places
-        .get(count(given)?)
-        .context("there are no such places")?;
-    let text = found(memo, places).unwrap_or("none");
+    let text = found(memo, said_of(desk, given)?).unwrap_or("none");
     Ok(String::from_str(desk.alloc, text)?)
 }
 
-/// Whether the memo has this text for the places, and whether it has another one.
+/// What a filter says of the row, by their numbers: `none` where there is no memo of the filters.
+fn filtered(desk: &Desk, given: &str) -> Result<String> {
+    let (row, filter) = first(given);
+    let memo = desk.memo.as_ref().context("there is no memo")?;
+    let said = said_of(desk, row)?;
+    let told = match memo.answer(said, count(filter)?) {
+        None => "none",
+        Some(Tri::True) => "true",
+        Some(Tri::False) => "false",
+        Some(Tri::Null) => "null",
+    };
+    Ok(String::from_str(desk.alloc, told)?)
+}
+
+/// Whether the memo has this text of the row, and whether it has another one.
 fn compared(desk: &Desk, given: &str) -> Result<(bool, bool)> {
-    let (place, text) = first(given);
+    let (number, text) = first(given);
     let text = unescaped(desk.alloc, text)?;
     let memo = desk.memo.as_ref().context("there is no memo")?;
-    let places = desk
-        .places
-        .get(count(place)?)
-        .context("there are no such places")?;
-    match found(memo, places) {
+    match found(memo, said_of(desk, number)?) {
         Some(found) => Ok((found == text.as_str(), found != text.as_str())),
         None => Ok((false, false)),
     }
 }
 
-fn keep(memo: &mut Memo, places: &Places, text: &str) -> Result<(), AllocError> {
-    memo.keep(places, text)
+fn keep(memo: &mut Memo, said: Said, text: &str) -> Result<(), AllocError> {
+    memo.keep(said, text)
 }
 
-/// Keeps the text of the places in the memo.
+/// The memo keeps the text of the row.
 fn kept(desk: &mut Desk, given: &str) -> Result<String> {
-    let (place, text) = first(given);
+    let (number, text) = first(given);
     let text = unescaped(desk.alloc, text)?;
-    let places = desk
-        .places
-        .get(count(place)?)
-        .context("there are no such places")?;
+    let said = said_of(desk, number)?;
     keep(
         desk.memo.as_mut().context("there is no memo")?,
-        places,
+        said,
         text.as_str(),
     )?;
     Ok(String::from_str(desk.alloc, "ok")?)
@@ -108,7 +114,8 @@ fn kept(desk: &mut Desk, given: &str) -> Result<String> {
 pub fn answer(desk: &mut Desk, call: &str, rest: &str) -> Result<Option<String>> {
     Ok(Some(match call {
         "new" => begin(desk)?,
-        "locate" => located(desk, rest)?,
+        "look" => seen(desk, rest)?,
+        "answer" => filtered(desk, rest)?,
         "text" => text(desk, rest)?,
         "keep" => kept(desk, rest)?,
         "has" => shown(desk.alloc, &compared(desk, rest)?.0)?,

@@ -43,12 +43,13 @@ fn push_told(
 ) -> Result<(), AllocError>
     requires empty { string_bytes line.old ≡ [] }
     requires fits { IsValid carried.table.now.columns row.now }
-    requires memo { IsLineMemo (carriers_in carried) memory.old.answers }
+    requires memo { IsLineMemo wanted (carriers_in carried) memory.old.told }
     ensures line { OnOk result (string_bytes line.new ≡ told_in wanted carried.entry row.now) }
-    ensures memo { OnOk result (IsLineMemo (carriers_in carried.entry) memory.new.answers) }
+    ensures memo { OnOk result (IsLineMemo wanted (carriers_in carried.entry) memory.new.told) }
 {
+    memory.push_kept(line, wanted, carried.carriers, row)?;
     match wanted {
-        RowOutput::Answers => memory.push_answers(line, carried.carriers, row),
+        RowOutput::Answers => Ok(()),
         RowOutput::Insert => push_insert(line, &mut memory.spelling, carried, row),
     }
 }
@@ -66,10 +67,10 @@ fn push_line(
     text: &str,
 ) -> Result<bool, AllocError>
     requires empty { string_bytes line.old ≡ [] }
-    requires memo { IsLineMemo (carriers_in carried) memory.old.answers }
+    requires memo { IsLineMemo wanted (carriers_in carried) memory.old.told }
     ensures answered { IfOk result (λ answered. answered ≡ is_answered carried.entry.table.now.columns text.now) }
     ensures line { OnOk result (IsLineIn wanted carried.entry text.now (string_bytes line.new)) }
-    ensures memo { OnOk result (IsLineMemo (carriers_in carried.entry) memory.new.answers) }
+    ensures memo { OnOk result (IsLineMemo wanted (carriers_in carried.entry) memory.new.told) }
 {
     let used = mem::replace(before, Row::from_values(Vec::new(alloc)));
     match table_row(alloc, used, carried.table, text) {

@@ -63,9 +63,9 @@ module _ {A : _} (parts : List (Filter A)) (row : List Datum) where
             ∙ either (has_number numbers number) (meaning (part_at parts number) row))
         | inr apart ↦ let no : (number == own) ≡ false = ne_eqb number own apart in rw no refl
       ] where
-    either : (p : Bool) (tri : Tri) → (if p || true then tri else False) ≡ tri
-    either true tri = refl
-    either false tri = refl
+        either : (p : Bool) (tri : Tri) → (if p || true then tri else False) ≡ tri
+        either true tri = refl
+        either false tri = refl
 
   pub one_more_told : (own : ℕ) (numbers : List ℕ) (old new : Said) → Told parts numbers row old
       → Adds old new own (meaning (part_at parts own) row) → Told parts (own ∷ numbers) row new

@@ -112,9 +112,9 @@ filters_say parts one other said at_one at_other (filter ∷ filters) [] are = a
 filters_say parts one other said at_one at_other (filter ∷ filters) (plan ∷ plans) are =
     All-cons (λ it. says one it ≡ says other it) filter filters (first filter plan are.0)
     (filters_say parts one other said at_one at_other filters plans are.1) where
-  first : (own : Option Expr) (its : Plan) → IsPlanFor parts own its → says one own ≡ says other own
-  first None its is = refl
-  first (Some own) its is = ap Some (sym (is.says one said at_one) ∙ is.says other said at_other)
+      first : (own : Option Expr) (its : Plan) → IsPlanFor parts own its → says one own ≡ says other own
+      first None its is = refl
+      first (Some own) its is = ap Some (sym (is.says one said at_one) ∙ is.says other said at_other)
 
 -- a memo that has no text yet
 pub fresh : (memo : Memo) (filters : List (Option Expr)) (text_of : List Datum → List ℕ)

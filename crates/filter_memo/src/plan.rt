@@ -52,7 +52,10 @@ fn is_atom(part: &Filter, atom: &Atom) -> bool
 {
     match part {
         Filter::Atom(own) => same_atom(own, atom),
-        Filter::Const(_) | Filter::Not(_) | Filter::And(_, _) | Filter::Or(_, _)
+        Filter::Const(_)
+        | Filter::Not(_)
+        | Filter::And(_, _)
+        | Filter::Or(_, _)
         | Filter::Is(_, _) => false,
     }
 }

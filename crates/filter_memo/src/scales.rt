@@ -48,12 +48,7 @@ fn numbers_of(
 
 /// The scale of a term, whose cells begin at `base`.
 #[tactic(auto, using(crate::proofs::Memos::scale_settled))]
-fn scale_of(
-    alloc: Global,
-    term: Term,
-    parts: &[Filter],
-    base: usize,
-) -> Result<Scale, AllocError>
+fn scale_of(alloc: Global, term: Term, parts: &[Filter], base: usize) -> Result<Scale, AllocError>
     ensures { IfOk result (IsSettled parts.now) }
 {
     let bounds = bounds_of(alloc, term, parts)?;
@@ -76,7 +71,10 @@ fn new_term(scales: &[Scale], part: &Filter) -> Option<Term> {
             }
             Some(term)
         }
-        Filter::Const(_) | Filter::Not(_) | Filter::And(_, _) | Filter::Or(_, _)
+        Filter::Const(_)
+        | Filter::Not(_)
+        | Filter::And(_, _)
+        | Filter::Or(_, _)
         | Filter::Is(_, _) => None,
     }
 }

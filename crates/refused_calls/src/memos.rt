@@ -1,9 +1,9 @@
-//! `Memo::new`, `Memo::locate` and `Memo::keep`.
+//! `Memo::new` and `Memo::keep`.
 
 use crate::commands::row;
 use crate::refusals::{end_refusals, refuse};
 use anyhow::{Result, ensure};
-use filter_memo::{Memo, Places};
+use filter_memo::Memo;
 use filter_tree::{Filter, Row};
 use pub_catalog::Catalog;
 use pub_reader::read_catalog;
@@ -14,7 +14,7 @@ const CATALOG: &str = "CREATE TABLE t (id integer PRIMARY KEY, region text, is_o
 CREATE PUBLICATION near FOR TABLE t WHERE (id < 100 AND region IN ('as', 'eu'));
 CREATE PUBLICATION odd FOR TABLE t WHERE (id % 7 = 3 OR is_open IS DISTINCT FROM TRUE);";
 
-/// Rows, each with the publications that carry it. The first two are at the same places.
+/// Rows, each with the publications that carry it. The atoms say the same of the first two.
 const ROWS: &[(&str, &str)] = &[
     ("(7, 'eu', TRUE)", "near"),
     ("(8, 'eu', TRUE)", "near"),
@@ -32,53 +32,42 @@ fn rows(alloc: Global) -> Result<Vec<(Row, &'static str)>> {
     Ok(rows)
 }
 
-fn filters(alloc: Global, catalog: &Catalog) -> Result<Vec<&Filter>> {
+fn filters(alloc: Global, catalog: &Catalog) -> Result<Vec<Option<&Filter>>> {
     let mut filters = Vec::new(alloc);
     for publication in &catalog.publications {
         for entry in &publication.entries {
-            if let Some(filter) = &entry.filter {
-                filters.push(filter)?;
-            }
+            filters.push(entry.filter.as_ref())?;
         }
     }
     Ok(filters)
 }
 
-/// Whether the text that is found is the row's. If none is found, the row's is kept.
-fn is_told(
-    memo: &mut Memo,
-    places: &mut Places,
-    row: &Row,
-    text: &str,
-) -> Result<bool, AllocError> {
-    memo.locate(places, row)?;
-    if let Some(found) = memo.text(places) {
+/// Whether the text that is found is the row's. Where none is found, the row's is kept.
+fn is_told(memo: &mut Memo, row: &Row, text: &str) -> Result<bool, AllocError> {
+    let said = memo.look(row);
+    if let Some(found) = memo.text(said) {
         return Ok(found == text);
     }
-    memo.keep(places, text)?;
+    memo.keep(said, text)?;
     Ok(true)
 }
 
 /// Whether no row has the text of another one.
-fn are_told(
-    memo: &mut Memo,
-    places: &mut Places,
-    rows: &[(Row, &str)],
-) -> Result<bool, AllocError> {
+fn are_told(memo: &mut Memo, rows: &[(Row, &str)]) -> Result<bool, AllocError> {
     for (row, text) in rows {
-        if !is_told(memo, places, row, *text)? {
+        if !is_told(memo, row, *text)? {
             return Ok(false);
         }
     }
     Ok(true)
 }
 
-/// Checks that the text of each row is found.
-fn check_found(memo: &Memo, places: &mut Places, rows: &[(Row, &str)]) -> Result<()> {
+/// That the text of each row is found.
+fn check_found(memo: &mut Memo, rows: &[(Row, &str)]) -> Result<()> {
     for (row, text) in rows {
-        memo.locate(places, row)?;
+        let said = memo.look(row);
         ensure!(
-            memo.text(places) == Some(*text),
+            memo.text(said) == Some(*text),
             "the text {text:?} is not found"
         );
     }
@@ -92,11 +81,10 @@ pub fn is_refused(alloc: Global, number: u16) -> Result<bool> {
     let catalog = read_catalog(alloc, CATALOG)?;
     let filters = filters(alloc, &catalog)?;
     let rows = rows(alloc)?;
-    let mut places = Places::new(alloc);
     refuse(alloc, number)?;
     let mut made = Memo::new(alloc, &filters).ok();
     let told = match &mut made {
-        Some(memo) => are_told(memo, &mut places, &rows),
+        Some(memo) => are_told(memo, &rows),
         None => Err(AllocError),
     };
     let was_refused = end_refusals(alloc)?;
@@ -109,9 +97,9 @@ pub fn is_refused(alloc: Global, number: u16) -> Result<bool> {
         None => Memo::new(alloc, &filters)?,
     };
     ensure!(
-        are_told(&mut memo, &mut places, &rows)?,
+        are_told(&mut memo, &rows)?,
         "after the refusal a row has another one's text"
     );
-    check_found(&memo, &mut places, &rows)?;
+    check_found(&mut memo, &rows)?;
     Ok(was_refused)
 }

@@ -5,15 +5,17 @@ from collections.abc import Iterator
 
 from .table import Call
 
-# What a row has in each of the columns c0 to c31, and in each of c68 to c99, and a word for where that lies: rows with
-# the same word are at the same places.
+# What a row has in each of the columns c0 to c31, and in each of c68 to c99, and what the two atoms of each filter say of
+# it.
 CASES = [
-    (65_535 * "a", "7", "both are constants"), (65_535 * "a", "1007", "both are constants"),
-    (65_535 * "a", "8", "another number"), (65_535 * "a", "-7", "a number below"),
-    (65_535 * "a", "-9223372036854775808", "a number below"), (65_535 * "a", "100", "a number above"),
-    (65_535 * "a", "9223372036854775807", "a number above"), (65_535 * "a", "null", "no number"),
-    ("", "7", "the empty text"), ("a", "7", "a text between"), (65_534 * "a", "7", "a text between"),
-    (65_534 * "a" + "b", "7", "a text above"), ("b", "7", "a text above"), (None, "7", "no text"), (None, "null", "")]
+    (65_535 * "a", "7", ("true", "true")), (65_535 * "a", "1007", ("true", "true")), (65_535 * "a", "8", ("true", "true")),
+    (65_535 * "a", "-7", ("true", "false")), (65_535 * "a", "-9223372036854775808", ("true", "false")),
+    (65_535 * "a", "100", ("true", "false")), (65_535 * "a", "9223372036854775807", ("true", "false")),
+    (65_535 * "a", "null", ("true", "null")), ("", "7", ("true", "true")), ("a", "7", ("false", "true")),
+    (65_534 * "a", "7", ("false", "true")), (65_534 * "a" + "b", "7", ("false", "true")), ("b", "-7", ("false", "false")),
+    ("b", "null", ("false", "null")), (None, "7", ("null", "true")), (None, "-7", ("null", "false")),
+    (None, "null", ("null", "null"))]
+FILTERS = 32
 
 
 def catalog() -> str:
@@ -22,7 +24,7 @@ def catalog() -> str:
     numbers = ", ".join(map(str, range(100)))
     publications = "".join(
         f"CREATE PUBLICATION p{number} FOR TABLE t WHERE (c{number} IN ('', '{65_535 * 'a'}') "
-        f"OR c{number + 68} % 1000 IN ({numbers}));" for number in range(32))
+        f"OR c{number + 68} % 1000 IN ({numbers}));" for number in range(FILTERS))
     return f"CREATE TABLE t (id integer PRIMARY KEY, {columns});".replace(
         "id integer PRIMARY KEY, c0 text", "c0 text PRIMARY KEY") + publications
 
@@ -33,14 +35,27 @@ def row(first: str | None, last: str) -> str:
     return " ".join([*(32 * [text]), *(36 * ["null"]), *(32 * [last])])
 
 
+def text_of(said: tuple[str, str]) -> str:
+    """A text of the rows of which the atoms say this; some rows have none."""
+    return "" if said == ("null", "null") else " and ".join(said)
+
+
+def joined(said: tuple[str, str]) -> str:
+    """What the filter says, an OR of both atoms."""
+    return next(it for it in ("true", "null", "false") if it in said)
+
+
 def calls() -> Iterator[Call]:
-    """A text that is kept is found for all rows at its places, and for no other row: that has its own text, or none."""
+    """A text that is kept is found for all rows of which the atoms say the same, and for no other row: that has its own
+    text, or none."""
     yield Call(f"catalog.read {catalog()}", "ok")
     yield Call("memo.new", "ok")
-    for number, (first, last, _) in enumerate(CASES):
-        yield Call(f"memo.locate {row(first, last)}", str(number))
-    for kept, (_, _, text) in enumerate(CASES):
-        yield Call(f"memo.keep {kept} {4_000 * text}", "ok")
+    for number, (first, last, said) in enumerate(CASES):
+        yield Call(f"memo.look {row(first, last)}", str(number))
+        for at in (0, FILTERS - 1):
+            yield Call(f"memo.answer {number} {at}", joined(said))
+    for kept, (_, _, said) in enumerate(CASES):
+        yield Call(f"memo.keep {kept} {4_000 * text_of(said)}", "ok")
         for number, (_, _, other) in enumerate(CASES):
-            is_kept = other == text
-            yield Call(f"memo.{'has' if is_kept else 'differs'} {number} {4_000 * other}", str(is_kept).lower())
+            is_kept = other == said
+            yield Call(f"memo.{'has' if is_kept else 'differs'} {number} {4_000 * text_of(other)}", str(is_kept).lower())

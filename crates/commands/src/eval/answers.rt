@@ -1,13 +1,15 @@
 //! What the publications of a catalog say of a row.
 
-ghost use Rattle.std.specs.Prelude.{◌≡◌, [], OnOk, map};
-ghost use Rattle.std.specs.Option.{option_map};
+ghost use Rattle.std.specs.Prelude.{◌≡◌, [], OnOk, Some, map};
 ghost use Rattle.std.specs.String.{string_bytes};
+ghost use Rattle.filter_tree.specs.Expr.{meaning};
 ghost use Rattle.filter_tree.specs.Shape.{expr_view};
 ghost use Rattle.commands.specs.Eval.Carriers.{carrier_view};
 ghost use Rattle.commands.specs.Eval.Answers as spec;
+ghost use Rattle.commands.specs.Eval.Memos.{Knows, KnowsOne};
 
 use crate::eval::carriers::Carrier;
+use filter_memo::{Memo, Said};
 use filter_tree::{Filter, Row, Tri, eval};
 use std::alloc::AllocError;
 
@@ -37,13 +39,26 @@ impl Answer {
     }
 }
 
-/// What a publication with this filter says of a row.
-pub fn answer_of(filter: Option<&Filter>, row: &Row) -> Answer
-    ensures { result ≡ spec.answer_of row.now (option_map (λ filter. expr_view filter.now) filter.entry) }
+/// What the filter of this number says, which is evaluated if the memo does not know.
+#[tactic(auto, using(crate::proofs::Answering::known_filter))]
+fn truth_of(memo: &Memo, said: Said, number: usize, filter: &Filter, row: &Row) -> Tri
+    requires { KnowsOne (Some (expr_view filter.now)) number row.now memo.now said }
+    ensures { result ≡ meaning (expr_view filter.now) row.now }
 {
-    match filter {
+    match memo.answer(said, number) {
+        Some(truth) => truth,
+        None => eval(filter, row),
+    }
+}
+
+/// What the publication of this number says of a row.
+pub fn answer_of(memo: &Memo, said: Said, number: usize, carrier: Carrier<'_>, row: &Row) -> Answer
+    requires { KnowsOne (carrier_view carrier).filter number row.now memo.now said }
+    ensures { result ≡ spec.answer_of row.now (carrier_view carrier.entry).filter }
+{
+    match carrier.filter {
         None => Answer::All,
-        Some(filter) => Answer::Filtered(eval(filter, row)),
+        Some(filter) => Answer::Filtered(truth_of(memo, said, number, filter, row)),
     }
 }
 
@@ -59,25 +74,40 @@ fn push_answer(line: &mut String, name: &str, answer: Answer) -> Result<(), Allo
     line.push_str(answer.told())
 }
 
-/// Writes what a publication says of a row after what is on the line.
-fn push_said(line: &mut String, carrier: Carrier<'_>, row: &Row) -> Result<(), AllocError>
+/// Writes what the publication of this number says of a row after what is on the line.
+fn push_said(
+    line: &mut String,
+    memo: &Memo,
+    said: Said,
+    number: usize,
+    carrier: Carrier<'_>,
+    row: &Row,
+) -> Result<(), AllocError>
+    requires { KnowsOne (carrier_view carrier).filter number row.now memo.now said }
     ensures { OnOk result (string_bytes line.new ≡ spec.with_said (string_bytes line.old)
         (spec.said_by row.now (carrier_view carrier.entry))) }
 {
-    push_answer(line, carrier.name, answer_of(carrier.filter, row))
+    push_answer(
+        line,
+        carrier.name,
+        answer_of(memo, said, number, carrier, row),
+    )
 }
 
 /// Writes `name=answer` for each publication that carries the table, with a space between.
 pub fn push_answers(
     line: &mut String,
+    memo: &Memo,
+    said: Said,
     carriers: &[Carrier<'_>],
     row: &Row,
 ) -> Result<(), AllocError>
-    requires { string_bytes line.old ≡ [] }
+    requires empty { string_bytes line.old ≡ [] }
+    requires memo { Knows (map carrier_view carriers.now) row.now memo.now said }
     ensures { OnOk result (string_bytes line.new ≡ spec.line_of row.now (map carrier_view carriers.now)) }
 {
-    for carrier in carriers {
-        push_said(line, *carrier, row)?;
+    for number in 0..carriers.len() {
+        push_said(line, memo, said, number, carriers[number], row)?;
     }
     Ok(())
 }

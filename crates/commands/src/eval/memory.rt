@@ -1,115 +1,123 @@
 //! What is kept from row to row.
 
-ghost use Rattle.std.specs.Prelude.{◌≡◌, ◌++◌, [], IfOk, OnOk, map};
-ghost use Rattle.std.specs.List.{cons_option};
+ghost use Rattle.std.specs.Prelude.{◌≡◌, ◌++◌, [], ◌∷◌, IfOk, OnOk, map};
 ghost use Rattle.std.specs.String.{string_bytes};
-ghost use Rattle.filter_memo.specs.Memos.{filters_view};
-ghost use Rattle.commands.specs.Eval.Answers.{line_of};
+ghost use Rattle.filter_memo.specs.Plans.{filters_view};
 ghost use Rattle.commands.specs.Eval.Carriers.{carrier_view};
 ghost use Rattle.commands.specs.Eval.Memos as spec;
 
 use crate::eval::answers::push_answers;
 use crate::eval::carriers::Carrier;
-use crate::eval::inserts::Spelling;
-use filter_memo::{Memo, Places};
+use crate::eval::inserts::{Spelling, push_none};
+use crate::eval::row_output::RowOutput;
+use filter_memo::{Memo, Said};
 use filter_tree::{Filter, Row};
 use std::alloc::{AllocError, Global};
 
-/// Memory for the message of a row, and lines of answers, which are kept once there is a row.
+/// Memory for the message of a row, and a memo of what is told of rows, which is made once there is a row.
 #[derive(Drop)]
 pub struct RowMemory {
     pub spelling: Spelling,
-    pub answers: Option<Memo>,
+    pub told: Option<Memo>,
     alloc: Global,
-    places: Places,
 }
 
-fn add_filter<'a>(filters: &mut Vec<&'a Filter>, carrier: Carrier<'a>) -> Result<(), AllocError>
-    ensures { OnOk result (filters_view filters.new.items ≡ filters_view filters.old.items ++
-        cons_option (carrier_view carrier.entry).filter []) }
-{
-    match carrier.filter {
-        None => Ok(()),
-        Some(filter) => {
-            filters.push(filter)?;
-            Ok(())
-        }
-    }
-}
-
-/// The filters of the publications that have one.
-fn filters_of<'a>(alloc: Global, carriers: &[Carrier<'a>]) -> Result<Vec<&'a Filter>, AllocError>
+/// The filters of the publications, where they have one.
+fn filters_of<'a>(
+    alloc: Global,
+    carriers: &[Carrier<'a>],
+) -> Result<Vec<Option<&'a Filter>>, AllocError>
     ensures { IfOk result (λ filters. filters_view filters.items ≡ spec.filters_of (map carrier_view carriers.now)) }
 {
-    let mut filters = Vec::new(alloc);
+    let mut filters = Vec::with_capacity(alloc, carriers.len())?;
     for carrier in carriers {
-        add_filter(&mut filters, *carrier)?;
+        filters.push(carrier.filter)?;
     }
     Ok(filters)
 }
 
 /// A memo of what these publications say. The only error is want of memory.
-#[tactic(auto, using(crate::proofs::Answering::lines_follow))]
-fn line_memo(alloc: Global, carriers: &[Carrier<'_>]) -> Result<Memo, AllocError>
-    ensures { IfOk result (λ memo. spec.IsLineMemo (map carrier_view carriers.now) (Some memo)) }
+fn line_memo(alloc: Global, wanted: RowOutput, carriers: &[Carrier<'_>]) -> Result<Memo, AllocError>
+    ensures { IfOk result (λ memo. spec.IsLineMemo wanted (map carrier_view carriers.now) (Some memo)) }
 {
     let filters = filters_of(alloc, carriers)?;
-    Memo::new(alloc, &filters)
+    let memo = Memo::new(alloc, &filters)?;
+    Ok(memo)
 }
 
-/// As `push_answers`. A line that rows had before is not made again.
-fn push_known(
-    memo: &mut Memo,
-    places: &mut Places,
+/// Writes on an empty line what is kept of the row.
+fn push_anew(
     line: &mut String,
+    memo: &Memo,
+    said: Said,
+    wanted: RowOutput,
     carriers: &[Carrier<'_>],
     row: &Row,
 ) -> Result<(), AllocError>
     requires empty { string_bytes line.old ≡ [] }
-    requires memo { spec.IsLineMemo (map carrier_view carriers.now) (Some memo.old) }
-    ensures line { OnOk result (string_bytes line.new ≡ line_of row.now (map carrier_view carriers.now)) }
-    ensures memo { OnOk result (spec.IsLineMemo (map carrier_view carriers.now) (Some memo.new)) }
+    requires memo { spec.Knows (map carrier_view carriers.now) row.now memo.now said }
+    ensures { OnOk result (string_bytes line.new ≡ spec.kept_of wanted (map carrier_view carriers.now) row.now) }
 {
-    memo.locate(places, row)?;
-    if let Some(text) = memo.text(places) {
+    match wanted {
+        RowOutput::Answers => push_answers(line, memo, said, carriers, row),
+        RowOutput::Insert => push_none(line, memo, said, carriers, row),
+    }
+}
+
+/// Writes on an empty line what is kept of the row. What rows had before is not made again.
+fn push_known(
+    memo: &mut Memo,
+    line: &mut String,
+    wanted: RowOutput,
+    carriers: &[Carrier<'_>],
+    row: &Row,
+) -> Result<(), AllocError>
+    requires empty { string_bytes line.old ≡ [] }
+    requires memo { spec.IsLineMemo wanted (map carrier_view carriers.now) (Some memo.old) }
+    ensures line { OnOk result (string_bytes line.new ≡ spec.kept_of wanted (map carrier_view carriers.now) row.now) }
+    ensures memo { OnOk result (spec.IsLineMemo wanted (map carrier_view carriers.now) (Some memo.new)) }
+{
+    let said = memo.look(row);
+    if let Some(text) = memo.text(said) {
         line.push_str(text)?;
         return Ok(());
     }
-    push_answers(line, carriers, row)?;
-    memo.keep(places, line.as_str())
+    push_anew(line, memo, said, wanted, carriers, row)?;
+    memo.keep(said, line.as_str())?;
+    Ok(())
 }
 
 impl RowMemory {
     /// Nothing kept, and no memory yet.
     pub fn new(alloc: Global) -> RowMemory
-        ensures { result.answers ≡ None }
+        ensures { result.told ≡ None }
     {
         RowMemory {
             spelling: Spelling::new(alloc),
-            answers: None,
+            told: None,
             alloc,
-            places: Places::new(alloc),
         }
     }
 
-    /// As `push_answers`, of the same publications each time.
-    pub fn push_answers(
+    /// Writes on an empty line what is kept of the row, of the same publications each time.
+    pub fn push_kept(
         &mut self,
         line: &mut String,
+        wanted: RowOutput,
         carriers: &[Carrier<'_>],
         row: &Row,
     ) -> Result<(), AllocError>
         requires empty { string_bytes line.old ≡ [] }
-        requires memo { spec.IsLineMemo (map carrier_view carriers.now) self.old.answers }
-        ensures line { OnOk result (string_bytes line.new ≡ line_of row.now (map carrier_view carriers.now)) }
-        ensures memo { OnOk result (spec.IsLineMemo (map carrier_view carriers.now) self.new.answers) }
+        requires memo { spec.IsLineMemo wanted (map carrier_view carriers.now) self.old.told }
+        ensures line { OnOk result (string_bytes line.new ≡ spec.kept_of wanted (map carrier_view carriers.now) row.now) }
+        ensures memo { OnOk result (spec.IsLineMemo wanted (map carrier_view carriers.now) self.new.told) }
     {
-        if let Some(memo) = &mut self.answers {
-            return push_known(memo, &mut self.places, line, carriers, row);
+        if let Some(memo) = &mut self.told {
+            return push_known(memo, line, wanted, carriers, row);
         }
-        let mut memo = line_memo(self.alloc, carriers)?;
-        push_known(&mut memo, &mut self.places, line, carriers, row)?;
-        self.answers = Some(memo);
+        let mut memo = line_memo(self.alloc, wanted, carriers)?;
+        push_known(&mut memo, line, wanted, carriers, row)?;
+        self.told = Some(memo);
         Ok(())
     }
 }

@@ -17,7 +17,7 @@ loop-row-init g c =
       so_far = so_far_at_start c.args.wanted c.args.carried.number carriers c.args.carried.table.now.columns
           (lines_of c.args.rows.now) (lines_left c.into_iter-row-iterator.result) (g.W.Write.contents c.args.writer.now)
           left;
-      memo = subst (IsLineMemo carriers) (sym c.new-memory.ensures) tt;
+      memo = subst (IsLineMemo c.args.wanted carriers) (sym c.new-memory.ensures) tt;
     }
 
 pub loop-row-preserved : goal.loop-row-preserved

@@ -10,5 +10,5 @@ invariant-loop-row g l = record {
   so_far : IsSoFar l.wanted l.carried.number (map carrier_view l.carried.carriers.now) l.carried.table.now.columns
       (lines_of l.rows) (lines_left l.row-iterator) l.status (g.W.Write.contents l.initial.writer)
       (g.W.Write.contents l.writer);
-  memo : IsLineMemo (map carrier_view l.carried.carriers.now) l.memory.answers;
+  memo : IsLineMemo l.wanted (map carrier_view l.carried.carriers.now) l.memory.told;
 }

@@ -4,5 +4,5 @@ use Rattle.commands.specs.Eval.Answers.{line_of}
 use Rattle.commands.specs.Eval.Carriers.{carrier_view}
 use Rattle.commands.proofs.eval.answers.push_answers.Given as goal
 
-abbrev pub invariant-loop-carrier : goal.invariant-loop-carrier
-invariant-loop-carrier l = string_bytes l.line ≡ line_of l.row (map carrier_view (take l.carrier-index l.carriers))
+abbrev pub invariant-loop-number : goal.invariant-loop-number
+invariant-loop-number l = string_bytes l.line ≡ line_of l.row (map carrier_view (take l.number l.carriers))

@@ -1,5 +1,5 @@
 use Rattle.std.proofs.Common.{◌≡◌, ◌++◌, drop, map}
-use Rattle.filter_memo.specs.Memos.{filters_view}
+use Rattle.filter_memo.specs.Plans.{filters_view}
 use Rattle.commands.specs.Eval.Carriers.{carrier_view}
 use Rattle.commands.specs.Eval.Memos as spec
 use Rattle.commands.proofs.eval.memory.filters_of.Given as goal
