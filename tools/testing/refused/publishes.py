@@ -120,7 +120,7 @@ def fault_of(found: Published) -> str | None:
     if lines and not LISTENING.fullmatch(lines.pop(0)) or len(lines) > len(COMMITS):
         return f"the first line, or too many: {answer.output!r}"
     publisher = publisher_of(lines)
-    if publisher is None or answer.status == 0 and not is_closed(last, lines, publisher):
+    if publisher is None or answer.status == 0 and not is_closed(last, lines, publisher, found.got):
         return f"status {answer.status}, {answer.output!r}"
     # A run that gives up may have made a commit for whose answer there was no memory, and clients may have it.
     sent = publisher if answer.status == 0 else publisher_of(lines, unanswered=1)
@@ -154,11 +154,13 @@ def keepalives_after(frames: list[bytes], publisher: Publisher, subscriber: Subs
     return [messages.keepalive(position) for position in range(first, last + 1, 64)] if is_between else []
 
 
-def is_closed(last: str, answers: list[str], publisher: Publisher) -> bool:
-    """Whether the last line says how many commits there are, of all the lines, and not too many connections."""
+def is_closed(last: str, answers: list[str], publisher: Publisher, got: dict[str, bytes]) -> bool:
+    """Whether the last line says how many commits there are, of all the lines, and as many connections as clients got
+    something, or more, but not too many."""
     closed = CLOSED.fullmatch(last)
+    served = sum(bool(sent) for sent in got.values())
     return closed is not None and len(answers) == len(COMMITS) and int(closed[1]) == len(publisher.log) and (
-        int(closed[2]) <= len(SUBSCRIBERS))
+        served <= int(closed[2]) <= len(SUBSCRIBERS))
 
 
 def is_whole(found: Published) -> bool:

@@ -8,16 +8,22 @@ from programs import PGSHARD, pgshard
 from tally import Tally
 
 from . import messages
-from .clients import Connection, client
+from .clients import LITTLE, Connection, back_again, client
 from .program import SECONDS, publishing, started
 from .publish_checks import commit_line, head
-from .publisher import Publisher
+from .publisher import Insert, Publisher
 from .shop import LONDON, SHOP, TOKYO
 
 # For how many seconds a client may be silent, and how long one stays at least that is not.
 SILENCE = 4
 STAY = 7
 PAUSE = 0.2
+
+# For how many seconds a client may take nothing, how much later its end may come on a busy machine, and what is committed
+# for a client that reads nothing: more than sockets hold.
+STALL = 2
+DELAY = 60
+LONG_ROWS, LONG_TEXT = 200, 60_000
 
 # How many keepalives are awaited, a second apart. The first may be one that was due before the stream began.
 KEEPALIVES = 4
@@ -30,6 +36,8 @@ WRONG_WORDS = [
 
 TAKEN = "port {} of 127.0.0.1 cannot be used: Address already in use (os error 98)"
 
+TOOK_NOTHING = "the connection was lost, or the client took nothing for too long"
+
 # The name of a slot in which JSON needs escapes, and as SQL has it.
 STRANGE = 'a"b\\c'
 STRANGE_QUOTED = '"a""b\\c"'
@@ -41,6 +49,7 @@ def check_timing(tally: Tally) -> None:
     check_words(tally, text)
     check_keepalives(tally, text)
     check_silence(tally, text)
+    check_stalled(tally, text)
     check_objects(tally, text)
     check_strange_name(tally, text)
     check_fault(tally, text)
@@ -115,6 +124,31 @@ def check_silence(tally: Tally, text: str) -> None:
         tally.check("what is said of the silent client", program.log, [said])
         other.finish()
         tally.check("the end after a silent client", program.finish(), (0, ["closed 0 2\n"]))
+
+
+def check_stalled(tally: Tally, text: str) -> None:
+    """A client that reads nothing is given up soon, however long it may be silent. Then its slot loses nothing."""
+    made = Publisher(SHOP.tables)
+    words = "--write-timeout", str(STALL), "--timeout", "600", "--keepalive", "86400"
+    with publishing(text, *words) as (program, port), client(port, LITTLE) as stalled:
+        stalled.start(LONDON)
+        begin = time.monotonic()
+        for number in range(LONG_ROWS):
+            commands = [Insert("orders", (number, 20, 500, "x" * LONG_TEXT, None))]
+            made.commit(commands)
+            program.ask(commit_line(commands))
+        answered = time.monotonic()
+        while not program.log and time.monotonic() < answered + SECONDS:
+            time.sleep(0.02)
+        given_up = begin + STALL - 0.1 < time.monotonic() < answered + STALL + DELAY
+        tally.check("how soon a client that reads nothing is given up", given_up, True)
+        said = [line.startswith("london: sent from 0/0 to 0/") and line.endswith(f": {TOOK_NOTHING}\n")
+                for line in program.log]
+        tally.check("what is said of a client that reads nothing", said, [True])
+        expected = made.stream(LONDON)
+        with back_again(port, LONDON, 0) as again:
+            tally.check("the stream of its slot afterwards", again.receive(len(expected)) == expected, True)
+        tally.check("the end after a client that read nothing", program.finish(), (0, [f"closed {LONG_ROWS} 2\n"]))
 
 
 def address(opened: socket.socket) -> str:

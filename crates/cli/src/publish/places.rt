@@ -3,13 +3,12 @@
 use crate::publish::hall::Hall;
 use crate::publish::keepalives::keep_alive;
 use crate::publish::notices::{tell_busy, tell_end, tell_start};
-use crate::publish::streams::{MarkingWrite, PatientRead};
+use crate::publish::streams::{PatientRead, PatientWrite, Writes};
 use senders::{FromRead, OpenGate, Publisher, Publishing, Served, ToWrite, serve};
 use std::alloc::{AllocError, Global};
 use std::io::ErrorKind;
 use std::net::{SocketAddr, TcpListener, TcpStream};
 use std::sync::Wait;
-use std::sync::atomic::AtomicBool;
 use std::thread;
 use std::thread::{Threads, join_mut};
 use std::time::{Clock, Duration};
@@ -57,10 +56,10 @@ fn serve_stream<P: Publishing + Sync, R: Threads + Wait + Clock + Sync>(
     hall: &Hall,
     stream: &TcpStream,
 ) -> Served {
-    let is_started = AtomicBool::new(false);
+    let writes = Writes::new();
     let _ = stream.set_nodelay(true);
-    let mut reader = FromRead::new(PatientRead::new(hall, stream, &is_started));
-    let mut writer = ToWrite::new(MarkingWrite::new(hall, stream, &is_started));
+    let mut reader = FromRead::new(PatientRead::new(hall, stream, &writes));
+    let mut writer = ToWrite::new(PatientWrite::new(hall, stream, &writes));
     serve(rt, publisher, &mut reader, &mut writer, &OpenGate)
 }
 

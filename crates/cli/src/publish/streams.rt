@@ -1,5 +1,7 @@
 //! Sockets whose clients are waited for only so long.
 
+ghost use Rattle.std.specs.Io.{WritesAtMost};
+
 use crate::publish::hall::Hall;
 use std::io;
 use std::io::{ErrorKind, Read, Write};
@@ -13,13 +15,32 @@ const TICK: u64 = 200;
 /// How many ticks a second has.
 const TICKS: u64 = 1_000 / TICK;
 
+/// What is known of the writes to a client.
+#[derive(Debug, Drop)]
+pub(crate) struct Writes {
+    /// Whether there was one.
+    is_started: AtomicBool,
+    /// Whether one failed.
+    has_failed: AtomicBool,
+}
+
+impl Writes {
+    /// Nothing has been written yet.
+    pub(crate) fn new() -> Writes {
+        Writes {
+            is_started: AtomicBool::new(false),
+            has_failed: AtomicBool::new(false),
+        }
+    }
+}
+
 /// What is read of a client. It fails where the client starts no stream in time, or in no time while no place is free,
-/// where it is silent for too long after that, and once all clients have to go.
+/// where it is silent for too long after that, once a write to it has failed, and once all clients have to go.
 #[derive(Debug, Drop)]
 pub(crate) struct PatientRead<'a> {
     hall: &'a Hall,
     stream: &'a TcpStream,
-    is_started: &'a AtomicBool,
+    writes: &'a Writes,
     /// How many ticks are left in which the client may start its stream.
     left: u64,
     /// For how many ticks the client has been silent.
@@ -31,13 +52,13 @@ impl<'a> PatientRead<'a> {
     pub(crate) fn new(
         hall: &'a Hall,
         stream: &'a TcpStream,
-        is_started: &'a AtomicBool,
+        writes: &'a Writes,
     ) -> PatientRead<'a> {
         let _ = stream.set_read_timeout(Some(Duration::from_millis(TICK)));
         PatientRead {
             hall,
             stream,
-            is_started,
+            writes,
             left: u64::from(hall.start_timeout()).saturating_mul(TICKS),
             silent: 0,
         }
@@ -56,10 +77,10 @@ impl<'a> PatientRead<'a> {
     /// another waits for its place.
     fn is_over(&mut self, is_silent: bool) -> bool {
         self.count(is_silent);
-        if self.hall.is_cleared() {
+        if self.hall.is_cleared() || self.writes.has_failed.load(Ordering::SeqCst) {
             return true;
         }
-        if self.is_started.load(Ordering::SeqCst) {
+        if self.writes.is_started.load(Ordering::SeqCst) {
             return u64::from(self.hall.timeout()).saturating_mul(TICKS) <= self.silent;
         }
         self.left = self.left.saturating_sub(1);
@@ -90,31 +111,57 @@ impl Read for PatientRead<'_> {
     }
 }
 
-/// What is written to a client. A write fails where the client takes no byte for so long.
+/// What is written to a client. A write fails where the client takes no byte for too long, or when all clients have to go
+/// and it takes none; then the client is no longer listened to.
 #[derive(Debug, Drop)]
-pub(crate) struct MarkingWrite<'a> {
+pub(crate) struct PatientWrite<'a> {
+    hall: &'a Hall,
     stream: &'a TcpStream,
-    is_started: &'a AtomicBool,
+    writes: &'a Writes,
 }
 
-impl<'a> MarkingWrite<'a> {
-    /// A writer to the socket, which notes that the client is answered.
+impl<'a> PatientWrite<'a> {
+    /// A writer to the socket, which notes that something is written, and that a write has failed.
     pub(crate) fn new(
-        hall: &Hall,
+        hall: &'a Hall,
         stream: &'a TcpStream,
-        is_started: &'a AtomicBool,
-    ) -> MarkingWrite<'a> {
-        let patience = Duration::from_secs(u64::from(hall.write_timeout()));
-        let _ = stream.set_write_timeout(Some(patience));
-        MarkingWrite { stream, is_started }
+        writes: &'a Writes,
+    ) -> PatientWrite<'a> {
+        let _ = stream.set_write_timeout(Some(Duration::from_millis(TICK)));
+        PatientWrite {
+            hall,
+            stream,
+            writes,
+        }
+    }
+
+    /// Writes some bytes, for which the client is waited for only so long.
+    fn write_some(&self, bytes: &[u8]) -> io::Result<usize>
+        ensures { WritesAtMost result bytes.now }
+    {
+        let mut stream = self.stream;
+        for _ in 0..u64::from(self.hall.write_timeout()).saturating_mul(TICKS) {
+            match stream.write(bytes) {
+                Err(error) if error.kind() == ErrorKind::WouldBlock => {
+                    if self.hall.is_cleared() {
+                        break;
+                    }
+                }
+                written => return written,
+            }
+        }
+        Err(io::Error::from(ErrorKind::TimedOut))
     }
 }
 
-impl Write for MarkingWrite<'_> {
+impl Write for PatientWrite<'_> {
     fn write(&mut self, bytes: &[u8]) -> io::Result<usize> {
-        self.is_started.store(true, Ordering::SeqCst);
-        let mut stream = self.stream;
-        stream.write(bytes)
+        self.writes.is_started.store(true, Ordering::SeqCst);
+        let written = self.write_some(bytes);
+        if written.is_err() {
+            self.writes.has_failed.store(true, Ordering::SeqCst);
+        }
+        written
     }
 
     fn flush(&mut self) -> io::Result<()> {
