@@ -4,8 +4,8 @@ pub mod CheckVerdicts
 pub mod Digits
 pub mod Evaluating
 pub mod FindingLines
-pub mod Limits
 pub mod LineCuts
+pub mod Pieces
 pub mod Reports
 pub mod RowLines
 pub mod Saying
@@ -15,4 +15,5 @@ pub mod ShownLines
 pub mod Showing
 pub mod Simulating
 pub mod StepLines
+pub mod WriteFaults
 pub mod Writing

@@ -63,13 +63,6 @@ first_after text more old new newer appends now = record {
   appends = Appends-trans old new newer text now.written appends now.appends;
 }
 
-pub stops_first : (text : List ℕ) (old new : Option (List ℕ)) (failure : Failure) → StopsText text old new failure
-    → WritesFirst text old new
-stops_first text old new (f.CommandLine why) stops = absurd stops
-stops_first text old new (f.Input fault) stops = absurd stops
-stops_first text old new f.Output stops = stops
-stops_first text old new f.OutOfMemory stops = first_nothing text old new stops
-
 -- ---- a text in turns
 
 -- some bytes of a text are written, and the rest is to go

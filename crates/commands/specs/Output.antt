@@ -1,12 +1,15 @@
 -- What is written to a writer: lines, each with its newline, and where the writer fails the first bytes of them. How
--- an answer is written line by line, and where its writing may stop. The format is this program's own.
-use Rattle.std.specs.Prelude.{◌≡◌, ℕ, ◌⊎◌, List, [], ◌∷◌, ◌++◌, Option, Result, Ok, Err}
+-- an answer is written line by line, where its writing may stop, and how a result tells that the writer has failed. The
+-- format is this program's own.
+use Rattle.std.specs.Prelude.{◌≡◌, ℕ, ◌⊎◌, Bool, true, List, [], ◌∷◌, ◌++◌, Option, Result, Ok, Err}
 use Rattle.std.specs.Io.KnownBytes.{Appends}
 use Rattle.std.specs.List.{flat_map}
+use Rattle.commands.specs.Failures.{status_of_failure}
 use Rattle.commands.specs.declared.failure.Failure.{Failure}
 use Rattle.commands.specs.declared.failure.Failure.TheVariants as f
 use Rattle.commands.specs.declared.failure.InputFault.{InputFault}
 use Rattle.commands.specs.declared.failure.Status.{Status}
+use Rattle.commands.specs.declared.failure.Status.TheVariants as s
 
 -- a line with its newline
 abbrev pub ended : List ℕ → List ℕ
@@ -29,6 +32,25 @@ StopsText text old new f.Output = WritesFirst text old new
 StopsText text old new f.OutOfMemory = new ≡ old
 StopsText text old new (f.CommandLine why) = ⊥
 StopsText text old new (f.Input fault) = ⊥
+
+-- ---- whether the writer fails, which a writer may say of itself before and after
+
+-- with the status of a failed write it has failed, and with another one that is as it was
+abbrev pub SaysFault : Bool → Bool → Status → Type 0
+SaysFault old new s.Output = new ≡ true
+SaysFault old new status = new ≡ old
+
+-- the same of a result with a status
+abbrev pub EndsByFault : Bool → Bool → Result Status Failure → Type 0
+EndsByFault old new (Ok status) = SaysFault old new status
+EndsByFault old new (Err failure) = SaysFault old new (status_of_failure failure)
+
+-- the same of a result without one
+abbrev pub TellsFault : {A : Type 0} → Bool → Bool → Result A Failure → Type 0
+TellsFault old new (Ok value) = new ≡ old
+TellsFault old new (Err failure) = SaysFault old new (status_of_failure failure)
+
+-- ---- answers
 
 -- `IsWhole` says of lines and a status that they are an answer, and `IsBegun` of lines that they are the first of an
 -- answer and that others are missing.

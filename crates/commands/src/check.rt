@@ -7,7 +7,7 @@ ghost use Rattle.catalog_text.specs.CatalogText.{catalog_text};
 ghost use Rattle.catalog_text.specs.FilterText.{text_if};
 ghost use Rattle.pub_catalog.specs.CatalogView.{catalog_view};
 ghost use Rattle.commands.specs.Check.Checking.{EndsCheck};
-ghost use Rattle.commands.specs.Output.{StopsText, ended};
+ghost use Rattle.commands.specs.Output.{EndsByFault, StopsText, ended};
 ghost use Rattle.commands.specs.Refusals.{refused_line};
 ghost use Rattle.commands.specs.declared.failure.Status.TheVariants.{Done, Refused};
 
@@ -16,12 +16,12 @@ use crate::output::write_line;
 use crate::parts::two_parts;
 use crate::refusals::refusal_text;
 use crate::verdicts::{lines_of, verdict_of};
+use crate::writer::Writer;
 use catalog_text::write_catalog;
 use pub_catalog::Catalog;
 use pub_reader::read_catalog;
 use shard_checker::CheckError;
 use std::alloc::{AllocError, Global};
-use std::io::Write;
 
 /// What is written before the verdict: the text of the catalog if it is to be shown, and else nothing.
 fn shown_text(alloc: Global, shows: bool, catalog: &Catalog) -> Result<String, AllocError>
@@ -35,12 +35,13 @@ fn shown_text(alloc: Global, shows: bool, catalog: &Catalog) -> Result<String, A
 }
 
 /// Writes a text and the line `accepted` after it.
-fn write_accepted<'a, W: Write>(mut text: String, writer: &mut W) -> Result<Status, Failure<'a>>
+fn write_accepted<'a, W: Writer>(mut text: String, writer: &mut W) -> Result<Status, Failure<'a>>
     ensures status { IfOk result (λ status. status ≡ Done) }
     ensures written { OnOk result (Appends (W.contents writer.old) (W.contents writer.new)
         (ended (string_bytes text ++ codes "accepted"))) }
     ensures stopped { IfErr result (StopsText (ended (string_bytes text ++ codes "accepted"))
         (W.contents writer.old) (W.contents writer.new)) }
+    ensures failed { EndsByFault (W.has_failed writer.old) (W.has_failed writer.new) result }
 {
     text.push_str("accepted")?;
     write_line(&mut text, writer)?;
@@ -48,7 +49,7 @@ fn write_accepted<'a, W: Write>(mut text: String, writer: &mut W) -> Result<Stat
 }
 
 /// Writes a text and the line of a refusal after it, by the names of its catalog.
-fn write_refusal<'a, W: Write>(
+fn write_refusal<'a, W: Writer>(
     alloc: Global,
     mut text: String,
     catalog: &Catalog,
@@ -60,6 +61,7 @@ fn write_refusal<'a, W: Write>(
         (ended (string_bytes text ++ refused_line (catalog_view catalog.now) refusal))) }
     ensures stopped { IfErr result (StopsText (ended (string_bytes text
         ++ refused_line (catalog_view catalog.now) refusal)) (W.contents writer.old) (W.contents writer.new)) }
+    ensures failed { EndsByFault (W.has_failed writer.old) (W.has_failed writer.new) result }
 {
     let line = refusal_text(alloc, catalog, refusal)?;
     text.push_str(line.as_str())?;
@@ -70,13 +72,14 @@ fn write_refusal<'a, W: Write>(
 /// Answers an input: a catalog, a line `%%`, and the texts of the certificates of its tables, one a line in the order
 /// of the tables. With `shows` the text of the catalog comes before the verdict. The check takes the catalog, so that
 /// for the names in a refusal its text is read once more.
-pub fn check_input<'a, W: Write>(
+pub fn check_input<'a, W: Writer>(
     alloc: Global,
     shows: bool,
     input: &str,
     writer: &mut W,
 ) -> Result<Status, Failure<'a>>
-    ensures { EndsCheck shows input.now (W.contents writer.old) (W.contents writer.new) result }
+    ensures ends { EndsCheck shows input.now (W.contents writer.old) (W.contents writer.new) result }
+    ensures failed { EndsByFault (W.has_failed writer.old) (W.has_failed writer.new) result }
 {
     let (text, lines) = two_parts(input).ok_or(InputFault::Parts)?;
     let catalog = read_catalog(alloc, text)?;

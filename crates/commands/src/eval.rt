@@ -7,6 +7,7 @@ ghost use Rattle.commands.specs.Eval.BadRows.{is_answered};
 ghost use Rattle.commands.specs.Eval.Evaluation.{EndsEvaluation};
 ghost use Rattle.commands.specs.Eval.Memos.{IsLineMemo};
 ghost use Rattle.commands.specs.Eval.Printing.{IsLineIn, WritesRowsIn, carriers_in, told_in};
+ghost use Rattle.commands.specs.Output.{EndsByFault};
 ghost use Rattle.commands.specs.Parts.{lines_of};
 
 pub mod answers;
@@ -27,10 +28,10 @@ use crate::eval::tables::{CatalogTable, find_table};
 use crate::failure::{Failure, InputFault, Status};
 use crate::output::write_line;
 use crate::parts::{Lines, two_parts};
+use crate::writer::Writer;
 use filter_tree::Row;
 use pub_reader::read_catalog;
 use std::alloc::{AllocError, Global};
-use std::io::Write;
 use std::mem;
 
 /// Writes what is wanted of a row on an empty line.
@@ -90,15 +91,16 @@ fn push_line(
 }
 
 /// Writes a line for each row: what is wanted of it, or why it is not read or does not fit.
-pub fn write_rows<'a, W: Write>(
+pub fn write_rows<'a, W: Writer>(
     alloc: Global,
     carried: CatalogTable<'_>,
     wanted: RowOutput,
     rows: &str,
     writer: &mut W,
 ) -> Result<Status, Failure<'a>>
-    ensures { WritesRowsIn wanted carried.entry (lines_of rows.now) (W.contents writer.old) (W.contents writer.new)
-        result }
+    ensures written { WritesRowsIn wanted carried.entry (lines_of rows.now) (W.contents writer.old)
+        (W.contents writer.new) result }
+    ensures failed { EndsByFault (W.has_failed writer.old) (W.has_failed writer.new) result }
 {
     let mut status = Status::Done;
     let mut line = String::new(alloc);
@@ -123,14 +125,16 @@ pub fn write_rows<'a, W: Write>(
 }
 
 /// Answers an input: a catalog, a line `%%`, and rows of the table that a word names, one a line.
-pub fn evaluate<'a, W: Write>(
+pub fn evaluate<'a, W: Writer>(
     alloc: Global,
     word: &'a str,
     wanted: RowOutput,
     input: &str,
     writer: &mut W,
 ) -> Result<Status, Failure<'a>>
-    ensures { EndsEvaluation wanted input.now word.entry.now (W.contents writer.old) (W.contents writer.new) result }
+    ensures ends { EndsEvaluation wanted input.now word.entry.now (W.contents writer.old) (W.contents writer.new)
+        result }
+    ensures failed { EndsByFault (W.has_failed writer.old) (W.has_failed writer.new) result }
 {
     let (catalog, rows) = two_parts(input).ok_or(InputFault::Parts)?;
     let catalog = read_catalog(alloc, catalog)?;

@@ -2,6 +2,7 @@
 
 ghost use Rattle.std.specs.Prelude.{◌≤◌};
 
+use crate::reader::Reader;
 use std::io;
 use std::io::{ErrorKind, Read};
 
@@ -58,5 +59,15 @@ impl<R: Read> Read for Input<R> {
             Err(error) if error.kind() == ErrorKind::Interrupted => Err(error),
             Err(_) => Err(io::Error::from(ErrorKind::Other)),
         }
+    }
+}
+
+impl<R: Read> Reader for Input<R> {
+    ghost use Rattle.std.specs.Prelude.{true};
+
+    ghost may_fail = { true };
+
+    fn read_piece(&mut self, piece: &mut [u8]) -> io::Result<usize> {
+        self.read(piece)
     }
 }

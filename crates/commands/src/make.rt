@@ -3,6 +3,7 @@
 ghost use Rattle.std.specs.Prelude.{◌≡◌, IfErr, IfOk};
 ghost use Rattle.pub_catalog.specs.CatalogView.{catalog_view};
 ghost use Rattle.commands.specs.Make.Making as spec;
+ghost use Rattle.commands.specs.Output.{EndsByFault, TellsFault};
 ghost use Rattle.replica_identity.specs.Plans.{plan_of, plan_view};
 
 pub mod findings;
@@ -11,18 +12,18 @@ use crate::failure::{Failure, InputFault, Status};
 use crate::make::findings::finding_line;
 use crate::output::write_line;
 use crate::parts::cut;
+use crate::writer::Writer;
 use bumpalo::Bump;
 use cert_maker::{Made, make};
 use pub_catalog::Catalog;
 use pub_reader::read_catalog;
 use replica_identity::{Plan, plan};
 use std::alloc::Global;
-use std::io::Write;
 
 /// Writes the line of the table of this number, and tells whether it is a certificate. The certificate is in an arena
 /// of its own.
 #[tactic(auto, using(crate::proofs::FindingLines::table_written, crate::proofs::FindingLines::table_stopped))]
-fn write_table<'a, W: Write>(
+fn write_table<'a, W: Writer>(
     alloc: Global,
     catalog: &Catalog,
     plan: &Plan,
@@ -34,6 +35,7 @@ fn write_table<'a, W: Write>(
         (W.contents writer.new)) }
     ensures stopped { IfErr result (spec.StopsTable (catalog_view catalog.now) number (W.contents writer.old)
         (W.contents writer.new)) }
+    ensures failed { TellsFault (W.has_failed writer.old) (W.has_failed writer.new) result }
 {
     let arena = Bump::new(alloc);
     let made = make(alloc, &arena, catalog, plan, number);
@@ -44,14 +46,16 @@ fn write_table<'a, W: Write>(
 
 /// Writes a line for each table.
 #[tactic(auto, using(crate::proofs::FindingLines::none_written, crate::proofs::FindingLines::one_written, crate::proofs::FindingLines::all_written))]
-fn write_tables<'a, W: Write>(
+fn write_tables<'a, W: Writer>(
     alloc: Global,
     catalog: &Catalog,
     plan: &Plan,
     writer: &mut W,
 ) -> Result<Status, Failure<'a>>
     requires { plan_view plan.now ≡ plan_of (catalog_view catalog.now) }
-    ensures { spec.WritesTables (catalog_view catalog.now) (W.contents writer.old) (W.contents writer.new) result }
+    ensures written { spec.WritesTables (catalog_view catalog.now) (W.contents writer.old) (W.contents writer.new)
+        result }
+    ensures failed { EndsByFault (W.has_failed writer.old) (W.has_failed writer.new) result }
 {
     let mut all = true;
     for number in 0..catalog.tables.as_slice().len() {
@@ -61,12 +65,13 @@ fn write_tables<'a, W: Write>(
 }
 
 /// Answers an input, which is a catalog.
-pub fn make_input<'a, W: Write>(
+pub fn make_input<'a, W: Writer>(
     alloc: Global,
     input: &str,
     writer: &mut W,
 ) -> Result<Status, Failure<'a>>
-    ensures { spec.EndsMaking input.now (W.contents writer.old) (W.contents writer.new) result }
+    ensures ends { spec.EndsMaking input.now (W.contents writer.old) (W.contents writer.new) result }
+    ensures failed { EndsByFault (W.has_failed writer.old) (W.has_failed writer.new) result }
 {
     if cut(input).is_some() {
         return Err(Failure::Input(InputFault::Parts));

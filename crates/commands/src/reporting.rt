@@ -1,15 +1,15 @@
 //! How the program reports why it ends without an answer.
 
-ghost use Rattle.std.specs.Prelude.{◌≡◌, IfOk};
+ghost use Rattle.std.specs.Prelude.{◌≡◌, ◌≢◌, Bool, IfOk};
 ghost use Rattle.std.specs.String.{string_bytes};
-ghost use Rattle.commands.specs.Failures.{failure_lines};
-ghost use Rattle.commands.specs.Output.{text_of};
+ghost use Rattle.commands.specs.Failures.{failure_lines, status_of_failure};
+ghost use Rattle.commands.specs.Output.{SaysFault, text_of};
 ghost use Rattle.commands.specs.Reporting.{IsReport, IsWritten};
+ghost use Rattle.commands.specs.declared.failure.Status.TheVariants.{Output};
 
 use crate::failure::{Failure, Status};
-use crate::output::write_text;
+use crate::writer::Writer;
 use std::alloc::{AllocError, Global};
-use std::io::Write;
 
 /// The lines of a failure; none where the writer failed.
 fn failure_text(alloc: Global, failure: &Failure<'_>) -> Result<String, AllocError>
@@ -26,10 +26,11 @@ fn failure_text(alloc: Global, failure: &Failure<'_>) -> Result<String, AllocErr
 }
 
 /// Writes a text, and tells this status, or that the writer failed.
-fn write_report<W: Write>(text: &str, status: Status, writer: &mut W) -> Status
-    ensures { IsWritten text.now status (W.contents writer.old) (W.contents writer.new) result }
+fn write_report<W: Writer>(text: &str, status: Status, writer: &mut W) -> Status
+    ensures written { IsWritten text.now status (W.contents writer.old) (W.contents writer.new) result }
+    ensures failed { status ≢ Output → SaysFault (W.has_failed writer.old) (W.has_failed writer.new) result }
 {
-    match write_text(text, writer) {
+    match writer.write_text(text) {
         Ok(()) => status,
         Err(_) => Status::Output,
     }
@@ -37,8 +38,10 @@ fn write_report<W: Write>(text: &str, status: Status, writer: &mut W) -> Status
 
 /// Writes the lines of a failure, and tells the status of the program. Where the writer failed, nothing more is
 /// written. Where memory runs out for the lines, that is reported.
-pub fn report<W: Write>(alloc: Global, failure: Failure<'_>, writer: &mut W) -> Status
-    ensures { IsReport failure.entry (W.contents writer.old) (W.contents writer.new) result }
+pub fn report<W: Writer>(alloc: Global, failure: Failure<'_>, writer: &mut W) -> Status
+    ensures written { IsReport failure.entry (W.contents writer.old) (W.contents writer.new) result }
+    ensures failed { (before : Bool) → SaysFault before (W.has_failed writer.old) (status_of_failure failure.entry)
+        → SaysFault before (W.has_failed writer.new) result }
 {
     if let Failure::Output = failure {
         return Status::Output;

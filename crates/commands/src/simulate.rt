@@ -9,6 +9,7 @@ ghost use Rattle.pub_reader.specs.StepView.{step_view};
 ghost use Rattle.shard_checker.specs.CheckedView.{checked_view};
 ghost use Rattle.shard_world.specs.WorldCalls.{world_checked};
 ghost use Rattle.commands.specs.Certificates.{IsOfLines};
+ghost use Rattle.commands.specs.Output.{EndsByFault, TellsFault};
 ghost use Rattle.commands.specs.Parts as parts;
 ghost use Rattle.commands.specs.Simulate.Givings.{Gives, HasVerdict, IsOfParts};
 ghost use Rattle.commands.specs.Simulate.StepActions.{action_of, action_view};
@@ -25,12 +26,12 @@ use crate::parts::three_parts;
 use crate::simulate::answers::answer_text;
 use crate::simulate::views::view_text;
 use crate::verdicts::{lines_of, verdict_of, write_refused};
+use crate::writer::Writer;
 use pub_catalog::Catalog;
 use pub_reader::{ErrorKind, Line, Step, read_catalog, read_script};
 use shard_checker::{CheckError, Checked};
 use shard_world::{Event, PeerEvent, World};
 use std::alloc::{AllocError, Global};
-use std::io::Write;
 use std::sync::Arc;
 
 /// What a step of a script asks of the world.
@@ -78,7 +79,7 @@ fn step_text(
 }
 
 /// Makes a step, and writes its lines.
-fn write_step<'a, W: Write>(
+fn write_step<'a, W: Writer>(
     alloc: Global,
     catalog: &Catalog,
     world: &mut World,
@@ -91,6 +92,7 @@ fn write_step<'a, W: Write>(
         (W.contents writer.new)) }
     ensures stopped { IfErr result (StopsStep world.old world.new now (step_view step) (W.contents writer.old)
         (W.contents writer.new)) }
+    ensures failed { TellsFault (W.has_failed writer.old) (W.has_failed writer.new) result }
 {
     let text = step_text(alloc, catalog, world, step, now)?;
     write_text(text.as_str(), writer)
@@ -98,7 +100,7 @@ fn write_step<'a, W: Write>(
 
 /// Makes the steps of a script, and writes the lines of each: the first at the time 1, each of the others one
 /// microsecond later.
-fn write_steps<'a, W: Write>(
+fn write_steps<'a, W: Writer>(
     alloc: Global,
     checked: Checked,
     limit: u32,
@@ -107,8 +109,9 @@ fn write_steps<'a, W: Write>(
 ) -> Result<Status, Failure<'a>>
     requires within { IsWithin limit }
     requires few { length lines.items ≤ 100000 }
-    ensures { WritesSteps (checked_view checked) limit (map line_view lines.items) (W.contents writer.old)
+    ensures written { WritesSteps (checked_view checked) limit (map line_view lines.items) (W.contents writer.old)
         (W.contents writer.new) result }
+    ensures failed { EndsByFault (W.has_failed writer.old) (W.has_failed writer.new) result }
 {
     let shared = Arc::new(alloc, checked)?;
     let catalog = shared.catalog();
@@ -179,14 +182,15 @@ fn read_parts<'a>(
 /// Answers an input: a catalog, the texts of the certificates of its tables, one a line, and a script, with lines `%%`
 /// between them. The log takes at most so many commits. The check takes the catalog, so that for the names in a refusal
 /// its text is read once more.
-pub fn simulate_input<'a, W: Write>(
+pub fn simulate_input<'a, W: Writer>(
     alloc: Global,
     limit: u32,
     input: &str,
     writer: &mut W,
 ) -> Result<Status, Failure<'a>>
     requires { IsWithin limit }
-    ensures { EndsSimulation limit input.now (W.contents writer.old) (W.contents writer.new) result }
+    ensures ends { EndsSimulation limit input.now (W.contents writer.old) (W.contents writer.new) result }
+    ensures failed { EndsByFault (W.has_failed writer.old) (W.has_failed writer.new) result }
 {
     let (text, certificates, script) = three_parts(input).ok_or(InputFault::Parts)?;
     let (verdict, lines) = read_parts(alloc, text, certificates, script)?;

@@ -10,7 +10,7 @@ ghost use Rattle.shard_checker.specs.Sound.{IsSound};
 ghost use Rattle.shard_checker.specs.Texts.{text_fault, texts_view, trees_in};
 ghost use Rattle.commands.specs.Certificates as certificates;
 ghost use Rattle.commands.specs.Certificates.{IsOfLines};
-ghost use Rattle.commands.specs.Output.{StopsText, ended};
+ghost use Rattle.commands.specs.Output.{EndsByFault, StopsText, ended};
 ghost use Rattle.commands.specs.Parts as parts;
 ghost use Rattle.commands.specs.Refusals.{refused_line};
 ghost use Rattle.commands.specs.Verdicts as spec;
@@ -20,11 +20,11 @@ use crate::failure::{Failure, InputFault, Status};
 use crate::output::write_line;
 use crate::parts::Lines;
 use crate::refusals::refusal_text;
+use crate::writer::Writer;
 use pub_catalog::Catalog;
 use replica_identity::plan;
 use shard_checker::{CheckError, Checked, TextError, check_text};
 use std::alloc::{AllocError, Global};
-use std::io::Write;
 
 /// The lines of a text.
 pub fn lines_of(alloc: Global, text: &str) -> Result<Vec<&str>, AllocError>
@@ -77,7 +77,7 @@ pub fn verdict_of<'a>(
 }
 
 /// Writes the line of a refusal, by the names of its catalog.
-pub fn write_refused<'a, W: Write>(
+pub fn write_refused<'a, W: Writer>(
     alloc: Global,
     catalog: &Catalog,
     refusal: CheckError,
@@ -88,6 +88,7 @@ pub fn write_refused<'a, W: Write>(
         (ended (refused_line (catalog_view catalog.now) refusal))) }
     ensures stopped { IfErr result (StopsText (ended (refused_line (catalog_view catalog.now) refusal))
         (W.contents writer.old) (W.contents writer.new)) }
+    ensures failed { EndsByFault (W.has_failed writer.old) (W.has_failed writer.new) result }
 {
     let mut line = refusal_text(alloc, catalog, refusal)?;
     write_line(&mut line, writer)?;

@@ -14,8 +14,8 @@ use Rattle.commands.specs.Output.{StopsText, ended}
 use Rattle.commands.specs.Parts.{Cut, lines_of, two_parts}
 use Rattle.commands.proofs.check.check_input.Goals as goal
 
-pub returns-in-Ok : goal.returns-in-Ok
-returns-in-Ok g c =
+pub returns-in-Ok-clause-ends : goal.returns-in-Ok-clause-ends
+returns-in-Ok-clause-ends g c =
     let cut : Cut = record { part = c.in_ok-text.text.now; rest = c.in_ok-text.lines.now } in
     let parts : two_parts c.args.input.now ≡ Some cut = search rules in
     let catalog = catalog_view c.in_ok-catalog.catalog in
@@ -26,15 +26,15 @@ returns-in-Ok g c =
     accepted c.args.shows c.args.input.now cut catalog parts c.in_ok-catalog.ensures.catalog
     (ap (text_fault 1) (sym same) ∙ c.in_ok-verdict_of.ensures.read) (string_bytes c.in_ok-shown.shown)
     c.in_ok-shown.ensures
-    (g.W.Write.contents c.args.writer.now) (g.W.Write.contents c.write_accepted.new.writer) c.write_accepted.result
+    (g.W.Writer.contents c.args.writer.now) (g.W.Writer.contents c.write_accepted.new.writer) c.write_accepted.result
     sound
     (subst (λ (lines : List (List ℕ)). IsFirstRefusal catalog (trees_in lines) None) same first)
     c.write_accepted.ensures.status c.write_accepted.ensures.written c.write_accepted.ensures.stopped
 
-pub returns : goal.returns
-returns g c =
-    let old = g.W.Write.contents c.args.writer.now in
-    let new = g.W.Write.contents c.write_refusal.new.writer in
+pub returns-clause-ends : goal.returns-clause-ends
+returns-clause-ends g c =
+    let old = g.W.Writer.contents c.args.writer.now in
+    let new = g.W.Writer.contents c.write_refusal.new.writer in
     let result = c.write_refusal.result in
     let refusal = c.in-Err.refusal in
     let cut : Cut = record { part = c.in_ok-text.text.now; rest = c.in_ok-text.lines.now } in

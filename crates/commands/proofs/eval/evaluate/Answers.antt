@@ -9,8 +9,8 @@ use Rattle.commands.specs.Parts.{Cut, two_parts}
 use Rattle.commands.proofs.Evaluating.{evaluated}
 use Rattle.commands.proofs.eval.evaluate.Goals as goal
 
-pub returns-in_default : goal.returns-in_default
-returns-in_default g c =
+pub returns-in_default-clause-ends : goal.returns-in_default-clause-ends
+returns-in_default-clause-ends g c =
     let cut : Cut = record { part = c.in_ok-catalog.catalog.now; rest = c.in_ok-catalog.rows.now } in
     let parts : two_parts c.args.input.now ≡ Some cut = search rules in
     let reads : catalog_by as_filter cut.part ≡ Ok (catalog_view c.in_ok-catalog-2.catalog) =
@@ -23,8 +23,8 @@ returns-in_default g c =
       refl,
     )
 
-pub returns : goal.returns
-returns g c =
+pub returns-clause-ends : goal.returns-clause-ends
+returns-clause-ends g c =
     let cut : Cut = record { part = c.in_ok-catalog.catalog.now; rest = c.in_ok-catalog.rows.now } in
     let parts : two_parts c.args.input.now ≡ Some cut = search rules in
     let reads : catalog_by as_filter cut.part ≡ Ok (catalog_view c.in_ok-catalog-2.catalog) =
@@ -38,6 +38,6 @@ returns g c =
     ≡ carriers_of c.in-Some.number c.in_ok-catalog-2.catalog.publications.items =
     ap (map carrier_view) c.as_slice-3.ensures.value ∙ c.in_ok-carriers.ensures
     ∙ ap (carriers_of c.in-Some.number) c.as_slice-2.ensures.value in
-    evaluated c.args.wanted c.args.input.now c.args.word.now (g.W.Write.contents c.args.writer.now)
-    (g.W.Write.contents c.write_rows.new.writer) cut c.in_ok-catalog-2.catalog c.in-Some.number c.index.result.now
-    (map carrier_view c.as_slice-3.result.now) same parts reads named found c.write_rows.result c.write_rows.ensures
+    evaluated c.args.wanted c.args.input.now c.args.word.now (g.W.Writer.contents c.args.writer.now)
+    (g.W.Writer.contents c.write_rows.new.writer) cut c.in_ok-catalog-2.catalog c.in-Some.number c.index.result.now
+    (map carrier_view c.as_slice-3.result.now) same parts reads named found c.write_rows.result c.write_rows.ensures.written

@@ -3,8 +3,8 @@ use Rattle.pub_catalog.specs.CatalogView.{catalog_view}
 use Rattle.commands.proofs.FindingLines.{made}
 use Rattle.commands.proofs.make.make_input.Goals as goal
 
-pub returns : goal.returns
-returns g c =
-    made c.args.input.now (g.W.Write.contents c.args.writer.now) (g.W.Write.contents c.write_tables.new.writer)
+pub returns-clause-ends : goal.returns-clause-ends
+returns-clause-ends g c =
+    made c.args.input.now (g.W.Writer.contents c.args.writer.now) (g.W.Writer.contents c.write_tables.new.writer)
     (catalog_view c.in_ok-catalog.catalog) (search rules) c.in_ok-catalog.ensures.catalog
-    c.write_tables.result c.write_tables.ensures
+    c.write_tables.result c.write_tables.ensures.written

@@ -16,12 +16,13 @@ loop-line-init g c =
     record {
       now_is = refl;
       so_far = so_far_at_start (checked_view c.args.checked) c.args.limit steps steps 0 c.in_ok-world.world
-          (g.W.Write.contents c.args.writer.now) refl refl c.in_ok-world.ensures.stands same;
+          (g.W.Writer.contents c.args.writer.now) refl refl c.in_ok-world.ensures.stands same;
+      failed = refl;
     }
 
 pub loop-line-preserved : goal.loop-line-preserved
 loop-line-preserved g c =
-    let contents = g.W.Write.contents in
+    let contents = g.W.Writer.contents in
     let items = c.args.lines.items in
     let done = length c.loop-line.yielded in
     let turn = YieldsList-turn
@@ -40,11 +41,12 @@ loop-line-preserved g c =
           c.loop-line.now (c.loop-line.now + 1) c.loop-line.world c.write_step.new.world (contents c.args.writer.now)
           (contents c.loop-line.writer) (contents c.write_step.new.writer)
           left_is refl room c.loop-line.invariant.so_far c.in_ok-write_step.ensures.written);
+      failed = c.in_ok-write_step.ensures.failed ∙ c.loop-line.invariant.failed;
     }
 
-pub returns-in_err-write_step : goal.returns-in_err-write_step
-returns-in_err-write_step g c =
-    let contents = g.W.Write.contents in
+pub returns-in_err-write_step-clause-written : goal.returns-in_err-write_step-clause-written
+returns-in_err-write_step-clause-written g c =
+    let contents = g.W.Writer.contents in
     let items = c.args.lines.items in
     let done = length c.loop-line.yielded in
     let turn = YieldsList-turn
@@ -59,9 +61,9 @@ returns-in_err-write_step g c =
     (left_next items done c.in-Some.line turn.0 turn.1) room c.loop-line.invariant.so_far
     c.in_err-write_step.ensures.stopped c.from_residual-in_err-write_step.ensures.1
 
-pub returns : goal.returns
-returns g c =
-    let contents = g.W.Write.contents in
+pub returns-clause-written : goal.returns-clause-written
+returns-clause-written g c =
+    let contents = g.W.Writer.contents in
     let items = c.args.lines.items in
     let done = length c.loop-line.yielded in
     let end = YieldsList-end

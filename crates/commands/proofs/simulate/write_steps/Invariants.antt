@@ -10,5 +10,6 @@ invariant-loop-line g l = record {
   now_is : l.now ≡ length l.yielded;
   so_far : IsSoFar (checked_view l.fn.checked) l.limit (map line_view l.fn.lines.items)
       (map line_view (drop (length l.yielded) l.fn.lines.items)) l.now l.world
-      (g.W.Write.contents l.initial.writer) (g.W.Write.contents l.writer);
+      (g.W.Writer.contents l.initial.writer) (g.W.Writer.contents l.writer);
+  failed : g.W.Writer.has_failed l.writer ≡ g.W.Writer.has_failed l.initial.writer;
 }

@@ -1,6 +1,6 @@
 use Rattle.commands.proofs.Writing.{to_go_next, to_go_kept}
-use Rattle.commands.proofs.output.write_text.Goals.{in-Ok, in-Err}
-use Rattle.commands.proofs.output.write_text.Goals as goal
+use Rattle.commands.proofs.writer.try_write.Goals.{in-Ok, in-Err}
+use Rattle.commands.proofs.writer.try_write.Goals as goal
 
 pub loop-preserved : goal.loop-preserved
 loop-preserved g c =
