@@ -34,14 +34,13 @@ use crate::publish::session::answer_lines;
 use crate::requests::Feed;
 use commands::{Failure, Input, Status, lines_of, verdict_of, write_refused};
 use pub_reader::read_catalog;
-use senders::{Publisher, Publishing, Seat};
+use senders::{Opening, Publisher, Publishing, Seat};
 use shard_checker::Checked;
 use std::alloc::Global;
 use std::io::{BufRead, BufReader, Read, Write};
 use std::marker::Brand;
 use std::net::{Net, TcpListener, TcpStream};
 use std::rt::Files;
-use std::sync::ledger::Blank;
 use std::sync::{Arc, Wait};
 use std::thread::{Threads, join_mut};
 use std::time::Clock;
@@ -154,15 +153,16 @@ fn publish<
 >(
     rt: &R,
     alloc: Global,
-    blank: Blank,
+    opening: Opening,
     checked: Arc<Checked, Global>,
     feed: Feed<'_>,
     reader: &mut I,
     writer: &mut W,
 ) -> Result<Status, Failure<'a>>
-    requires name { blank.name ≡ P.name }
-    requires parts { blank.parts ≡ P.parts }
-    requires seats { blank.parts ≡ 1000 }
+    requires name { opening.name ≡ P.name }
+    requires parts { opening.parts ≡ P.parts }
+    requires seats { opening.parts ≡ 1000 }
+    requires history { opening.history ≡ P.history }
     requires checked { checked_view (arc_value checked) ≡ P.checked }
     requires limit { feed.limit ≡ P.limit }
     requires within { IsWithin feed.limit }
@@ -170,7 +170,7 @@ fn publish<
         (W.contents writer.new) result }
 {
     let mut berths = free_berths(alloc, checked.catalog().subscriptions.len())?;
-    let (publisher, mut seats) = Publisher::<P>::new(alloc, blank, checked, feed.limit)?;
+    let (publisher, mut seats) = Publisher::<P>::new(alloc, opening, checked, feed.limit)?;
     let Some(mut seat) = seats.seat() else {
         unreachable!()
     };
@@ -225,8 +225,8 @@ pub(crate) fn publish_input<
     match verdict_of(alloc, catalog, texts.as_slice())? {
         Ok(checked) => {
             let shared = Arc::new(alloc, checked)?;
-            let blank = Blank::new(1_000);
-            publish::<Brand, _, _, _>(rt, alloc, blank, shared, feed, &mut reader, writer)
+            let opening = Opening::new(alloc)?;
+            publish::<Brand, _, _, _>(rt, alloc, opening, shared, feed, &mut reader, writer)
         }
         Err(refusal) => {
             let catalog = read_catalog(alloc, text.as_str())?;

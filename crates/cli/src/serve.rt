@@ -16,13 +16,12 @@ use crate::running::run_both;
 use crate::script::read_lists;
 use commands::{Failure, InputFault, Status, lines_of, three_parts, verdict_of, write_refused};
 use pub_reader::read_catalog;
-use senders::{Publisher, Publishing};
+use senders::{Opening, Publisher, Publishing};
 use shard_checker::Checked;
 use std::alloc::Global;
 use std::io::Write;
 use std::marker::Brand;
 use std::net::{Net, TcpListener, TcpStream};
-use std::sync::ledger::Blank;
 use std::sync::{Arc, Wait};
 use std::thread::Threads;
 use std::time::Clock;
@@ -37,15 +36,16 @@ fn publish<
 >(
     rt: &R,
     alloc: Global,
-    blank: Blank,
+    opening: Opening,
     checked: Arc<Checked, Global>,
     service: Service,
     lists: Vec<Vec<Command>>,
     writer: &mut W,
 ) -> Result<Status, Failure<'a>>
-    requires name { blank.name ≡ P.name }
-    requires parts { blank.parts ≡ P.parts }
-    requires seats { blank.parts ≡ 1000 }
+    requires name { opening.name ≡ P.name }
+    requires parts { opening.parts ≡ P.parts }
+    requires seats { opening.parts ≡ 1000 }
+    requires history { opening.history ≡ P.history }
     requires checked { checked_view (arc_value checked) ≡ P.checked }
     requires limit { service.limit ≡ P.limit }
     requires within { IsWithin service.limit }
@@ -55,7 +55,7 @@ fn publish<
 {
     let subscriptions = checked.catalog().subscriptions.len();
     let mut places = open_places(alloc, service.connections.unwrap_or(subscriptions))?;
-    let (publisher, mut seats) = Publisher::<P>::new(alloc, blank, checked, service.limit)?;
+    let (publisher, mut seats) = Publisher::<P>::new(alloc, opening, checked, service.limit)?;
     let Some(mut seat) = seats.seat() else {
         unreachable!()
     };
@@ -92,7 +92,7 @@ pub fn serve_input<
     match verdict {
         Ok(checked) => {
             let shared = Arc::new(alloc, checked)?;
-            publish::<Brand, _, _>(rt, alloc, Blank::new(1_000), shared, service, lists, writer)
+            publish::<Brand, _, _>(rt, alloc, Opening::new(alloc)?, shared, service, lists, writer)
         }
         Err(refusal) => {
             let catalog = read_catalog(alloc, text)?;

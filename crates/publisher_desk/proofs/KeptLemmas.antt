@@ -23,7 +23,7 @@ only_here number n same = ap (λ b. cond b 1 0) (eq-eqb number n same)
 only_else : (number n : ℕ) → number ≢ n → only number n ≡ 0
 only_else number n apart = ap (λ b. cond b 1 0) (ne_eqb number n apart)
 
-times_append : (n : ℕ) (numbers more : List ℕ) → times n (numbers ++ more) ≡ times n numbers + times n more
+pub times_append : (n : ℕ) (numbers more : List ℕ) → times n (numbers ++ more) ≡ times n numbers + times n more
 times_append n [] more = omega arith
 times_append n (number ∷ numbers) more = let rest = times_append n numbers more in omega (arith, rest)
 

@@ -197,13 +197,13 @@ new_sighted setting notes none = record {
 
 -- ---- the book
 
-transactions_append : (log more : List ReceiptOf)
+pub transactions_append : (log more : List ReceiptOf)
     → transactions_of (log ++ more) ≡ transactions_of log ++ transactions_of more
 transactions_append [] more = refl
 transactions_append (receipt ∷ log) more =
     ap (λ (list : List Transaction). transaction_of receipt ∷ list) (transactions_append log more)
 
-length_transactions : (log : List ReceiptOf) → length (transactions_of log) ≡ length log
+pub length_transactions : (log : List ReceiptOf) → length (transactions_of log) ≡ length log
 length_transactions [] = refl
 length_transactions (receipt ∷ log) = ap suc (length_transactions log)
 

@@ -15,11 +15,10 @@ use crate::sharding::checked;
 use crate::tables::check_shard;
 use anyhow::{Context, Result, ensure};
 use copy_both::LinkFault;
-use senders::{End, OpenGate, Publisher, Publishing, Seat, Served, serve};
+use senders::{End, OpenGate, Opening, Publisher, Publishing, Seat, Served, serve};
 use shard_checker::Checked;
 use std::alloc::Global;
 use std::marker::Brand;
-use std::sync::ledger::Blank;
 use std::sync::{Arc, Wait};
 use std::thread::Threads;
 use std::time::Clock;
@@ -115,17 +114,18 @@ fn commit_all<P: Publishing, R: Wait>(
 fn publish<P: Publishing + Sync, R: Threads + Wait + Clock + Sync>(
     rt: &R,
     alloc: Global,
-    blank: Blank,
+    opening: Opening,
     checked: Arc<Checked, Global>,
     number: u16,
 ) -> Result<bool>
-    requires name { blank.name ≡ P.name }
-    requires parts { blank.parts ≡ P.parts }
-    requires seats { blank.parts ≡ 1000 }
+    requires name { opening.name ≡ P.name }
+    requires parts { opening.parts ≡ P.parts }
+    requires seats { opening.parts ≡ 1000 }
+    requires history { opening.history ≡ P.history }
     requires checked { checked_view (arc_value checked) ≡ P.checked }
     requires limit { 5 ≡ P.limit }
 {
-    let (publisher, mut seats) = Publisher::<P>::new(alloc, blank, checked, LIMIT)?;
+    let (publisher, mut seats) = Publisher::<P>::new(alloc, opening, checked, LIMIT)?;
     let mut seat = seats.seat().context("there is no seat")?;
     commit_all(rt, alloc, &publisher, &mut seat)?;
     // (if the request that is refused is made by the connection's second thread, the client is heard only once its
@@ -143,5 +143,5 @@ pub fn is_refused<R: Threads + Wait + Clock + Sync>(
     alloc: Global,
     number: u16,
 ) -> Result<bool> {
-    publish::<Brand, _>(rt, alloc, Blank::new(1_000), checked(alloc)?, number)
+    publish::<Brand, _>(rt, alloc, Opening::new(alloc)?, checked(alloc)?, number)
 }

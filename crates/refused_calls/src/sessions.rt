@@ -12,11 +12,10 @@ use crate::refusals::{end_refusals, refuse};
 use crate::sharding::checked;
 use crate::tables::check_book;
 use anyhow::{Context, Result, ensure};
-use senders::{Publisher, Publishing, Seat, Seats, Served, close};
+use senders::{Opening, Publisher, Publishing, Seat, Seats, Served, close};
 use shard_checker::Checked;
 use std::alloc::Global;
 use std::marker::Brand;
-use std::sync::ledger::Blank;
 use std::sync::{Arc, Wait};
 use tables_log::CommitError;
 
@@ -85,17 +84,18 @@ fn commit_last<P: Publishing, R: Wait>(
 fn publish<P: Publishing, R: Wait>(
     rt: &R,
     alloc: Global,
-    blank: Blank,
+    opening: Opening,
     checked: Arc<Checked, Global>,
     number: u16,
 ) -> Result<bool>
-    requires name { blank.name ≡ P.name }
-    requires parts { blank.parts ≡ P.parts }
-    requires seats { blank.parts ≡ 1000 }
+    requires name { opening.name ≡ P.name }
+    requires parts { opening.parts ≡ P.parts }
+    requires seats { opening.parts ≡ 1000 }
+    requires history { opening.history ≡ P.history }
     requires checked { checked_view (arc_value checked) ≡ P.checked }
     requires limit { 5 ≡ P.limit }
 {
-    let (publisher, mut seats) = Publisher::<P>::new(alloc, blank, checked, LIMIT)?;
+    let (publisher, mut seats) = Publisher::<P>::new(alloc, opening, checked, LIMIT)?;
     let mut seat = seats.seat().context("there is no seat")?;
     commit_first(rt, alloc, &publisher, &mut seat)?;
     let was_refused = commit_last(rt, alloc, &publisher, &mut seat, number)?;
@@ -106,5 +106,5 @@ fn publish<P: Publishing, R: Wait>(
 /// Has a session make the last commit with its request of this number refused, and tests what follows. Returns whether
 /// it was refused.
 pub fn is_refused<R: Wait>(rt: &R, alloc: Global, number: u16) -> Result<bool> {
-    publish::<Brand, _>(rt, alloc, Blank::new(1_000), checked(alloc)?, number)
+    publish::<Brand, _>(rt, alloc, Opening::new(alloc)?, checked(alloc)?, number)
 }

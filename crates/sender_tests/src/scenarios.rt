@@ -10,14 +10,13 @@ use crate::faults::expect_faults;
 use crate::sharding::{HALVES, HALVES_SPLIT, shards, shards_split};
 use crate::work::{Hold, Work};
 use crate::{memory, sockets};
-use senders::{Publisher, Publishing};
+use senders::{Opening, Publisher, Publishing};
 use session_tests::accepted;
 use shard_checker::Checked;
 use std::alloc::Global;
 use std::marker::Brand;
 use std::net::{Net, TcpListener, TcpStream};
 use std::process::Abort;
-use std::sync::ledger::Blank;
 use std::sync::{Arc, Wait};
 use std::test::Fail;
 use std::thread::Threads;
@@ -37,14 +36,15 @@ enum Use {
 fn publish<
     P: Publishing + Sync,
     R: Threads + Wait + Clock + Abort + Net<Listener = TcpListener, Stream = TcpStream> + Sync,
->(rt: &R, alloc: Global, blank: Blank, checked: Arc<Checked, Global>, used: Use) -> Result<(), Fail>
-    requires name { blank.name ≡ P.name }
-    requires parts { blank.parts ≡ P.parts }
-    requires seats { blank.parts ≡ 1000 }
+>(rt: &R, alloc: Global, opening: Opening, checked: Arc<Checked, Global>, used: Use) -> Result<(), Fail>
+    requires name { opening.name ≡ P.name }
+    requires parts { opening.parts ≡ P.parts }
+    requires seats { opening.parts ≡ 1000 }
+    requires history { opening.history ≡ P.history }
     requires checked { checked_view (arc_value checked) ≡ P.checked }
     requires limit { 10000 ≡ P.limit }
 {
-    let (publisher, seats) = Publisher::<P>::new(alloc, blank, checked, 10_000)?;
+    let (publisher, seats) = Publisher::<P>::new(alloc, opening, checked, 10_000)?;
     match used {
         Use::Sockets(hold) => sockets::expect_served(rt, alloc, publisher, seats, hold),
         Use::Memory(work, hold) => {
@@ -61,7 +61,7 @@ fn expect<
     R: Threads + Wait + Clock + Abort + Net<Listener = TcpListener, Stream = TcpStream> + Sync,
 >(rt: &R, alloc: Global, catalog: &str, split: &str, used: Use) -> Result<(), Fail> {
     let checked = accepted(alloc, catalog, &[split])?;
-    publish::<Brand, _>(rt, alloc, Blank::new(1_000), checked, used)
+    publish::<Brand, _>(rt, alloc, Opening::new(alloc)?, checked, used)
 }
 
 #[test]

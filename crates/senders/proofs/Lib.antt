@@ -5,6 +5,7 @@ pub mod FlushingLemmas
 pub mod FollowingLemmas
 pub mod GatheringLemmas
 pub mod HearingLemmas
+pub mod LoggedLemmas
 pub mod NumberLemmas
 pub mod RefusedLemmas
 pub mod ReplayLemmas

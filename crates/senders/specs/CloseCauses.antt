@@ -96,6 +96,15 @@ IsHeldBack all left seats ReadingWrong = Unit {0}
 IsHeldBack all left seats TakenDiffers = Unit {0}
 IsHeldBack all left seats OutOfMemory = Unit {0}
 
+-- A receipt is never missing, and no reading is wrong: the publisher's history ties them to its log, and a seat of another
+-- publisher cannot be handed in.
+abbrev pub CanCome : CloseError → Type 0
+CanCome CountDiffers = Unit {0}
+CanCome ReceiptMissing = ⊥
+CanCome ReadingWrong = ⊥
+CanCome TakenDiffers = Unit {0}
+CanCome OutOfMemory = Unit {0}
+
 -- The publisher's book is of the checked catalog, takes so many commits and is of some list of transactions. It has no
 -- fewer commits than the seats have receipts, and exactly as many if no seat is held back. It is the cause of the
 -- refusal.

@@ -7,7 +7,8 @@ ghost use Rattle.senders.specs.declared.served.Served.{Served};
 ghost use Rattle.publisher_desk.specs.Counting.{IsCounted};
 ghost use Rattle.publisher_desk.specs.Held.{IsBookOf};
 ghost use Rattle.publisher_desk.specs.Seats.{AreTimed, IsForward};
-ghost use Rattle.senders.specs.CloseCauses.{IsCause, RefusedClose};
+ghost use Rattle.publisher_desk.specs.Logged.{IsLogOfSeats};
+ghost use Rattle.senders.specs.CloseCauses.{CanCome, IsCause, RefusedClose};
 ghost use Rattle.senders.specs.Closing.{IsClosed};
 ghost use Rattle.senders.specs.Histories.{AreInOrder};
 ghost use Rattle.senders.specs.Replays.{IsAsLong};
@@ -96,6 +97,7 @@ fn counted_book<P: Publishing>(
 ) -> Book
     ensures is { IsBookOf P.checked P.limit result }
     ensures counted { IsCounted P.parts rest seats.old.items (length (book_log result)) }
+    ensures logged { IsLogOfSeats P.checked seats.old.items result }
     ensures same { seats.new.items ≡ seats.old.items }
 {
     publisher.into_counted(rest, seats.as_mut_slice())
@@ -114,7 +116,9 @@ fn counted_book<P: Publishing>(
 /// # Errors
 ///
 /// The first of `CountDiffers`, `ReceiptMissing`, `ReadingWrong` and `TakenDiffers`, or `OutOfMemory` in place of any
-/// of them where an allocation was refused. `CountDiffers` comes only if a seat is held back. With an error all that was handed in is dropped.
+/// of them where an allocation was refused. `CountDiffers` comes only if a seat is held back. `ReceiptMissing` and
+/// `ReadingWrong` never come, since the publisher's history says that the notes of its seats are right. With an error all
+/// that was handed in is dropped.
 ///
 /// PostgreSQL 15, 3.4. Transactions, and 55.4. Streaming Replication Protocol.
 pub fn close<P: Publishing>(
@@ -127,6 +131,7 @@ pub fn close<P: Publishing>(
     ensures seats { IfOk result (λ closed. closed.seats.items ≡ seats.items) }
     ensures served { IfOk result (λ closed. closed.served.items ≡ served.items) }
     ensures refused { IfErr result (RefusedClose P.checked P.limit P.parts rest seats.items served.items) }
+    ensures possible { IfErr result CanCome }
 {
     let alloc = publisher.allocator();
     let shared = Arc::try_clone(publisher.checked());

@@ -46,7 +46,8 @@ pub use laws::{
     clients_of_connections_follow, closed_publishers_were_followed, served_streams_tell_the_log,
 };
 pub use publisher_desk::{
-    Note, Publisher, Publishing, ReadFault, Reading, Receipt, Seat, Seats, threads_share_publishers,
+    Note, Opening, Publisher, Publishing, ReadFault, Reading, Receipt, Seat, Seats,
+    threads_share_publishers,
 };
 pub use served::Served;
 pub use serving::serve;

@@ -7,12 +7,11 @@ use crate::checks::{holds, same};
 use crate::sharding::accepted;
 use crate::threads::{WHOLE, answers};
 use filter_tree::{Row, RowFault, Text, Value};
-use publisher_desk::{Note, Publisher, Publishing, ReadFault, Seat};
+use publisher_desk::{Note, Opening, Publisher, Publishing, ReadFault, Seat};
 use shard_checker::Checked;
 use std::alloc::{AllocError, Global};
 use std::marker::Brand;
 use std::process::Abort;
-use std::sync::ledger::Blank;
 use std::sync::{Arc, Wait};
 use std::test::Fail;
 use table_changes::Command;
@@ -119,16 +118,17 @@ fn expect_readings<P: Publishing, R: Wait + Abort>(
 fn expect_answers<P: Publishing, R: Wait + Abort>(
     rt: &R,
     alloc: Global,
-    blank: Blank,
+    opening: Opening,
     checked: Arc<Checked, Global>,
 ) -> Result<(), Fail>
-    requires name { blank.name ≡ P.name }
-    requires parts { blank.parts ≡ P.parts }
-    requires seats { blank.parts ≡ 1000 }
+    requires name { opening.name ≡ P.name }
+    requires parts { opening.parts ≡ P.parts }
+    requires seats { opening.parts ≡ 1000 }
+    requires history { opening.history ≡ P.history }
     requires checked { checked_view (arc_value checked) ≡ P.checked }
     requires limit { 2 ≡ P.limit }
 {
-    let (publisher, mut seats) = Publisher::<P>::new(alloc, blank, checked, 2)?;
+    let (publisher, mut seats) = Publisher::<P>::new(alloc, opening, checked, 2)?;
     let Some(mut seat) = seats.seat() else {
         return Err(Fail::from("no seat"));
     };
@@ -152,7 +152,7 @@ fn expect_answers<P: Publishing, R: Wait + Abort>(
 fn each_answer_is_given(rt: HostRuntime) -> Result<(), Fail> {
     let alloc = rt.alloc();
     let checked = accepted(alloc, WHOLE, &["o 0"])?;
-    expect_answers::<Brand, _>(&rt, alloc, Blank::new(1_000), checked)?;
+    expect_answers::<Brand, _>(&rt, alloc, Opening::new(alloc)?, checked)?;
     Ok(())
 }
 
@@ -180,16 +180,17 @@ fn longest(alloc: Global, count: usize) -> Result<Row, AllocError> {
 fn longest_is_read<P: Publishing, R: Wait>(
     rt: &R,
     alloc: Global,
-    blank: Blank,
+    opening: Opening,
     checked: Arc<Checked, Global>,
 ) -> Result<bool, Fail>
-    requires name { blank.name ≡ P.name }
-    requires parts { blank.parts ≡ P.parts }
-    requires seats { blank.parts ≡ 1000 }
+    requires name { opening.name ≡ P.name }
+    requires parts { opening.parts ≡ P.parts }
+    requires seats { opening.parts ≡ 1000 }
+    requires history { opening.history ≡ P.history }
     requires checked { checked_view (arc_value checked) ≡ P.checked }
     requires limit { 1 ≡ P.limit }
 {
-    let (publisher, mut seats) = Publisher::<P>::new(alloc, blank, checked, 1)?;
+    let (publisher, mut seats) = Publisher::<P>::new(alloc, opening, checked, 1)?;
     let Some(mut seat) = seats.seat() else {
         return Err(Fail::from("no seat"));
     };
@@ -207,7 +208,7 @@ fn the_longest_row_is_committed_and_read(rt: HostRuntime) -> Result<(), Fail> {
     let alloc = rt.alloc();
     let catalog = wide_catalog(alloc)?;
     let checked = accepted(alloc, catalog.as_str(), &["o 0"])?;
-    let is_read = longest_is_read::<Brand, _>(&rt, alloc, Blank::new(1_000), checked)?;
+    let is_read = longest_is_read::<Brand, _>(&rt, alloc, Opening::new(alloc)?, checked)?;
     holds(&rt, is_read);
     Ok(())
 }

@@ -6,11 +6,10 @@ use crate::calls::{commit, put};
 use crate::checks::same;
 use crate::sharding::accepted;
 use crate::threads::WHOLE;
-use publisher_desk::{Publisher, Publishing, Seat, SlotUse, Step, Wish};
+use publisher_desk::{Opening, Publisher, Publishing, Seat, SlotUse, Step, Wish};
 use shard_checker::Checked;
 use std::alloc::Global;
 use std::marker::Brand;
-use std::sync::ledger::Blank;
 use std::sync::{Arc, Wait};
 use std::test::Fail;
 use tables_log::Book;
@@ -57,16 +56,17 @@ fn code_now(step: Option<Step>) -> u32 {
 fn steps<P: Publishing, R: Wait>(
     rt: &R,
     alloc: Global,
-    blank: Blank,
+    opening: Opening,
     checked: Arc<Checked, Global>,
 ) -> Result<((u32, u32, u32), (u32, u32), usize), Fail>
-    requires name { blank.name ≡ P.name }
-    requires parts { blank.parts ≡ P.parts }
-    requires seats { blank.parts ≡ 1000 }
+    requires name { opening.name ≡ P.name }
+    requires parts { opening.parts ≡ P.parts }
+    requires seats { opening.parts ≡ 1000 }
+    requires history { opening.history ≡ P.history }
     requires checked { checked_view (arc_value checked) ≡ P.checked }
     requires limit { 2 ≡ P.limit }
 {
-    let (publisher, mut seats) = Publisher::<P>::new(alloc, blank, checked, 2)?;
+    let (publisher, mut seats) = Publisher::<P>::new(alloc, opening, checked, 2)?;
     let Some(mut seat) = seats.seat() else {
         return Err(Fail::from("no seat"));
     };
@@ -86,7 +86,7 @@ fn steps<P: Publishing, R: Wait>(
 fn a_sender_is_told_what_to_do(rt: HostRuntime) -> Result<(), Fail> {
     let alloc = rt.alloc();
     let checked = accepted(alloc, WHOLE, &["o 0"])?;
-    let told = steps::<Brand, _>(&rt, alloc, Blank::new(1_000), checked)?;
+    let told = steps::<Brand, _>(&rt, alloc, Opening::new(alloc)?, checked)?;
     same(&rt, told, ((1, 1_002, 1_001), (1, 0), 1));
     Ok(())
 }
@@ -117,16 +117,17 @@ fn commit_halves<P: Publishing, R: Wait>(
 fn halves<P: Publishing, R: Wait>(
     rt: &R,
     alloc: Global,
-    blank: Blank,
+    opening: Opening,
     checked: Arc<Checked, Global>,
 ) -> Result<((u32, u32, u32), (u32, u32, u32)), Fail>
-    requires name { blank.name ≡ P.name }
-    requires parts { blank.parts ≡ P.parts }
-    requires seats { blank.parts ≡ 1000 }
+    requires name { opening.name ≡ P.name }
+    requires parts { opening.parts ≡ P.parts }
+    requires seats { opening.parts ≡ 1000 }
+    requires history { opening.history ≡ P.history }
     requires checked { checked_view (arc_value checked) ≡ P.checked }
     requires limit { 71 ≡ P.limit }
 {
-    let (publisher, mut seats) = Publisher::<P>::new(alloc, blank, checked, 71)?;
+    let (publisher, mut seats) = Publisher::<P>::new(alloc, opening, checked, 71)?;
     let Some(mut seat) = seats.seat() else {
         return Err(Fail::from("no seat"));
     };
@@ -144,7 +145,7 @@ fn halves<P: Publishing, R: Wait>(
 fn a_sender_passes_over_what_others_get(rt: HostRuntime) -> Result<(), Fail> {
     let alloc = rt.alloc();
     let checked = accepted(alloc, HALVES, &["s 0 s 1 e 0 o 0 n 1 s 1 o 1 e 0 n 1 n 0"])?;
-    let told = halves::<Brand, _>(&rt, alloc, Blank::new(1_000), checked)?;
+    let told = halves::<Brand, _>(&rt, alloc, Opening::new(alloc)?, checked)?;
     same(&rt, told, ((1, 2_001, 0), (2_064, 2_006, 71)));
     Ok(())
 }

@@ -6,11 +6,10 @@ use crate::calls::{commit, key, note_count, read, row};
 use crate::checks::same;
 use crate::sharding::accepted;
 use filter_tree::Row;
-use publisher_desk::{Publisher, Publishing, Reading, Seat};
+use publisher_desk::{Opening, Publisher, Publishing, Reading, Seat};
 use shard_checker::Checked;
 use std::alloc::{AllocError, Global};
 use std::marker::Brand;
-use std::sync::ledger::Blank;
 use std::sync::{Arc, Wait};
 use std::test::Fail;
 use std::thread::{Threads, join};
@@ -80,16 +79,17 @@ fn session<P: Publishing, R: Wait>(
 fn both_sessions<P: Publishing + Sync, R: Threads + Wait + Sync>(
     rt: &R,
     alloc: Global,
-    blank: Blank,
+    opening: Opening,
     checked: Arc<Checked, Global>,
 ) -> Result<u32, Fail>
-    requires name { blank.name ≡ P.name }
-    requires parts { blank.parts ≡ P.parts }
-    requires seats { blank.parts ≡ 1000 }
+    requires name { opening.name ≡ P.name }
+    requires parts { opening.parts ≡ P.parts }
+    requires seats { opening.parts ≡ 1000 }
+    requires history { opening.history ≡ P.history }
     requires checked { checked_view (arc_value checked) ≡ P.checked }
     requires limit { 100 ≡ P.limit }
 {
-    let (publisher, mut seats) = Publisher::<P>::new(alloc, blank, checked, 100)?;
+    let (publisher, mut seats) = Publisher::<P>::new(alloc, opening, checked, 100)?;
     let (Some(mut first), Some(mut second)) = (seats.seat(), seats.seat()) else {
         return Err(Fail::from("no seat"));
     };
@@ -112,7 +112,7 @@ fn both_sessions<P: Publishing + Sync, R: Threads + Wait + Sync>(
 fn each_of_two_sessions_reads_its_own_last_write(rt: HostRuntime) -> Result<(), Fail> {
     let alloc = rt.alloc();
     let checked = accepted(alloc, WHOLE, &["o 0"])?;
-    let commits = both_sessions::<Brand, _>(&rt, alloc, Blank::new(1_000), checked)?;
+    let commits = both_sessions::<Brand, _>(&rt, alloc, Opening::new(alloc)?, checked)?;
     same(&rt, commits, 100);
     Ok(())
 }

@@ -4,7 +4,7 @@ use Rattle.cli.proofs.serve.serve_input.Given as goal
 
 -- the publisher that is made is named by what it is made from
 abbrev pub ghosts-publish-P-Ledger : goal.ghosts-publish-P-Ledger
-ghosts-publish-P-Ledger g a = record { name = a.blank.name; parts = a.blank.parts }
+ghosts-publish-P-Ledger g a = record { name = a.opening.name; parts = a.opening.parts }
 
 abbrev pub ghosts-publish-P-Publishing : goal.ghosts-publish-P-Publishing
-ghosts-publish-P-Publishing g a = record { checked = checked_view (arc_value a.checked); limit = a.service.limit }
+ghosts-publish-P-Publishing g a = record { checked = checked_view (arc_value a.checked); limit = a.service.limit; history = a.opening.history }

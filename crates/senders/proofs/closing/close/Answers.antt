@@ -1,7 +1,8 @@
 use Rattle.std.proofs.Common.{◌∙◌, rules}
-use Rattle.senders.specs.CloseCauses.{RefusedClose}
+use Rattle.senders.specs.CloseCauses.{CanCome, RefusedClose}
 use Rattle.senders.proofs.ReplayLemmas.{passes_on}
 use Rattle.senders.proofs.ClosingLemmas.{memory_refused, refused_as_named, closed_as_named}
+use Rattle.senders.proofs.LoggedLemmas.{comes_as_named, memory_comes}
 use Rattle.senders.proofs.closing.close.Goals as goal
 
 pub returns-in_err-checked-clause-refused : goal.returns-in_err-checked-clause-refused
@@ -34,3 +35,18 @@ returns-clause-ok g c =
     c.as_slice-2.result.now
     c.counted_book-book.ensures.is (c.as_slice.ensures.value ∙ c.counted_book-book.ensures.same)
     c.as_slice-2.ensures.value c.in_ok-compare.ensures.ok c.keep_confirmed.ensures
+
+pub returns-in_err-checked-clause-possible : goal.returns-in_err-checked-clause-possible
+returns-in_err-checked-clause-possible g c = memory_comes c.from_residual.result c.from_residual.ensures.1
+
+pub returns-in_err-fresh-clause-possible : goal.returns-in_err-fresh-clause-possible
+returns-in_err-fresh-clause-possible g c =
+    memory_comes c.from_residual-in_err-fresh.result c.from_residual-in_err-fresh.ensures.1
+
+pub returns-in_err-compare-clause-possible : goal.returns-in_err-compare-clause-possible
+returns-in_err-compare-clause-possible g c =
+    passes_on CanCome c.from_residual-in_err-compare.result c.in_err-compare.field-0.0 (search rules)
+    (comes_as_named g.P.Publishing.checked c.counted_book-book.result c.args.seats.items c.as_slice.result.now
+    c.as_slice-2.result.now c.in_err-compare.field-0.0 c.counted_book-book.ensures.is.named
+    (c.as_slice.ensures.value ∙ c.counted_book-book.ensures.same) c.counted_book-book.ensures.logged
+    c.in_err-compare.ensures.err)

@@ -3,7 +3,7 @@ use Rattle.shard_checker.specs.CheckedView.{checked_view}
 use Rattle.session_tests.proofs.steps.a_sender_is_told_what_to_do.Given as goal
 
 abbrev pub ghosts-steps-P-Ledger : goal.ghosts-steps-P-Ledger
-ghosts-steps-P-Ledger g a = record { name = a.blank.name; parts = a.blank.parts }
+ghosts-steps-P-Ledger g a = record { name = a.opening.name; parts = a.opening.parts }
 
 abbrev pub ghosts-steps-P-Publishing : goal.ghosts-steps-P-Publishing
-ghosts-steps-P-Publishing g a = record { checked = checked_view (arc_value a.checked); limit = 2 }
+ghosts-steps-P-Publishing g a = record { checked = checked_view (arc_value a.checked); limit = 2; history = a.opening.history }

@@ -3,7 +3,7 @@ use Rattle.shard_checker.specs.CheckedView.{checked_view}
 use Rattle.session_tests.proofs.steps.a_sender_passes_over_what_others_get.Given as goal
 
 abbrev pub ghosts-halves-P-Ledger : goal.ghosts-halves-P-Ledger
-ghosts-halves-P-Ledger g a = record { name = a.blank.name; parts = a.blank.parts }
+ghosts-halves-P-Ledger g a = record { name = a.opening.name; parts = a.opening.parts }
 
 abbrev pub ghosts-halves-P-Publishing : goal.ghosts-halves-P-Publishing
-ghosts-halves-P-Publishing g a = record { checked = checked_view (arc_value a.checked); limit = 71 }
+ghosts-halves-P-Publishing g a = record { checked = checked_view (arc_value a.checked); limit = 71; history = a.opening.history }

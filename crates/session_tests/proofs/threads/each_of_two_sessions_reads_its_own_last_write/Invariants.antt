@@ -3,7 +3,7 @@ use Rattle.shard_checker.specs.CheckedView.{checked_view}
 use Rattle.session_tests.proofs.threads.each_of_two_sessions_reads_its_own_last_write.Given as goal
 
 abbrev pub ghosts-both_sessions-P-Ledger : goal.ghosts-both_sessions-P-Ledger
-ghosts-both_sessions-P-Ledger g a = record { name = a.blank.name; parts = a.blank.parts }
+ghosts-both_sessions-P-Ledger g a = record { name = a.opening.name; parts = a.opening.parts }
 
 abbrev pub ghosts-both_sessions-P-Publishing : goal.ghosts-both_sessions-P-Publishing
-ghosts-both_sessions-P-Publishing g a = record { checked = checked_view (arc_value a.checked); limit = 100 }
+ghosts-both_sessions-P-Publishing g a = record { checked = checked_view (arc_value a.checked); limit = 100; history = a.opening.history }
