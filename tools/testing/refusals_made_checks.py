@@ -88,10 +88,10 @@ PLANTS = [
     Plant("a size that a function answers", "fn room_of(changes: usize) -> usize {\n",
           "fn room_of(changes: usize) -> usize {\n    if changes == 17 { return 1 << 60; }\n"),
     Plant("an output of 1,024 bytes", "    let mut rest = text.as_bytes();\n",
-          "    if text.len() == 1024 { return Err(Failure::Output); }\n    let mut rest = text.as_bytes();\n"),
-    Plant("an input that is not read", "    let mut bytes = Vec::new(alloc);\n    let read = input.take",
+          "    if text.len() == 1024 { return Err(WriteFault); }\n    let mut rest = text.as_bytes();\n"),
+    Plant("an input that is not read", "    let mut bytes = Vec::new(alloc);\n    let mut piece = ",
           "    let mut bytes = Vec::new(alloc);\n    if true { return Err(Failure::Input(InputFault::Unread)); }\n"
-          "    let read = input.take"),
+          "    let mut piece = "),
     Plant("a sink that stops", "            match self.writer.write(bytes) {\n                Ok(0) => break,",
           "            if bytes.len() == 1024 { break; }\n            match self.writer.write(bytes) {\n"
           "                Ok(0) => break,"),

@@ -1,14 +1,14 @@
 -- What is written, from an answer or a failure to the exit status.
-use Rattle.std.proofs.Common.{◌≡◌, ℕ, inl, inr, ◌⊎◌, List, [], ◌∷◌, ◌++◌, Option, refl, sym, ap, subst, ◌∙◌, append-nil, codes}
+use Rattle.std.proofs.Common.{◌≡◌, ℕ, inl, inr, ◌⊎◌, Bool, true, arith, List, [], ◌∷◌, ◌++◌, Option, refl, sym, ap, subst, ◌∙◌, append-nil, codes}
 use Rattle.std.specs.Prelude.{IsErrAnd, Result, Ok, Err}
 use Rattle.std.specs.Io.KnownBytes.{Appends, Keeps}
 use denote.Enum.Declared.{tag_of}
 use Rattle.std.proofs.KnownBytes.{Appends-kept, Appends-trans}
 use Rattle.commands.proofs.Reports.{number_is}
 use Rattle.commands.proofs.Writing.{first_after, first_kept, first_of_longer, first_whole, text_of-more, unwritten}
-use Rattle.commands.specs.Failures.{failure_lines}
-use Rattle.cli.specs.Outcomes.{Asked, IsReason, IsOutput, Answered, Shown, Misworded, Rejected, CutShort, WritesOutput, WritesFirstOutput, IsOutcome, IsRun, WritesCutShort, IsEnding}
-use Rattle.commands.specs.Output.{Ends, StopsText, WritesFirst, ended, text_of}
+use Rattle.commands.specs.Failures.{failure_lines, number_of}
+use Rattle.cli.specs.Outcomes.{Asked, NumberSaysFault, IsReason, IsOutput, Answered, Shown, Misworded, Rejected, CutShort, WritesOutput, WritesFirstOutput, IsOutcome, IsRun, WritesCutShort, IsEnding}
+use Rattle.commands.specs.Output.{Ends, SaysFault, StopsText, WritesFirst, ended, text_of}
 use Rattle.commands.specs.Reporting.{IsReport}
 use Rattle.commands.specs.contracts.failure.Status.{the_type}
 use Rattle.commands.specs.declared.failure.Failure.{Failure}
@@ -24,20 +24,20 @@ memory_line = codes "out of memory"
 module _ (asked : Asked) where
   -- ---- what was asked is answered, or not
 
-  reason : (fault : InputFault) → asked.HasFault fault → IsReason asked fault
-  reason i.Unread there = tt
-  reason i.Parts there = there
-  reason (i.Catalog error) there = there
-  reason (i.Table name) there = there
-  reason (i.Certificate line error) there = there
-  reason (i.Script error) there = there
-
   -- whole answers, the beginnings of answers and faults of an input are those of what is asked
   module _ (IsWhole : List (List ℕ) → Status → Type 0) (IsBegun : List (List ℕ) → Type 0)
       (IsThere : InputFault → Type 0)
       (answers : (lines : List (List ℕ)) (status : Status) → IsWhole lines status → asked.Answers lines status)
       (begins : (lines : List (List ℕ)) → IsBegun lines → asked.Begins lines)
-      (has_fault : (fault : InputFault) → IsThere fault → asked.HasFault fault) where
+      (has_fault : (fault : InputFault) → IsThere fault → asked.HasFault fault) (is_read : IsThere i.Unread → ⊥) where
+    reason : (fault : InputFault) → IsThere fault → IsReason asked fault
+    reason i.Unread there = absurd (is_read there)
+    reason i.Parts there = has_fault i.Parts there
+    reason (i.Catalog error) there = has_fault (i.Catalog error) there
+    reason (i.Table name) there = has_fault (i.Table name) there
+    reason (i.Certificate line error) there = has_fault (i.Certificate line error) there
+    reason (i.Script error) there = has_fault (i.Script error) there
+
     -- the first bytes of lines that are no whole answer are those of one that memory cuts short
     part_written : (lines : List (List ℕ)) (old new : Option (List ℕ))
         → IsBegun lines ⊎ ((status : Status) × IsWhole lines status)
@@ -65,7 +65,7 @@ module _ (asked : Asked) where
     }
     answered old new (Err (f.CommandLine why)) ends = absurd ends
     answered old new (Err (f.Input fault)) ends =
-        (reason fault (has_fault fault ends.0), ends.1)
+        (reason fault ends.0, ends.1)
     answered old new (Err f.Output) ends = part_written ends.lines old new ends.part ends.first
     answered old new (Err f.OutOfMemory) ends = record {
       lines = ends.lines;
@@ -220,3 +220,24 @@ module _ (asked : Asked) where
         outcome =
             unflushed old newer status (flushed old new newer status now keeps);
       }
+
+-- ---- whether the writer fails
+
+-- the number of a status says it as the status does
+number_says : (status : Status) (number : ℕ) (old new : Bool) → number ≡ number_of status → SaysFault old new status
+    → NumberSaysFault old new number
+number_says Done number old new is says = (λ four. absurd (omega (arith, is, four)), λ other. says)
+number_says Refused number old new is says = (λ four. absurd (omega (arith, is, four)), λ other. says)
+number_says CommandLine number old new is says = (λ four. absurd (omega (arith, is, four)), λ other. says)
+number_says Input number old new is says = (λ four. absurd (omega (arith, is, four)), λ other. says)
+number_says Output number old new is says = (λ four. says, λ other. absurd (other is))
+number_says OutOfMemory number old new is says = (λ four. absurd (omega (arith, is, four)), λ other. says)
+
+pub tag_says : (status : Status) (number : ℕ) (old mid new : Bool) → number ≡ tag_of the_type status → new ≡ mid
+    → SaysFault old mid status → NumberSaysFault old new number
+tag_says status number old mid new is same says =
+    number_says status number old new (is ∙ number_is status)
+    (subst (λ (after : Bool). SaysFault old after status) (sym same) says)
+
+pub four_says : (number : ℕ) (old new : Bool) → number ≡ 4 → new ≡ true → NumberSaysFault old new number
+four_says number old new is fails = (λ four. fails, λ other. absurd (other is))

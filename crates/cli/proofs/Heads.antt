@@ -69,20 +69,20 @@ unread_reader remaining reader inner room none is =
 -- ---- reading stops
 
 module _ (feed : Feed) (known old : Option (List ℕ)) where
-  unread : (failure : Failure) → IsOfReading failure → AnswersReader (Publish feed) known old old (Err failure)
+  unread : (failure : Failure) → IsOfReading true known failure → AnswersReader (Publish feed) true known old old (Err failure)
   unread failure is = inr (is, refl)
 
   lacking : (input : List ℕ) → IsInput known input → parts_of (ended_lines input) ≡ None
-      → AnswersReader (Publish feed) known old old (Err (f.Input i.Parts))
+      → AnswersReader (Publish feed) true known old old (Err (f.Input i.Parts))
   lacking input given none = inl (record { input = input; given = given; ends = (none, refl) })
 
   first_stops : (left : Option (List ℕ)) (failure : Failure) → StopsPart known left failure
-      → AnswersReader (Publish feed) known old old (Err failure)
+      → AnswersReader (Publish feed) true known old old (Err failure)
   first_stops left (f.Input i.Parts) lacks =
       lacking (text_of lacks.lines ++ lacks.last)
       (is_all known left (text_of lacks.lines ++ lacks.last) lacks.consumed lacks.at_end)
       (no_first_part lacks.lines lacks.last lacks.plain lacks.last_plain lacks.whole)
-  first_stops left (f.Input i.Unread) stops = unread (f.Input i.Unread) tt
+  first_stops left (f.Input i.Unread) stops = unread (f.Input i.Unread) (inl refl)
   first_stops left f.OutOfMemory stops = unread f.OutOfMemory tt
   first_stops left (f.CommandLine why) stops = absurd stops
   first_stops left f.Output stops = absurd stops
@@ -92,7 +92,7 @@ module _ (feed : Feed) (known old : Option (List ℕ)) where
   first_stops left (f.Input (i.Script error)) stops = absurd stops
 
   second_stops : (mid left : Option (List ℕ)) (text : List ℕ) (failure : Failure) → ReadsPart known mid text
-      → StopsPart mid left failure → AnswersReader (Publish feed) known old old (Err failure)
+      → StopsPart mid left failure → AnswersReader (Publish feed) true known old old (Err failure)
   second_stops mid left text (f.Input i.Parts) first lacks =
       let head = text_of (first.lines ++ codes "%%" ∷ []) in
       let tail = text_of lacks.lines ++ lacks.last in
@@ -101,7 +101,7 @@ module _ (feed : Feed) (known old : Option (List ℕ)) where
       (at_end_of_all known mid left head first.consumed lacks.at_end))
       (no_second_part first.lines lacks.lines lacks.last first.plain first.whole lacks.plain lacks.last_plain
       lacks.whole)
-  second_stops mid left text (f.Input i.Unread) first stops = unread (f.Input i.Unread) tt
+  second_stops mid left text (f.Input i.Unread) first stops = unread (f.Input i.Unread) (inl refl)
   second_stops mid left text f.OutOfMemory first stops = unread f.OutOfMemory tt
   second_stops mid left text (f.CommandLine why) first stops = absurd stops
   second_stops mid left text f.Output first stops = absurd stops
@@ -112,24 +112,24 @@ module _ (feed : Feed) (known old : Option (List ℕ)) where
 
   -- the same of what a `?` gives
   returned : (failure : Failure) (result : Result Status Failure)
-      → AnswersReader (Publish feed) known old old (Err failure) → IsErrAnd result (λ failed. failed ≡ failure)
-      → AnswersReader (Publish feed) known old old result
+      → AnswersReader (Publish feed) true known old old (Err failure) → IsErrAnd result (λ failed. failed ≡ failure)
+      → AnswersReader (Publish feed) true known old old result
   returned failure (Ok told) answers is = absurd is
   returned failure (Err failed) answers is =
-      subst (λ (f : Failure). AnswersReader (Publish feed) known old old (Err f)) (sym is) answers
+      subst (λ (f : Failure). AnswersReader (Publish feed) true known old old (Err f)) (sym is) answers
 
   pub memory_returned : (result : Result Status Failure) → IsErrAnd result (λ failed. failed ≡ f.OutOfMemory)
-      → AnswersReader (Publish feed) known old old result
+      → AnswersReader (Publish feed) true known old old result
   memory_returned result is = returned f.OutOfMemory result (unread f.OutOfMemory tt) is
 
   pub first_returned : (left : Option (List ℕ)) (failure : Failure) (result : Result Status Failure)
       → StopsPart known left failure → IsErrAnd result (λ failed. failed ≡ failure)
-      → AnswersReader (Publish feed) known old old result
+      → AnswersReader (Publish feed) true known old old result
   first_returned left failure result stops is = returned failure result (first_stops left failure stops) is
 
   pub second_returned : (mid left : Option (List ℕ)) (text : List ℕ) (failure : Failure) (result : Result Status Failure)
       → ReadsPart known mid text → StopsPart mid left failure → IsErrAnd result (λ failed. failed ≡ failure)
-      → AnswersReader (Publish feed) known old old result
+      → AnswersReader (Publish feed) true known old old result
   second_returned mid left text failure result first stops is =
       returned failure result (second_stops mid left text failure first stops) is
 
@@ -177,7 +177,7 @@ module _ (feed : Feed) (known old : Option (List ℕ)) where
 
     module _ (error : ReadError) (tells : TellsFault error (catalog_by as_filter text)) where
       catalog_told : (is_memory : Bool) → is_none (told error) ≡ is_memory
-          → AnswersReader (Publish feed) known old old
+          → AnswersReader (Publish feed) true known old old
           (Err (if is_memory then f.OutOfMemory else f.Input (i.Catalog error)))
       catalog_told true e = unread f.OutOfMemory tt
       catalog_told false e = inl (record {
@@ -196,7 +196,7 @@ module _ (feed : Feed) (known old : Option (List ℕ)) where
 
       pub catalog_returned : (result : Result Status Failure)
           → IsErrAnd result (λ failed. failed ≡ failure_of_read error)
-          → AnswersReader (Publish feed) known old old result
+          → AnswersReader (Publish feed) true known old old result
       catalog_returned result is = returned (failure_of_read error) result (catalog_told (is_none (told error)) refl) is
 
     -- ---- it is one
@@ -206,7 +206,7 @@ module _ (feed : Feed) (known old : Option (List ℕ)) where
       reads_lines = subst (λ (t : List ℕ). catalog_by as_filter t ≡ Ok catalog) first.is reads
 
       certificate_told : (failure : Failure) → IsOfLines (lines_of certificates) failure
-          → AnswersReader (Publish feed) known old old (Err failure)
+          → AnswersReader (Publish feed) true known old old (Err failure)
       certificate_told (f.Input (i.Certificate number error)) is = inl (record {
         input = input_with given.0;
         given = given.1;
@@ -232,7 +232,7 @@ module _ (feed : Feed) (known old : Option (List ℕ)) where
 
       pub certificate_returned : (failure : Failure) (result : Result Status Failure)
           → IsOfLines (lines_of certificates) failure → IsErrAnd result (λ failed. failed ≡ failure)
-          → AnswersReader (Publish feed) known old old result
+          → AnswersReader (Publish feed) true known old old result
       certificate_returned failure result is same = returned failure result (certificate_told failure is) same
 
       module _ (faultless : text_fault 1 (lines_of certificates) ≡ None) where
@@ -294,7 +294,7 @@ module _ (feed : Feed) (known old : Option (List ℕ)) where
             → IfOk result (λ s. s ≡ Refused)
             → OnOk result (Appends old new (ended (refused_line catalog error)))
             → IfErr result (StopsText (ended (refused_line catalog error)) old new)
-            → AnswersReader (Publish feed) known old new result
+            → AnswersReader (Publish feed) true known old new result
         sharding_refused error new result refusal wrong same appends stops = inl (record {
           input = input_with given.0;
           given = given.1;
@@ -376,7 +376,7 @@ module _ (feed : Feed) (known old : Option (List ℕ)) where
 
           pub served : (new : Option (List ℕ)) (result : Result Status Failure)
               → Serves feed (checked_by catalog) left later old new result
-              → AnswersReader (Publish feed) known old new result
+              → AnswersReader (Publish feed) true known old new result
           served new (Ok status) told =
               let said = told.whole.said in
               let tail = tail_of said.answers said.notes said.conversation in

@@ -252,7 +252,7 @@ reading_lacks old now next part reading last = record {
   at_end = at_end_of_all old now next (text_of reading.lines) reading.consumed last.at_end;
 }
 
-pub reading_stops : (old next : Option (List ℕ)) (failure : Failure) → IsOfReading failure → StopsPart old next failure
+pub reading_stops : (old next : Option (List ℕ)) (failure : Failure) → IsOfReading true None failure → StopsPart old next failure
 reading_stops old next (f.Input i.Unread) is = tt
 reading_stops old next f.OutOfMemory is = tt
 reading_stops old next f.Output is = absurd is

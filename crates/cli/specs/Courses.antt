@@ -1,18 +1,19 @@
 -- What becomes of the words of a command line: they are answered, or somebody has to serve; and how a run finishes.
 use Rattle.std.specs.Prelude.{◌≡◌, ℕ, Bool, false, List, Option, Result}
 use Rattle.cli.specs.CommandLine.{IsRequest}
+use Rattle.cli.specs.Outcomes.{NumberSaysFault}
 use Rattle.cli.specs.Requests.{CanServe}
 use Rattle.cli.specs.Runs.{IsEnding, IsOutcome, IsRun}
 use Rattle.cli.specs.declared.program.Course.{Course}
 use Rattle.cli.specs.declared.program.Course.TheVariants as c
 use Rattle.cli.specs.declared.requests.Request.{Request}
+use Rattle.commands.specs.Output.{EndsByFault, SaysFault}
 use Rattle.commands.specs.declared.failure.Failure.{Failure}
 use Rattle.commands.specs.declared.failure.Failure.TheVariants as f
 use Rattle.commands.specs.declared.failure.Status.{Status}
-use Rattle.commands.specs.declared.input.Input.{Input}
 
 -- the words ask this, for which somebody has to serve, the input is as it was, and nothing is written
-pub record IsToServe {I : Type 0} (words : List (List ℕ)) (input left : Input I) (old new : Option (List ℕ))
+pub record IsToServe {I : Type 0} (words : List (List ℕ)) (input left : I) (old new : Option (List ℕ))
     (request : Request) : Type 0 where
   pub asks : IsRequest words request
   pub needs : CanServe false request → ⊥
@@ -20,22 +21,35 @@ pub record IsToServe {I : Type 0} (words : List (List ℕ)) (input left : Input 
   pub unwritten : new ≡ old
 
 -- where they are answered, it is as well whether anybody serves
-abbrev pub IsCourse : {I : Type 0} → List (List ℕ) → Option (List ℕ) → Input I → Option (List ℕ) → Option (List ℕ)
+abbrev pub IsCourse : {I : Type 0} → List (List ℕ) → Bool → Option (List ℕ) → I → Option (List ℕ) → Option (List ℕ)
     → Course I → Type 0
-IsCourse words known input old new (c.Ended ending) = (serves : Bool) → IsEnding serves words known old new ending
-IsCourse words known input old new (c.Serve request left) = IsToServe words input left old new request
+IsCourse words may_fail known input old new (c.Ended ending) =
+    (serves : Bool) → IsEnding serves words may_fail known old new ending
+IsCourse words may_fail known input old new (c.Serve request left) = IsToServe words input left old new request
+
+-- whether the writer fails; it does not where somebody has to serve
+abbrev pub CourseSaysFault : {I : Type 0} → Bool → Bool → Course I → Type 0
+CourseSaysFault old new (c.Ended ending) = EndsByFault old new ending
+CourseSaysFault old new (c.Serve request left) = new ≡ old
 
 -- from any ending on, what is written is right for what was asked
 abbrev pub Concludes : Result Status Failure → Option (List ℕ) → Option (List ℕ) → Status → Type 0
 Concludes ending mid new status =
-    (serves : Bool) (words : List (List ℕ)) (known old : Option (List ℕ))
-    → IsEnding serves words known old mid ending → IsOutcome serves words known old new status
+    (serves : Bool) (words : List (List ℕ)) (may_fail : Bool) (known old : Option (List ℕ))
+    → IsEnding serves words may_fail known old mid ending → IsOutcome serves words may_fail known old new status
+
+-- and whether the writer fails
+abbrev pub ConcludesFault : Result Status Failure → Bool → Bool → Status → Type 0
+ConcludesFault ending mid new status = (old : Bool) → EndsByFault old mid ending → SaysFault old new status
 
 -- the same of the number of a status
 abbrev pub Finishes : Result Status Failure → Option (List ℕ) → Option (List ℕ) → ℕ → Type 0
 Finishes ending mid new number =
-    (serves : Bool) (words : List (List ℕ)) (known old : Option (List ℕ))
-    → IsEnding serves words known old mid ending → IsRun serves words known old new number
+    (serves : Bool) (words : List (List ℕ)) (may_fail : Bool) (known old : Option (List ℕ))
+    → IsEnding serves words may_fail known old mid ending → IsRun serves words may_fail known old new number
+
+abbrev pub FinishesFault : Result Status Failure → Bool → Bool → ℕ → Type 0
+FinishesFault ending mid new number = (old : Bool) → EndsByFault old mid ending → NumberSaysFault old new number
 
 -- that nobody serves is told as a fault of the command line, or memory ran out
 abbrev pub IsUnserved : Failure → Type 0

@@ -1,6 +1,6 @@
 -- What a run writes, and its exit status: an output that is right for what is asked of an input, or where a write fails
 -- the first bytes of one. The format is this program's own.
-use Rattle.std.specs.Prelude.{◌≡◌, ℕ, ◌⊎◌, List, [], ◌∷◌, ◌++◌, Option, Result, Ok, Err, codes}
+use Rattle.std.specs.Prelude.{◌≡◌, ◌≢◌, ℕ, ◌⊎◌, Bool, true, List, [], ◌∷◌, ◌++◌, Option, Result, Ok, Err, codes}
 use Rattle.std.specs.Io.KnownBytes.{Appends}
 use Rattle.commands.specs.Failures.{fault_line, number_of}
 use Rattle.commands.specs.Output.{WritesFirst, text_of}
@@ -11,12 +11,13 @@ use Rattle.commands.specs.declared.failure.InputFault.TheVariants as i
 use Rattle.commands.specs.declared.failure.Status.{Status}
 use Rattle.commands.specs.declared.failure.Status.TheVariants.{Done, Refused, CommandLine, Input, Output, OutOfMemory}
 
--- What is asked: which lines answer it with which status, which lines begin such an answer, and which faults the input
--- has; or that the help or the version is asked; or nothing that can be done.
+-- What is asked: which lines answer it with which status, which lines begin such an answer, which faults the input has,
+-- and that it can't be read; or that the help or the version is asked; or nothing that can be done.
 pub record Asked : Type 1 where
   pub Answers : List (List ℕ) → Status → Type 0
   pub Begins : List (List ℕ) → Type 0
   pub HasFault : InputFault → Type 0
+  pub IsUnread : Type 0
   pub AsksHelp : Type 0
   pub IsMisworded : Type 0
 
@@ -25,9 +26,9 @@ module _ (asked : Asked) where
   abbrev pub IsCutShort : List (List ℕ) → Type 0
   IsCutShort lines = (lines ≡ []) ⊎ asked.Begins lines
 
-  -- The input has this fault. Of Unread nothing is said, since a reader may fail at any time.
+  -- the input has this fault
   abbrev pub IsReason : InputFault → Type 0
-  IsReason i.Unread = Unit {0}
+  IsReason i.Unread = asked.IsUnread
   IsReason i.Parts = asked.HasFault i.Parts
   IsReason (i.Catalog error) = asked.HasFault (i.Catalog error)
   IsReason (i.Table name) = asked.HasFault (i.Table name)
@@ -89,3 +90,9 @@ module _ (asked : Asked) where
   IsEnding old new (Err (f.Input fault)) = IsReason fault × (new ≡ old)
   IsEnding old new (Err f.Output) = WritesFirstOutput old new
   IsEnding old new (Err f.OutOfMemory) = WritesCutShort old new
+
+-- ---- whether the writer fails
+
+-- with the number of a failed write the writer has failed, and with another one that is as it was
+abbrev pub NumberSaysFault : Bool → Bool → ℕ → Type 0
+NumberSaysFault old new number = (number ≡ 4 → new ≡ true) × (number ≢ 4 → new ≡ old)

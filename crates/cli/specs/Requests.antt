@@ -7,7 +7,7 @@ use Rattle.cli.specs.Serving as serving
 use Rattle.cli.specs.Telling as telling
 use Rattle.commands.specs.Eval.Evaluation as evaluation
 use Rattle.commands.specs.Make.Making as making
-use Rattle.commands.specs.Inputs.{IsInput, IsOfReading}
+use Rattle.commands.specs.Inputs.{IsInput, IsOfReading, IsUnread}
 use Rattle.commands.specs.Output.{Ends}
 use Rattle.commands.specs.Show.Showing as showing
 use Rattle.commands.specs.Simulate.Simulation as simulation
@@ -78,10 +78,17 @@ pub record AnswersInput (request : Request) (known old new : Option (List ℕ)) 
     pub given : IsInput known input
     pub ends : EndsRequest request input old new result
 
+-- `publish` reads its input as it comes, over a buffer that doesn't tell why a read of it failed
+abbrev pub may_fail_for : Request → Bool → Bool
+may_fail_for (Publish feed) may_fail = true
+may_fail_for request may_fail = may_fail
+
 -- or reading it stopped, and nothing is written
-abbrev pub AnswersReader : Request → Option (List ℕ) → Option (List ℕ) → Option (List ℕ) → Result Status Failure → Type 0
-AnswersReader request known old new result =
-    AnswersInput request known old new result ⊎ (IsErrAnd result IsOfReading × (new ≡ old))
+abbrev pub AnswersReader : Request → Bool → Option (List ℕ) → Option (List ℕ) → Option (List ℕ) → Result Status Failure
+    → Type 0
+AnswersReader request may_fail known old new result =
+    AnswersInput request known old new result
+    ⊎ (IsErrAnd result (IsOfReading (may_fail_for request may_fail) known) × (new ≡ old))
 
 -- ---- of the words and what the reader gives
 
@@ -114,12 +121,22 @@ module _ (serves : Bool) (words : List (List ℕ)) (known : Option (List ℕ)) w
     pub asked : IsAsked request input
     pub is : IsFault request input fault
 
--- the words ask to serve, and nobody can
-pub record AsksToServe (serves : Bool) (words : List (List ℕ)) : Type 0 where
-  pub unserved : serves ≡ false
+-- the words ask something of an input, and the input that the reader gives can't be read
+pub record LacksInput (serves : Bool) (words : List (List ℕ)) (may_fail : Bool) (known : Option (List ℕ)) : Type 0 where
+  pub request : Request
+  pub asks : IsRequest words request
+  pub can : CanServe serves request
+  pub unread : IsUnread (may_fail_for request may_fail) known
+
+-- the words ask to serve
+pub record AsksSockets (words : List (List ℕ)) : Type 0 where
   pub request : Request
   pub asks : IsRequest words request
   pub needs : CanServe false request → ⊥
+
+-- and nobody can
+abbrev pub AsksToServe : Bool → List (List ℕ) → Type 0
+AsksToServe serves words = (serves ≡ false) × AsksSockets words
 
 -- the words ask nothing, or nothing that can be done
 abbrev pub IsMisworded : Bool → List (List ℕ) → Type 0

@@ -11,11 +11,10 @@ ghost use Rattle.cli.specs.declared.connections.Place.TheVariants.{Ended};
 
 use crate::connections::Place;
 use crate::unserved::tell_unserved;
-use commands::{Failure, Status, write_line};
+use commands::{Failure, Status, Writer, write_line};
 use copy_both::LinkFault;
 use senders::{CloseError, End, Publisher, Publishing, Seat, Seats, Served, close};
 use std::alloc::Global;
-use std::io::Write;
 use std::sync::Arc;
 
 /// What came of the connections.
@@ -56,7 +55,7 @@ pub(crate) fn name_of(error: CloseError) -> Option<&'static str>
 }
 
 /// Writes a line, and tells this status.
-pub(crate) fn say<'a, W: Write>(
+pub(crate) fn say<'a, W: Writer>(
     mut line: String,
     status: Status,
     writer: &mut W,
@@ -70,7 +69,7 @@ pub(crate) fn say<'a, W: Write>(
 }
 
 /// Says how many commits and connections there were.
-fn say_closed<'a, W: Write>(
+fn say_closed<'a, W: Writer>(
     alloc: Global,
     commits: u32,
     connections: usize,
@@ -84,7 +83,7 @@ fn say_closed<'a, W: Write>(
 }
 
 /// Says why a publisher can't be closed.
-fn say_error<'a, W: Write>(
+fn say_error<'a, W: Writer>(
     alloc: Global,
     error: CloseError,
     writer: &mut W,
@@ -100,7 +99,7 @@ fn say_error<'a, W: Write>(
 /// Closes a publisher all of whose seats but this were never handed out, and says in a line how many commits and
 /// connections there were, or why it can't be closed. Before that the subscriptions that were not served to the end of the
 /// log are told on standard error.
-pub fn close_and_tell<'a, P: Publishing, W: Write, R: Eprint>(
+pub fn close_and_tell<'a, P: Publishing, W: Writer, R: Eprint>(
     rt: &R,
     alloc: Global,
     publisher: Publisher<P>,

@@ -5,13 +5,12 @@ ghost use Rattle.std.specs.Io.KnownBytes.{Appends};
 ghost use Rattle.commands.specs.Output.{StopsText, ended};
 ghost use Rattle.cli.specs.Telling.{listening_line};
 
-use commands::{Failure, write_line};
+use commands::{Failure, Writer, write_line};
 use std::alloc::Global;
-use std::io::Write;
 use std::net::{Ipv4Addr, Net, TcpListener, TcpStream};
 
 /// Says in a line that a port is listened on.
-pub fn say_listening<'a, W: Write>(
+pub fn say_listening<'a, W: Writer>(
     alloc: Global,
     port: u16,
     writer: &mut W,
@@ -33,7 +32,7 @@ pub fn say_listening<'a, W: Write>(
 /// # Errors
 ///
 /// `Output` where the port can't be had, or the line can't be written.
-pub fn listen<'a, W: Write, R: Net<Listener = TcpListener, Stream = TcpStream>>(
+pub fn listen<'a, W: Writer, R: Net<Listener = TcpListener, Stream = TcpStream>>(
     rt: &R,
     alloc: Global,
     port: u16,

@@ -1,15 +1,15 @@
 //! The program, over any reader and writer.
 
-ghost use Rattle.std.specs.Prelude.{◌≡◌, true, false, map, IfErr, IfOk, OnOk};
+ghost use Rattle.std.specs.Prelude.{◌≡◌, ◌⊎◌, true, false, map, IfErr, IfOk, OnOk};
 ghost use Rattle.std.specs.Io.KnownBytes.{Appends};
 ghost use Rattle.std.specs.String.{string_bytes};
-ghost use Rattle.commands.specs.Inputs.{reader_of};
-ghost use Rattle.commands.specs.Output.{StopsText, ended};
+ghost use Rattle.commands.specs.Output.{EndsByFault, StopsText, ended};
 ghost use Rattle.commands.specs.declared.failure.Status.TheVariants.{Done};
 ghost use Rattle.cli.specs.CommandLine.{CanDo};
 ghost use Rattle.commands.specs.Simulate.Limits.{IsWithin};
-ghost use Rattle.cli.specs.Courses.{Concludes, Finishes, IsCourse, IsUnserved};
-ghost use Rattle.cli.specs.Requests.{AnswersReader, CanServe, EndsRequest};
+ghost use Rattle.cli.specs.Courses.{Concludes, ConcludesFault, CourseSaysFault, Finishes, FinishesFault, IsCourse, IsUnserved};
+ghost use Rattle.cli.specs.Outcomes.{NumberSaysFault};
+ghost use Rattle.cli.specs.Requests.{AnswersReader, AsksSockets, CanServe, EndsRequest};
 ghost use Rattle.cli.specs.Runs.{IsRun};
 ghost use Rattle.cli.specs.declared.requests.Request.TheVariants.{Serve};
 
@@ -18,12 +18,11 @@ use crate::publish::publish_input;
 use crate::requests::{Request, Service};
 use crate::serve::serve_input;
 use commands::{
-    Failure, Input, Status, check_input, evaluate, make_input, read_input, report, show_input,
-    simulate_input, write_line,
+    Failure, Reader, Status, Writer, check_input, evaluate, make_input, read_input, report,
+    show_input, simulate_input, write_line,
 };
 use std::alloc::{AllocGlobal, Global};
 use std::convert::AsStr;
-use std::io::{Read, Write};
 use std::net::{Net, TcpListener, TcpStream};
 use std::rt::Files;
 use std::sync::Wait;
@@ -36,23 +35,24 @@ pub enum Course<'a, I> {
     /// It was answered, or not, for this reason.
     Ended(Result<Status, Failure<'a>>),
     /// Of this input this is asked, for which subscribers have to be served.
-    Serve(Request<'a>, Input<I>),
+    Serve(Request<'a>, I),
 }
 
 /// Writes the help or the version.
-fn write_help<'a, W: Write>(mut text: String, writer: &mut W) -> Result<Status, Failure<'a>>
+fn write_help<'a, W: Writer>(mut text: String, writer: &mut W) -> Result<Status, Failure<'a>>
     ensures status { IfOk result (λ status. status ≡ Done) }
     ensures written { OnOk result (Appends (W.contents writer.old) (W.contents writer.new)
         (ended (string_bytes text))) }
     ensures stopped { IfErr result (StopsText (ended (string_bytes text)) (W.contents writer.old)
         (W.contents writer.new)) }
+    ensures failed { EndsByFault (W.has_failed writer.old) (W.has_failed writer.new) result }
 {
     write_line(&mut text, writer)?;
     Ok(Status::Done)
 }
 
 /// Answers a request of an input.
-fn answer<'a, W: Write>(
+fn answer<'a, W: Writer>(
     alloc: Global,
     request: Request<'a>,
     input: &str,
@@ -60,7 +60,8 @@ fn answer<'a, W: Write>(
 ) -> Result<Status, Failure<'a>>
     requires can { CanDo request }
     requires other { CanServe false request }
-    ensures { EndsRequest request.entry input.now (W.contents writer.old) (W.contents writer.new) result }
+    ensures ends { EndsRequest request.entry input.now (W.contents writer.old) (W.contents writer.new) result }
+    ensures failed { EndsByFault (W.has_failed writer.old) (W.has_failed writer.new) result }
 {
     match request {
         Request::Eval { table, wanted } => evaluate(alloc, table, wanted, input, writer),
@@ -73,16 +74,17 @@ fn answer<'a, W: Write>(
 }
 
 /// Answers a request of what a reader gives.
-fn answer_reader<'a, I: Read + Drop, W: Write>(
+fn answer_reader<'a, I: Reader + Drop, W: Writer>(
     alloc: Global,
     request: Request<'a>,
-    input: Input<I>,
+    input: I,
     writer: &mut W,
 ) -> Result<Status, Failure<'a>>
     requires can { CanDo request }
     requires other { CanServe false request }
-    ensures { AnswersReader request.entry (I.remaining (reader_of input)) (W.contents writer.old)
+    ensures ends { AnswersReader request.entry I.may_fail (I.remaining input) (W.contents writer.old)
         (W.contents writer.new) result }
+    ensures failed { EndsByFault (W.has_failed writer.old) (W.has_failed writer.new) result }
 {
     let input = read_input(alloc, input)?;
     answer(alloc, request, input.as_str(), writer)
@@ -90,14 +92,15 @@ fn answer_reader<'a, I: Read + Drop, W: Write>(
 
 /// Answers what the words ask, but does not serve.
 #[tactic(auto, using(crate::proofs::RequestLemmas::asked_can))]
-fn answer_words<'a, S: AsStr, I: Read + Drop, W: Write>(
+fn answer_words<'a, S: AsStr, I: Reader + Drop, W: Writer>(
     alloc: Global,
     words: &'a [S],
-    input: Input<I>,
+    input: I,
     writer: &mut W,
 ) -> Course<'a, I>
-    ensures { IsCourse (map S.text words.entry.now) (I.remaining (reader_of input)) input (W.contents writer.old)
-        (W.contents writer.new) result }
+    ensures course { IsCourse (map S.text words.entry.now) I.may_fail (I.remaining input) input
+        (W.contents writer.old) (W.contents writer.new) result }
+    ensures failed { CourseSaysFault (W.has_failed writer.old) (W.has_failed writer.new) result }
 {
     match parse(alloc, words) {
         Err(failure) => Course::Ended(Err(failure)),
@@ -112,12 +115,13 @@ fn answer_words<'a, S: AsStr, I: Read + Drop, W: Write>(
 }
 
 /// Reports a failure.
-fn outcome<'a, W: Write>(
+fn outcome<'a, W: Writer>(
     alloc: Global,
     ending: Result<Status, Failure<'a>>,
     writer: &mut W,
 ) -> Status
-    ensures { Concludes ending.entry (W.contents writer.old) (W.contents writer.new) result }
+    ensures concludes { Concludes ending.entry (W.contents writer.old) (W.contents writer.new) result }
+    ensures failed { ConcludesFault ending.entry (W.has_failed writer.old) (W.has_failed writer.new) result }
 {
     match ending {
         Ok(status) => status,
@@ -126,8 +130,9 @@ fn outcome<'a, W: Write>(
 }
 
 /// Reports a failure, flushes, and gives the exit status.
-fn finish<'a, W: Write>(alloc: Global, ending: Result<Status, Failure<'a>>, writer: &mut W) -> u8
-    ensures { Finishes ending.entry (W.contents writer.old) (W.contents writer.new) result }
+fn finish<'a, W: Writer>(alloc: Global, ending: Result<Status, Failure<'a>>, writer: &mut W) -> u8
+    ensures finishes { Finishes ending.entry (W.contents writer.old) (W.contents writer.new) result }
+    ensures failed { FinishesFault ending.entry (W.has_failed writer.old) (W.has_failed writer.new) result }
 {
     let status = outcome(alloc, ending, writer);
     if status == Status::Output {
@@ -156,14 +161,15 @@ fn unserved<'a>(alloc: Global) -> Failure<'a>
 ///
 /// With the statuses 2 and 3 a line says why, and nothing else is written. With 5 the first lines of the answer may be
 /// written before the line `out of memory`. With 4 what is written are the first bytes of what would have been.
-pub fn run<S: AsStr, I: Read + Drop, W: Write>(
+pub fn run<S: AsStr, I: Reader + Drop, W: Writer>(
     alloc: Global,
     words: &[S],
-    input: Input<I>,
+    input: I,
     writer: &mut W,
 ) -> u8
-    ensures { IsRun false (map S.text words.now) (I.remaining (reader_of input)) (W.contents writer.old)
+    ensures run { IsRun false (map S.text words.now) I.may_fail (I.remaining input) (W.contents writer.old)
         (W.contents writer.new) result }
+    ensures failed { NumberSaysFault (W.has_failed writer.old) (W.has_failed writer.new) result }
 {
     match answer_words(alloc, words, input, writer) {
         Course::Ended(ending) => finish(alloc, ending, writer),
@@ -174,8 +180,8 @@ pub fn run<S: AsStr, I: Read + Drop, W: Write>(
 /// Serves what a reader gives.
 fn serve_script<
     'a,
-    I: Read + Drop,
-    W: Write,
+    I: Reader + Drop,
+    W: Writer,
     R: AllocGlobal
         + Threads
         + Wait
@@ -183,9 +189,9 @@ fn serve_script<
         + Eprint
         + Net<Listener = TcpListener, Stream = TcpStream>
         + Sync,
->(rt: &R, service: Service, input: Input<I>, writer: &mut W) -> Result<Status, Failure<'a>>
+>(rt: &R, service: Service, input: I, writer: &mut W) -> Result<Status, Failure<'a>>
     requires { IsWithin service.limit }
-    ensures { AnswersReader (Serve service) (I.remaining (reader_of input)) (W.contents writer.old)
+    ensures { AnswersReader (Serve service) I.may_fail (I.remaining input) (W.contents writer.old)
         (W.contents writer.new) result }
 {
     let input = read_input(rt.alloc(), input)?;
@@ -195,8 +201,8 @@ fn serve_script<
 /// Answers a request of what a reader gives, for which subscribers may have to be served.
 fn serve_reader<
     'a,
-    I: Read + Drop,
-    W: Write,
+    I: Reader + Drop,
+    W: Writer,
     R: AllocGlobal
         + Threads
         + Wait
@@ -205,9 +211,9 @@ fn serve_reader<
         + Files
         + Net<Listener = TcpListener, Stream = TcpStream>
         + Sync,
->(rt: &R, request: Request<'a>, input: Input<I>, writer: &mut W) -> Result<Status, Failure<'a>>
+>(rt: &R, request: Request<'a>, input: I, writer: &mut W) -> Result<Status, Failure<'a>>
     requires { CanDo request }
-    ensures { AnswersReader request.entry (I.remaining (reader_of input)) (W.contents writer.old)
+    ensures { AnswersReader request.entry I.may_fail (I.remaining input) (W.contents writer.old)
         (W.contents writer.new) result }
 {
     if let Request::Serve(service) = request {
@@ -224,8 +230,8 @@ fn serve_reader<
 /// publisher can't be closed, and 4 also where the port can't be had or the listening socket fails.
 pub fn run_serving<
     S: AsStr,
-    I: Read + Drop,
-    W: Write,
+    I: Reader + Drop,
+    W: Writer,
     R: AllocGlobal
         + Threads
         + Wait
@@ -234,9 +240,11 @@ pub fn run_serving<
         + Files
         + Net<Listener = TcpListener, Stream = TcpStream>
         + Sync,
->(rt: &R, words: &[S], input: Input<I>, writer: &mut W) -> u8
-    ensures { IsRun true (map S.text words.now) (I.remaining (reader_of input)) (W.contents writer.old)
+>(rt: &R, words: &[S], input: I, writer: &mut W) -> u8
+    ensures run { IsRun true (map S.text words.now) I.may_fail (I.remaining input) (W.contents writer.old)
         (W.contents writer.new) result }
+    ensures failed { AsksSockets (map S.text words.now) ⊎ NumberSaysFault (W.has_failed writer.old)
+        (W.has_failed writer.new) result }
 {
     match answer_words(rt.alloc(), words, input, writer) {
         Course::Ended(ending) => finish(rt.alloc(), ending, writer),

@@ -2,7 +2,6 @@
 
 ghost use Rattle.std.specs.Prelude.{◌≡◌, IfErr, OnOk};
 ghost use Rattle.std.specs.Arc.{arc_value};
-ghost use Rattle.commands.specs.Inputs.{reader_of};
 ghost use Rattle.commands.specs.Simulate.Limits.{IsWithin};
 ghost use Rattle.shard_checker.specs.CheckedView.{checked_view};
 ghost use Rattle.cli.specs.Published.{Serves};
@@ -32,12 +31,12 @@ use crate::publish::parts::read_part;
 use crate::publish::places::{Berth, attend_all, free_berths, served_at};
 use crate::publish::session::answer_lines;
 use crate::requests::Feed;
-use commands::{Failure, Input, Status, lines_of, verdict_of, write_refused};
+use commands::{Failure, Reader, Status, Writer, lines_of, verdict_of, write_refused};
 use pub_reader::read_catalog;
 use senders::{Opening, Publisher, Publishing, Seat};
 use shard_checker::Checked;
 use std::alloc::Global;
-use std::io::{BufRead, BufReader, Read, Write};
+use std::io::{BufRead, BufReader};
 use std::marker::Brand;
 use std::net::{Net, TcpListener, TcpStream};
 use std::rt::Files;
@@ -51,7 +50,7 @@ use std::time::Clock;
 ///
 /// `OutOfMemory` also where none does, since no other thread can be had.
 #[tactic(auto, using(crate::proofs::Talking::unbegun))]
-fn answer_attended<'a, P: Publishing, I: BufRead, W: Write, R: Wait + Clock>(
+fn answer_attended<'a, P: Publishing, I: BufRead, W: Writer, R: Wait + Clock>(
     rt: &R,
     publisher: &Publisher<P>,
     hall: &Hall,
@@ -75,7 +74,7 @@ fn conduct<
     'a,
     P: Publishing,
     I: BufRead,
-    W: Write,
+    W: Writer,
     R: Wait + Clock + Net<Listener = TcpListener, Stream = TcpStream>,
 >(
     rt: &R,
@@ -103,7 +102,7 @@ fn run_both<
     'a,
     P: Publishing + Sync,
     I: BufRead,
-    W: Write,
+    W: Writer,
     R: Threads + Wait + Clock + Eprint + Net<Listener = TcpListener, Stream = TcpStream> + Sync,
 >(
     rt: &R,
@@ -142,7 +141,7 @@ fn publish<
     'a,
     P: Publishing + Sync,
     I: BufRead,
-    W: Write,
+    W: Writer,
     R: Threads
         + Wait
         + Clock
@@ -195,8 +194,8 @@ fn publish<
 /// `%%`, and then commands, a step a line, each of which is made and answered when it has come.
 pub(crate) fn publish_input<
     'a,
-    I: Read + Drop,
-    W: Write,
+    I: Reader + Drop,
+    W: Writer,
     R: Threads
         + Wait
         + Clock
@@ -204,15 +203,9 @@ pub(crate) fn publish_input<
         + Files
         + Net<Listener = TcpListener, Stream = TcpStream>
         + Sync,
->(
-    rt: &R,
-    alloc: Global,
-    feed: Feed<'_>,
-    input: Input<I>,
-    writer: &mut W,
-) -> Result<Status, Failure<'a>>
+>(rt: &R, alloc: Global, feed: Feed<'_>, input: I, writer: &mut W) -> Result<Status, Failure<'a>>
     requires { IsWithin feed.limit }
-    ensures { AnswersReader (Publish feed.entry) (I.remaining (reader_of input)) (W.contents writer.old)
+    ensures { AnswersReader (Publish feed.entry) I.may_fail (I.remaining input) (W.contents writer.old)
         (W.contents writer.new) result }
 {
     let Ok(mut reader) = BufReader::new(alloc, input) else {

@@ -14,12 +14,13 @@ use crate::listening::listen;
 use crate::requests::Service;
 use crate::running::run_both;
 use crate::script::read_lists;
-use commands::{Failure, InputFault, Status, lines_of, three_parts, verdict_of, write_refused};
+use commands::{
+    Failure, InputFault, Status, Writer, lines_of, three_parts, verdict_of, write_refused,
+};
 use pub_reader::read_catalog;
 use senders::{Opening, Publisher, Publishing};
 use shard_checker::Checked;
 use std::alloc::Global;
-use std::io::Write;
 use std::marker::Brand;
 use std::net::{Net, TcpListener, TcpStream};
 use std::sync::{Arc, Wait};
@@ -31,7 +32,7 @@ use table_changes::Command;
 fn publish<
     'a,
     P: Publishing + Sync,
-    W: Write,
+    W: Writer,
     R: Threads + Wait + Clock + Eprint + Net<Listener = TcpListener, Stream = TcpStream> + Sync,
 >(
     rt: &R,
@@ -71,7 +72,7 @@ fn publish<
 /// script.
 pub fn serve_input<
     'a,
-    W: Write,
+    W: Writer,
     R: Threads + Wait + Clock + Eprint + Net<Listener = TcpListener, Stream = TcpStream> + Sync,
 >(
     rt: &R,

@@ -7,8 +7,8 @@ ghost use Rattle.commands.specs.Failures.{status_of_failure};
 ghost use Rattle.commands.specs.declared.failure.Status.TheVariants.{CommandLine, OutOfMemory};
 
 use cli::run_serving;
-use commands::{Failure, Input, report};
-use std::io::{BufWriter, ErrorKind, Write};
+use commands::{Failure, Input, Printer, report};
+use std::io::{BufWriter, ErrorKind};
 use std::process::ExitCode;
 use std::{env, io};
 
@@ -38,7 +38,8 @@ fn words(rt: &HostRuntime) -> Result<Vec<String>, Failure<'static>>
 
 /// Prints why the program ends, and returns its exit status.
 fn stop(rt: &HostRuntime, failure: Failure<'_>) -> ExitCode {
-    ExitCode::from(report(rt.alloc(), failure, &mut io::writer(rt)) as u8)
+    let mut printer = Printer::new(io::writer(rt));
+    ExitCode::from(report(rt.alloc(), failure, &mut printer) as u8)
 }
 
 fn main(rt: HostRuntime) -> ExitCode {
@@ -46,9 +47,10 @@ fn main(rt: HostRuntime) -> ExitCode {
         Ok(words) => words,
         Err(failure) => return stop(&rt, failure),
     };
-    let Ok(mut writer) = BufWriter::new(rt.alloc(), io::writer(&rt)) else {
+    let Ok(writer) = BufWriter::new(rt.alloc(), io::writer(&rt)) else {
         return stop(&rt, Failure::OutOfMemory);
     };
     let input = Input::new(rt.stdin());
-    ExitCode::from(run_serving(&rt, words.as_slice(), input, &mut writer))
+    let mut printer = Printer::new(writer);
+    ExitCode::from(run_serving(&rt, words.as_slice(), input, &mut printer))
 }

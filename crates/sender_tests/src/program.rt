@@ -6,7 +6,7 @@ use crate::clients::follow_to;
 use crate::sharding::{HALVES, HALVES_SPLIT};
 use crate::work::{Hold, Work, regional_row};
 use cli::run_serving;
-use commands::Input;
+use commands::Printer;
 use std::alloc::{AllocError, Global};
 use std::io;
 use std::io::Write;
@@ -68,8 +68,8 @@ fn serve_input<
         board,
         bytes: Vec::new(board.alloc),
     };
-    let input = Input::new(input.as_bytes());
-    let status = run_serving(rt, words.as_slice(), input, &mut writer);
+    let mut printer = Printer::new(&mut writer);
+    let status = run_serving(rt, words.as_slice(), input.as_bytes(), &mut printer);
     board.listens();
     Ok((status, writer.bytes))
 }

@@ -3,7 +3,7 @@
 
 use crate::checks::{holds, same};
 use cli::run;
-use commands::Input;
+use commands::{Input, Printer};
 use std::alloc::Global;
 use std::io;
 use std::io::{ErrorKind, Read, Write};
@@ -25,7 +25,7 @@ fn status_of<R: Read + Drop, W: Write>(
     reader: R,
     writer: &mut W,
 ) -> u8 {
-    run(alloc, words, Input::new(reader), writer)
+    run(alloc, words, Input::new(reader), &mut Printer::new(writer))
 }
 
 /// A command line that lacks even the program's name, as no shell gives it.

@@ -8,13 +8,12 @@ ghost use Rattle.cli.specs.Published.{Closes, IsLast, IsLastOf};
 ghost use Rattle.cli.specs.Telling.{closed_line};
 
 use crate::closing::{name_of, say};
-use commands::{Failure, Status};
+use commands::{Failure, Status, Writer};
 use senders::{CloseError, Publisher, Publishing, Seat, Seats, Served, close};
 use std::alloc::Global;
-use std::io::Write;
 
 /// Says how many commits and connections there were.
-fn tell_closed<'a, W: Write>(
+fn tell_closed<'a, W: Writer>(
     alloc: Global,
     commits: u32,
     connections: usize,
@@ -29,7 +28,7 @@ fn tell_closed<'a, W: Write>(
 }
 
 /// Says why a publisher can't be closed.
-fn tell_error<'a, W: Write>(
+fn tell_error<'a, W: Writer>(
     alloc: Global,
     error: CloseError,
     writer: &mut W,
@@ -44,7 +43,7 @@ fn tell_error<'a, W: Write>(
 
 /// Closes a publisher all of whose seats but this were never handed out, and says in a line how many commits and
 /// connections there were, or why it can't be closed.
-pub(crate) fn close_session<'a, P: Publishing, W: Write>(
+pub(crate) fn close_session<'a, P: Publishing, W: Writer>(
     alloc: Global,
     publisher: Publisher<P>,
     rest: Seats<P>,

@@ -7,9 +7,8 @@ ghost use Rattle.cli.specs.Telling.{IsStop};
 use crate::listening::say_listening;
 use crate::publish::notices::{tell_file, tell_port};
 use crate::requests::Feed;
-use commands::Failure;
+use commands::{Failure, Writer};
 use std::alloc::Global;
-use std::io::Write;
 use std::net::{Ipv4Addr, Net, TcpListener, TcpStream};
 use std::rt::Files;
 use std::time::Clock;
@@ -80,7 +79,7 @@ fn find_door<'a, R: Net<Listener = TcpListener, Stream = TcpStream> + Clock + Ep
 /// `OutOfMemory`.
 pub(crate) fn open_door<
     'a,
-    W: Write,
+    W: Writer,
     R: Net<Listener = TcpListener, Stream = TcpStream> + Files + Clock + Eprint,
 >(rt: &R, alloc: Global, feed: Feed<'_>, writer: &mut W) -> Result<Door, Failure<'a>>
     ensures opens { IfOk result (λ door. Opens feed.entry.port door.port (W.contents writer.old) (W.contents writer.new)) }

@@ -1,6 +1,6 @@
 //! What is read before the commands, part by part, and lines.
 
-ghost use Rattle.std.specs.Prelude.{◌≡◌, true, false, codes, IfErr, IfOk, OnErr};
+ghost use Rattle.std.specs.Prelude.{◌≡◌, true, false, codes, IfErr, IfOk, None, OnErr};
 ghost use Rattle.std.specs.String.{string_bytes};
 ghost use Rattle.commands.specs.Inputs.{IsOfReading};
 ghost use Rattle.commands.specs.Parts as spec;
@@ -35,7 +35,7 @@ pub(crate) fn next_line<'a, I: BufRead>(
     line: &mut Vec<u8>,
 ) -> Result<bool, Failure<'a>>
     ensures read { IfOk result (IsNext (I.remaining reader.old) (I.remaining reader.new) line.new.items) }
-    ensures err { IfErr result IsOfReading }
+    ensures err { IfErr result (IsOfReading true None) }
     ensures lost { OnErr result (ReadsSome (I.remaining reader.old) (I.remaining reader.new)) }
 {
     line.clear();

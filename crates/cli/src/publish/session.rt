@@ -14,13 +14,13 @@ ghost use Rattle.cli.specs.Talks.{Answers, HasAnswered, HasGone, IsCutOff, Repli
 
 use crate::publish::parts::next_line;
 use crate::publish::view::view_text;
-use commands::{Failure, InputFault, answer_text, read_steps, write_text};
+use commands::{Failure, InputFault, Writer, answer_text, read_steps, write_text};
 use pub_catalog::Catalog;
 use pub_reader::{Command, ErrorKind, Line, ReadError, Step};
 use senders::{Publisher, Publishing, Seat};
 use shard_world::Answer;
 use std::alloc::{AllocError, Global};
-use std::io::{BufRead, Write};
+use std::io::BufRead;
 use std::str::from_utf8;
 use std::sync::Wait;
 use std::time::Clock;
@@ -150,7 +150,7 @@ fn answer<P: Publishing, R: Wait + Clock>(
 }
 
 /// Writes a text at once.
-fn tell<'a, W: Write>(text: &str, writer: &mut W) -> Result<(), Failure<'a>>
+fn tell<'a, W: Writer>(text: &str, writer: &mut W) -> Result<(), Failure<'a>>
     ensures written { OnOk result (Appends (W.contents writer.old) (W.contents writer.new) text.now) }
     ensures stopped { IfErr result (StopsText text.now (W.contents writer.old) (W.contents writer.new)) }
 {
@@ -162,7 +162,7 @@ fn tell<'a, W: Write>(text: &str, writer: &mut W) -> Result<(), Failure<'a>>
 }
 
 /// Reads the next line, answers it, and says whether there was one that is not `QUIT;`. A reader that fails has no more.
-fn answer_next<'a, P: Publishing, I: BufRead, W: Write, R: Wait + Clock>(
+fn answer_next<'a, P: Publishing, I: BufRead, W: Writer, R: Wait + Clock>(
     rt: &R,
     alloc: Global,
     publisher: &Publisher<P>,
@@ -190,7 +190,7 @@ fn answer_next<'a, P: Publishing, I: BufRead, W: Write, R: Wait + Clock>(
 }
 
 /// Answers each line as it comes, until there is no more or one is `QUIT;`.
-pub(crate) fn answer_lines<'a, P: Publishing, I: BufRead, W: Write, R: Wait + Clock>(
+pub(crate) fn answer_lines<'a, P: Publishing, I: BufRead, W: Writer, R: Wait + Clock>(
     rt: &R,
     alloc: Global,
     publisher: &Publisher<P>,

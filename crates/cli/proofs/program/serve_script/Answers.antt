@@ -5,7 +5,7 @@ use Rattle.cli.proofs.program.serve_script.Goals as goal
 pub returns-in_err-input : goal.returns-in_err-input
 returns-in_err-input g c =
     inr (
-      reading_returned c.in_err-input.field-0.0 c.from_residual.result c.in_err-input.ensures.stopped
+      reading_returned g.I.Reader.may_fail (g.I.Read.remaining c.args.input) c.in_err-input.field-0.0 c.from_residual.result c.in_err-input.ensures.stopped
           c.from_residual.ensures.1,
       refl,
     )

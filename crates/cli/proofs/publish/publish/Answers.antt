@@ -6,14 +6,14 @@ use Rattle.cli.proofs.publish.publish.Goals as goal
 pub returns-in_err-door : goal.returns-in_err-door
 returns-in_err-door g c =
     unopened_returned c.args.feed g.P.Publishing.checked (g.I.Read.remaining c.args.reader.now)
-    (g.W.Write.contents c.args.writer.now) (g.W.Write.contents c.open_door.new.writer)
+    (g.W.Writer.contents c.args.writer.now) (g.W.Writer.contents c.open_door.new.writer)
     c.in_err-door.field-0.0 c.from_residual-in_err-door.result c.in_err-door.ensures.stopped
     c.from_residual-in_err-door.ensures.1
 
 pub returns-in_err-answered : goal.returns-in_err-answered
 returns-in_err-answered g c =
     let read = g.I.Read.remaining in
-    let written = g.W.Write.contents in
+    let written = g.W.Writer.contents in
     cut_off_returned c.args.feed g.P.Publishing.checked c.in_ok-door.door.port (read c.args.reader.now)
     (read c.run_both-answered.new.reader) (written c.args.writer.now) (written c.open_door.new.writer)
     c.in_ok-door.ensures.opens (written c.run_both-answered.new.writer) c.in_err-answered.field-0.0
@@ -27,7 +27,7 @@ returns-in_err-answered g c =
 pub returns-in_err-served : goal.returns-in_err-served
 returns-in_err-served g c =
     let read = g.I.Read.remaining in
-    let written = g.W.Write.contents in
+    let written = g.W.Writer.contents in
     no_memory c.args.feed g.P.Publishing.checked c.in_ok-door.door.port (read c.args.reader.now)
     (read c.run_both-answered.new.reader) (written c.args.writer.now) (written c.open_door.new.writer)
     c.in_ok-door.ensures.opens (written c.run_both-answered.new.writer) g.P.Publishing.limit
@@ -37,7 +37,7 @@ returns-in_err-served g c =
 pub returns : goal.returns
 returns g c =
     let read = g.I.Read.remaining in
-    let written = g.W.Write.contents in
+    let written = g.W.Writer.contents in
     closes_after c.args.feed g.P.Publishing.checked c.in_ok-door.door.port (read c.args.reader.now)
     (read c.run_both-answered.new.reader) (written c.args.writer.now) (written c.open_door.new.writer)
     c.in_ok-door.ensures.opens (written c.run_both-answered.new.writer) (written c.close_session.new.writer)

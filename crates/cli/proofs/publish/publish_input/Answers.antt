@@ -12,7 +12,6 @@ use Rattle.shard_checker.specs.CatalogTruth.{ShardingIsWrong}
 use Rattle.shard_checker.specs.CheckedView.{CheckedOf, checked_view}
 use Rattle.shard_checker.specs.Texts.{text_fault, texts_view, trees_in}
 use Rattle.sql_reader.specs.Written.{as_filter}
-use Rattle.commands.specs.Inputs.{reader_of}
 use Rattle.commands.specs.Output.{StopsText, ended}
 use Rattle.commands.specs.Parts.{lines_of}
 use Rattle.commands.specs.Refusals.{refused_line}
@@ -25,11 +24,11 @@ use Rattle.cli.proofs.publish.publish_input.Goals as goal
 pub returns-in_err-text : goal.returns-in_err-text
 returns-in_err-text g c =
     let read = g.I.Read.remaining in
-    let known = read (reader_of c.args.input) in
-    let old = g.W.Write.contents c.args.writer.now in
-    let same = unread_reader (λ input. read (reader_of input)) c.in-Ok.reader c.args.input c.in-Ok.ensures.capacity
+    let known = read c.args.input in
+    let old = g.W.Writer.contents c.args.writer.now in
+    let same = unread_reader read c.in-Ok.reader c.args.input c.in-Ok.ensures.capacity
     c.in-Ok.ensures.empty c.in-Ok.ensures.inner in
-    let mid = reader_remaining (λ input. read (reader_of input)) c.read_part.new.reader in
+    let mid = reader_remaining read c.read_part.new.reader in
     first_returned c.args.feed known old mid c.in_err-text.field-0.0 c.from_residual.result
     (subst (λ (k : Option (List ℕ)). StopsPart k mid c.in_err-text.field-0.0) same c.in_err-text.ensures.err)
     c.from_residual.ensures.1
@@ -37,12 +36,12 @@ returns-in_err-text g c =
 pub returns-in_err-certificates : goal.returns-in_err-certificates
 returns-in_err-certificates g c =
     let read = g.I.Read.remaining in
-    let known = read (reader_of c.args.input) in
-    let old = g.W.Write.contents c.args.writer.now in
-    let same = unread_reader (λ input. read (reader_of input)) c.in-Ok.reader c.args.input c.in-Ok.ensures.capacity
+    let known = read c.args.input in
+    let old = g.W.Writer.contents c.args.writer.now in
+    let same = unread_reader read c.in-Ok.reader c.args.input c.in-Ok.ensures.capacity
     c.in-Ok.ensures.empty c.in-Ok.ensures.inner in
-    let mid = reader_remaining (λ input. read (reader_of input)) c.read_part.new.reader in
-    let left = reader_remaining (λ input. read (reader_of input)) c.read_part-2.new.reader in
+    let mid = reader_remaining read c.read_part.new.reader in
+    let left = reader_remaining read c.read_part-2.new.reader in
     let first : ReadsPart known mid (string_bytes c.in_ok-text.text) =
     subst (λ (k : Option (List ℕ)). ReadsPart k mid (string_bytes c.in_ok-text.text)) same c.in_ok-text.ensures.ok in
     second_returned c.args.feed known old mid left (string_bytes c.in_ok-text.text) c.in_err-certificates.field-0.0
@@ -52,12 +51,12 @@ returns-in_err-certificates g c =
 pub returns-in_err-catalog : goal.returns-in_err-catalog
 returns-in_err-catalog g c =
     let read = g.I.Read.remaining in
-    let known = read (reader_of c.args.input) in
-    let old = g.W.Write.contents c.args.writer.now in
-    let same = unread_reader (λ input. read (reader_of input)) c.in-Ok.reader c.args.input c.in-Ok.ensures.capacity
+    let known = read c.args.input in
+    let old = g.W.Writer.contents c.args.writer.now in
+    let same = unread_reader read c.in-Ok.reader c.args.input c.in-Ok.ensures.capacity
     c.in-Ok.ensures.empty c.in-Ok.ensures.inner in
-    let mid = reader_remaining (λ input. read (reader_of input)) c.read_part.new.reader in
-    let left = reader_remaining (λ input. read (reader_of input)) c.read_part-2.new.reader in
+    let mid = reader_remaining read c.read_part.new.reader in
+    let left = reader_remaining read c.read_part-2.new.reader in
     let first : ReadsPart known mid (string_bytes c.in_ok-text.text) =
     subst (λ (k : Option (List ℕ)). ReadsPart k mid (string_bytes c.in_ok-text.text)) same c.in_ok-text.ensures.ok in
     let certificates = string_bytes c.in_ok-certificates.certificates in
@@ -69,12 +68,12 @@ returns-in_err-catalog g c =
 pub returns-in_err-checked : goal.returns-in_err-checked
 returns-in_err-checked g c =
     let read = g.I.Read.remaining in
-    let known = read (reader_of c.args.input) in
-    let old = g.W.Write.contents c.args.writer.now in
-    let same = unread_reader (λ input. read (reader_of input)) c.in-Ok.reader c.args.input c.in-Ok.ensures.capacity
+    let known = read c.args.input in
+    let old = g.W.Writer.contents c.args.writer.now in
+    let same = unread_reader read c.in-Ok.reader c.args.input c.in-Ok.ensures.capacity
     c.in-Ok.ensures.empty c.in-Ok.ensures.inner in
-    let mid = reader_remaining (λ input. read (reader_of input)) c.read_part.new.reader in
-    let left = reader_remaining (λ input. read (reader_of input)) c.read_part-2.new.reader in
+    let mid = reader_remaining read c.read_part.new.reader in
+    let left = reader_remaining read c.read_part-2.new.reader in
     let first : ReadsPart known mid (string_bytes c.in_ok-text.text) =
     subst (λ (k : Option (List ℕ)). ReadsPart k mid (string_bytes c.in_ok-text.text)) same c.in_ok-text.ensures.ok in
     let certificates = string_bytes c.in_ok-certificates.certificates in
@@ -90,12 +89,12 @@ returns-in_err-checked g c =
 pub returns-in-Ok-2 : goal.returns-in-Ok-2
 returns-in-Ok-2 g c =
     let read = g.I.Read.remaining in
-    let known = read (reader_of c.args.input) in
-    let old = g.W.Write.contents c.args.writer.now in
-    let same = unread_reader (λ input. read (reader_of input)) c.in-Ok.reader c.args.input c.in-Ok.ensures.capacity
+    let known = read c.args.input in
+    let old = g.W.Writer.contents c.args.writer.now in
+    let same = unread_reader read c.in-Ok.reader c.args.input c.in-Ok.ensures.capacity
     c.in-Ok.ensures.empty c.in-Ok.ensures.inner in
-    let mid = reader_remaining (λ input. read (reader_of input)) c.read_part.new.reader in
-    let left = reader_remaining (λ input. read (reader_of input)) c.read_part-2.new.reader in
+    let mid = reader_remaining read c.read_part.new.reader in
+    let left = reader_remaining read c.read_part-2.new.reader in
     let first : ReadsPart known mid (string_bytes c.in_ok-text.text) =
     subst (λ (k : Option (List ℕ)). ReadsPart k mid (string_bytes c.in_ok-text.text)) same c.in_ok-text.ensures.ok in
     let certificates = string_bytes c.in_ok-certificates.certificates in
@@ -109,23 +108,23 @@ returns-in-Ok-2 g c =
     let sound = rw c.in-Ok-2.is at c.in_ok-checked.ensures.sound in
     let kept = rw c.in-Ok-2.is at c.in_ok-checked.ensures.kept in
     let unrefused = rw c.in-Ok-2.is at c.in_ok-checked.ensures.unrefused in
-    let later = reader_remaining (λ input. read (reader_of input)) c.publish.new.reader in
+    let later = reader_remaining read c.publish.new.reader in
     served c.args.feed known old mid left (string_bytes c.in_ok-text.text) certificates first
     c.in_ok-certificates.ensures.ok catalog reads faultless sound
     (subst (λ (l : List (List ℕ)). IsFirstRefusal catalog (trees_in l) None) lines unrefused) later
-    (g.W.Write.contents c.publish.new.writer) c.publish.result
-    (subst (λ (checked : CheckedOf). Serves c.args.feed checked left later old (g.W.Write.contents c.publish.new.writer)
+    (g.W.Writer.contents c.publish.new.writer) c.publish.result
+    (subst (λ (checked : CheckedOf). Serves c.args.feed checked left later old (g.W.Writer.contents c.publish.new.writer)
     c.publish.result) (ap checked_view c.in_ok-shared-in-Ok-2.ensures.ok ∙ kept) c.publish.ensures)
 
 pub returns : goal.returns
 returns g c =
     let read = g.I.Read.remaining in
-    let known = read (reader_of c.args.input) in
-    let old = g.W.Write.contents c.args.writer.now in
-    let same = unread_reader (λ input. read (reader_of input)) c.in-Ok.reader c.args.input c.in-Ok.ensures.capacity
+    let known = read c.args.input in
+    let old = g.W.Writer.contents c.args.writer.now in
+    let same = unread_reader read c.in-Ok.reader c.args.input c.in-Ok.ensures.capacity
     c.in-Ok.ensures.empty c.in-Ok.ensures.inner in
-    let mid = reader_remaining (λ input. read (reader_of input)) c.read_part.new.reader in
-    let left = reader_remaining (λ input. read (reader_of input)) c.read_part-2.new.reader in
+    let mid = reader_remaining read c.read_part.new.reader in
+    let left = reader_remaining read c.read_part-2.new.reader in
     let first : ReadsPart known mid (string_bytes c.in_ok-text.text) =
     subst (λ (k : Option (List ℕ)). ReadsPart k mid (string_bytes c.in_ok-text.text)) same c.in_ok-text.ensures.ok in
     let certificates = string_bytes c.in_ok-certificates.certificates in
@@ -136,7 +135,7 @@ returns g c =
     ap texts_view c.as_slice.ensures.value ∙ c.in_ok-texts.ensures ∙ ap lines_of c.as_str-2.ensures.value in
     let faultless : text_fault 1 (lines_of certificates) ≡ None =
     ap (text_fault 1) (sym lines) ∙ c.in_ok-checked.ensures.read in
-    let new = g.W.Write.contents c.write_refused.new.writer in
+    let new = g.W.Writer.contents c.write_refused.new.writer in
     let result = c.write_refused.result in
     let refusal = c.in-Err.refusal in
     let again : catalog_view c.in_ok-catalog-in-Err.catalog ≡ catalog = cc (

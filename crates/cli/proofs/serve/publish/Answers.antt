@@ -16,20 +16,20 @@ use Rattle.cli.proofs.serve.publish.Goals as goal
 
 pub returns-in_err-listener : goal.returns-in_err-listener
 returns-in_err-listener g c =
-    unheard_returned (service_of c.args.service g.P.Publishing.checked (map list_view c.args.lists.items)) (g.W.Write.contents c.args.writer.now)
-    (g.W.Write.contents c.listen.new.writer) c.in_err-listener.field-0.0 c.from_residual-in_err-listener.result
+    unheard_returned (service_of c.args.service g.P.Publishing.checked (map list_view c.args.lists.items)) (g.W.Writer.contents c.args.writer.now)
+    (g.W.Writer.contents c.listen.new.writer) c.in_err-listener.field-0.0 c.from_residual-in_err-listener.result
     c.in_err-listener.ensures.stopped c.from_residual-in_err-listener.ensures.1
 
 pub returns-in_err-served : goal.returns-in_err-served
 returns-in_err-served g c =
-    stopped_returned (service_of c.args.service g.P.Publishing.checked (map list_view c.args.lists.items)) (g.W.Write.contents c.args.writer.now)
-    (g.W.Write.contents c.listen.new.writer) c.in_err-served.field-0.0 c.from_residual-in_err-served.result
+    stopped_returned (service_of c.args.service g.P.Publishing.checked (map list_view c.args.lists.items)) (g.W.Writer.contents c.args.writer.now)
+    (g.W.Writer.contents c.listen.new.writer) c.in_err-served.field-0.0 c.from_residual-in_err-served.result
     c.in_ok-listener.ensures.told c.in_err-served.ensures.stopped c.from_residual-in_err-served.ensures.1
 
 pub returns-in_err-committed : goal.returns-in_err-committed
 returns-in_err-committed g c =
-    stopped_returned (service_of c.args.service g.P.Publishing.checked (map list_view c.args.lists.items)) (g.W.Write.contents c.args.writer.now)
-    (g.W.Write.contents c.listen.new.writer) f.OutOfMemory c.from_residual-in_err-committed.result
+    stopped_returned (service_of c.args.service g.P.Publishing.checked (map list_view c.args.lists.items)) (g.W.Writer.contents c.args.writer.now)
+    (g.W.Writer.contents c.listen.new.writer) f.OutOfMemory c.from_residual-in_err-committed.result
     c.in_ok-listener.ensures.told tt c.from_residual-in_err-committed.ensures.1
 
 pub returns : goal.returns
@@ -54,7 +54,7 @@ returns g c =
           c.run_both-committed.ensures.served);
       memory = c.in_ok-served.ensures.memory;
     } in
-    tells service (g.W.Write.contents c.args.writer.now) (g.W.Write.contents c.listen.new.writer)
-    (g.W.Write.contents c.close_and_tell.new.writer) c.close_and_tell.result
+    tells service (g.W.Writer.contents c.args.writer.now) (g.W.Writer.contents c.listen.new.writer)
+    (g.W.Writer.contents c.close_and_tell.new.writer) c.close_and_tell.result
     c.in_ok-listener.ensures.told
     (c.close_and_tell.ensures service (record { checked_is = refl; limit_is = c.requires.limit }) over)

@@ -19,8 +19,8 @@ use Rattle.cli.proofs.serve.serve_input.Goals as goal
 
 pub returns-in-Ok : goal.returns-in-Ok
 returns-in-Ok g c =
-    let old = g.W.Write.contents c.args.writer.now in
-    let new = g.W.Write.contents c.publish.new.writer in
+    let old = g.W.Writer.contents c.args.writer.now in
+    let new = g.W.Writer.contents c.publish.new.writer in
     let cut : CutTwice = record
     { first = c.in_ok-text.text.now; second = c.in_ok-text.certificates.now; third = c.in_ok-text.script.now } in
     let parts : three_parts c.args.input.now ≡ Some cut = search rules in
@@ -40,8 +40,8 @@ returns-in-Ok g c =
 
 pub returns : goal.returns
 returns g c =
-    let old = g.W.Write.contents c.args.writer.now in
-    let new = g.W.Write.contents c.write_refused.new.writer in
+    let old = g.W.Writer.contents c.args.writer.now in
+    let new = g.W.Writer.contents c.write_refused.new.writer in
     let result = c.write_refused.result in
     let refusal = c.in-Err.refusal in
     let cut : CutTwice = record
@@ -75,7 +75,7 @@ returns-in_err-lists g c =
     script_returned c.args.service c.args.input.now cut (catalog_view c.in_ok-catalog.catalog) parts
     c.in_ok-catalog.ensures.catalog
     (ap (text_fault 1) (sym same) ∙ c.in_ok-verdict.ensures.read)
-    (g.W.Write.contents c.args.writer.now) c.in_err-lists.field-0.0 c.from_residual-in_err-lists.result
+    (g.W.Writer.contents c.args.writer.now) c.in_err-lists.field-0.0 c.from_residual-in_err-lists.result
     c.in_err-lists.ensures.err c.from_residual-in_err-lists.ensures.1
 
 pub returns-in_err-catalog-in-Err : goal.returns-in_err-catalog-in-Err
@@ -83,6 +83,6 @@ returns-in_err-catalog-in-Err g c =
     let cut : CutTwice = record
     { first = c.in_ok-text.text.now; second = c.in_ok-text.certificates.now; third = c.in_ok-text.script.now } in
     let parts : three_parts c.args.input.now ≡ Some cut = search rules in
-    catalog_returned c.args.service c.args.input.now cut parts (g.W.Write.contents c.args.writer.now)
+    catalog_returned c.args.service c.args.input.now cut parts (g.W.Writer.contents c.args.writer.now)
     c.in_err-catalog-in-Err.field-0.0 c.in_err-catalog-in-Err.ensures.catalog
     c.from_residual-in_err-catalog-in-Err.result c.from_residual-in_err-catalog-in-Err.ensures.1

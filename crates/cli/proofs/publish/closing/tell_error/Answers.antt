@@ -8,8 +8,8 @@ use Rattle.cli.proofs.publish.closing.tell_error.Goals as goal
 
 pub returns : goal.returns
 returns g c checked limit notes last =
-    let old = g.W.Write.contents c.args.writer.now in
-    let new = g.W.Write.contents c.say.new.writer in
+    let old = g.W.Writer.contents c.args.writer.now in
+    let new = g.W.Writer.contents c.say.new.writer in
     let name = c.in_ok-name.name.now in
     let named : name_of c.args.error ≡ Some name = search rules in
     let is : string_bytes c.in_ok-line.line ≡ codes "close " ++ name = search rules in

@@ -4,12 +4,12 @@ use Rattle.cli.proofs.publish.session.answer_lines.Goals as goal
 pub loop-init : goal.loop-init
 loop-init g c =
     begins g.P.Publishing.checked g.P.Publishing.limit (g.I.Read.remaining c.args.reader.now)
-    (g.W.Write.contents c.args.writer.now) _
+    (g.W.Writer.contents c.args.writer.now) _
 
 pub loop-preserved : goal.loop-preserved
 loop-preserved g c =
     let read = g.I.Read.remaining in
-    let written = g.W.Write.contents in
+    let written = g.W.Writer.contents in
     goes_on g.P.Publishing.checked g.P.Publishing.limit (read c.args.reader.now) (read c.loop.reader)
     (read c.answer_next.new.reader) (written c.args.writer.now) (written c.loop.writer)
     (written c.answer_next.new.writer) c.args.seat.now c.loop.seat c.answer_next.new.seat c.loop.invariant
@@ -18,7 +18,7 @@ loop-preserved g c =
 pub returns-in_err-answer_next-clause-err : goal.returns-in_err-answer_next-clause-err
 returns-in_err-answer_next-clause-err g c =
     let read = g.I.Read.remaining in
-    let written = g.W.Write.contents in
+    let written = g.W.Writer.contents in
     stops_returned g.P.Publishing.checked g.P.Publishing.limit (read c.args.reader.now) (read c.loop.reader)
     (read c.answer_next.new.reader) (written c.args.writer.now) (written c.loop.writer)
     (written c.answer_next.new.writer) c.args.seat.now c.loop.seat c.in_err-answer_next.field-0.0

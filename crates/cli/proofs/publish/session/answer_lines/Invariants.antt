@@ -5,5 +5,5 @@ use Rattle.cli.proofs.publish.session.answer_lines.Given as goal
 abbrev pub invariant-loop : goal.invariant-loop
 invariant-loop g l =
     IsSoFar g.P.Publishing.checked g.P.Publishing.limit (g.I.Read.remaining l.initial.reader)
-    (g.I.Read.remaining l.reader) (g.W.Write.contents l.initial.writer) (g.W.Write.contents l.writer) l.initial.seat
+    (g.I.Read.remaining l.reader) (g.W.Writer.contents l.initial.writer) (g.W.Writer.contents l.writer) l.initial.seat
     l.seat
