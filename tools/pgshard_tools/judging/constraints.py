@@ -4,7 +4,7 @@ several.
 Each is a text of SQL that refuses a row where it is FALSE.
 """
 
-from collections.abc import Iterator
+from collections.abc import Iterator, Sequence
 
 from pgshard_tools.judging.database import Table
 from pgshard_tools.judging.parser import is_built_in
@@ -38,9 +38,17 @@ def bounds_of(leaf: Table) -> str:
 
 def leaf_text(shares: Shares, leaf: Table) -> str:
     """That a row may be in a partition. Its CHECKs with functions of the database's own are not asked of."""
-    parts = [f"({bounds_of(leaf)})", *(f"(({it}) IS NOT FALSE)" for it in leaf_checks(shares, leaf) if is_built_in(it)),
+    asked = [it for it in leaf_checks(shares, leaf) if is_of_server(it, [leaf])]
+    parts = [f"({bounds_of(leaf)})", *(f"(({it}) IS NOT FALSE)" for it in asked),
              *(f"({it} IS NOT NULL)" for it in leaf_columns(shares, leaf))]
     return f"({' AND '.join(parts)})"
+
+
+def is_of_server(text: str, tables: Sequence[Table]) -> bool:
+    """Whether a constraint of some tables calls the server's own functions and operators alone. The texts of IS DISTINCT
+    FROM, NULLIF and CASE name no operator; the server says of each CHECK whether it calls others."""
+    are_own = (it["is_own"] for table in tables for it in table["checks"] if it["text"] == text)
+    return all(are_own) and is_built_in(text)
 
 
 def leaf_checks(shares: Shares, leaf: Table) -> list[str]:

@@ -4,9 +4,9 @@ import json
 from collections.abc import Iterator, Sequence
 from dataclasses import dataclass, field
 
-from pgshard_tools.judging.constraints import constraint_texts, unvalidated_checks
+from pgshard_tools.judging.constraints import constraint_texts, is_of_server, unvalidated_checks
 from pgshard_tools.judging.database import Column
-from pgshard_tools.judging.parser import columns_of, is_built_in, is_parsed
+from pgshard_tools.judging.parser import columns_of, is_parsed
 from pgshard_tools.judging.rows import Confirmed, Row, is_computed
 from pgshard_tools.judging.server_types import collation_sql, is_plain, length_limit
 from pgshard_tools.judging.session import Session
@@ -61,7 +61,7 @@ def confirmed(session: Session, read: Read, takers: Takers, row: Row) -> Confirm
 
 def refuses(session: Session, read: Read, row: Row, check: str) -> bool:
     """Whether a CHECK may refuse a row. Functions of the database's own are called by nobody here."""
-    if not is_built_in(check):
+    if not is_of_server(check, [read.shares.table, *read.shares.leaves]):
         return True
     questions = Questions(*columns_named(read, [check]), [], {})
     answer = session.ask(query_of(questions, [row], [f"({check}) IS FALSE"]))

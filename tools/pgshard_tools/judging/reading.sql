@@ -73,6 +73,12 @@ published AS (
         AS is_published
     FROM tables t
 ),
+-- CHECKs and generated columns that call operators of others. The texts of IS DISTINCT FROM, NULLIF and CASE name none.
+calling_others AS (
+    SELECT d.classid AS kind, d.objid AS caller FROM pg_depend d JOIN pg_operator o ON o.oid = d.refobjid
+    WHERE d.classid IN ('pg_constraint'::regclass, 'pg_attrdef'::regclass)
+        AND d.refclassid = 'pg_operator'::regclass AND o.oprnamespace <> 'pg_catalog'::regnamespace
+),
 columns AS (
     SELECT a.attrelid AS relation, json_agg(json_build_object(
         'number', a.attnum, 'name', a.attname, 'quoted', quote_ident(a.attname),
@@ -88,6 +94,8 @@ columns AS (
         'generation', CASE WHEN a.attgenerated <> '' AND NOT t.is_locked THEN (
             SELECT pg_get_expr(d.adbin, d.adrelid) FROM pg_attrdef d
             WHERE d.adrelid = a.attrelid AND d.adnum = a.attnum) END,
+        'is_own', NOT EXISTS (SELECT FROM pg_attrdef d JOIN calling_others o ON o.caller = d.oid AND o.kind = 'pg_attrdef'::regclass
+            WHERE d.adrelid = a.attrelid AND d.adnum = a.attnum),
         -- A collation of the database's own has its schema, in quotes, before its name.
         'collation', CASE WHEN a.attcollation <> 0 THEN CASE WHEN l.collnamespace = 'pg_catalog'::regnamespace
             THEN l.collname ELSE format('"%s"."%s"', replace(ls.nspname, '"', '""'), replace(l.collname, '"', '""'))
@@ -110,7 +118,9 @@ indexes AS (
 constraints AS (
     SELECT conrelid AS relation, contype, json_agg(json_build_object(
         'name', conname, 'text', CASE WHEN NOT t.is_locked THEN pg_get_expr(conbin, conrelid) END,
-        'is_valid', convalidated, 'numbers', conkey, 'match', confmatchtype
+        'is_valid', convalidated, 'numbers', conkey, 'match', confmatchtype,
+        'is_own', NOT EXISTS (SELECT FROM calling_others o
+            WHERE o.kind = 'pg_constraint'::regclass AND o.caller = pg_constraint.oid)
     ) ORDER BY conname) AS listed
     FROM pg_constraint JOIN published t ON t.oid = conrelid AND t.is_published
     WHERE contype IN ('c', 'f') AND :is_enforced

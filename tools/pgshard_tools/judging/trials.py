@@ -7,12 +7,12 @@ from typing import Any
 
 from pgshard_tools.judging import catalogs, facts, formulas, laws, samples
 from pgshard_tools.judging.arithmetic import Failure
-from pgshard_tools.judging.constraints import BOUNDS_OF_ALL, bounds_of, constraint_texts, leaf_checks, leaf_columns
+from pgshard_tools.judging.constraints import BOUNDS_OF_ALL, bounds_of, constraint_texts, is_of_server, leaf_checks, leaf_columns
 from pgshard_tools.judging.database import Column, Database, Table, full_name
 from pgshard_tools.judging.faults import Unread
 from pgshard_tools.judging.formulas import Subject
 from pgshard_tools.judging.meanings import Meanings
-from pgshard_tools.judging.parser import is_built_in, shown
+from pgshard_tools.judging.parser import shown
 from pgshard_tools.judging.program import Made
 from pgshard_tools.judging.rewriting import rewritten
 from pgshard_tools.judging.shares import Shares, Takers
@@ -87,7 +87,7 @@ def read_of(shares: Shares, named: dict[str, list[str]], meanings: Meanings) -> 
         try:
             constraints[name] = bounds_formula(shares, meanings) if name == BOUNDS_OF_ALL else reader.formula(text)
         except Unread as fault:
-            unread[name] = UnreadConstraint(text, fault.form, is_built_in(text))
+            unread[name] = UnreadConstraint(text, fault.form, is_of_server(text, [shares.table]))
     if shares.table["kind"] != "f":
         constraints |= reader.held
     not_null = {column["name"] for column in shares.table["columns"] if column["not_null"]}
@@ -129,7 +129,8 @@ def leaf_formula(shares: Shares, leaf: Table, meanings: Meanings) -> Formula:
 def unread_of(shares: Shares, named: dict[str, list[str]]) -> Read:
     """The same where nothing is read, so that the server alone is asked of rows."""
     taken = {name for names in shares.takers.values() for name in names}
-    unread = {name: UnreadConstraint(text, text, is_built_in(text)) for name, text in constraint_texts(shares)}
+    unread = {name: UnreadConstraint(text, text, is_of_server(text, [shares.table]))
+              for name, text in constraint_texts(shares)}
     not_null = {column["name"] for column in shares.table["columns"] if column["not_null"]}
     return Read(shares, {name: None for name in shares.filters if name in taken}, {}, unread, not_null, named)
 

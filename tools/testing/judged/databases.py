@@ -462,6 +462,24 @@ DATABASES = [
     """, {"own": "not sound:", "sum": "not sound:", "never": "not decided"}, refusing=["own"],
         told=["CHECK even is not read, since it has public.is_even(kind)", "kind = NULL",
               "CHECK small is not read, since it has int4mul(kind, 1), and refuses the rows that were tried"]),
+    # IS DISTINCT FROM and NULLIF by another =, which their texts do not name: nobody asks the server of these texts.
+    Case("other_equality", """
+        CREATE SCHEMA others;
+        CREATE OPERATOR others.= (LEFTARG = text, RIGHTARG = text, FUNCTION = textne);
+        SET search_path = others, pg_catalog, public;
+        CREATE TABLE public.checked (id integer PRIMARY KEY, note text CONSTRAINT same CHECK (note IS DISTINCT FROM 'a'));
+        CREATE TABLE public.nulls (id integer PRIMARY KEY, note text CONSTRAINT none CHECK (nullif(note, 'a') IS NULL));
+        CREATE TABLE public.parts (id integer, note text, PRIMARY KEY (id)) PARTITION BY RANGE (id);
+        CREATE TABLE public.part PARTITION OF public.parts (CONSTRAINT same CHECK (note IS DISTINCT FROM 'a'))
+            FOR VALUES FROM (0) TO (9);
+        ALTER TABLE checked REPLICA IDENTITY FULL; ALTER TABLE nulls REPLICA IDENTITY FULL;
+        ALTER TABLE part REPLICA IDENTITY FULL;
+        CREATE PUBLICATION one FOR TABLE checked WHERE (note IS NULL), nulls WHERE (note IS NULL);
+        CREATE PUBLICATION rooted FOR TABLE parts WHERE (id < 5) WITH (publish_via_partition_root = true);
+    """, {"checked": "not sound:", "nulls": "not sound:", "parts": "not sound:"}, refusing=["checked", "nulls"],
+        told=["CHECK same is not read, since it has note IS DISTINCT FROM 'a', and may refuse this row",
+              "CHECK none is not read, since it has NULLIF(note, 'a'), and may refuse this row"],
+        fails=[("INSERT INTO checked VALUES (0, '')", "violates check constraint")]),
     # Operations that are not published, and all tables at once.
     Case("some_operations", """
         CREATE TABLE rows (id integer PRIMARY KEY);

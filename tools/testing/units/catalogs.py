@@ -14,7 +14,7 @@ def column(number: int, name: str, **others: Any) -> dict[str, Any]:
         "number": number, "name": name, "quoted": name, "not_null": False, "type": "int4", "modifier": -1,
         "written": "integer", "kind": "b", "base": None, "label": None, "labels": None, "generated": False,
         "is_virtual": False,
-        "identity": False, "generation": None, "collation": None, "is_deterministic": True} | others
+        "identity": False, "generation": None, "is_own": True, "collation": None, "is_deterministic": True} | others
 
 
 def table(oid: int, name: str, **others: Any) -> dict[str, Any]:

@@ -27,7 +27,7 @@ class Session:
 
 
 def questions(filter="(id > 5)", checks=()):
-    one = table(1, "t", checks=[{"name": f"c{n}", "text": it, "is_valid": True} for n, it in enumerate(checks)])
+    one = table(1, "t", checks=[{"name": f"c{n}", "text": it, "is_valid": True, "is_own": True} for n, it in enumerate(checks)])
     db = database([one], [publication("p", entry(1, filter))])
     shares = shares_of_all(db, [Subscriber("s", ["p"])])[0]
     return evaluating.questions_of(trials.read_of(shares, {"p": ["id"]}, Meanings()))
