@@ -96,7 +96,7 @@ THREADS = Theorem("threads", [
     clauses("publisher_desk", "publisher.rt", "lend"),
     clauses("senders", "closing.rt", "close"),
     clauses("senders", "laws.rt", "closed_publishers_were_followed"),
-], most=2550, tokens={
+], most=2600, tokens={
     **HANDED,
     "command_of": "the grammar of START_REPLICATION, of 55.4 of the documentation, and of the options of pgoutput, in "
                   "`copy_both/specs/CommandText`",
