@@ -93,7 +93,15 @@ pub fn serve_input<
     match verdict {
         Ok(checked) => {
             let shared = Arc::new(alloc, checked)?;
-            publish::<Brand, _, _>(rt, alloc, Opening::new(alloc)?, shared, service, lists, writer)
+            publish::<Brand, _, _>(
+                rt,
+                alloc,
+                Opening::new(alloc)?,
+                shared,
+                service,
+                lists,
+                writer,
+            )
         }
         Err(refusal) => {
             let catalog = read_catalog(alloc, text)?;

@@ -36,7 +36,13 @@ enum Use {
 fn publish<
     P: Publishing + Sync,
     R: Threads + Wait + Clock + Abort + Net<Listener = TcpListener, Stream = TcpStream> + Sync,
->(rt: &R, alloc: Global, opening: Opening, checked: Arc<Checked, Global>, used: Use) -> Result<(), Fail>
+>(
+    rt: &R,
+    alloc: Global,
+    opening: Opening,
+    checked: Arc<Checked, Global>,
+    used: Use,
+) -> Result<(), Fail>
     requires name { opening.name ≡ P.name }
     requires parts { opening.parts ≡ P.parts }
     requires seats { opening.parts ≡ 1000 }
