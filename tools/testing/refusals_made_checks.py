@@ -80,7 +80,7 @@ PLANTS = [
     Plant("a request whose size is changed", PUSHED, PUSHED.replace("changes.len()", "changes.len() << 50")),
     Plant("a request whose number is changed before", "    let mut slots = Vec::with_capacity(alloc, count)?;",
           "    let count = if count == 8 { 1 << 60 } else { count };\n    let mut slots = Vec::with_capacity(alloc, count)?;"),
-    Plant("a request that a caller makes absurd", "empty_slots(alloc, count)?", "empty_slots(alloc, count << 50)?"),
+    Plant("a request that a caller makes absurd", "empty_slots(alloc, TEXTS)?", "empty_slots(alloc, TEXTS << 50)?"),
     Plant("a request by a text", PUSHED, "    if changes.len() == 17 { \"x\".repeat(alloc, 1 << 60)?; }\n" + PUSHED),
     Plant("a request by a list", PUSHED, "    if changes.len() == 17 { vec![in alloc; 0u8; 1 << 60]?; }\n" + PUSHED),
     Plant("an error kept from an absurd request", PUSHED,
