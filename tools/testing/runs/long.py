@@ -1,6 +1,6 @@
-"""Long inputs, whose runs have to end soon: many commits, many rows of a table, many rows that are read, many commits
-of many tables, and many leaves of a certificate below many lists. Runs of many steps and of many nodes are in most.py
-and limits.py."""
+"""Long inputs, whose runs have to end soon: many commits, many rows of a table, many rows that are read, also by many
+lists, many commits of many tables, and many leaves of a certificate below many lists. Runs of many steps and of many
+nodes are in most.py and limits.py."""
 
 from collections.abc import Iterator
 
@@ -19,6 +19,10 @@ TABLES, SUBSCRIBERS = 64, 32
 # How many commands a commit may have.
 COMMANDS = 1_000
 
+# Lists that have all numbers below 6,000 together, and how far the numbers go that are read.
+EVAL_LISTS, EVAL_ENTRIES = 60, 100
+EVAL_NUMBERS = 9_000
+
 # Lists that have all remainders by 2500, and how often their certificate splits below them.
 LISTS, ENTRIES = 50, 100
 FURTHER = 12
@@ -36,6 +40,7 @@ def cases() -> Iterator[Case]:
     commits = [", ".join(list[at:at + COMMANDS]) for list in (comes, goes) for at in range(0, ROWS, COMMANDS)]
     yield simulation("many rows of a table", B, C, commits, 2)
     yield reading()
+    yield reading_by_lists()
     commits = [inserts([(number % TABLES, number)]) for number in range(ROWS_OF_TABLES)]
     certificates = f"{tree_of_remainders()}\n" * TABLES
     yield simulation("many rows of many tables", catalog_of_remainders(), certificates, commits, SUBSCRIBERS)
@@ -57,6 +62,18 @@ def reading() -> Case:
     rows = "".join(f"({key}, NULL)\n" for key in range(READ_ROWS))
     lines = ["pa=true pb=false"] * 100 + ["pa=false pb=true"] * (READ_ROWS - 100)
     return Case("eval of many rows", ("eval", "t"), two_parts(B, rows), 0, text_of(lines), LONG_SECONDS)
+
+
+def reading_by_lists() -> Case:
+    """Rows that a filter of many lists takes, and others."""
+    listed = EVAL_LISTS * EVAL_ENTRIES
+    lists = [f"n IN ({', '.join(map(str, range(start, listed, EVAL_LISTS)))})" for start in range(EVAL_LISTS)]
+    where = " OR ".join(lists)
+    catalog = f"CREATE TABLE t (n integer PRIMARY KEY);\nCREATE PUBLICATION p FOR TABLE t WHERE ({where});\n"
+    numbers = [number * 7 % EVAL_NUMBERS for number in range(READ_ROWS)]
+    lines = [f"p={'true' if number < listed else 'false'}" for number in numbers]
+    rows = "".join(f"({number})\n" for number in numbers)
+    return Case("eval of many rows by lists", ("eval", "t"), two_parts(catalog, rows), 0, text_of(lines), LONG_SECONDS)
 
 
 def below_lists() -> Case:
