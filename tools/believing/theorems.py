@@ -118,7 +118,7 @@ THREADS = Theorem("threads", [
 PROGRAM = Theorem("program", [
     clauses("cli", "program.rt", "run"),
     clauses("cli", "program.rt", "run_serving"),
-], most=6750, tokens={
+], most=6850, tokens={
     "IsClosed": "what `close` of `senders` ensures, which is read in part 5",
     "RefusedClose": "what `close` of `senders` ensures, which is read in part 5",
     "WasServed": "what `serve` of `senders` ensures, which is read in part 5",

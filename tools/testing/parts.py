@@ -85,6 +85,7 @@ PARTS = [
     Part("recvlogical", "pg_recvlogical", (PROGRAM, POSTGRESQL), "served.recvlogical_checks:check_recvlogical"),
     Part("subscribers", "subscribers of serve", (PROGRAM, SERVER), "served.subscribers_checks:check_versions"),
     Part("unserved", "whom serve names that it did not serve", (PROGRAM,), "served.unserved_checks:check_unserved"),
+    Part("callers", "publish with commands at a port", (PROGRAM,), "served.callers_checks:check_callers"),
     Part("timing", "keepalives, timeouts and the log of publish", (PROGRAM,), "served.timing_checks:check_timing"),
     Part("publish", "publish and its clients", (PROGRAM, SERVER), "served.publish_checks:check_publish"),
     Part("psycopg", "psycopg2 as a client", (PROGRAM, POSTGRESQL, PSYCOPG2), "served.psycopg_checks:check_psycopg"),

@@ -73,6 +73,8 @@ RUNS = [
         "VIEW;\n"),
     Run(("publish", "whole", "--port", "0", "--write-timeout", "5"), "<publish> <--port> <0> <--write-timeout> <5>",
         "A;\n%%\no 0\n%%\nVIEW;\n", "VIEW;\n"),
+    Run(("publish", "--port", "0", "--commands", "0", "whole"), "<publish> <--port> <0> <--commands> <0>",
+        "A;\n%%\no 0\n%%\nVIEW;\n", "VIEW;\n"),
     Run(("publish", "catalog", "certificates", "script", "--port=0"), "<publish> <--port=0>", "A;\n%%\no 0\n%%\nVIEW;\n"),
     Run(("other", "catalog"), "<other> <catalog>", "given", "given"),
     Run((), "", "", ""),

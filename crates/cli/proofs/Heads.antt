@@ -331,19 +331,23 @@ module _ (feed : Feed) (known old : Option (List ℕ)) where
               }
 
           abbrev told_first : (lines : List (List ℕ)) (said : HasSaid feed (checked_by catalog) left later lines)
-              → HasToldFirst feed catalog (ended_lines (tail_of said.answers said.notes said.conversation).0) lines
+              → HasToldFirst feed catalog (ended_lines (tail_of said.answers said.own said.conversation).0) lines
           told_first lines said = record {
             port = said.port;
+            callers = said.callers;
             answers = said.answers;
+            notes = said.notes;
             port_is = said.port_is;
-            talk = is_talk said.answers said.notes said.conversation;
+            callers_are = said.callers_are;
+            talk = is_talk said.answers said.own said.conversation;
+            notes_are = said.notes_are;
             are = said.are;
           }
 
           listened : (lines : List (List ℕ)) (said : HasSaid feed (checked_by catalog) left later lines)
-              → IsBegun feed (input_with (tail_of said.answers said.notes said.conversation).0) lines
+              → IsBegun feed (input_with (tail_of said.answers said.own said.conversation).0) lines
           listened lines said =
-              let tail = (tail_of said.answers said.notes said.conversation).0 in
+              let tail = (tail_of said.answers said.own said.conversation).0 in
               inr (record {
                 catalog = catalog;
                 parts = parts_with tail;
@@ -354,9 +358,9 @@ module _ (feed : Feed) (known old : Option (List ℕ)) where
           closed : (lines : List (List ℕ)) (status : Status)
               (all : HasClosed feed (checked_by catalog) left later lines status)
               → IsPublished feed
-              (input_with (tail_of all.said.answers all.said.notes all.said.conversation).0) lines status
+              (input_with (tail_of all.said.answers all.said.own all.said.conversation).0) lines status
           closed lines status all =
-              let tail = (tail_of all.said.answers all.said.notes all.said.conversation).0 in
+              let tail = (tail_of all.said.answers all.said.own all.said.conversation).0 in
               record {
                 catalog = catalog;
                 parts = parts_with tail;
@@ -379,7 +383,7 @@ module _ (feed : Feed) (known old : Option (List ℕ)) where
               → AnswersReader (Publish feed) true known old new result
           served new (Ok status) told =
               let said = told.whole.said in
-              let tail = tail_of said.answers said.notes said.conversation in
+              let tail = tail_of said.answers said.own said.conversation in
               inl (record {
                 input = input_with tail.0;
                 given = tail.1;
@@ -395,7 +399,7 @@ module _ (feed : Feed) (known old : Option (List ℕ)) where
               given = given.1;
               ends = record { lines = told.lines; begun = inl none; appends = told.appends };
             })
-            | inr said ↦ let tail = tail_of said.answers said.notes said.conversation in
+            | inr said ↦ let tail = tail_of said.answers said.own said.conversation in
                 inl (record {
                   input = input_with tail.0;
                   given = tail.1;
@@ -409,7 +413,7 @@ module _ (feed : Feed) (known old : Option (List ℕ)) where
                 given = given.1;
                 ends = record { lines = told.lines; part = inl (inl none); first = told.first };
               })
-              | inr said ↦ let tail = tail_of said.answers said.notes said.conversation in
+              | inr said ↦ let tail = tail_of said.answers said.own said.conversation in
                   inl (record {
                     input = input_with tail.0;
                     given = tail.1;
@@ -417,7 +421,7 @@ module _ (feed : Feed) (known old : Option (List ℕ)) where
                   })
             ]
             | inr all ↦ let said = all.1.said in
-                let tail = tail_of said.answers said.notes said.conversation in
+                let tail = tail_of said.answers said.own said.conversation in
                 inl (record {
                   input = input_with tail.0;
                   given = tail.1;

@@ -1,4 +1,5 @@
 pub mod Answering
+pub mod Callers
 pub mod Crossing
 pub mod Exits
 pub mod Heads
@@ -13,3 +14,4 @@ pub mod Sessions
 pub mod SlotLemmas
 pub mod Talking
 pub mod Telling
+pub mod Viewing

@@ -21,7 +21,8 @@ use Rattle.commands.specs.Simulate.Simulation.{IsOfScript}
 use Rattle.commands.specs.declared.failure.Failure.TheVariants as f
 use Rattle.commands.specs.declared.failure.InputFault.{InputFault}
 use Rattle.commands.specs.declared.failure.InputFault.TheVariants as i
-use Rattle.cli.specs.Talks.{Answers, Committing, Empty, IsAnswer, IsLines, Replies, Viewing, NoScript, NoText, OneStep, Tells, Unfit, first_unfit, is_fit, unfit_from}
+use Rattle.cli.specs.Talks.{Answers, Committing, Empty, IsAnswer, Replies, Viewing, NoScript, NoText, OneStep, Tells, Unfit, first_unfit, is_fit, unfit_from}
+use Rattle.cli.specs.Views.{IsViewText}
 
 module _ (checked : CheckedOf) (limit : ℕ) (line : List ℕ) (had : List Note) where
   -- nothing is kept
@@ -82,13 +83,13 @@ module _ (checked : CheckedOf) (limit : ℕ) where
         kept = replies.kept;
       })
 
-  pub viewed : (step : StepOf) (had : List Note) (text : List ℕ) → step ≡ View → IsLines text
+  pub viewed : (step : StepOf) (had : List Note) (text : List ℕ) → step ≡ View → IsViewText checked text
       → Tells checked limit step had had text
   viewed step had text e is =
       subst (λ (s : StepOf). Tells checked limit s had had text) (sym e) (record {
         lines = is.lines;
         notes = [];
-        is = Viewing is.lines;
+        is = Viewing is.lines is.view;
         text_is = is.is;
         kept = sym (append-nil had);
       })

@@ -7,16 +7,16 @@ use Rattle.std.proofs.lemmas.List.Concat.{flat_map-append}
 use Rattle.std.specs.Io.KnownBytes.{Appends, Consumes, IsAtEnd}
 use Rattle.shard_checker.specs.CheckedView.{CheckedOf}
 use Rattle.publisher_desk.specs.declared.note.Note.{Note}
-use Rattle.commands.proofs.Writing.{first_after, first_nothing, first_whole, text_of-one, unwritten}
+use Rattle.commands.proofs.Writing.{first_after, first_nothing, unwritten}
 use Rattle.commands.specs.Inputs.{IsInput}
 use Rattle.commands.specs.Output.{StopsText, Writes, WritesFirst, ended, text_of}
 use Rattle.commands.specs.declared.failure.Failure.{Failure}
 use Rattle.commands.specs.declared.failure.Failure.TheVariants as f
 use Rattle.commands.specs.declared.failure.Status.{Status}
-use Rattle.cli.specs.Published.{Closes, HasClosed, IsClosing, IsLast, HasSaid, IsPortFor, MayHaveSaid, Opens, Serves, StopsTelling}
-use Rattle.cli.specs.Talks.{Conversation, HasAnswered, IsCutOff, Nothing}
+use Rattle.cli.specs.Published.{AreCallersAt, Closes, HasClosed, IsClosing, IsLast, HasSaid, IsPortFor, MayHaveSaid, Opens, Serves, StopsTelling}
+use Rattle.cli.specs.Talks.{AreNotes, Conversation, HasAnswered, IsCutOff, Nobody, Nothing}
 use Rattle.cli.specs.Lines.{IsPlain}
-use Rattle.cli.specs.Telling.{IsStop, Says, listening_line}
+use Rattle.cli.specs.Telling.{IsStop, Says, first_lines}
 use Rattle.cli.specs.declared.requests.Feed.{Feed}
 
 -- ---- the last line
@@ -61,32 +61,40 @@ module _ (feed : Feed) (checked : CheckedOf) where
   silence before =
       record { lines = []; more = []; consumed = Consumes-nil before; plain = All-nil IsPlain; answered = Nothing }
 
-  alone : (before : Option (List ℕ)) (port : ℕ) → IsPortFor feed.port port
-      → HasSaid feed checked before before (listening_line port ∷ [])
-  alone before port is = record {
+  nothing_kept : (callers : Option ℕ) → AreNotes checked feed.limit callers [] [] []
+  nothing_kept None = refl
+  nothing_kept (Some port) = (refl, Nobody)
+
+  alone : (before : Option (List ℕ)) (port : ℕ) (callers : Option ℕ) → IsPortFor feed.port port
+      → AreCallersAt feed.commands callers → HasSaid feed checked before before (first_lines port callers)
+  alone before port callers is are = record {
     port = port;
+    callers = callers;
     answers = [];
+    own = [];
     notes = [];
     port_is = is;
+    callers_are = are;
     conversation = silence before;
-    are = refl;
+    notes_are = nothing_kept callers;
+    are = sym (append-nil (first_lines port callers));
   }
 
   -- it doesn't come to the first line
-  pub unopened : (before old new : Option (List ℕ)) (failure : Failure) → StopsTelling feed.port old new failure
+  pub unopened : (before old new : Option (List ℕ)) (failure : Failure) → StopsTelling feed old new failure
       → Serves feed checked before before old new (Err failure)
   unopened before old new f.OutOfMemory stops =
       record { lines = []; begun = inl refl; appends = unwritten old new stops.stops }
   unopened before old new f.Output stops = record {
-    lines = listening_line stops.port ∷ [];
-    part = inl (inr (alone before stops.port stops.port_is));
-    first = subst (λ (t : List ℕ). WritesFirst t old new) (sym (text_of-one (listening_line stops.port))) stops.stops;
+    lines = first_lines stops.port stops.callers;
+    part = inl (inr (alone before stops.port stops.callers stops.port_is stops.callers_are));
+    first = stops.stops;
   }
   unopened before old new (f.CommandLine why) stops = absurd stops.stops
   unopened before old new (f.Input fault) stops = absurd stops.stops
 
   pub unopened_returned : (before old new : Option (List ℕ)) (failure : Failure) (result : Result Status Failure)
-      → StopsTelling feed.port old new failure → IsErrAnd result (λ failed. failed ≡ failure)
+      → StopsTelling feed old new failure → IsErrAnd result (λ failed. failed ≡ failure)
       → Serves feed checked before before old new result
   unopened_returned before old new failure (Ok told) stops is = absurd is
   unopened_returned before old new failure (Err failed) stops is =
@@ -103,118 +111,137 @@ module _ (feed : Feed) (checked : CheckedOf) where
 
   -- ---- after it
 
-  module _ (port : ℕ) (before after old mid : Option (List ℕ)) (opens : Opens feed.port port old mid) where
-    abbrev first_line : List ℕ
-    first_line = ended (listening_line port)
+  module _ (port : ℕ) (callers : Option ℕ) (before after old mid : Option (List ℕ))
+      (opens : Opens feed port callers old mid) where
+    abbrev firsts : List (List ℕ)
+    firsts = first_lines port callers
 
-    abbrev said : (answers : List (List ℕ)) (notes : List Note) → Conversation checked feed.limit before after answers notes
-        → HasSaid feed checked before after (listening_line port ∷ answers)
-    said answers notes talk = record {
+    abbrev first_text : List ℕ
+    first_text = text_of firsts
+
+    abbrev said : (answers : List (List ℕ)) (own notes : List Note)
+        → Conversation checked feed.limit before after answers own
+        → AreNotes checked feed.limit callers answers own notes
+        → HasSaid feed checked before after (firsts ++ answers)
+    said answers own notes talk are = record {
       port = port;
+      callers = callers;
       answers = answers;
+      own = own;
       notes = notes;
       port_is = opens.port_is;
+      callers_are = opens.callers_are;
       conversation = talk;
+      notes_are = are;
       are = refl;
     }
 
-    -- it is cut off
-    cut_off : (new : Option (List ℕ)) (failure : Failure) → IsCutOff checked feed.limit before after mid new failure
-        → Serves feed checked before after old new (Err failure)
-    cut_off new f.OutOfMemory cut = record {
-      lines = listening_line port ∷ cut.answers;
-      begun = inr (said cut.answers cut.notes cut.conversation);
-      appends = Appends-trans old mid new first_line (text_of cut.answers) opens.told cut.written;
-    }
-    cut_off new f.Output cut = record {
-      lines = listening_line port ∷ cut.answers;
-      part = inl (inr (said cut.answers cut.notes cut.conversation));
-      first = first_after first_line (text_of cut.answers) old mid new opens.told cut.first;
-    }
-    cut_off new (f.CommandLine why) cut = absurd cut
-    cut_off new (f.Input fault) cut = absurd cut
+    said_text : (answers : List (List ℕ)) → text_of (firsts ++ answers) ≡ first_text ++ text_of answers
+    said_text answers = flat_map-append ended firsts answers
 
-    pub cut_off_returned : (new : Option (List ℕ)) (failure : Failure) (result : Result Status Failure)
-        → IsCutOff checked feed.limit before after mid new failure → IsErrAnd result (λ failed. failed ≡ failure)
-        → Serves feed checked before after old new result
-    cut_off_returned new failure (Ok told) cut is = absurd is
-    cut_off_returned new failure (Err failed) cut is =
-        subst (λ (f : Failure). Serves feed checked before after old new (Err f)) (sym is) (cut_off new failure cut)
+    -- it is cut off
+    cut_off : (new : Option (List ℕ)) (had has : List Note) (failure : Failure)
+        → IsCutOff checked feed.limit callers before after mid new had has failure
+        → Serves feed checked before after old new (Err failure)
+    cut_off new had has f.OutOfMemory cut = record {
+      lines = firsts ++ cut.answers;
+      begun = inr (said cut.answers cut.own cut.notes cut.conversation cut.notes_are);
+      appends = subst (Appends old new) (sym (said_text cut.answers))
+          (Appends-trans old mid new first_text (text_of cut.answers) opens.told cut.written);
+    }
+    cut_off new had has f.Output cut = record {
+      lines = firsts ++ cut.answers;
+      part = inl (inr (said cut.answers cut.own cut.notes cut.conversation cut.notes_are));
+      first = subst (λ (t : List ℕ). WritesFirst t old new) (sym (said_text cut.answers))
+          (first_after first_text (text_of cut.answers) old mid new opens.told cut.first);
+    }
+    cut_off new had has (f.CommandLine why) cut = absurd cut
+    cut_off new had has (f.Input fault) cut = absurd cut
+
+    pub cut_off_returned : (new : Option (List ℕ)) (had has : List Note) (failure : Failure)
+        (result : Result Status Failure) → IsCutOff checked feed.limit callers before after mid new had has failure
+        → IsErrAnd result (λ failed. failed ≡ failure) → Serves feed checked before after old new result
+    cut_off_returned new had has failure (Ok told) cut is = absurd is
+    cut_off_returned new had has failure (Err failed) cut is =
+        subst (λ (f : Failure). Serves feed checked before after old new (Err f)) (sym is)
+        (cut_off new had has failure cut)
 
     -- memory is refused after the session
     pub no_memory : (new : Option (List ℕ)) (limit : ℕ) {had has : List Note} (result : Result Status Failure)
-        → feed.limit ≡ limit → HasAnswered checked limit before after mid new had has
+        → feed.limit ≡ limit → HasAnswered checked limit callers before after mid new had has
         → IsErrAnd result (λ failed. failed ≡ f.OutOfMemory) → Serves feed checked before after old new result
     no_memory new limit {had} {has} result same answers is =
-        let answered = subst (λ (l : ℕ). HasAnswered checked l before after mid new had has) (sym same) answers in
-        cut_off_returned new f.OutOfMemory result
+        let answered = subst (λ (l : ℕ). HasAnswered checked l callers before after mid new had has) (sym same)
+        answers in
+        cut_off_returned new had has f.OutOfMemory result
         (record {
           answers = answered.answers;
+          own = answered.own;
           notes = answered.notes;
           conversation = answered.conversation;
+          notes_are = answered.notes_are;
           written = answered.written;
         })
         is
 
     -- the last line comes
-    closed_lines : (answers : List (List ℕ)) (notes : List Note) (lines : List (List ℕ)) (status : Status)
-        → Conversation checked feed.limit before after answers notes → IsClosing checked feed.limit notes lines status
-        → HasClosed feed checked before after (listening_line port ∷ (answers ++ lines)) status
-    closed_lines answers notes lines status talk closing = record {
-      earlier = listening_line port ∷ answers;
+    closed_lines : {had has : List Note} (now : Option (List ℕ))
+        (answered : HasAnswered checked feed.limit callers before after mid now had has) (lines : List (List ℕ))
+        (status : Status) → IsClosing checked feed.limit answered.notes lines status
+        → HasClosed feed checked before after ((firsts ++ answered.answers) ++ lines) status
+    closed_lines now answered lines status closing = record {
+      earlier = firsts ++ answered.answers;
       line = closing.line;
-      said = said answers notes talk;
+      said = said answered.answers answered.own answered.notes answered.conversation answered.notes_are;
       last = closing.last;
-      are = ap (λ (l : List (List ℕ)). listening_line port ∷ (answers ++ l)) closing.are;
+      are = ap (λ (l : List (List ℕ)). (firsts ++ answered.answers) ++ l) closing.are;
     }
 
     all_text : (answers lines : List (List ℕ))
-        → text_of (listening_line port ∷ (answers ++ lines)) ≡ (first_line ++ text_of answers) ++ text_of lines
+        → text_of ((firsts ++ answers) ++ lines) ≡ (first_text ++ text_of answers) ++ text_of lines
     all_text answers lines =
-        ap (λ t. first_line ++ t) (flat_map-append ended answers lines)
-        ∙ sym (append_assoc first_line (text_of answers) (text_of lines))
+        flat_map-append ended (firsts ++ answers) lines
+        ∙ ap (λ (t : List ℕ). t ++ text_of lines) (said_text answers)
 
     closes_then : (now new : Option (List ℕ)) (had has : List Note) (result : Result Status Failure)
-        → (answered : HasAnswered checked feed.limit before after mid now had has)
+        → (answered : HasAnswered checked feed.limit callers before after mid now had has)
         → Closes checked feed.limit answered.notes now new result
         → Serves feed checked before after old new result
     closes_then now new had has (Ok status) answered closing =
-        let before_last = Appends-trans old mid now first_line (text_of answered.answers) opens.told answered.written in
+        let before_last = Appends-trans old mid now first_text (text_of answered.answers) opens.told answered.written in
         record {
-          lines = listening_line port ∷ (answered.answers ++ closing.lines);
-          whole = closed_lines answered.answers answered.notes closing.lines status answered.conversation closing.whole;
+          lines = (firsts ++ answered.answers) ++ closing.lines;
+          whole = closed_lines now answered closing.lines status closing.whole;
           appends = subst (Appends old new) (sym (all_text answered.answers closing.lines))
-              (Appends-trans old now new (first_line ++ text_of answered.answers) (text_of closing.lines) before_last
+              (Appends-trans old now new (first_text ++ text_of answered.answers) (text_of closing.lines) before_last
               closing.appends);
         }
     closes_then now new had has (Err f.OutOfMemory) answered closing =
-        let before_last = Appends-trans old mid now first_line (text_of answered.answers) opens.told answered.written in
+        let before_last = Appends-trans old mid now first_text (text_of answered.answers) opens.told answered.written in
         record {
-          lines = listening_line port ∷ answered.answers;
-          begun = inr (said answered.answers answered.notes answered.conversation);
-          appends = subst (Appends old new) (append-nil (first_line ++ text_of answered.answers))
-              (Appends-trans old now new (first_line ++ text_of answered.answers) [] before_last
+          lines = firsts ++ answered.answers;
+          begun = inr (said answered.answers answered.own answered.notes answered.conversation answered.notes_are);
+          appends = subst (Appends old new)
+              (append-nil (first_text ++ text_of answered.answers) ∙ sym (said_text answered.answers))
+              (Appends-trans old now new (first_text ++ text_of answered.answers) [] before_last
               (subst (λ (lines : List (List ℕ)). Appends now new (text_of lines)) closing.begun closing.appends));
         }
     closes_then now new had has (Err f.Output) answered closing =
-        let before_last = Appends-trans old mid now first_line (text_of answered.answers) opens.told answered.written in
-        let first = first_after (first_line ++ text_of answered.answers) (text_of closing.lines) old now new before_last
+        let before_last = Appends-trans old mid now first_text (text_of answered.answers) opens.told answered.written in
+        let first = first_after (first_text ++ text_of answered.answers) (text_of closing.lines) old now new before_last
         closing.first in
         elim closing.part [
           | inl none ↦ record {
-            lines = listening_line port ∷ answered.answers;
-            part = inl (inr (said answered.answers answered.notes answered.conversation));
+            lines = firsts ++ answered.answers;
+            part = inl (inr (said answered.answers answered.own answered.notes answered.conversation
+                answered.notes_are));
             first = subst (λ (t : List ℕ). WritesFirst t old new)
-                (ap (λ (lines : List (List ℕ)). (first_line ++ text_of answered.answers) ++ text_of lines) none
-                ∙ append-nil (first_line ++ text_of answered.answers)) first;
+                (ap (λ (lines : List (List ℕ)). (first_text ++ text_of answered.answers) ++ text_of lines) none
+                ∙ append-nil (first_text ++ text_of answered.answers) ∙ sym (said_text answered.answers)) first;
           }
           | inr whole ↦ record {
-            lines = listening_line port ∷ (answered.answers ++ closing.lines);
-            part = inr (
-              whole.0,
-              closed_lines answered.answers answered.notes closing.lines whole.0
-                  answered.conversation whole.1,
-            );
+            lines = (firsts ++ answered.answers) ++ closing.lines;
+            part = inr (whole.0, closed_lines now answered closing.lines whole.0 whole.1);
             first = subst (λ (t : List ℕ). WritesFirst t old new) (sym (all_text answered.answers closing.lines)) first;
           }
         ]
@@ -223,30 +250,43 @@ module _ (feed : Feed) (checked : CheckedOf) where
 
     -- where the session began without notes
     pub closes_after : (now new : Option (List ℕ)) (limit : ℕ) {had has : List Note} (result : Result Status Failure)
-        → feed.limit ≡ limit → had ≡ [] → HasAnswered checked limit before after mid now had has
+        → feed.limit ≡ limit → had ≡ [] → HasAnswered checked limit callers before after mid now had has
         → Closes checked limit has now new result → Serves feed checked before after old new result
     closes_after now new limit {had} {has} result same none answers closing =
-        let answered = subst (λ (l : ℕ). HasAnswered checked l before after mid now had has) (sym same) answers in
+        let answered = subst (λ (l : ℕ). HasAnswered checked l callers before after mid now had has) (sym same)
+        answers in
         let kept : has ≡ answered.notes = answered.kept ∙ ap (λ (l : List Note). l ++ answered.notes) none in
         closes_then now new had has result answered
         (subst (λ (n : List Note). Closes checked feed.limit n now new result) kept
         (subst (λ (l : ℕ). Closes checked l has now new result) (sym same) closing))
 
--- ---- before the line
+-- ---- before the lines
 
-stops_before : (asked : ℕ) (old : Option (List ℕ)) (failure : Failure) → IsStop failure
-    → StopsTelling asked old old failure
-stops_before asked old f.Output stop = record {
-  port = asked;
+at_itself : (asked : Option ℕ) → AreCallersAt asked asked
+at_itself None = tt
+at_itself (Some port) = inr refl
+
+stops_before : (feed : Feed) (old : Option (List ℕ)) (failure : Failure) → IsStop failure
+    → StopsTelling feed old old failure
+stops_before feed old f.Output stop = record {
+  port = feed.port;
+  callers = feed.commands;
   port_is = inr refl;
-  stops = first_nothing (ended (listening_line asked)) old old refl;
+  callers_are = at_itself feed.commands;
+  stops = first_nothing (text_of (first_lines feed.port feed.commands)) old old refl;
 }
-stops_before asked old f.OutOfMemory stop = record { port = asked; port_is = inr refl; stops = refl }
-stops_before asked old (f.CommandLine why) stop = absurd stop
-stops_before asked old (f.Input fault) stop = absurd stop
+stops_before feed old f.OutOfMemory stop = record {
+  port = feed.port;
+  callers = feed.commands;
+  port_is = inr refl;
+  callers_are = at_itself feed.commands;
+  stops = refl;
+}
+stops_before feed old (f.CommandLine why) stop = absurd stop
+stops_before feed old (f.Input fault) stop = absurd stop
 
-pub stopped_before : {A : Type 0} (asked : ℕ) (old : Option (List ℕ)) (failure : Failure) (result : Result A Failure)
-    → IsStop failure → IsErrAnd result (λ failed. failed ≡ failure) → IfErr result (StopsTelling asked old old)
-stopped_before asked old failure (Ok told) stop is = tt
-stopped_before asked old failure (Err failed) stop is =
-    subst (StopsTelling asked old old) (sym is) (stops_before asked old failure stop)
+pub stopped_before : {A : Type 0} (feed : Feed) (old : Option (List ℕ)) (failure : Failure) (result : Result A Failure)
+    → IsStop failure → IsErrAnd result (λ failed. failed ≡ failure) → IfErr result (StopsTelling feed old old)
+stopped_before feed old failure (Ok told) stop is = tt
+stopped_before feed old failure (Err failed) stop is =
+    subst (StopsTelling feed old old) (sym is) (stops_before feed old failure stop)

@@ -1,13 +1,9 @@
--- A book whose slots change twice, and texts of whole lines.
-use Rattle.std.proofs.Common.{◌≡◌, ℕ, List, [], ◌∷◌, ◌++◌, append-nil, refl, sym, ap, ◌∙◌}
-use Rattle.std.proofs.lemmas.List.Concat.{flat_map-append}
-use Rattle.commands.proofs.Writing.{text_of-more}
-use Rattle.commands.specs.Output.{ended, text_of}
+-- A book whose slots change twice.
+use Rattle.std.proofs.Common.{◌≡◌, List, refl, ◌∙◌}
 use Rattle.tables_log.specs.BookView.{book_slots}
 use Rattle.tables_log.specs.Committing.{ChangesSlots}
 use Rattle.tables_log.specs.declared.book.Book.{Book}
 use Rattle.tables_log.specs.declared.slots.Slot.{Slot}
-use Rattle.cli.specs.Talks.{IsLines}
 
 pub to_its_own : (before after : Book) (slots : List Slot) → ChangesSlots before after slots
     → ChangesSlots before after (book_slots after)
@@ -36,18 +32,4 @@ no_change book = record {
   rows = λ table number value. refl;
   log = refl;
   slots_are = refl;
-}
-
--- a line more
-pub one_line_more : (text line : List ℕ) → IsLines text → IsLines (text ++ ended line)
-one_line_more text line is = record {
-  lines = is.lines ++ line ∷ [];
-  is = ap (λ t. t ++ ended line) is.is ∙ sym (text_of-more is.lines line);
-}
-
--- lines more
-pub lines_more : (text : List ℕ) (lines : List (List ℕ)) → IsLines text → IsLines (text ++ text_of lines)
-lines_more text lines is = record {
-  lines = is.lines ++ lines;
-  is = ap (λ t. t ++ text_of lines) is.is ∙ sym (flat_map-append ended is.lines lines);
 }

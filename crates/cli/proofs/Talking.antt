@@ -1,5 +1,5 @@
 -- Lines are answered one after another, and it may stop at each.
-use Rattle.std.proofs.Common.{◌≡◌, ℕ, List, [], ◌∷◌, ◌++◌, All, Option, append_assoc, append-nil, refl, sym, ap, ap₂, subst, ◌∙◌}
+use Rattle.std.proofs.Common.{◌≡◌, ℕ, List, [], ◌∷◌, ◌++◌, All, Option, Some, None, append_assoc, append-nil, codes, refl, sym, ap, ap₂, subst, ◌∙◌}
 use Rattle.std.specs.Prelude.{IfErr, IsErrAnd, Result, Ok, Err}
 use Rattle.std.proofs.KnownBytes.{Appends-nil, Appends-trans, Consumes-nil, Consumes-trans}
 use Rattle.std.proofs.lemmas.List.Concat.{flat_map-append}
@@ -12,7 +12,7 @@ use Rattle.commands.specs.Output.{WritesFirst, ended, text_of}
 use Rattle.commands.specs.declared.failure.Failure.{Failure}
 use Rattle.commands.specs.declared.failure.Failure.TheVariants as f
 use Rattle.cli.specs.Lines.{IsPlain, ReadsLine}
-use Rattle.cli.specs.Talks.{Answers, AreAnswered, Conversation, FailsToTell, GoesOn, HasAnswered, HasBegun, HasPart, IsAnswer, IsCutOff, IsOver, Nothing, OneMore, StopsNext}
+use Rattle.cli.specs.Talks.{Answers, AreAnswered, AreNotes, Conversation, FailsToTell, GoesOn, HasAnswered, HasBegun, HasPart, IsAnswer, IsCutOff, IsOver, Nobody, Nothing, OneMore, StopsNext}
 
 module _ (checked : CheckedOf) (limit : ℕ) where
   -- so far: lines were read and answered, and the answers are written
@@ -39,10 +39,16 @@ module _ (checked : CheckedOf) (limit : ℕ) where
   }
 
   -- it stops before the first line
-  pub unbegun : (before old : Option (List ℕ)) → IsCutOff checked limit before before old old f.OutOfMemory
-  unbegun before old = record {
+  nothing_kept : (callers : Option ℕ) → AreNotes checked limit callers [] [] []
+  nothing_kept None = refl
+  nothing_kept (Some port) = (refl, Nobody)
+
+  pub unbegun : (callers : Option ℕ) (before old : Option (List ℕ)) → HasBegun checked limit callers before before old old
+  unbegun callers before old = record {
     answers = [];
+    own = [];
     notes = [];
+    notes_are = nothing_kept callers;
     conversation = record {
       lines = [];
       more = [];
@@ -97,30 +103,46 @@ module _ (checked : CheckedOf) (limit : ℕ) where
   -- there is no line more
   pub is_over : (before now after old written new : Option (List ℕ)) (had has next : List Note)
       → IsSoFar before now old written had has → IsOver checked limit now after written new → next ≡ has
-      → HasAnswered checked limit before after old new had next
+      → HasAnswered checked limit None before after old new had next
   is_over before now after old written new had has next far over same = record {
     answers = far.answers;
+    own = far.notes;
     notes = far.notes;
     conversation = talk before now after old written had has far over.more over.consumed;
+    notes_are = refl;
     written = subst (λ (n : Option (List ℕ)). Appends old n (text_of far.answers)) (sym over.unwritten) far.appends;
     kept = same ∙ far.kept;
   }
 
+  -- the next line is `QUIT;`
+  pub quits : (before now after old written new : Option (List ℕ)) (had has next : List Note)
+      → IsSoFar before now old written had has → ReadsLine now after (codes "QUIT;") → new ≡ written → next ≡ has
+      → HasAnswered checked limit None before after old new had next
+  quits before now after old written new had has next far read silent same =
+      is_over before now after old written new had has next far
+      (record { more = codes "QUIT;" ++ 10 ∷ []; consumed = read.consumed; unwritten = silent }) same
+
   -- it stops
-  pub stops : (before now after old written new : Option (List ℕ)) (had has : List Note) (failure : Failure)
-      → IsSoFar before now old written had has → StopsNext checked limit now after written new has failure
-      → IsCutOff checked limit before after old new failure
-  stops before now after old written new had has f.OutOfMemory far over = record {
+  pub stops : (before now after old written new : Option (List ℕ)) (had has next : List Note) (failure : Failure)
+      → IsSoFar before now old written had has → StopsNext checked limit now after written new has next failure
+      → IsCutOff checked limit None before after old new had next failure
+  stops before now after old written new had has next f.OutOfMemory far over = record {
     answers = far.answers;
+    own = far.notes;
     notes = far.notes;
     conversation = talk before now after old written had has far over.more over.consumed;
+    notes_are = refl;
     written = subst (λ (n : Option (List ℕ)). Appends old n (text_of far.answers)) (sym over.unwritten) far.appends;
   }
-  stops before now after old written new had has f.Output far fails =
+  stops before now after old written new had has next f.Output far fails =
       let answer = fails.answered in
       record {
         answers = far.answers ++ answer.lines;
+        own = far.notes ++ answer.notes;
         notes = far.notes ++ answer.notes;
+        notes_are = refl;
+        kept = answer.kept ∙ ap (λ notes. notes ++ answer.notes) far.kept
+            ∙ append_assoc had far.notes answer.notes;
         conversation = record {
           lines = far.lines ++ fails.line ∷ [];
           more = [];
@@ -133,15 +155,15 @@ module _ (checked : CheckedOf) (limit : ℕ) where
             (first_after (text_of far.answers) (text_of answer.lines) old written new far.appends
             (subst (λ (t : List ℕ). WritesFirst t written new) answer.text_is fails.first));
       }
-  stops before now after old written new had has (f.CommandLine why) far fails = absurd fails
-  stops before now after old written new had has (f.Input fault) far fails = absurd fails
+  stops before now after old written new had has next (f.CommandLine why) far fails = absurd fails
+  stops before now after old written new had has next (f.Input fault) far fails = absurd fails
 
   -- the same of what a `?` gives
-  pub stops_returned : {A : Type 0} (before now after old written new : Option (List ℕ)) (had has : List Note)
+  pub stops_returned : {A : Type 0} (before now after old written new : Option (List ℕ)) (had has next : List Note)
       (failure : Failure) (result : Result A Failure) → IsSoFar before now old written had has
-      → StopsNext checked limit now after written new has failure → IsErrAnd result (λ failed. failed ≡ failure)
-      → IfErr result (IsCutOff checked limit before after old new)
-  stops_returned before now after old written new had has failure (Ok told) far fails is = tt
-  stops_returned before now after old written new had has failure (Err failed) far fails is =
-      subst (IsCutOff checked limit before after old new) (sym is)
-      (stops before now after old written new had has failure far fails)
+      → StopsNext checked limit now after written new has next failure → IsErrAnd result (λ failed. failed ≡ failure)
+      → IfErr result (IsCutOff checked limit None before after old new had next)
+  stops_returned before now after old written new had has next failure (Ok told) far fails is = tt
+  stops_returned before now after old written new had has next failure (Err failed) far fails is =
+      subst (IsCutOff checked limit None before after old new had next) (sym is)
+      (stops before now after old written new had has next failure far fails)

@@ -69,6 +69,10 @@ abbrev pub port_file_rule : Rule
 port_file_rule = record (new_rule (codes "port-file"))
     { long = Some (codes "port-file"); value_names = 1; action = Some Set }
 
+abbrev pub commands_rule : Rule
+commands_rule = record (new_rule (codes "commands"))
+    { long = Some (codes "commands"); value_names = 1; action = Some Set }
+
 abbrev pub start_timeout_rule : Rule
 start_timeout_rule = record (new_rule (codes "start-timeout"))
     { long = Some (codes "start-timeout"); value_names = 1; action = Some Set }
@@ -88,9 +92,9 @@ abbrev pub log_rule : Rule
 log_rule = record (new_rule (codes "log")) { long = Some (codes "log"); value_names = 1; action = Some Set }
 
 abbrev pub publish : App
-publish = with_rule (with_rule (with_rule (with_rule (with_rule (with_rule (with_rule (with_rule
-    (new_app (codes "publish")) port_rule) port_file_rule) limit_rule) start_timeout_rule) write_timeout_rule)
-    keepalive_rule) timeout_rule) log_rule
+publish = with_rule (with_rule (with_rule (with_rule (with_rule (with_rule (with_rule (with_rule (with_rule
+    (new_app (codes "publish")) port_rule) port_file_rule) commands_rule) limit_rule) start_timeout_rule)
+    write_timeout_rule) keepalive_rule) timeout_rule) log_rule
 
 -- the program without its subcommands
 abbrev pub bare : App
@@ -204,6 +208,13 @@ abbrev pub IsPortOrAny : Option Text → ℕ → Type 0
 IsPortOrAny None port = ⊥
 IsPortOrAny (Some word) port = SpellsUpTo 65535 word port
 
+-- where no word is given commands come by the input
+abbrev pub AreCommandsAt : Option Text → Option ℕ → Type 0
+AreCommandsAt None None = Unit {0}
+AreCommandsAt None (Some port) = ⊥
+AreCommandsAt (Some word) None = ⊥
+AreCommandsAt (Some word) (Some port) = SpellsUpTo 65535 word port
+
 -- so many seconds, or where no word is given this many
 abbrev pub AreSeconds : ℕ → Option Text → ℕ → Type 0
 AreSeconds otherwise None seconds = seconds ≡ otherwise
@@ -219,6 +230,7 @@ IsLogFormat (Some word) Json = word ≡ codes "json"
 pub record IsFeed (found : List Row) (feed : Feed) : Type 0 where
   pub port : IsPortOrAny (first_of (codes "port") found) feed.port
   pub port_file : first_of (codes "port-file") found ≡ option_map (λ file. file.now) feed.port_file
+  pub commands : AreCommandsAt (first_of (codes "commands") found) feed.commands
   pub limit : HasLimit found feed.limit
   pub start_timeout : AreSeconds 10 (first_of (codes "start-timeout") found) feed.start_timeout
   pub write_timeout : AreSeconds 60 (first_of (codes "write-timeout") found) feed.write_timeout

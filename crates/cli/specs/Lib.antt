@@ -11,3 +11,4 @@ pub mod Serving
 pub mod Sessions
 pub mod Talks
 pub mod Telling
+pub mod Views

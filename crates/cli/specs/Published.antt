@@ -3,6 +3,7 @@
 -- own.
 use Rattle.std.specs.Prelude.{◌≡◌, ◌⊎◌, ℕ, List, [], ◌∷◌, ◌++◌, is_none, false, length, Option, Some, None, Ok, Result, codes}
 use Rattle.std.specs.Io.KnownBytes.{Appends}
+use Rattle.std.specs.Option.{option_map}
 use Rattle.filter_tree.specs.Expr.{Expr}
 use Rattle.pub_catalog.specs.Catalogs.{CatalogOf}
 use Rattle.pub_reader.specs.Statements.{catalog_by}
@@ -22,7 +23,7 @@ use Rattle.shard_checker.specs.Texts.{text_fault, trees_in}
 use Rattle.shard_checker.specs.declared.text_error.TextError.TheVariants.{Text}
 use Rattle.split_cert.specs.Tree.{Tree}
 use Rattle.split_cert.specs.declared.error.CertError.{CertError}
-use Rattle.commands.specs.Output.{Ends, StopsText, Writes, ended, text_of}
+use Rattle.commands.specs.Output.{Ends, StopsText, Writes, text_of}
 use Rattle.commands.specs.Verdicts.{IsFirstRefusal, checked_by}
 use Rattle.commands.specs.declared.failure.Failure.{Failure}
 use Rattle.commands.specs.declared.failure.Failure.TheVariants as f
@@ -32,8 +33,9 @@ use Rattle.commands.specs.declared.failure.Status.{Status}
 use Rattle.commands.specs.declared.failure.Status.TheVariants.{Done, Refused}
 use Rattle.cli.specs.Lines.{LineParts, ended_lines, parts_of}
 use Rattle.cli.specs.Serving.{IsRefusal}
-use Rattle.cli.specs.Talks.{AreAnswered, Conversation}
-use Rattle.cli.specs.Telling.{closed_line, listening_line, name_of}
+use Rattle.cli.specs.Talks.{AreAnswered, AreNotes, Conversation}
+use Rattle.cli.specs.Telling.{closed_line, first_lines, name_of}
+use Rattle.cli.specs.declared.publish.door.Door.{Door}
 use Rattle.cli.specs.declared.requests.Feed.{Feed}
 
 -- ---- how it ends
@@ -67,6 +69,17 @@ module _ (checked : CheckedOf) (limit : ℕ) (notes : List Note) where
 abbrev pub IsPortFor : ℕ → ℕ → Type 0
 IsPortFor asked port = (asked ≡ 0) ⊎ (port ≡ asked)
 
+-- callers are listened for where that is asked for, on the port that is asked for, or any where 0 is
+abbrev pub AreCallersAt : Option ℕ → Option ℕ → Type 0
+AreCallersAt None None = Unit {0}
+AreCallersAt None (Some port) = ⊥
+AreCallersAt (Some asked) None = ⊥
+AreCallersAt (Some asked) (Some port) = IsPortFor asked port
+
+-- the port of the door for callers, if there is one
+abbrev pub callers_at : Option Door → Option ℕ
+callers_at door = option_map (λ door. door.port) door
+
 -- The first of the lines of commands are answered by these lines.
 pub record IsTalk (catalog : CatalogOf Expr) (limit : ℕ) (commands answers : List (List ℕ)) : Type 0 where
   pub said : List (List ℕ)
@@ -75,14 +88,18 @@ pub record IsTalk (catalog : CatalogOf Expr) (limit : ℕ) (commands answers : L
   pub first : commands ≡ said ++ unsaid
   pub answered : AreAnswered (checked_by catalog) limit said answers notes
 
--- that it listens, and those answers
+-- That it listens, and those answers. If commands come from callers, it is their lines of which the session keeps notes.
 pub record HasToldFirst (feed : Feed) (catalog : CatalogOf Expr) (commands : List (List ℕ)) (lines : List (List ℕ)) :
     Type 0 where
   pub port : ℕ
+  pub callers : Option ℕ
   pub answers : List (List ℕ)
+  pub notes : List Note
   pub port_is : IsPortFor feed.port port
+  pub callers_are : AreCallersAt feed.commands callers
   pub talk : IsTalk catalog feed.limit commands answers
-  pub are : lines ≡ listening_line port ∷ answers
+  pub notes_are : AreNotes (checked_by catalog) feed.limit callers answers talk.notes notes
+  pub are : lines ≡ first_lines port callers ++ answers
 
 -- and a last line
 pub record HasTold (feed : Feed) (catalog : CatalogOf Expr) (commands : List (List ℕ)) (lines : List (List ℕ))
@@ -90,7 +107,7 @@ pub record HasTold (feed : Feed) (catalog : CatalogOf Expr) (commands : List (Li
   pub earlier : List (List ℕ)
   pub line : List ℕ
   pub first : HasToldFirst feed catalog commands earlier
-  pub last : IsLast (checked_by catalog) feed.limit first.talk.notes line status
+  pub last : IsLast (checked_by catalog) feed.limit first.notes line status
   pub are : lines ≡ earlier ++ line ∷ []
 
 -- ---- what is answered
@@ -159,11 +176,15 @@ module _ (feed : Feed) (checked : CheckedOf) (before after : Option (List ℕ)) 
   -- that it listens, and the answers to what was read
   pub record HasSaid (lines : List (List ℕ)) : Type 0 where
     pub port : ℕ
+    pub callers : Option ℕ
     pub answers : List (List ℕ)
+    pub own : List Note
     pub notes : List Note
     pub port_is : IsPortFor feed.port port
-    pub conversation : Conversation checked feed.limit before after answers notes
-    pub are : lines ≡ listening_line port ∷ answers
+    pub callers_are : AreCallersAt feed.commands callers
+    pub conversation : Conversation checked feed.limit before after answers own
+    pub notes_are : AreNotes checked feed.limit callers answers own notes
+    pub are : lines ≡ first_lines port callers ++ answers
 
   -- and a last line
   pub record HasClosed (lines : List (List ℕ)) (status : Status) : Type 0 where
@@ -179,15 +200,18 @@ module _ (feed : Feed) (checked : CheckedOf) (before after : Option (List ℕ)) 
   abbrev pub Serves : Option (List ℕ) → Option (List ℕ) → Result Status Failure → Type 0
   Serves old new result = Writes HasClosed MayHaveSaid old new result
 
--- ---- the port
+-- ---- the ports
 
--- it listens on this port, and says so
-pub record Opens (asked port : ℕ) (old new : Option (List ℕ)) : Type 0 where
-  pub port_is : IsPortFor asked port
-  pub told : Appends old new (ended (listening_line port))
+-- it listens on these ports, and says so
+pub record Opens (feed : Feed) (port : ℕ) (callers : Option ℕ) (old new : Option (List ℕ)) : Type 0 where
+  pub port_is : IsPortFor feed.port port
+  pub callers_are : AreCallersAt feed.commands callers
+  pub told : Appends old new (text_of (first_lines port callers))
 
--- or the line is not written whole, for want of memory, a port, a file or the writer
-pub record StopsTelling (asked : ℕ) (old new : Option (List ℕ)) (failure : Failure) : Type 0 where
+-- or the lines are not written whole, for want of memory, a port, a file or the writer
+pub record StopsTelling (feed : Feed) (old new : Option (List ℕ)) (failure : Failure) : Type 0 where
   pub port : ℕ
-  pub port_is : IsPortFor asked port
-  pub stops : StopsText (ended (listening_line port)) old new failure
+  pub callers : Option ℕ
+  pub port_is : IsPortFor feed.port port
+  pub callers_are : AreCallersAt feed.commands callers
+  pub stops : StopsText (text_of (first_lines port callers)) old new failure

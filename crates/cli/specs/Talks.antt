@@ -19,8 +19,11 @@ use Rattle.publisher_desk.specs.declared.note.Note.{Note}
 use Rattle.publisher_desk.specs.declared.note.Note.TheVariants as n
 use Rattle.commands.specs.Failures.{fault_line}
 use Rattle.cli.specs.Lines.{IsPlain, ReadsLine}
+use Rattle.cli.specs.Views.{IsView}
+use Rattle.cli.specs.declared.publish.session.Turn.{Turn}
+use Rattle.cli.specs.declared.publish.session.Turn.TheVariants as t
 use Rattle.commands.specs.Output.{WritesFirst, text_of}
-use Rattle.commands.specs.Simulate.Answers.{answer_line, position_text}
+use Rattle.commands.specs.Simulate.Answers.{answer_line}
 use Rattle.commands.specs.Simulate.Simulation.{TellsScript}
 use Rattle.commands.specs.declared.failure.Failure.{Failure}
 use Rattle.commands.specs.declared.failure.Failure.TheVariants as f
@@ -42,24 +45,6 @@ unfit_from is_first (step ∷ others) =
 abbrev pub first_unfit : List LineOf → Option ℕ
 first_unfit steps = unfit_from true steps
 
--- ---- texts
-
--- it has whole lines
-pub record IsLines (text : List ℕ) : Type 0 where
-  pub lines : List (List ℕ)
-  pub is : text ≡ text_of lines
-
--- ---- how far a subscriber is
-
-abbrev pub state : Bool → List ℕ
-state true = codes " connected"
-state false = codes " disconnected"
-
--- its name, up to where it was sent and has confirmed the log, and whether it is connected
-abbrev pub progress_line : List ℕ → ℕ → ℕ → Bool → List ℕ
-progress_line name sent confirmed is_connected =
-    name ++ codes " sent " ++ position_text sent ++ codes " confirmed " ++ position_text confirmed ++ state is_connected
-
 -- ---- what is answered
 
 module _ (checked : CheckedOf) (limit : ℕ) where
@@ -71,11 +56,11 @@ module _ (checked : CheckedOf) (limit : ℕ) where
     Refused : (error : CommitError) → IsRefused checked limit commands error
         → HasFault (setting_in checked) commands error → IsAnswered commands (a.Refused error) []
 
-  -- A step is answered by these lines, and the session keeps these notes. Of what VIEW shows nothing is said.
+  -- a step is answered by these lines, and the session keeps these notes
   pub data IsTold : StepOf → List (List ℕ) → List Note → Type 0 where
     Committing : (commands : List Command) (answer : Answer) (notes : List Note) → IsAnswered commands answer notes
         → IsTold (Commit commands) (answer_line answer ∷ []) notes
-    Viewing : (lines : List (List ℕ)) → IsTold View lines []
+    Viewing : (lines : List (List ℕ)) → IsView checked lines → IsTold View lines []
 
   -- A line is answered by these lines, and the session keeps these notes.
   pub data IsAnswer (line : List ℕ) : List (List ℕ) → List Note → Type 0 where
@@ -96,6 +81,20 @@ module _ (checked : CheckedOf) (limit : ℕ) where
     OneMore : (lines answers own : List (List ℕ)) (line : List ℕ) (notes more : List Note)
         → AreAnswered lines answers notes → IsAnswer line own more
         → AreAnswered (lines ++ line ∷ []) (answers ++ own) (notes ++ more)
+
+  -- ---- whose lines are answered
+
+  -- The lines of one caller after another were answered, of which the session keeps these notes.
+  pub data AreHeard : List Note → Type 0 where
+    Nobody : AreHeard []
+    NextCaller : (lines answers : List (List ℕ)) (notes more : List Note) → AreHeard notes
+        → AreAnswered lines answers more → AreHeard (notes ++ more)
+
+  -- The session's notes are those of the reader's own lines. Where commands come from callers, who call at some port,
+  -- they are those of callers' lines, and to the reader's lines nothing is answered.
+  abbrev pub AreNotes : Option ℕ → List (List ℕ) → List Note → List Note → Type 0
+  AreNotes None answers own notes = notes ≡ own
+  AreNotes (Some port) answers own notes = (answers ≡ []) × AreHeard notes
 
   -- ---- what the session does
 
@@ -136,25 +135,25 @@ module _ (checked : CheckedOf) (limit : ℕ) where
     pub unwritten : new ≡ old
 
   abbrev pub HasGone : Option (List ℕ) → Option (List ℕ) → Option (List ℕ) → Option (List ℕ) → List Note → List Note
-      → Bool → Type 0
-  HasGone before after old new had has true = GoesOn before after old new had has
-  HasGone before after old new had has false = IsOver before after old new × (has ≡ had)
+      → Turn → Type 0
+  HasGone before after old new had has t.Line = GoesOn before after old new had has
+  HasGone before after old new had has t.Quit = ReadsLine before after (codes "QUIT;") × (new ≡ old) × (has ≡ had)
+  HasGone before after old new had has t.Over = IsOver before after old new × (has ≡ had)
 
   -- a line is read, and the first bytes of its answer are written
-  pub record FailsToTell (before after old new : Option (List ℕ)) (had : List Note) : Type 0 where
+  pub record FailsToTell (before after old new : Option (List ℕ)) (had has : List Note) : Type 0 where
     pub line : List ℕ
     pub text : List ℕ
-    pub has : List Note
     pub read : ReadsLine before after line
     pub answered : Answers line had has text
     pub first : WritesFirst text old new
 
-  abbrev pub StopsNext : Option (List ℕ) → Option (List ℕ) → Option (List ℕ) → Option (List ℕ) → List Note → Failure
-      → Type 0
-  StopsNext before after old new had f.OutOfMemory = IsOver before after old new
-  StopsNext before after old new had f.Output = FailsToTell before after old new had
-  StopsNext before after old new had (f.CommandLine why) = ⊥
-  StopsNext before after old new had (f.Input fault) = ⊥
+  abbrev pub StopsNext : Option (List ℕ) → Option (List ℕ) → Option (List ℕ) → Option (List ℕ) → List Note → List Note
+      → Failure → Type 0
+  StopsNext before after old new had has f.OutOfMemory = IsOver before after old new
+  StopsNext before after old new had has f.Output = FailsToTell before after old new had has
+  StopsNext before after old new had has (f.CommandLine why) = ⊥
+  StopsNext before after old new had has (f.Input fault) = ⊥
 
   -- lines are read, and answered by these
   pub record Conversation (before after : Option (List ℕ)) (answers : List (List ℕ)) (notes : List Note) : Type 0 where
@@ -164,31 +163,60 @@ module _ (checked : CheckedOf) (limit : ℕ) where
     pub plain : All IsPlain lines
     pub answered : AreAnswered lines answers notes
 
-  -- the answers are written, and the session has these notes more
-  pub record HasAnswered (before after old new : Option (List ℕ)) (had has : List Note) : Type 0 where
+  -- the last line that was read is `QUIT;`
+  pub record HasQuit (after : Option (List ℕ)) : Type 0 where
+    pub before : Option (List ℕ)
+    pub line : ReadsLine before after (codes "QUIT;")
+
+  -- the lines of a caller were answered, and the session has these notes more
+  pub record HasTalked (had has : List Note) : Type 0 where
+    pub lines : List (List ℕ)
     pub answers : List (List ℕ)
     pub notes : List Note
-    pub conversation : Conversation before after answers notes
-    pub written : Appends old new (text_of answers)
+    pub answered : AreAnswered lines answers notes
     pub kept : has ≡ had ++ notes
 
-  -- or the first of them
-  pub record HasBegun (before after old new : Option (List ℕ)) : Type 0 where
-    pub answers : List (List ℕ)
+  -- so were those of one caller after another
+  pub record HasHeard (had has : List Note) : Type 0 where
     pub notes : List Note
-    pub conversation : Conversation before after answers notes
-    pub written : Appends old new (text_of answers)
+    pub heard : AreHeard notes
+    pub kept : has ≡ had ++ notes
 
-  -- or the first bytes of them
-  pub record HasPart (before after old new : Option (List ℕ)) : Type 0 where
-    pub answers : List (List ℕ)
-    pub notes : List Note
-    pub conversation : Conversation before after answers notes
-    pub first : WritesFirst (text_of answers) old new
+  -- `callers` is the port at which callers call, if commands come from callers
+  module _ (callers : Option ℕ) where
+    -- the answers are written, and the session has these notes more
+    pub record HasAnswered (before after old new : Option (List ℕ)) (had has : List Note) : Type 0 where
+      pub answers : List (List ℕ)
+      pub own : List Note
+      pub notes : List Note
+      pub conversation : Conversation before after answers own
+      pub notes_are : AreNotes callers answers own notes
+      pub written : Appends old new (text_of answers)
+      pub kept : has ≡ had ++ notes
 
-  -- the session stops because the writer fails, or for want of memory
-  abbrev pub IsCutOff : Option (List ℕ) → Option (List ℕ) → Option (List ℕ) → Option (List ℕ) → Failure → Type 0
-  IsCutOff before after old new f.OutOfMemory = HasBegun before after old new
-  IsCutOff before after old new f.Output = HasPart before after old new
-  IsCutOff before after old new (f.CommandLine why) = ⊥
-  IsCutOff before after old new (f.Input fault) = ⊥
+    -- or the first of them
+    pub record HasBegun (before after old new : Option (List ℕ)) : Type 0 where
+      pub answers : List (List ℕ)
+      pub own : List Note
+      pub notes : List Note
+      pub conversation : Conversation before after answers own
+      pub notes_are : AreNotes callers answers own notes
+      pub written : Appends old new (text_of answers)
+
+    -- or the first bytes of them, and the session has these notes more
+    pub record HasPart (before after old new : Option (List ℕ)) (had has : List Note) : Type 0 where
+      pub answers : List (List ℕ)
+      pub own : List Note
+      pub notes : List Note
+      pub conversation : Conversation before after answers own
+      pub notes_are : AreNotes callers answers own notes
+      pub first : WritesFirst (text_of answers) old new
+      pub kept : has ≡ had ++ notes
+
+    -- the session stops because the writer fails, or for want of memory
+    abbrev pub IsCutOff : Option (List ℕ) → Option (List ℕ) → Option (List ℕ) → Option (List ℕ) → List Note → List Note
+        → Failure → Type 0
+    IsCutOff before after old new had has f.OutOfMemory = HasBegun before after old new
+    IsCutOff before after old new had has f.Output = HasPart before after old new had has
+    IsCutOff before after old new had has (f.CommandLine why) = ⊥
+    IsCutOff before after old new had has (f.Input fault) = ⊥

@@ -24,6 +24,11 @@ use Rattle.cli.specs.declared.requests.Service.{Service}
 abbrev pub listening_line : ℕ → List ℕ
 listening_line port = counted (codes "listening") port
 
+-- that callers are listened for as well, if commands come from callers
+abbrev pub first_lines : ℕ → Option ℕ → List (List ℕ)
+first_lines port None = listening_line port ∷ []
+first_lines port (Some callers) = listening_line port ∷ counted (codes "commands") callers ∷ []
+
 -- how many commits the log has, and how many connections there were
 abbrev pub closed_line : ℕ → ℕ → List ℕ
 closed_line commits connections = counted (counted (codes "closed") commits) connections

@@ -46,9 +46,9 @@ fn asked_by<'a>(alloc: Global, error: &clap::Error) -> Result<Invocation<'a>, Fa
 /// `CommandLine`, with a text for the user, where the words are neither `show` or `make` alone, nor `check` and at most
 /// one `--show`, nor `eval`, a table's name and at most one `--insert`, nor `simulate` and at most one `--limit` of 1 to
 /// 1,000,000,000, nor `serve` with one `--port` of 1 to 65,535, at most one such `--limit` and at most one
-/// `--connections` of 1 to 1,000, nor `publish` with one `--port` of at most 65,535, at most one `--port-file`, such a
-/// `--limit`, a `--start-timeout`, a `--write-timeout`, a `--keepalive` and a `--timeout` of 1 to 86,400 each, and a
-/// `--log` of `text` or `json`, nor ask for the help or the version; `OutOfMemory`.
+/// `--connections` of 1 to 1,000, nor `publish` with one `--port` of at most 65,535, at most one such `--commands`, one
+/// `--port-file`, such a `--limit`, a `--start-timeout`, a `--write-timeout`, a `--keepalive` and a `--timeout` of 1 to
+/// 86,400 each, and a `--log` of `text` or `json`, nor ask for the help or the version; `OutOfMemory`.
 pub fn parse<'a, S: AsStr>(alloc: Global, words: &'a [S]) -> Result<Invocation<'a>, Failure<'a>>
     ensures asked { IfOk result (IsAsking (map S.text words.entry.now)) }
     ensures stopped { IfErr result (IsOfWords (map S.text words.entry.now)) }

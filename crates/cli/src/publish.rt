@@ -1,14 +1,15 @@
 //! `publish`: commits are read and made as they come, while the subscribers of a sharding are served over sockets.
 
-ghost use Rattle.std.specs.Prelude.{◌≡◌, IfErr, OnOk};
+ghost use Rattle.std.specs.Prelude.{◌≡◌, None, IfErr, OnOk};
 ghost use Rattle.std.specs.Arc.{arc_value};
 ghost use Rattle.commands.specs.Simulate.Limits.{IsWithin};
 ghost use Rattle.shard_checker.specs.CheckedView.{checked_view};
-ghost use Rattle.cli.specs.Published.{Serves};
+ghost use Rattle.cli.specs.Published.{Serves, callers_at};
 ghost use Rattle.cli.specs.Requests.{AnswersReader};
 ghost use Rattle.cli.specs.Talks.{HasAnswered, IsCutOff};
 ghost use Rattle.cli.specs.declared.requests.Request.TheVariants.{Publish};
 
+mod callers;
 mod closing;
 mod door;
 mod hall;
@@ -21,10 +22,12 @@ mod places;
 mod sent;
 mod session;
 mod streams;
+mod telling;
 mod view;
 
+use crate::publish::callers::answer_callers;
 use crate::publish::closing::close_session;
-use crate::publish::door::open_door;
+use crate::publish::door::{Door, Doors, open_doors};
 use crate::publish::hall::Hall;
 use crate::publish::parting::see_off;
 use crate::publish::parts::read_part;
@@ -44,29 +47,53 @@ use std::sync::{Arc, Wait};
 use std::thread::{Threads, join_mut};
 use std::time::Clock;
 
-/// Answers the lines of the session, once some place waits for clients.
+/// Answers the lines of the reader.
+fn answer_input<'a, P: Publishing, I: BufRead, W: Writer, R: Wait + Clock>(
+    rt: &R,
+    publisher: &Publisher<P>,
+    seat: &mut Seat<P>,
+    reader: &mut I,
+    writer: &mut W,
+) -> Result<(), Failure<'a>>
+    ensures ok { OnOk result (HasAnswered P.checked P.limit None (I.remaining reader.old) (I.remaining reader.new)
+        (W.contents writer.old) (W.contents writer.new) seat.old seat.new) }
+    ensures err { IfErr result (IsCutOff P.checked P.limit None (I.remaining reader.old) (I.remaining reader.new)
+        (W.contents writer.old) (W.contents writer.new) seat.old seat.new) }
+{
+    match answer_lines(rt, publisher.allocator(), publisher, seat, reader, writer) {
+        Ok(_) => Ok(()),
+        Err(failure) => Err(failure),
+    }
+}
+
+/// Answers the lines of callers, if commands come from callers, or else those of the reader, once some place waits for
+/// clients.
 ///
 /// # Errors
 ///
 /// `OutOfMemory` also where none does, since no other thread can be had.
 #[tactic(auto, using(crate::proofs::Talking::unbegun))]
-fn answer_attended<'a, P: Publishing, I: BufRead, W: Writer, R: Wait + Clock>(
+fn answer_attended<'a, P: Publishing, I: BufRead, W: Writer, R: Wait + Clock + Eprint>(
     rt: &R,
     publisher: &Publisher<P>,
     hall: &Hall,
+    callers: &Option<Door>,
     seat: &mut Seat<P>,
     reader: &mut I,
     writer: &mut W,
 ) -> Result<(), Failure<'a>>
-    ensures ok { OnOk result (HasAnswered P.checked P.limit (I.remaining reader.old) (I.remaining reader.new)
-        (W.contents writer.old) (W.contents writer.new) seat.old seat.new) }
-    ensures err { IfErr result (IsCutOff P.checked P.limit (I.remaining reader.old) (I.remaining reader.new)
-        (W.contents writer.old) (W.contents writer.new)) }
+    ensures ok { OnOk result (HasAnswered P.checked P.limit (callers_at callers.now) (I.remaining reader.old)
+        (I.remaining reader.new) (W.contents writer.old) (W.contents writer.new) seat.old seat.new) }
+    ensures err { IfErr result (IsCutOff P.checked P.limit (callers_at callers.now) (I.remaining reader.old)
+        (I.remaining reader.new) (W.contents writer.old) (W.contents writer.new) seat.old seat.new) }
 {
     if !hall.is_attended(rt) {
         return Err(Failure::OutOfMemory);
     }
-    answer_lines(rt, publisher.allocator(), publisher, seat, reader, writer)
+    match callers {
+        Some(door) => answer_callers(rt, publisher, hall, seat, &door.listener),
+        None => answer_input(rt, publisher, seat, reader, writer),
+    }
 }
 
 /// Answers the lines of the session, and lets the clients go when there are no more.
@@ -75,24 +102,24 @@ fn conduct<
     P: Publishing,
     I: BufRead,
     W: Writer,
-    R: Wait + Clock + Net<Listener = TcpListener, Stream = TcpStream>,
+    R: Wait + Clock + Eprint + Net<Listener = TcpListener, Stream = TcpStream>,
 >(
     rt: &R,
     publisher: &Publisher<P>,
     hall: &Hall,
-    port: u16,
+    doors: &Doors,
     seat: &mut Seat<P>,
     reader: &mut I,
     writer: &mut W,
 ) -> Result<(), Failure<'a>>
-    ensures ok { OnOk result (HasAnswered P.checked P.limit (I.remaining reader.old) (I.remaining reader.new)
-        (W.contents writer.old) (W.contents writer.new) seat.old seat.new) }
-    ensures err { IfErr result (IsCutOff P.checked P.limit (I.remaining reader.old) (I.remaining reader.new)
-        (W.contents writer.old) (W.contents writer.new)) }
+    ensures ok { OnOk result (HasAnswered P.checked P.limit (callers_at doors.now.callers) (I.remaining reader.old)
+        (I.remaining reader.new) (W.contents writer.old) (W.contents writer.new) seat.old seat.new) }
+    ensures err { IfErr result (IsCutOff P.checked P.limit (callers_at doors.now.callers) (I.remaining reader.old)
+        (I.remaining reader.new) (W.contents writer.old) (W.contents writer.new) seat.old seat.new) }
 {
-    let answered = answer_attended(rt, publisher, hall, seat, reader, writer);
+    let answered = answer_attended(rt, publisher, hall, &doors.callers, seat, reader, writer);
     publisher.finish(rt);
-    hall.close(rt, port);
+    hall.close(rt, doors.clients.port);
     see_off(rt, publisher, hall);
     answered
 }
@@ -108,30 +135,31 @@ fn run_both<
     rt: &R,
     publisher: &Publisher<P>,
     feed: Feed<'_>,
-    port: u16,
-    listener: &TcpListener,
+    doors: &Doors,
     berths: &mut [Berth],
     seat: &mut Seat<P>,
     reader: &mut I,
     writer: &mut W,
 ) -> Result<(), Failure<'a>>
-    ensures ok { OnOk result (HasAnswered P.checked P.limit (I.remaining reader.old) (I.remaining reader.new)
-        (W.contents writer.old) (W.contents writer.new) seat.old seat.new) }
-    ensures err { IfErr result (IsCutOff P.checked P.limit (I.remaining reader.old) (I.remaining reader.new)
-        (W.contents writer.old) (W.contents writer.new)) }
+    ensures ok { OnOk result (HasAnswered P.checked P.limit (callers_at doors.now.callers) (I.remaining reader.old)
+        (I.remaining reader.new) (W.contents writer.old) (W.contents writer.new) seat.old seat.new) }
+    ensures err { IfErr result (IsCutOff P.checked P.limit (callers_at doors.now.callers) (I.remaining reader.old)
+        (I.remaining reader.new) (W.contents writer.old) (W.contents writer.new) seat.old seat.new) }
 {
     let hall = Hall::new(feed);
     let shared = &hall;
+    let listener = &doors.clients.listener;
     let ((), answered) = join_mut(
         rt,
         &mut || attend_all(rt, publisher, shared, listener, berths),
         &mut || -> Result<(), Failure<'_>>
-            ensures ok { OnOk result (HasAnswered P.checked P.limit (I.remaining reader.entry.now)
-                (I.remaining reader.exit.now) (W.contents writer.entry.now) (W.contents writer.exit.now)
-                seat.entry.now seat.exit.now) }
-            ensures err { IfErr result (IsCutOff P.checked P.limit (I.remaining reader.entry.now)
-                (I.remaining reader.exit.now) (W.contents writer.entry.now) (W.contents writer.exit.now)) }
-        { conduct(rt, publisher, shared, port, seat, reader, writer) },
+            ensures ok { OnOk result (HasAnswered P.checked P.limit (callers_at doors.entry.now.callers)
+                (I.remaining reader.entry.now) (I.remaining reader.exit.now) (W.contents writer.entry.now)
+                (W.contents writer.exit.now) seat.entry.now seat.exit.now) }
+            ensures err { IfErr result (IsCutOff P.checked P.limit (callers_at doors.entry.now.callers)
+                (I.remaining reader.entry.now) (I.remaining reader.exit.now) (W.contents writer.entry.now)
+                (W.contents writer.exit.now) seat.entry.now seat.exit.now) }
+        { conduct(rt, publisher, shared, doors, seat, reader, writer) },
     );
     answered
 }
@@ -173,13 +201,12 @@ fn publish<
     let Some(mut seat) = seats.seat() else {
         unreachable!()
     };
-    let door = open_door(rt, alloc, feed, writer)?;
+    let doors = open_doors(rt, alloc, feed, writer)?;
     let answered = run_both(
         rt,
         &publisher,
         feed,
-        door.port,
-        &door.listener,
+        &doors,
         berths.as_mut_slice(),
         &mut seat,
         reader,

@@ -5,7 +5,7 @@ ghost use Rattle.std.specs.Option.{option_map};
 ghost use Rattle.clap.specs.Words.{first_of, found_of, rows_of, subcommand_rows_of};
 ghost use Rattle.cli.specs.CommandLine as spec;
 ghost use Rattle.cli.specs.CommandLine.{AreConnections, HasLimit, IsCheck, IsEval, IsLimit, IsPort, IsServe, IsService, IsSimulate};
-ghost use Rattle.cli.specs.CommandLine.{AreSeconds, IsFeed, IsLogFormat, IsPortOrAny, IsPublish, IsTaken};
+ghost use Rattle.cli.specs.CommandLine.{AreCommandsAt, AreSeconds, IsFeed, IsLogFormat, IsPortOrAny, IsPublish, IsTaken};
 ghost use Rattle.cli.specs.declared.requests.Feed.{Feed as FeedType};
 ghost use Rattle.cli.specs.declared.requests.LogFormat.{LogFormat as LogFormatType};
 ghost use Rattle.cli.specs.declared.requests.Request.{Request as RequestType};
@@ -41,6 +41,9 @@ pub struct Feed<'a> {
     pub port: u16,
     /// The file into which the port is written.
     pub port_file: Option<&'a str>,
+    /// The port of the loopback interface at which commands come, any free one where it is 0; none where they come by the
+    /// standard input.
+    pub commands: Option<u16>,
     /// The most commits that the log takes.
     pub limit: u32,
     /// How many seconds a client has at most to start its stream.
@@ -222,6 +225,21 @@ fn port_or_any_by(word: Option<&str>) -> Option<u16>
     }
 }
 
+/// The port at which commands come, if the word is read; none where there is no word.
+fn commands_by(word: Option<&str>) -> Option<Option<u16>>
+    ensures some { IfSome result (AreCommandsAt (option_map (λ word. word.now) word.entry)) }
+    ensures none { result ≡ None → (commands : Option ℕ)
+        → AreCommandsAt (option_map (λ word. word.now) word.entry) commands → ⊥ }
+{
+    match word {
+        Some(word) => {
+            let port = port_or_any_by(Some(word))?;
+            Some(Some(port))
+        }
+        None => Some(None),
+    }
+}
+
 /// The most seconds that are waited for anything.
 const MOST_SECONDS: u32 = 86_400;
 
@@ -273,6 +291,7 @@ fn feed_of<'a>(publish: &ArgMatches<'a>) -> Option<Feed<'a>>
 {
     let port = port_or_any_by(publish.get_str("port"))?;
     let port_file = publish.get_str("port-file");
+    let commands = commands_by(publish.get_str("commands"))?;
     let limit = limit_by(publish.get_str("limit"))?;
     let start_timeout = seconds_by(publish.get_str("start-timeout"), 10)?;
     let write_timeout = seconds_by(publish.get_str("write-timeout"), 60)?;
@@ -282,6 +301,7 @@ fn feed_of<'a>(publish: &ArgMatches<'a>) -> Option<Feed<'a>>
     Some(Feed {
         port,
         port_file,
+        commands,
         limit,
         start_timeout,
         write_timeout,

@@ -51,9 +51,11 @@ line when it has come:
   VIEW;                  prints the number of commits, the publisher's rows, and for each subscription up to where it was
                          sent and has confirmed the log, and whether it is connected
   QUIT;                  ends the input, as its end does
-A line that cannot be read prints script PLACE KIND, and changes nothing. Clients are served as serve does, as often as they
-connect. When the input has ended, the clients get what is left and have ten seconds to confirm it. Then the program
-compares what the session and the connections were told with the log, and prints closed COMMITS CONNECTIONS.
+A line that cannot be read prints script PLACE KIND, and changes nothing. With --commands the lines come from clients of that
+port, one client after another, and what is printed for a line goes to its client; the program also prints commands PORT,
+and runs until a client sends QUIT;.
+Clients are served as serve does, as often as they connect. When the input has ended, the clients get what is left and have
+ten seconds to confirm it. Then the program compares what the session and the connections were told with the log, and prints closed COMMITS CONNECTIONS.
 Each connection has a line on standard error when it has ended; with --log json an object when it is accepted, and one when
 it has ended.
 
@@ -62,7 +64,7 @@ Exit status:
   1  the sharding is refused; or the log differs from what was told, and the line close says how
   2  usage error
   3  the catalog or the certificates cannot be read, and a line says why
-  4  cannot write the output or use the port
+  4  cannot write the output or use a port
   5  out of memory";
 
 fn eval_command<'a>(alloc: Global) -> Result<Command<'a>, AllocError>
@@ -166,7 +168,20 @@ fn port_file_argument<'a>(alloc: Global) -> Arg<'a>
     Arg::new(alloc, "port-file")
         .long("port-file")
         .value_name("FILE")
-        .help("writes the port to FILE")
+        .help("writes the port to FILE, and that of --commands to its second line")
+        .action(ArgAction::Set)
+}
+
+fn commands_argument<'a>(alloc: Global) -> Arg<'a>
+    ensures rule { rule_of result ≡ spec.commands_rule }
+    ensures local { result.global ≡ false }
+{
+    Arg::new(alloc, "commands")
+        .long("commands")
+        .value_name("PORT")
+        .help(
+            "reads commands from clients of this port of 127.0.0.1 instead: 1 to 65535, or 0 for any free one",
+        )
         .action(ArgAction::Set)
 }
 
@@ -234,6 +249,7 @@ fn publish_command<'a>(alloc: Global) -> Result<Command<'a>, AllocError>
         "the port of 127.0.0.1 to listen on: 1 to 65535, or 0 for any free one",
     );
     let port_file = port_file_argument(alloc);
+    let commands = commands_argument(alloc);
     let limit = limit_argument(alloc);
     let start_timeout = start_timeout_argument(alloc);
     let write_timeout = write_timeout_argument(alloc);
@@ -245,6 +261,7 @@ fn publish_command<'a>(alloc: Global) -> Result<Command<'a>, AllocError>
         .after_help(PUBLISH_HELP)
         .arg(port)?
         .arg(port_file)?
+        .arg(commands)?
         .arg(limit)?
         .arg(start_timeout)?
         .arg(write_timeout)?

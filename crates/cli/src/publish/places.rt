@@ -9,9 +9,9 @@ use std::alloc::{AllocError, Global};
 use std::io::ErrorKind;
 use std::net::{SocketAddr, TcpListener, TcpStream};
 use std::sync::Wait;
-use std::thread;
 use std::thread::{Threads, join_mut};
 use std::time::{Clock, Duration};
+use std::{io, thread};
 
 /// How many places there are besides one for each subscription. While they are all taken, a connection that starts no
 /// stream is ended, so that clients that ask for nothing keep nobody out.
@@ -63,6 +63,26 @@ fn serve_stream<P: Publishing + Sync, R: Threads + Wait + Clock + Sync>(
     serve(rt, publisher, &mut reader, &mut writer, &OpenGate)
 }
 
+/// The connection that was accepted, with its client's address. Where none can be accepted now it is waited for a while, and
+/// there is none.
+pub(crate) fn accepted_or_waited<R: Clock + Eprint>(
+    rt: &R,
+    alloc: Global,
+    hall: &Hall,
+    accepted: io::Result<(TcpStream, SocketAddr)>,
+) -> Option<(TcpStream, SocketAddr)> {
+    match accepted {
+        Ok(accepted) => Some(accepted),
+        Err(error) => {
+            if error.kind() != ErrorKind::ConnectionAborted {
+                tell_busy(rt, alloc, hall, &error);
+                thread::sleep(rt, Duration::from_millis(PAUSE));
+            }
+            None
+        }
+    }
+}
+
 /// Waits for the next connection at the door, which comes with its client's address; none where it is closed, or where no
 /// connection can be accepted now.
 fn next_stream<R: Clock + Eprint>(
@@ -78,16 +98,7 @@ fn next_stream<R: Clock + Eprint>(
     }
     let accepted = listener.accept();
     hall.leave();
-    match accepted {
-        Ok(accepted) => Some(accepted),
-        Err(error) => {
-            if error.kind() != ErrorKind::ConnectionAborted {
-                tell_busy(rt, alloc, hall, &error);
-                thread::sleep(rt, Duration::from_millis(PAUSE));
-            }
-            None
-        }
-    }
+    accepted_or_waited(rt, alloc, hall, accepted)
 }
 
 /// Serves one client after another, until the door is closed.

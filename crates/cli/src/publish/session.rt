@@ -1,20 +1,20 @@
 //! The session that makes the commits, a line at a time.
 
-ghost use Rattle.std.specs.Prelude.{◌≡◌, [], ◌∷◌, true, codes, map, IfErr, IfOk, OnOk};
-ghost use Rattle.std.specs.Io.KnownBytes.{Appends};
+ghost use Rattle.std.specs.Prelude.{◌≡◌, [], ◌∷◌, true, None, codes, map, IfErr, IfOk, OnOk};
 ghost use Rattle.std.specs.String.{string_bytes};
 ghost use Rattle.pub_reader.specs.ScriptView.{line_view};
 ghost use Rattle.pub_reader.specs.StepView.{step_view};
 ghost use Rattle.table_changes.specs.Commands.{command_view};
 ghost use Rattle.sql_reader.specs.KindNames.{kind_name};
 ghost use Rattle.commands.specs.Failures.{fault_line};
-ghost use Rattle.commands.specs.Output.{StopsText, text_of};
+ghost use Rattle.commands.specs.Output.{text_of};
 ghost use Rattle.cli.specs.Talks as spec;
-ghost use Rattle.cli.specs.Talks.{Answers, HasAnswered, HasGone, IsCutOff, Replies, StopsNext, Tells};
+ghost use Rattle.cli.specs.Talks.{Answers, HasAnswered, HasGone, HasQuit, IsCutOff, Replies, StopsNext, Tells};
 
 use crate::publish::parts::next_line;
+use crate::publish::telling::tell;
 use crate::publish::view::view_text;
-use commands::{Failure, InputFault, Writer, answer_text, read_steps, write_text};
+use commands::{Failure, InputFault, Writer, answer_text, read_steps};
 use pub_catalog::Catalog;
 use pub_reader::{Command, ErrorKind, Line, ReadError, Step};
 use senders::{Publisher, Publishing, Seat};
@@ -149,19 +149,25 @@ fn answer<P: Publishing, R: Wait + Clock>(
     }
 }
 
-/// Writes a text at once.
-fn tell<'a, W: Writer>(text: &str, writer: &mut W) -> Result<(), Failure<'a>>
-    ensures written { OnOk result (Appends (W.contents writer.old) (W.contents writer.new) text.now) }
-    ensures stopped { IfErr result (StopsText text.now (W.contents writer.old) (W.contents writer.new)) }
+/// Whether a line ends the session.
+fn is_quit(line: &[u8]) -> bool
+    ensures { result ≡ true → line.now ≡ codes "QUIT;" }
 {
-    write_text(text, writer)?;
-    match writer.flush() {
-        Ok(()) => Ok(()),
-        Err(_) => Err(Failure::Output),
-    }
+    line == "QUIT;".as_bytes()
 }
 
-/// Reads the next line, answers it, and says whether there was one that is not `QUIT;`. A reader that fails has no more.
+/// What comes next of what is read.
+#[derive(Clone, Copy, Debug, PartialEq, Eq)]
+pub(crate) enum Turn {
+    /// A line, which was answered.
+    Line,
+    /// `QUIT;`
+    Quit,
+    /// No line more.
+    Over,
+}
+
+/// Reads the next line, and answers it unless it is `QUIT;`. A reader that fails has no more.
 fn answer_next<'a, P: Publishing, I: BufRead, W: Writer, R: Wait + Clock>(
     rt: &R,
     alloc: Global,
@@ -170,26 +176,26 @@ fn answer_next<'a, P: Publishing, I: BufRead, W: Writer, R: Wait + Clock>(
     line: &mut Vec<u8>,
     reader: &mut I,
     writer: &mut W,
-) -> Result<bool, Failure<'a>>
+) -> Result<Turn, Failure<'a>>
     ensures ok { IfOk result (HasGone P.checked P.limit (I.remaining reader.old) (I.remaining reader.new)
         (W.contents writer.old) (W.contents writer.new) seat.old seat.new) }
     ensures err { IfErr result (StopsNext P.checked P.limit (I.remaining reader.old) (I.remaining reader.new)
-        (W.contents writer.old) (W.contents writer.new) seat.old) }
+        (W.contents writer.old) (W.contents writer.new) seat.old seat.new) }
 {
     match next_line(reader, line) {
         Ok(true) => {}
-        Ok(false) | Err(Failure::Input(_)) => return Ok(false),
+        Ok(false) | Err(Failure::Input(_)) => return Ok(Turn::Over),
         Err(_) => return Err(Failure::OutOfMemory),
     }
-    if line.as_slice() == "QUIT;".as_bytes() {
-        return Ok(false);
+    if is_quit(line.as_slice()) {
+        return Ok(Turn::Quit);
     }
     let text = answer(rt, alloc, publisher, seat, line.as_slice())?;
     tell(text.as_str(), writer)?;
-    Ok(true)
+    Ok(Turn::Line)
 }
 
-/// Answers each line as it comes, until there is no more or one is `QUIT;`.
+/// Answers each line as it comes, until there is no more or one is `QUIT;`. The answer is whether one was.
 pub(crate) fn answer_lines<'a, P: Publishing, I: BufRead, W: Writer, R: Wait + Clock>(
     rt: &R,
     alloc: Global,
@@ -197,16 +203,19 @@ pub(crate) fn answer_lines<'a, P: Publishing, I: BufRead, W: Writer, R: Wait + C
     seat: &mut Seat<P>,
     reader: &mut I,
     writer: &mut W,
-) -> Result<(), Failure<'a>>
-    ensures ok { OnOk result (HasAnswered P.checked P.limit (I.remaining reader.old) (I.remaining reader.new)
+) -> Result<bool, Failure<'a>>
+    ensures ok { OnOk result (HasAnswered P.checked P.limit None (I.remaining reader.old) (I.remaining reader.new)
         (W.contents writer.old) (W.contents writer.new) seat.old seat.new) }
-    ensures err { IfErr result (IsCutOff P.checked P.limit (I.remaining reader.old) (I.remaining reader.new)
-        (W.contents writer.old) (W.contents writer.new)) }
+    ensures err { IfErr result (IsCutOff P.checked P.limit None (I.remaining reader.old) (I.remaining reader.new)
+        (W.contents writer.old) (W.contents writer.new) seat.old seat.new) }
+    ensures quit { IfOk result (λ quits. quits ≡ true → HasQuit P.checked P.limit (I.remaining reader.new)) }
 {
     let mut line = Vec::new(alloc);
     for _ in rt.forever() {
-        if !answer_next(rt, alloc, publisher, seat, &mut line, reader, writer)? {
-            return Ok(());
+        match answer_next(rt, alloc, publisher, seat, &mut line, reader, writer)? {
+            Turn::Line => {}
+            Turn::Quit => return Ok(true),
+            Turn::Over => return Ok(false),
         }
     }
     unreachable!()

@@ -1,15 +1,18 @@
 //! What VIEW shows: the publisher's rows, and how far each subscriber is.
 
-ghost use Rattle.std.specs.Prelude.{◌≡◌, ◌++◌, IfOk, OnOk};
+ghost use Rattle.std.specs.Prelude.{◌≡◌, ◌++◌, length, IfOk, OnOk};
 ghost use Rattle.std.specs.String.{string_bytes};
-ghost use Rattle.commands.specs.Output.{ended};
+ghost use Rattle.pub_catalog.specs.CatalogView.{catalog_view};
+ghost use Rattle.commands.specs.Output.{ended, text_of};
+ghost use Rattle.shard_world.specs.ViewContents.{AllAt, FoundIn};
 ghost use Rattle.tables_log.specs.BookView.{book_slots};
 ghost use Rattle.tables_log.specs.Committing.{ChangesSlots};
-ghost use Rattle.cli.specs.Talks as spec;
-ghost use Rattle.cli.specs.Talks.{IsLines};
+ghost use Rattle.cli.specs.Views as spec;
+ghost use Rattle.cli.specs.Views.{IsViewText, progress_lines};
 
 use commands::{push_position, push_tables, subscriber_name};
 use filter_tree::Row;
+use pub_catalog::Catalog;
 use publisher_desk::{SlotUse, Wish};
 use senders::{Publisher, Publishing};
 use std::alloc::{AllocError, Global};
@@ -19,18 +22,18 @@ use tables_log::{Book, StartError};
 /// How far a subscriber is: up to where it has confirmed the log, up to where it was sent it since its stream was
 /// started last, and whether it is connected.
 #[derive(Clone, Copy, Debug, PartialEq, Eq)]
-struct Progress {
-    confirmed: u64,
-    sent: u64,
-    is_connected: bool,
+pub(crate) struct Progress {
+    pub(crate) confirmed: u64,
+    pub(crate) sent: u64,
+    pub(crate) is_connected: bool,
 }
 
 /// How many commits the log has, the rows of each table, and how far each subscriber is.
 #[derive(Debug, Drop)]
-struct View {
-    log: u32,
-    rows: Vec<Vec<Row>>,
-    progress: Vec<Progress>,
+pub(crate) struct View {
+    pub(crate) log: u32,
+    pub(crate) rows: Vec<Vec<Row>>,
+    pub(crate) progress: Vec<Progress>,
 }
 
 /// Looks at a book.
@@ -38,6 +41,7 @@ struct View {
 struct Viewing {
     alloc: Global,
     tables: usize,
+    subscriptions: usize,
 }
 
 /// Whether a stream has the slot: then it can't be started.
@@ -53,16 +57,30 @@ fn is_taken(book: &mut Book, slot: usize) -> bool
     }
 }
 
-/// How far each subscriber is.
-fn progress_in(alloc: Global, book: &mut Book, wishes: &[Wish]) -> Result<Vec<Progress>, AllocError>
-    ensures { ChangesSlots book.old book.new (book_slots book.new) }
+/// Up to where the client of a slot was sent the log; 0 where there is no such slot.
+fn sent_to(wishes: &[Wish], slot: usize) -> u64 {
+    match wishes.get(slot) {
+        Some(wish) => wish.sent,
+        None => 0,
+    }
+}
+
+/// How far each of so many subscribers is.
+fn progress_in(
+    alloc: Global,
+    book: &mut Book,
+    wishes: &[Wish],
+    subscriptions: usize,
+) -> Result<Vec<Progress>, AllocError>
+    ensures slots { ChangesSlots book.old book.new (book_slots book.new) }
+    ensures count { IfOk result (λ progress. length progress.items ≡ subscriptions) }
 {
     let mut progress = Vec::new(alloc);
-    for (slot, wish) in wishes.iter().enumerate() {
+    for slot in 0..subscriptions {
         let is_connected = is_taken(book, slot);
         progress.push(Progress {
             confirmed: book.confirmed(slot),
-            sent: wish.sent,
+            sent: sent_to(wishes, slot),
             is_connected,
         })?;
     }
@@ -70,7 +88,11 @@ fn progress_in(alloc: Global, book: &mut Book, wishes: &[Wish]) -> Result<Vec<Pr
 }
 
 /// The rows of so many tables.
-fn rows_in(alloc: Global, book: &Book, tables: usize) -> Result<Vec<Vec<Row>>, AllocError> {
+#[tactic(auto, using(shard_world::proofs::ViewLemmas::at_more))]
+fn rows_in(alloc: Global, book: &Book, tables: usize) -> Result<Vec<Vec<Row>>, AllocError>
+    ensures width { IfOk result (λ rows. length rows.items ≡ tables) }
+    ensures found { IfOk result (λ rows. AllAt (λ table rows. FoundIn book.now table rows.items) rows.items) }
+{
     let mut rows = Vec::new(alloc);
     for table in 0..tables {
         rows.push(book.rows(table)?)?;
@@ -79,14 +101,17 @@ fn rows_in(alloc: Global, book: &Book, tables: usize) -> Result<Vec<Vec<Row>>, A
 }
 
 impl SlotUse for Viewing {
+    ghost use Rattle.std.specs.Prelude.{IfOk};
+    ghost use Rattle.cli.specs.Views.{IsSeen};
+
     type Answer = Result<View, AllocError>;
 
-    ghost did = { λ before after old new wishes left answer. Unit {0} };
+    ghost did = { λ before after old new wishes left answer. IfOk answer (IsSeen old before.tables before.subscriptions) };
 
     fn use_slots(&mut self, book: &mut Book, wishes: &mut [Wish]) -> Result<View, AllocError> {
         let log = book.log_len();
         let rows = rows_in(self.alloc, book, self.tables)?;
-        let progress = progress_in(self.alloc, book, wishes)?;
+        let progress = progress_in(self.alloc, book, wishes, self.subscriptions)?;
         Ok(View {
             log,
             rows,
@@ -108,8 +133,8 @@ fn state(is_connected: bool) -> &'static str
 
 /// Writes the line of a subscriber.
 fn push_progress(text: &mut String, name: &str, progress: Progress) -> Result<(), AllocError>
-    ensures { OnOk result (string_bytes text.new ≡ string_bytes text.old ++ ended (spec.progress_line name.now
-        progress.sent progress.confirmed progress.is_connected)) }
+    ensures { OnOk result (string_bytes text.new ≡ string_bytes text.old
+        ++ ended (spec.progress_line name.now progress)) }
 {
     text.push_str(name)?;
     text.push_str(" sent ")?;
@@ -121,20 +146,26 @@ fn push_progress(text: &mut String, name: &str, progress: Progress) -> Result<()
     Ok(())
 }
 
-/// The lines that show the publisher: the log's length, its rows, and how far each subscriber is.
-pub(crate) fn view_text<P: Publishing, R: Wait>(
-    rt: &R,
-    alloc: Global,
-    publisher: &Publisher<P>,
-) -> Result<String, AllocError>
-    ensures { IfOk result (λ text. IsLines (string_bytes text)) }
+/// Writes the line of each subscriber.
+fn push_all_progress(
+    text: &mut String,
+    catalog: &Catalog,
+    progress: &[Progress],
+) -> Result<(), AllocError>
+    ensures { OnOk result (string_bytes text.new ≡ string_bytes text.old
+        ++ text_of (progress_lines (catalog_view catalog.now) 0 progress.now)) }
 {
-    let catalog = publisher.checked().catalog();
-    let mut viewing = Viewing {
-        alloc,
-        tables: catalog.tables.len(),
-    };
-    let view = publisher.lend(rt, &mut viewing)?;
+    for (number, progress) in progress.iter().enumerate() {
+        let name = subscriber_name(catalog.subscriptions.as_slice(), number);
+        push_progress(text, name, *progress)?;
+    }
+    Ok(())
+}
+
+/// The lines of what was seen of a publisher of this catalog.
+fn shown_text(alloc: Global, catalog: &Catalog, view: &View) -> Result<String, AllocError>
+    ensures { IfOk result (λ text. string_bytes text ≡ text_of (spec.view_lines (catalog_view catalog.now) view.now)) }
+{
     let log = view.log;
     let mut text = format!(in alloc; "log {log}\n")?;
     push_tables(
@@ -144,9 +175,24 @@ pub(crate) fn view_text<P: Publishing, R: Wait>(
         catalog.tables.as_slice(),
         view.rows.as_slice(),
     )?;
-    for (slot, progress) in view.progress.iter().enumerate() {
-        let name = subscriber_name(catalog.subscriptions.as_slice(), slot);
-        push_progress(&mut text, name, *progress)?;
-    }
+    push_all_progress(&mut text, catalog, view.progress.as_slice())?;
     Ok(text)
+}
+
+/// The lines that show the publisher: the log's length, its rows, and how far each subscriber is.
+pub(crate) fn view_text<P: Publishing, R: Wait>(
+    rt: &R,
+    alloc: Global,
+    publisher: &Publisher<P>,
+) -> Result<String, AllocError>
+    ensures { IfOk result (λ text. IsViewText P.checked (string_bytes text)) }
+{
+    let catalog = publisher.checked().catalog();
+    let mut viewing = Viewing {
+        alloc,
+        tables: catalog.tables.len(),
+        subscriptions: catalog.subscriptions.len(),
+    };
+    let view = publisher.lend(rt, &mut viewing)?;
+    shown_text(alloc, catalog, &view)
 }

@@ -7,7 +7,7 @@ use Rattle.clap.specs.Built.{AddsArg}
 use Rattle.clap.specs.declared.builder.arg.Arg.{Arg}
 use Rattle.clap.specs.declared.builder.command.Command.{Command}
 use Rattle.clap.specs.declared.builder.command.Command.TheViews.{out-Command}
-use Rattle.cli.specs.CommandLine.{keepalive_rule, limit_rule, port_file_rule, port_rule, start_timeout_rule, timeout_rule, write_timeout_rule}
+use Rattle.cli.specs.CommandLine.{commands_rule, keepalive_rule, limit_rule, port_file_rule, port_rule, start_timeout_rule, timeout_rule, write_timeout_rule}
 use Rattle.cli.proofs.tree.publish_command.Goals as goal
 
 pub returns-clause-shape : goal.returns-clause-shape
@@ -21,30 +21,30 @@ returns-clause-shape c =
     ≡ with_rule (with_rule (new_app (codes "publish")) port_rule) port_file_rule =
     c.in_ok-arg-2.ensures.shape c.port_file_argument-port_file.ensures.local
     ∙ ap₂ with_rule first_is c.port_file_argument-port_file.ensures.rule in
-    let third_is : app_of c.in_ok-arg-3.field-0
-    ≡ with_rule (with_rule (with_rule (new_app (codes "publish")) port_rule) port_file_rule) limit_rule =
-    c.in_ok-arg-3.ensures.shape c.limit_argument-limit.ensures.local
-    ∙ ap₂ with_rule second_is c.limit_argument-limit.ensures.rule in
-    let fourth_is : app_of c.in_ok-arg-4.field-0
-    ≡ with_rule (with_rule (with_rule (with_rule (new_app (codes "publish")) port_rule) port_file_rule) limit_rule)
-    start_timeout_rule =
-    c.in_ok-arg-4.ensures.shape c.start_timeout_argument-start_timeout.ensures.local
-    ∙ ap₂ with_rule third_is c.start_timeout_argument-start_timeout.ensures.rule in
-    let four : App = with_rule (with_rule (with_rule (with_rule (new_app (codes "publish")) port_rule) port_file_rule)
-    limit_rule) start_timeout_rule in
-    let fifth_is : app_of c.in_ok-arg-5.field-0 ≡ with_rule four write_timeout_rule =
-    c.in_ok-arg-5.ensures.shape c.write_timeout_argument-write_timeout.ensures.local
-    ∙ ap₂ with_rule fourth_is c.write_timeout_argument-write_timeout.ensures.rule in
-    let sixth_is : app_of c.in_ok-arg-6.field-0 ≡ with_rule (with_rule four write_timeout_rule) keepalive_rule =
-    c.in_ok-arg-6.ensures.shape c.keepalive_argument-keepalive.ensures.local
-    ∙ ap₂ with_rule fifth_is c.keepalive_argument-keepalive.ensures.rule in
-    let seventh_is : app_of c.in_ok-arg-7.field-0
-    ≡ with_rule (with_rule (with_rule four write_timeout_rule) keepalive_rule) timeout_rule =
-    c.in_ok-arg-7.ensures.shape c.timeout_argument-timeout.ensures.local
-    ∙ ap₂ with_rule sixth_is c.timeout_argument-timeout.ensures.rule in
-    IfOk-weaker c.arg-8.result _ _
+    let two : App = with_rule (with_rule (new_app (codes "publish")) port_rule) port_file_rule in
+    let third_is : app_of c.in_ok-arg-3.field-0 ≡ with_rule two commands_rule =
+    c.in_ok-arg-3.ensures.shape c.commands_argument-commands.ensures.local
+    ∙ ap₂ with_rule second_is c.commands_argument-commands.ensures.rule in
+    let fourth_is : app_of c.in_ok-arg-4.field-0 ≡ with_rule (with_rule two commands_rule) limit_rule =
+    c.in_ok-arg-4.ensures.shape c.limit_argument-limit.ensures.local
+    ∙ ap₂ with_rule third_is c.limit_argument-limit.ensures.rule in
+    let four : App = with_rule (with_rule two commands_rule) limit_rule in
+    let fifth_is : app_of c.in_ok-arg-5.field-0 ≡ with_rule four start_timeout_rule =
+    c.in_ok-arg-5.ensures.shape c.start_timeout_argument-start_timeout.ensures.local
+    ∙ ap₂ with_rule fourth_is c.start_timeout_argument-start_timeout.ensures.rule in
+    let sixth_is : app_of c.in_ok-arg-6.field-0 ≡ with_rule (with_rule four start_timeout_rule) write_timeout_rule =
+    c.in_ok-arg-6.ensures.shape c.write_timeout_argument-write_timeout.ensures.local
+    ∙ ap₂ with_rule fifth_is c.write_timeout_argument-write_timeout.ensures.rule in
+    let six : App = with_rule (with_rule four start_timeout_rule) write_timeout_rule in
+    let seventh_is : app_of c.in_ok-arg-7.field-0 ≡ with_rule six keepalive_rule =
+    c.in_ok-arg-7.ensures.shape c.keepalive_argument-keepalive.ensures.local
+    ∙ ap₂ with_rule sixth_is c.keepalive_argument-keepalive.ensures.rule in
+    let eighth_is : app_of c.in_ok-arg-8.field-0 ≡ with_rule (with_rule six keepalive_rule) timeout_rule =
+    c.in_ok-arg-8.ensures.shape c.timeout_argument-timeout.ensures.local
+    ∙ ap₂ with_rule seventh_is c.timeout_argument-timeout.ensures.rule in
+    IfOk-weaker c.arg-9.result _ _
     (λ command adds. adds.shape c.log_argument-log.ensures.local
-    ∙ ap₂ with_rule seventh_is c.log_argument-log.ensures.rule) c.arg-8.ensures
+    ∙ ap₂ with_rule eighth_is c.log_argument-log.ensures.rule) c.arg-9.ensures
 
 still_local : (old : Command) (a : Arg) (new : Command) → AddsArg old a new → (out-Command old).has_globals ≡ false
     → a.global ≡ false → (out-Command new).has_globals ≡ false
@@ -56,11 +56,12 @@ returns-clause-local c =
     let named : (out-Command c.after_help.result).has_globals ≡ false = search rules in
     let first = still_local _ _ _ c.in_ok-arg.ensures named c.port_argument-port.ensures.local in
     let second = still_local _ _ _ c.in_ok-arg-2.ensures first c.port_file_argument-port_file.ensures.local in
-    let third = still_local _ _ _ c.in_ok-arg-3.ensures second c.limit_argument-limit.ensures.local in
-    let fourth = still_local _ _ _ c.in_ok-arg-4.ensures third c.start_timeout_argument-start_timeout.ensures.local in
-    let fifth = still_local _ _ _ c.in_ok-arg-5.ensures fourth c.write_timeout_argument-write_timeout.ensures.local in
-    let sixth = still_local _ _ _ c.in_ok-arg-6.ensures fifth c.keepalive_argument-keepalive.ensures.local in
-    let seventh = still_local _ _ _ c.in_ok-arg-7.ensures sixth c.timeout_argument-timeout.ensures.local in
-    IfOk-weaker c.arg-8.result _ _
-    (λ command adds. still_local _ _ command adds seventh c.log_argument-log.ensures.local)
-    c.arg-8.ensures
+    let third = still_local _ _ _ c.in_ok-arg-3.ensures second c.commands_argument-commands.ensures.local in
+    let fourth = still_local _ _ _ c.in_ok-arg-4.ensures third c.limit_argument-limit.ensures.local in
+    let fifth = still_local _ _ _ c.in_ok-arg-5.ensures fourth c.start_timeout_argument-start_timeout.ensures.local in
+    let sixth = still_local _ _ _ c.in_ok-arg-6.ensures fifth c.write_timeout_argument-write_timeout.ensures.local in
+    let seventh = still_local _ _ _ c.in_ok-arg-7.ensures sixth c.keepalive_argument-keepalive.ensures.local in
+    let eighth = still_local _ _ _ c.in_ok-arg-8.ensures seventh c.timeout_argument-timeout.ensures.local in
+    IfOk-weaker c.arg-9.result _ _
+    (λ command adds. still_local _ _ command adds eighth c.log_argument-log.ensures.local)
+    c.arg-9.ensures

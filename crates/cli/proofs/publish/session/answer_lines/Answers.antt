@@ -1,4 +1,4 @@
-use Rattle.cli.proofs.Talking.{begins, goes_on, stops_returned}
+use Rattle.cli.proofs.Talking.{begins, goes_on, quits, stops_returned}
 use Rattle.cli.proofs.publish.session.answer_lines.Goals as goal
 
 pub loop-init : goal.loop-init
@@ -13,7 +13,7 @@ loop-preserved g c =
     goes_on g.P.Publishing.checked g.P.Publishing.limit (read c.args.reader.now) (read c.loop.reader)
     (read c.answer_next.new.reader) (written c.args.writer.now) (written c.loop.writer)
     (written c.answer_next.new.writer) c.args.seat.now c.loop.seat c.answer_next.new.seat c.loop.invariant
-    (rw c.if-not-branch.false at c.in_ok-answer_next.ensures.ok)
+    (rw c.in-Line.is at c.in_ok-answer_next.ensures.ok)
 
 pub returns-in_err-answer_next-clause-err : goal.returns-in_err-answer_next-clause-err
 returns-in_err-answer_next-clause-err g c =
@@ -21,5 +21,15 @@ returns-in_err-answer_next-clause-err g c =
     let written = g.W.Writer.contents in
     stops_returned g.P.Publishing.checked g.P.Publishing.limit (read c.args.reader.now) (read c.loop.reader)
     (read c.answer_next.new.reader) (written c.args.writer.now) (written c.loop.writer)
-    (written c.answer_next.new.writer) c.args.seat.now c.loop.seat c.in_err-answer_next.field-0.0
+    (written c.answer_next.new.writer) c.args.seat.now c.loop.seat c.answer_next.new.seat c.in_err-answer_next.field-0.0
     c.from_residual.result c.loop.invariant c.in_err-answer_next.ensures.err c.from_residual.ensures.1
+
+pub returns-in-Quit-clause-ok : goal.returns-in-Quit-clause-ok
+returns-in-Quit-clause-ok g c =
+    let read = g.I.Read.remaining in
+    let written = g.W.Writer.contents in
+    let gone = rw c.in-Quit.is at c.in_ok-answer_next.ensures.ok in
+    quits g.P.Publishing.checked g.P.Publishing.limit (read c.args.reader.now) (read c.loop.reader)
+    (read c.answer_next.new.reader) (written c.args.writer.now) (written c.loop.writer)
+    (written c.answer_next.new.writer) c.args.seat.now c.loop.seat c.answer_next.new.seat c.loop.invariant gone.0
+    gone.1 gone.2

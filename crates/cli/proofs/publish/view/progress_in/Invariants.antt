@@ -1,7 +1,8 @@
+use Rattle.std.proofs.Common.{◌≡◌, length}
 use Rattle.tables_log.specs.BookView.{book_slots}
 use Rattle.tables_log.specs.Committing.{ChangesSlots}
 use Rattle.cli.proofs.publish.view.progress_in.Given as goal
 
--- nothing of the book but its slots is changed
+-- nothing of the book but its slots is changed, and this many subscribers were looked at
 abbrev pub invariant-loop-slot : goal.invariant-loop-slot
-invariant-loop-slot l = ChangesSlots l.fn.book l.book (book_slots l.book)
+invariant-loop-slot l = ChangesSlots l.fn.book l.book (book_slots l.book) × (length l.progress.items ≡ l.slot)

@@ -1,20 +1,31 @@
-use Rattle.std.proofs.Common.{rules, ◌≡◌, ◌++◌, [], refl, subst, sym, ◌∙◌, codes, List, ℕ}
-use Rattle.std.specs.String.{string_bytes}
-use Rattle.commands.specs.Names.{counted}
-use Rattle.commands.specs.Output.{ended}
-use Rattle.cli.proofs.SlotLemmas.{lines_more, one_line_more}
-use Rattle.cli.specs.Talks.{IsLines}
+use Rattle.std.proofs.Common.{◌≡◌, ◌∙◌, ℕ, length, rules, ap}
+use Rattle.std.proofs.lemmas.Result.{IfOk-weaker}
+use Rattle.filter_tree.specs.Expr.{Expr}
+use Rattle.pub_catalog.specs.CatalogView.{catalog_view}
+use Rattle.pub_catalog.specs.Catalogs.{CatalogOf}
+use Rattle.commands.specs.Output.{text_of}
+use Rattle.cli.specs.Views.{view_lines}
+use Rattle.cli.proofs.Viewing.{shows}
 use Rattle.cli.proofs.publish.view.view_text.Goals as goal
 
-pub loop-slot-init : goal.loop-slot-init
-loop-slot-init g c =
-    let none : IsLines [] = record { lines = []; is = refl } in
-    let first : string_bytes c.in_ok-text.text ≡ ended (counted (codes "log") c.in_ok-view.view.log) = search rules in
-    subst IsLines (sym c.in_ok-push_tables.ensures)
-    (lines_more (string_bytes c.in_ok-text.text) _
-    (subst IsLines (sym first) (one_line_more [] (counted (codes "log") c.in_ok-view.view.log) none)))
-
-pub loop-slot-preserved : goal.loop-slot-preserved
-loop-slot-preserved g c =
-    subst IsLines (sym c.in_ok-push_progress.ensures)
-    (one_line_more (string_bytes c.loop-slot.text) _ c.loop-slot.invariant)
+pub returns : goal.returns
+returns g c =
+    let checked = g.P.Publishing.checked in
+    let view = c.in_ok-view.view in
+    let lent = c.lend.ensures in
+    let same : catalog_view c.catalog-catalog.result.now ≡ checked.catalog = search rules in
+    let shown_tables : c.len.result ≡ length (catalog_view c.catalog-catalog.result.now).tables = search rules in
+    let tables : c.len.result ≡ length checked.catalog.tables =
+    shown_tables ∙ ap (λ (its : CatalogOf Expr). length its.tables) same in
+    let shown_slots : c.len-2.result ≡ length (catalog_view c.catalog-catalog.result.now).subscriptions = search rules in
+    let slots : c.len-2.result ≡ length checked.catalog.subscriptions =
+    shown_slots ∙ ap (λ (its : CatalogOf Expr). length its.subscriptions) same in
+    let seen = rw c.in_ok-view.was at lent.does in
+    IfOk-weaker c.shown_text.result _ _
+    (λ text is. record {
+      lines = view_lines checked.catalog view;
+      view = shows checked lent.old lent.transactions lent.named lent.stands c.len.result c.len-2.result view tables slots
+          seen;
+      is = is ∙ ap (λ (its : CatalogOf Expr). text_of (view_lines its view)) same;
+    })
+    c.shown_text.ensures

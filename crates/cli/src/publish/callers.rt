@@ -1,0 +1,67 @@
+//! Callers: clients whose lines are answered as those of the input are, one caller after another.
+
+ghost use Rattle.std.specs.Prelude.{◌≡◌, IfErr, OnOk};
+ghost use Rattle.commands.specs.declared.failure.Failure.TheVariants.{OutOfMemory};
+ghost use Rattle.cli.specs.Talks.{HasHeard, HasTalked};
+
+use crate::publish::hall::Hall;
+use crate::publish::places::accepted_or_waited;
+use crate::publish::session::answer_lines;
+use crate::publish::streams::{PatientWrite, Writes};
+use commands::{Failure, Printer};
+use senders::{Publisher, Publishing, Seat};
+use std::io::BufReader;
+use std::net::{TcpListener, TcpStream};
+use std::sync::Wait;
+use std::time::Clock;
+
+/// Answers the lines of a caller, until it ends its connection, or takes no answer for too long, or says `QUIT;`. The
+/// answer is whether it did.
+#[tactic(auto, using(crate::proofs::Callers::talked, crate::proofs::Callers::talked_part))]
+fn answer_caller<'a, P: Publishing, R: Wait + Clock>(
+    rt: &R,
+    publisher: &Publisher<P>,
+    hall: &Hall,
+    seat: &mut Seat<P>,
+    stream: &TcpStream,
+) -> Result<bool, Failure<'a>>
+    ensures ok { OnOk result (HasTalked P.checked P.limit seat.old seat.new) }
+    ensures err { IfErr result (λ failure. failure ≡ OutOfMemory) }
+{
+    let alloc = publisher.allocator();
+    let _ = stream.set_nodelay(true);
+    let Ok(mut reader) = BufReader::new(alloc, stream) else {
+        return Err(Failure::OutOfMemory);
+    };
+    let writes = Writes::new();
+    let mut writer = Printer::new(PatientWrite::new(hall, stream, &writes));
+    match answer_lines(rt, alloc, publisher, seat, &mut reader, &mut writer) {
+        Ok(quits) => Ok(quits),
+        Err(Failure::Output) => Ok(false),
+        Err(_) => Err(Failure::OutOfMemory),
+    }
+}
+
+/// Answers the lines of one caller after another, until one says `QUIT;`.
+#[tactic(auto, using(crate::proofs::Callers::nobody, crate::proofs::Callers::one_more))]
+pub(crate) fn answer_callers<'a, P: Publishing, R: Wait + Clock + Eprint>(
+    rt: &R,
+    publisher: &Publisher<P>,
+    hall: &Hall,
+    seat: &mut Seat<P>,
+    listener: &TcpListener,
+) -> Result<(), Failure<'a>>
+    ensures ok { OnOk result (HasHeard P.checked P.limit seat.old seat.new) }
+    ensures err { IfErr result (λ failure. failure ≡ OutOfMemory) }
+{
+    let alloc = publisher.allocator();
+    for _ in rt.forever() {
+        let Some((stream, _)) = accepted_or_waited(rt, alloc, hall, listener.accept()) else {
+            continue;
+        };
+        if answer_caller(rt, publisher, hall, seat, &stream)? {
+            return Ok(());
+        }
+    }
+    unreachable!()
+}
