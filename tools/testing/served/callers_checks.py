@@ -16,10 +16,11 @@ from .publish_checks import ANSWERS, commit_line, head
 from .publisher import Insert
 from .shop import LONDON, SHOP
 
-# How long a caller is watched that is to get no answer yet, and how long one may take no answer, and be noticed.
+# How long a caller is watched that is to get no answer yet, how long one may take no answer, and how much later that is
+# noticed at most, on a busy machine.
 WATCH = 0.5
 STALL = 1
-DELAY = 3.0
+DELAY = 60
 
 # What is shown to a caller that reads nothing: more than sockets hold.
 LONG_ROWS, LONG_TEXT, VIEWS = 50, 60_000, 6
@@ -60,7 +61,12 @@ class Caller:
 def calling(port: int, room: int | None = None) -> Iterator[Caller]:
     """A caller, which may have little room for what it does not read."""
     with client(port, room) as made:
-        yield Caller(made.opened)
+        caller = Caller(made.opened)
+        try:
+            yield caller
+        finally:
+            # The file keeps the connection open.
+            caller.answers.close()
 
 
 @contextlib.contextmanager
@@ -168,8 +174,8 @@ def check_stalled(tally: Tally, text: str) -> None:
         with calling(callers, LITTLE) as stalled, calling(callers) as caller:
             for row in rows:
                 stalled.ask(commit_line([row]))
-            stalled.say("VIEW;\n" * VIEWS)
             begin = time.monotonic()
+            stalled.say("VIEW;\n" * VIEWS)
             tally.check("a caller after one that reads nothing", caller.ask("COMMIT;"), "refused EmptyTransaction\n")
             waited = time.monotonic() - begin
             tally.check("how long it waits", STALL - 0.1 < waited < STALL + DELAY, True)
