@@ -1,6 +1,7 @@
 pub mod BookLemmas
 pub mod CommandLemmas
 pub mod Crossing
+pub mod KeyLemmas
 pub mod LayerLemmas
 pub mod ListLemmas
 pub mod ListingLemmas
@@ -12,4 +13,5 @@ pub mod SameLemmas
 pub mod SendableLemmas
 pub mod SettleLemmas
 pub mod StandLemmas
+pub mod StepLemmas
 pub mod TruncateLemmas

@@ -4,9 +4,11 @@ pub mod BookView
 pub mod Commits
 pub mod Committing
 pub mod Faults
+pub mod KeyView
 pub mod Layers
 pub mod Listing
 pub mod Logs
+pub mod Lsn
 pub mod NumberKeys
 pub mod Places
 pub mod Routes

@@ -13,7 +13,6 @@ ghost use Rattle.tables_log.specs.Sendable.{IsSendableRow};
 ghost use Rattle.tables_log.specs.Places.{seen_at, values_in, PutsRow};
 
 use crate::error::{CommandFault, Refused};
-use crate::keys::key_values;
 use crate::table_row::TableRow;
 use crate::table_rows::TableRows;
 use filter_tree::{Row, Table, copy_row, valid};
@@ -46,11 +45,10 @@ fn place(alloc: Global, table: &Table, rows: &mut TableRows, row: &TableRow) -> 
         (λ _. PutsRow rows.old rows.new (values_in (keys_in (Some table.now)) row.now) (Some row.now))
         rows.old result rows.new }
 {
-    let values = key_values(alloc, table, row.row())?;
-    if !rows.is_free(&values) {
+    let is_free = rows.place(alloc, table, row)?;
+    if !is_free {
         return Err(Refused::Fault(CommandFault::DuplicateKey));
     }
-    rows.put(values, Some(row))?;
     Ok(())
 }
 
@@ -65,8 +63,7 @@ fn take(alloc: Global, table: &Table, rows: &mut TableRows, key: &Row) -> Result
         return Err(Refused::Fault(CommandFault::NoSuchRow));
     };
     let old = found.share()?;
-    let values = key_values(alloc, table, old.row())?;
-    rows.put(values, None)?;
+    rows.remove(alloc, table, &old)?;
     Ok(old)
 }
 

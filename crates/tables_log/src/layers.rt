@@ -1,6 +1,6 @@
 //! Maps that are changed in place, with what undoes the changes until they settle, which needs no memory.
 
-ghost use Rattle.std.specs.Prelude.{◌≡◌, true, false, [], None, Some, map, is_some, IfOk, OnOk, OnErr, if◌then◌else◌};
+ghost use Rattle.std.specs.Prelude.{◌≡◌, ◌≤◌, true, false, [], None, Some, length, map, is_some, IfOk, OnOk, OnErr, if◌then◌else◌};
 ghost use Rattle.std.specs.BTreeMap.{get};
 ghost use Rattle.std.specs.Option.{option_map};
 ghost use Rattle.std.specs.Ordering.{eq_by_cmp};
@@ -118,8 +118,22 @@ fn take_empty<K: Ord + Drop, V: Drop>(base: &mut BTreeMap<K, Option<V>, Global>,
     }
 }
 
+/// Drops the last change, if it was one of this key.
+fn pop_same<K: Ord + Drop, V: Drop>(undo: &mut Vec<(K, Option<V>)>, key: &K)
+    ensures { length undo.new.items ≤ length undo.old.items }
+{
+    let is_same = match undo.last() {
+        None => false,
+        Some((other, _)) => key.cmp(other).is_eq(),
+    };
+    if is_same {
+        let _ = undo.pop();
+    }
+}
+
 /// Forgets what undoes the changes, and removes the places that they left empty. A place that was made has a value,
-/// unless a later change found it there.
+/// unless a later change found it there. A place that a change left empty, and that the next one filled, as for a row
+/// that is replaced, is not looked up.
 fn settle_in<K: Ord + Drop, V: Drop>(
     base: &mut BTreeMap<K, Option<V>, Global>,
     made: &mut Vec<K>,
@@ -133,6 +147,8 @@ fn settle_in<K: Ord + Drop, V: Drop>(
     while let Some((key, place)) = undo.pop() {
         if place.is_some() {
             take_empty(base, &key);
+        } else {
+            pop_same(undo, &key);
         }
     }
 }

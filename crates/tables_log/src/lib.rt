@@ -6,9 +6,11 @@ mod book;
 mod commit;
 mod committing;
 mod error;
+mod key;
 mod keys;
 mod laws;
 mod layers;
+mod lsn;
 mod routed;
 mod settling;
 mod slots;
@@ -24,4 +26,5 @@ pub use error::{CommandFault, CommitError, StartError, StatusAhead};
 pub use laws::{
     books_go_to_other_threads, books_stand_for_transactions, listed_rows_are_the_table,
 };
+pub use lsn::{Lsn, xid_of_commit};
 pub use staged::Staged;

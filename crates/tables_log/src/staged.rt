@@ -1,12 +1,12 @@
 //! Maps in which changes are staged: what is kept stays until they settle, which needs no memory.
 
-ghost use Rattle.std.specs.Prelude.{◌≡◌};
 ghost use Rattle.filter_tree.specs.Order.{row_cmp};
 ghost use Rattle.tables_log.specs.Layers.{kept_under, shown};
-ghost use Rattle.tables_log.specs.NumberKeys.{number_in, HasNoNumber};
+ghost use Rattle.tables_log.specs.NumberKeys.{HasNoNumber};
 
+use crate::key::{Key, only_number};
 use crate::layers::Layers;
-use filter_tree::{Row, Value, copy_row};
+use filter_tree::{Row, copy_row};
 use std::alloc::{AllocError, Global};
 
 /// A map from rows, as keys, in which changes are staged: they are made in place, and what undoes them is noted, so
@@ -23,21 +23,12 @@ pub struct Staged<V> {
     ghost seen_apart: { HasNoNumber (shown row_cmp rows.base rows.fresh rows.emptied) },
 }
 
-/// The number that the key is, if it is one number.
-fn only_number(key: &Row) -> Option<i64>
-    ensures { result ≡ number_in key.now }
-{
-    match key.values() {
-        [Value::Int(number)] => Some(*number),
-        _ => None,
-    }
-}
-
 #[tactic(auto, unfolding(crate::specs::Staging::kept, crate::specs::Staging::seen))]
 impl<V: Drop> Staged<V> {
     ghost use Rattle.std.specs.Prelude.{◌≡◌, List, None, Some, map, is_some, IfOk, OnOk};
     ghost use Rattle.std.specs.Option.{option_map};
     ghost use Rattle.filter_tree.specs.Datum.{Datum};
+    ghost use Rattle.tables_log.specs.KeyView.{key_view};
     ghost use Rattle.tables_log.specs.Listing.{ListsFound};
     ghost use Rattle.tables_log.specs.Staging.{kept, seen, kept_values, Keeps, Puts, Empties, Settles, Discards};
 
@@ -100,6 +91,18 @@ impl<V: Drop> Staged<V> {
         }
     }
 
+    /// Puts the value under the key, as `put` does.
+    pub(crate) fn put_under(&mut self, key: Key, value: V) -> Result<bool, AllocError>
+        ensures keeps { Keeps self.old self.new }
+        ensures was { IfOk result (λ was. was ≡ is_some (seen self.old (key_view key))) }
+        ensures puts { OnOk result (Puts self.old self.new (key_view key) (Some value)) }
+    {
+        match key {
+            Key::Number(number) => self.numbers.put(number, number, value),
+            Key::Values(values) => self.put(values, value),
+        }
+    }
+
     /// Leaves nothing under the key, and returns whether something was seen there. What is kept stays. The only error
     /// is out of memory.
     pub fn take(&mut self, key: Row) -> Result<bool, AllocError>
@@ -110,6 +113,17 @@ impl<V: Drop> Staged<V> {
         match only_number(&key) {
             Some(number) => self.numbers.take(number),
             None => self.rows.take(key),
+        }
+    }
+
+    /// Leaves nothing under the key, as `take` does.
+    pub(crate) fn take_under(&mut self, key: Key) -> Result<bool, AllocError>
+        ensures keeps { Keeps self.old self.new }
+        ensures puts { OnOk result (Puts self.old self.new (key_view key) None) }
+    {
+        match key {
+            Key::Number(number) => self.numbers.take(number),
+            Key::Values(values) => self.take(values),
         }
     }
 

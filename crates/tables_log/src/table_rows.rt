@@ -1,11 +1,12 @@
 //! The rows of a table, each of which is found by each of the table's unique keys.
 
 ghost use Rattle.std.specs.Prelude.{◌≡◌, map, IfOk};
-ghost use Rattle.std.specs.Option.{option_map};
 
+use crate::key::Key;
+use crate::keys::unique_key;
 use crate::staged::Staged;
 use crate::table_row::TableRow;
-use filter_tree::{Row, copy_row};
+use filter_tree::{Row, Table, copy_row};
 use std::alloc::{AllocError, Global};
 
 /// The rows of a table: a map for the primary key, and then one for each unique index, in which changes are staged.
@@ -14,15 +15,6 @@ use std::alloc::{AllocError, Global};
 #[derive(Drop)]
 pub(crate) struct TableRows {
     maps: Vec<Staged<TableRow>>,
-}
-
-fn share(row: Option<&TableRow>) -> Result<Option<TableRow>, AllocError>
-    ensures { IfOk result (λ shared. shared ≡ option_map (λ one. one.now) row.entry) }
-{
-    match row {
-        None => Ok(None),
-        Some(row) => Ok(Some(row.share()?)),
-    }
 }
 
 /// Copies of the rows. The only error is out of memory.
@@ -37,12 +29,15 @@ fn copies(alloc: Global, shared: &[&TableRow]) -> Result<Vec<Row>, AllocError>
 }
 
 impl TableRows {
-    ghost use Rattle.std.specs.Prelude.{◌≡◌, ℕ, ◌+◌, ◌<◌, List, None, length, is_some, IfOk, OnOk};
+    ghost use Rattle.std.specs.Prelude.{◌≡◌, ℕ, ◌+◌, ◌<◌, true, List, Some, None, length, slice_get, is_some, IfOk, OnOk};
     ghost use Rattle.std.specs.Option.{option_map};
     ghost use Rattle.filter_tree.specs.Datum.{Datum};
+    ghost use Rattle.replica_identity.specs.Setting.{keys_in};
+    ghost use Rattle.table_changes.specs.Keys.{value_in};
     ghost use Rattle.table_changes.specs.Tables.{found_at};
+    ghost use Rattle.tables_log.specs.KeyView.{key_view};
     ghost use Rattle.tables_log.specs.Listing.{ListsFound};
-    ghost use Rattle.tables_log.specs.Places.{kept_at, seen_at, are_free, first_values, IsInOrder};
+    ghost use Rattle.tables_log.specs.Places.{kept_at, seen_at, are_free, values_in, first_values, IsInOrder};
     ghost use Rattle.tables_log.specs.Places.{KeepsRows, PutsOne, PutsRow, EmptiesRows, SettlesRows, DiscardsRows};
 
     /// No rows of a table with this number of unique indexes. The only error is out of memory.
@@ -95,65 +90,119 @@ impl TableRows {
         Ok(rows)
     }
 
-    /// Whether a row is seen by this value of the unique key of this number.
-    fn is_taken(&self, number: usize, value: Option<&Row>) -> bool
-        ensures { result ≡ is_some (found_at (seen_at self.now.maps.items number) (option_map
-            (λ row. row.now) value.entry)) }
-    {
-        match value {
-            None => false,
-            Some(value) => self.find(number, value).is_some(),
-        }
-    }
-
-    /// Whether no row is seen by one of these values, which are those of the unique keys in their order.
-    pub(crate) fn is_free(&self, values: &[Option<Row>]) -> bool
-        ensures { result ≡ are_free (seen_at self.now.maps.items) 0 values.now }
-    {
-        for (number, value) in values.iter().enumerate() {
-            if self.is_taken(number, value.as_ref()) {
-                return false;
-            }
-        }
-        true
-    }
-
-    /// Stages the row, or that there is none, in the map of this number, if the row has a value there. The only error
+    /// Stages the row in the map of this number under this key, and returns whether a row was seen there. The only error
     /// is out of memory.
-    #[tactic(auto, using(crate::proofs::PlaceLemmas::puts_nothing, crate::proofs::PlaceLemmas::puts_there, crate::proofs::PlaceLemmas::keeps_there, crate::proofs::PlaceLemmas::keeps_here))]
-    fn put_one(
-        &mut self,
-        number: usize,
-        value: Option<Row>,
-        row: Option<&TableRow>,
-    ) -> Result<(), AllocError>
+    #[tactic(auto, using(crate::proofs::PlaceLemmas::puts_there, crate::proofs::PlaceLemmas::keeps_there, crate::proofs::PlaceLemmas::keeps_here, crate::proofs::StepLemmas::was_there))]
+    fn put_at(&mut self, number: usize, key: Key, row: &TableRow) -> Result<bool, AllocError>
         requires { number < length self.old.maps.items }
         ensures keeps { KeepsRows self.old self.new }
-        ensures puts { OnOk result (PutsOne self.old self.new number value (option_map (λ one. one.now) row.entry)) }
+        ensures was { IfOk result (λ was. was ≡ is_some (seen_at self.old.maps.items number (key_view key))) }
+        ensures puts { OnOk result (PutsOne self.old self.new number (Some (key_view key)) (Some row.now)) }
     {
-        let Some(value) = value else {
-            return Ok(());
-        };
-        let shared = share(row)?;
+        let shared = row.share()?;
         let map = &mut self.maps[number];
-        map.stage(value, shared)?;
+        let was = map.put_under(key, shared)?;
+        Ok(was)
+    }
+
+    /// Stages that there is no row in the map of this number under this key. The only error is out of memory.
+    #[tactic(auto, using(crate::proofs::PlaceLemmas::puts_there, crate::proofs::PlaceLemmas::keeps_there))]
+    fn take_at(&mut self, number: usize, key: Key) -> Result<(), AllocError>
+        requires { number < length self.old.maps.items }
+        ensures keeps { KeepsRows self.old self.new }
+        ensures puts { OnOk result (PutsOne self.old self.new number (Some (key_view key)) None) }
+    {
+        let map = &mut self.maps[number];
+        let _was = map.take_under(key)?;
         Ok(())
     }
 
-    /// Stages the row, or that there is none, in each map where the row has a value. The only error is out of memory.
-    #[tactic(auto, using(crate::proofs::PlaceLemmas::puts_step, crate::proofs::PlaceLemmas::puts_done, crate::proofs::PlaceLemmas::keeps_step))]
-    pub(crate) fn put(
+    /// Stages the row in the map of this number, if it has a value there, and returns whether a row was seen by that
+    /// value. The only error is out of memory.
+    #[tactic(auto, using(crate::proofs::PlaceLemmas::puts_nothing, crate::proofs::PlaceLemmas::keeps_here, crate::proofs::StepLemmas::none_found, crate::proofs::StepLemmas::puts_same, crate::proofs::StepLemmas::found_same))]
+    fn place_one(
         &mut self,
-        values: Vec<Option<Row>>,
-        row: Option<&TableRow>,
-    ) -> Result<(), AllocError>
-        requires { length values.items ≡ length self.old.maps.items }
+        alloc: Global,
+        table: &Table,
+        number: usize,
+        row: &TableRow,
+    ) -> Result<bool, AllocError>
+        requires { number < length self.old.maps.items }
         ensures keeps { KeepsRows self.old self.new }
-        ensures puts { OnOk result (PutsRow self.old self.new values.items (option_map (λ one. one.now) row.entry)) }
+        ensures was { IfOk result (λ was. was ≡ is_some (found_at (seen_at self.old.maps.items number)
+            (value_in (slice_get (keys_in (Some table.now)) number) row.now))) }
+        ensures puts { OnOk result (PutsOne self.old self.new number
+            (value_in (slice_get (keys_in (Some table.now)) number) row.now) (Some row.now)) }
     {
-        let mut values = values;
-        while let Some(value) = values.pop() {
-            self.put_one(values.len(), value, row)?;
+        match unique_key(alloc, table, number, row.row())? {
+            None => Ok(false),
+            Some(key) => {
+                let was = self.put_at(number, key, row)?;
+                Ok(was)
+            }
+        }
+    }
+
+    /// Stages that the row is not in the map of this number. The only error is out of memory.
+    #[tactic(auto, using(crate::proofs::PlaceLemmas::puts_nothing, crate::proofs::PlaceLemmas::keeps_here, crate::proofs::StepLemmas::puts_same))]
+    fn take_one(
+        &mut self,
+        alloc: Global,
+        table: &Table,
+        number: usize,
+        row: &TableRow,
+    ) -> Result<(), AllocError>
+        requires { number < length self.old.maps.items }
+        ensures keeps { KeepsRows self.old self.new }
+        ensures puts { OnOk result (PutsOne self.old self.new number
+            (value_in (slice_get (keys_in (Some table.now)) number) row.now) None) }
+    {
+        match unique_key(alloc, table, number, row.row())? {
+            None => Ok(()),
+            Some(key) => {
+                self.take_at(number, key)?;
+                Ok(())
+            }
+        }
+    }
+
+    /// Stages the row in each map where it has a value, up to the first where a row is seen by that value, and returns
+    /// whether there is no such map. The only error is out of memory.
+    pub(crate) fn place(
+        &mut self,
+        alloc: Global,
+        table: &Table,
+        row: &TableRow,
+    ) -> Result<bool, AllocError>
+        requires { length self.old.maps.items ≡ length (keys_in (Some table.now)) }
+        ensures keeps { KeepsRows self.old self.new }
+        ensures free { IfOk result (λ free. free ≡ are_free (seen_at self.old.maps.items) 0
+            (values_in (keys_in (Some table.now)) row.now)) }
+        ensures puts { IfOk result (λ free. free ≡ true
+            → PutsRow self.old self.new (values_in (keys_in (Some table.now)) row.now) (Some row.now)) }
+    {
+        for number in 0..self.maps.len() {
+            if self.place_one(alloc, table, number, row)? {
+                return Ok(false);
+            }
+        }
+        Ok(true)
+    }
+
+    /// Stages that the row is in no map. The only error is out of memory.
+    pub(crate) fn remove(
+        &mut self,
+        alloc: Global,
+        table: &Table,
+        row: &TableRow,
+    ) -> Result<(), AllocError>
+        requires { length self.old.maps.items ≡ length (keys_in (Some table.now)) }
+        ensures keeps { KeepsRows self.old self.new }
+        ensures puts { OnOk result (PutsRow self.old self.new
+            (values_in (keys_in (Some table.now)) row.now) None) }
+    {
+        for number in 0..self.maps.len() {
+            self.take_one(alloc, table, number, row)?;
         }
         Ok(())
     }
