@@ -7,10 +7,7 @@ use Rattle.copy_frames.specs.declared.status.Status.{Status}
 use Rattle.copy_frames.specs.declared.xlog_data.XLogData.{XLogData}
 use Rattle.copy_frames.specs.Frames.{framed}
 
--- ---- how it is spelled
-
-abbrev pub int64 : ℕ → List ℕ
-int64 number = to_be_bytes w64 number
+-- ---- how it is spelled: a number has 64 bits, the high byte first
 
 abbrev pub flag : Bool → ℕ
 flag true = 1
@@ -28,18 +25,21 @@ copy_data body = framed (record { kind = 100; body = body })
 
 -- `w`, and then a message
 abbrev pub xlog_data_body : XLogData → List ℕ → List ℕ
-xlog_data_body head message = 119 ∷ (int64 head.start ++ (int64 head.end ++ (int64 head.clock ++ message)))
+xlog_data_body head message =
+    119 ∷ (to_be_bytes w64 head.start
+    ++ (to_be_bytes w64 head.end ++ (to_be_bytes w64 head.clock ++ message)))
 
 -- `k`
 abbrev pub keepalive_body : Keepalive → List ℕ
 keepalive_body keepalive =
-    107 ∷ (int64 keepalive.position ++ (int64 keepalive.clock ++ (flag keepalive.wants_reply ∷ [])))
+    107 ∷ (to_be_bytes w64 keepalive.position ++ (to_be_bytes w64 keepalive.clock ++ (flag keepalive.wants_reply ∷ [])))
 
 -- `r`
 abbrev pub status_body : Status → List ℕ
 status_body status =
-    114 ∷ (int64 status.written
-    ++ (int64 status.flushed ++ (int64 status.applied ++ (int64 status.clock ++ (flag status.wants_reply ∷ [])))))
+    114 ∷ (to_be_bytes w64 status.written
+    ++ (to_be_bytes w64 status.flushed ++ (to_be_bytes w64 status.applied
+    ++ (to_be_bytes w64 status.clock ++ (flag status.wants_reply ∷ [])))))
 
 -- ---- what is read of it, after the byte for its kind
 

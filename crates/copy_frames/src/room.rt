@@ -1,8 +1,8 @@
 //! Bytes that are appended if there is room for them.
 
 ghost use Rattle.std.specs.Prelude.{◌≡◌, ◌≤◌, ◌+◌, ◌++◌, ◌∷◌, [], length};
-ghost use Rattle.copy_frames.specs.Contents.{flag, int64};
-ghost use Rattle.std.specs.Int.{to_be_bytes, w32};
+ghost use Rattle.copy_frames.specs.Contents.{flag};
+ghost use Rattle.std.specs.Int.{to_be_bytes, w32, w64};
 
 use byteorder::{BigEndian, ByteOrder};
 use bytes::BytesMut;
@@ -39,7 +39,7 @@ pub fn put_int32(out: &mut BytesMut, number: u32)
 /// Appends a number of 64 bits for which there is room, the high byte first.
 pub fn put_int64(out: &mut BytesMut, number: u64)
     requires { 8 ≤ out.old.spare }
-    ensures items { out.new.items ≡ out.old.items ++ int64 number }
+    ensures items { out.new.items ≡ out.old.items ++ to_be_bytes w64 number }
     ensures spare { out.new.spare + 8 ≡ out.old.spare }
 {
     let mut bytes = [0; 8];

@@ -114,35 +114,35 @@ module _ (P : Msg → Type 0) where
   once tables holds true number = All-nil P
   once tables holds false number = one_relation number (slice_get tables number) (holds.relations number)
 
-  all_relations : (tables : List Table) → Everywhere P tables → (told : List Bool) (numbers : List ℕ)
-      → All P (relations_of tables told numbers)
+  all_relations : (tables : List Table) → Everywhere P tables → (sent : List Bool) (numbers : List ℕ)
+      → All P (relations_of tables sent numbers)
   unfolding relations_of relation_once
-  all_relations tables holds told [] = All-nil P
-  all_relations tables holds told (number ∷ numbers) =
-      All-append P (introduced tables (slice_index_or told number false) number)
-      (relations_of tables (told_one told number) numbers)
-      (once tables holds (slice_index_or told number false) number)
-      (all_relations tables holds (told_one told number) numbers)
+  all_relations tables holds sent [] = All-nil P
+  all_relations tables holds sent (number ∷ numbers) =
+      All-append P (introduced tables (slice_index_or sent number false) number)
+      (relations_of tables (told_one sent number) numbers)
+      (once tables holds (slice_index_or sent number false) number)
+      (all_relations tables holds (told_one sent number) numbers)
 
-  one_said : (tables : List Table) → Everywhere P tables → (told : List Bool) (change : Option r.ChangeOf)
-      → IfSendable change → All P (said tables told change)
+  one_said : (tables : List Table) → Everywhere P tables → (sent : List Bool) (change : Option r.ChangeOf)
+      → IfSendable change → All P (said tables sent change)
   unfolding said IfSendable
-  one_said tables holds told None h = All-nil P
-  one_said tables holds told (Some change) h =
-      All-append P (relations_of tables told (named_in change)) (message_of change)
-      (all_relations tables holds told (named_in change)) (holds.changes change h)
+  one_said tables holds sent None h = All-nil P
+  one_said tables holds sent (Some change) h =
+      All-append P (relations_of tables sent (named_in change)) (message_of change)
+      (all_relations tables holds sent (named_in change)) (holds.changes change h)
 
   all_said : (checked : CheckedOf) (subscriber : ℕ) → Everywhere P checked.catalog.tables
-      → (told : List Bool) (changes : List r.ChangeOf) → All IsSendableChange changes
-      → All P (said_each checked subscriber told changes)
+      → (sent : List Bool) (changes : List r.ChangeOf) → All IsSendableChange changes
+      → All P (said_each checked subscriber sent changes)
   unfolding said_each
-  all_said checked subscriber holds told [] all = All-nil P
-  all_said checked subscriber holds told (change ∷ changes) all =
+  all_said checked subscriber holds sent [] all = All-nil P
+  all_said checked subscriber holds sent (change ∷ changes) all =
       let mine = got (setting_in checked) subscriber change in
-      All-append P (said checked.catalog.tables told mine) (said_each checked subscriber (told_by told mine) changes)
-      (one_said checked.catalog.tables holds told mine
+      All-append P (said checked.catalog.tables sent mine) (said_each checked subscriber (told_by sent mine) changes)
+      (one_said checked.catalog.tables holds sent mine
       (got_sendable checked subscriber change (all 0 change (omega arith))))
-      (all_said checked subscriber holds (told_by told mine) changes (λ k d h. all (suc k) d (omega (arith, h))))
+      (all_said checked subscriber holds (told_by sent mine) changes (λ k d h. all (suc k) d (omega (arith, h))))
 
   all_enclosed : (commit : CommitOf) (messages : List Msg) → P (begin_of commit) → P (commit_of commit)
       → All P messages → All P (enclosed commit messages)
@@ -152,9 +152,9 @@ module _ (P : Msg → Type 0) where
       (all_one P (begin_of commit) begins)
       (All-append P (first ∷ others) (commit_of commit ∷ []) all (all_one P (commit_of commit) ends))
 
-  pub all_messages : (checked : CheckedOf) (subscriber : ℕ) (told : List Bool) (commit : CommitOf) → IsSendable commit
+  pub all_messages : (checked : CheckedOf) (subscriber : ℕ) (sent : List Bool) (commit : CommitOf) → IsSendable commit
       → Everywhere P checked.catalog.tables
-      → P (begin_of commit) → P (commit_of commit) → All P (messages_for checked subscriber told commit)
-  all_messages checked subscriber told commit h holds begins ends =
-      all_enclosed commit (said_each checked subscriber told commit.changes) begins ends
-      (all_said checked subscriber holds told commit.changes h.changed)
+      → P (begin_of commit) → P (commit_of commit) → All P (messages_for checked subscriber sent commit)
+  all_messages checked subscriber sent commit h holds begins ends =
+      all_enclosed commit (said_each checked subscriber sent commit.changes) begins ends
+      (all_said checked subscriber holds sent commit.changes h.changed)

@@ -18,7 +18,7 @@ use Rattle.pgoutput_msgs.specs.declared.message.Msg.{Msg}
 use Rattle.pgoutput_msgs.specs.declared.message.Msg.TheVariants as m
 
 abbrev is_told : List Bool → ℕ → Bool
-is_told told number = slice_index_or told number false
+is_told sent number = slice_index_or sent number false
 
 -- ---- messages one after the other
 
@@ -27,12 +27,12 @@ introduced_both : (known : List ℕ) (one other : List Msg) → AreIntroduced kn
 introduced_both known [] other h k = k
 introduced_both known (message ∷ one) other h k = (h.0, introduced_both (known_after known message) one other h.1 k)
 
-nothing : (told : List Bool) → Introduces told told []
-nothing told = record { introduced = λ known h. tt; known = λ known h. h }
+nothing : (sent : List Bool) → Introduces sent sent []
+nothing sent = record { introduced = λ known h. tt; known = λ known h. h }
 
-both : (told between after : List Bool) (one other : List Msg) → Introduces told between one
-    → Introduces between after other → Introduces told after (one ++ other)
-both told between after one other h k = record {
+both : (sent between after : List Bool) (one other : List Msg) → Introduces sent between one
+    → Introduces between after other → Introduces sent after (one ++ other)
+both sent between after one other h k = record {
   introduced = λ known is. introduced_both known one other (h.introduced known is)
       (k.introduced (fold known_after known one) (h.known known is));
   known = λ known is. subst (AreTold after) (sym (fold-append known_after known one other))
@@ -52,8 +52,8 @@ first_or_later : (oid other : ℕ) (known : List ℕ) (P : Type 0) → (oid ≡ 
 first_or_later oid other known P first later (zero, within, is) = first is
 first_or_later oid other known P first later (suc k, within, is) = later (k, omega (arith, within), is)
 
-told_itself : (told : List Bool) (number : ℕ) → number < length told → is_told (told_one told number) number ≡ true
-told_itself told number within = get_or-set_same told number true false within
+told_itself : (sent : List Bool) (number : ℕ) → number < length sent → is_told (told_one sent number) number ≡ true
+told_itself sent number within = get_or-set_same sent number true false within
 
 is_same : (n number : ℕ) (P : Type 0) → (n ≡ number → P) → (n ≢ number → P) → P
 is_same zero zero P same other = same refl
@@ -62,129 +62,129 @@ is_same (suc n) zero P same other = other (λ e. omega (arith, e))
 is_same (suc n) (suc number) P same other =
     is_same n number P (λ e. same (ap suc e)) (λ differs. other (λ e. differs (omega (arith, e))))
 
-still_told : (told : List Bool) (number n : ℕ) → number < length told → is_told told n ≡ true
-    → is_told (told_one told number) n ≡ true
-still_told told number n within h =
-    is_same n number (is_told (told_one told number) n ≡ true)
-    (λ e. subst (λ k. is_told (told_one told number) k ≡ true) (sym e) (told_itself told number within))
-    (λ differs. get_or-set_other told number n true false differs ∙ h)
+still_told : (sent : List Bool) (number n : ℕ) → number < length sent → is_told sent n ≡ true
+    → is_told (told_one sent number) n ≡ true
+still_told sent number n within h =
+    is_same n number (is_told (told_one sent number) n ≡ true)
+    (λ e. subst (λ k. is_told (told_one sent number) k ≡ true) (sym e) (told_itself sent number within))
+    (λ differs. get_or-set_other sent number n true false differs ∙ h)
 
-told_before : (told : List Bool) (number n : ℕ) → n ≢ number → is_told (told_one told number) n ≡ true
-    → is_told told n ≡ true
-told_before told number n differs h = sym (get_or-set_other told number n true false differs) ∙ h
+told_before : (sent : List Bool) (number n : ℕ) → n ≢ number → is_told (told_one sent number) n ≡ true
+    → is_told sent n ≡ true
+told_before sent number n differs h = sym (get_or-set_other sent number n true false differs) ∙ h
 
 -- the Relation of a table that exists and was not announced
-new_relation : (told : List Bool) (number : ℕ) (table : Table) → number < length told → is_told told number ≡ false
-    → Introduces told (told_one told number) (m.Relation (relation_of number table) ∷ [])
-new_relation told number table within is_new = record {
+new_relation : (sent : List Bool) (number : ℕ) (table : Table) → number < length sent → is_told sent number ≡ false
+    → Introduces sent (told_one sent number) (m.Relation (relation_of number table) ∷ [])
+new_relation sent number table within is_new = record {
   introduced = λ known is. (λ found. absurd (let known_too = is.only number found in cc), tt);
   known = λ known is. record {
     each = λ n h. is_same n number (Contains (oid_of number ∷ known) (oid_of n))
         (λ e. subst (λ k. Contains (oid_of number ∷ known) (oid_of k)) (sym e) (first_known (oid_of number) known))
-        (λ differs. still_known (oid_of number) (oid_of n) known (is.each n (told_before told number n differs h)));
-    only = λ n. first_or_later (oid_of number) (oid_of n) known (is_told (told_one told number) n ≡ true)
+        (λ differs. still_known (oid_of number) (oid_of n) known (is.each n (told_before sent number n differs h)));
+    only = λ n. first_or_later (oid_of number) (oid_of n) known (is_told (told_one sent number) n ≡ true)
         (λ e. let same : number ≡ n = omega (arith, e) in
-        subst (λ k. is_told (told_one told number) k ≡ true) same (told_itself told number within))
-        (λ found. still_told told number n within (is.only n found));
+        subst (λ k. is_told (told_one sent number) k ≡ true) same (told_itself sent number within))
+        (λ found. still_told sent number n within (is.only n found));
   };
 }
 
-one_by : (tables : List Table) (told : List Bool) (number : ℕ) (found : Option Table)
-    → slice_get tables number ≡ found → number < length tables → number < length told → is_told told number ≡ false
-    → Introduces told (told_one told number) (relation_at number found)
-one_by tables told number None e there within is_new = absurd (missing tables number there e)
+one_by : (tables : List Table) (sent : List Bool) (number : ℕ) (found : Option Table)
+    → slice_get tables number ≡ found → number < length tables → number < length sent → is_told sent number ≡ false
+    → Introduces sent (told_one sent number) (relation_at number found)
+one_by tables sent number None e there within is_new = absurd (missing tables number there e)
   where
     missing : (xs : List Table) (i : ℕ) → i < length xs → slice_get xs i ≡ None → ⊥
     missing [] i low none = omega (arith, low)
     missing (x ∷ xs) zero low none = cc
     missing (x ∷ xs) (suc i) low none = missing xs i (omega (arith, low)) none
-one_by tables told number (Some table) e there within is_new = new_relation told number table within is_new
+one_by tables sent number (Some table) e there within is_new = new_relation sent number table within is_new
 
-once_by : (tables : List Table) (told : List Bool) (number : ℕ) (b : Bool) → is_told told number ≡ b
-    → number < length tables → number < length told
-    → Introduces told (told_one told number) (introduced tables b number)
-once_by tables told number true e there within =
-    let same : told_one told number ≡ told = ap (set told number) (sym e) ∙ set-get_or told number false in
-    subst (λ after. Introduces told after []) (sym same) (nothing told)
-once_by tables told number false e there within =
-    one_by tables told number (slice_get tables number) refl there within e
+once_by : (tables : List Table) (sent : List Bool) (number : ℕ) (b : Bool) → is_told sent number ≡ b
+    → number < length tables → number < length sent
+    → Introduces sent (told_one sent number) (introduced tables b number)
+once_by tables sent number true e there within =
+    let same : told_one sent number ≡ sent = ap (set sent number) (sym e) ∙ set-get_or sent number false in
+    subst (λ after. Introduces sent after []) (sym same) (nothing sent)
+once_by tables sent number false e there within =
+    one_by tables sent number (slice_get tables number) refl there within e
 
 abbrev AreOf : List Table → List ℕ → Type 0
 AreOf tables numbers = All (λ table. table < length tables) numbers
 
-all_relations : (tables : List Table) (told : List Bool) (numbers : List ℕ) → length tables ≤ length told
+all_relations : (tables : List Table) (sent : List Bool) (numbers : List ℕ) → length tables ≤ length sent
     → AreOf tables numbers
-    → Introduces told (told_all told numbers) (relations_of tables told numbers)
+    → Introduces sent (told_all sent numbers) (relations_of tables sent numbers)
 unfolding relations_of told_all relation_once
-all_relations tables told [] long of = nothing told
-all_relations tables told (number ∷ numbers) long of =
+all_relations tables sent [] long of = nothing sent
+all_relations tables sent (number ∷ numbers) long of =
     let there = All-head (λ table. table < length tables) number numbers of in
-    let longer : length tables ≤ length (told_one told number) = omega (arith, long, length-set told number true) in
-    both told (told_one told number) (told_all (told_one told number) numbers) (relation_once tables told number)
-    (relations_of tables (told_one told number) numbers)
-    (once_by tables told number (is_told told number) refl there (omega (arith, there, long)))
-    (all_relations tables (told_one told number) numbers longer
+    let longer : length tables ≤ length (told_one sent number) = omega (arith, long, length-set sent number true) in
+    both sent (told_one sent number) (told_all (told_one sent number) numbers) (relation_once tables sent number)
+    (relations_of tables (told_one sent number) numbers)
+    (once_by tables sent number (is_told sent number) refl there (omega (arith, there, long)))
+    (all_relations tables (told_one sent number) numbers longer
     (All-tail (λ table. table < length tables) number numbers of))
 
-length-told_all : (told : List Bool) (numbers : List ℕ) → length (told_all told numbers) ≡ length told
+length-told_all : (sent : List Bool) (numbers : List ℕ) → length (told_all sent numbers) ≡ length sent
 unfolding told_all
-length-told_all told [] = refl
-length-told_all told (number ∷ numbers) = length-told_all (told_one told number) numbers ∙ length-set told number true
+length-told_all sent [] = refl
+length-told_all sent (number ∷ numbers) = length-told_all (told_one sent number) numbers ∙ length-set sent number true
 
 -- ---- changes
 
-stays_told : (told : List Bool) (numbers : List ℕ) (most : ℕ) → most ≤ length told
-    → All (λ table. table < most) numbers → (n : ℕ) → is_told told n ≡ true → is_told (told_all told numbers) n ≡ true
+stays_told : (sent : List Bool) (numbers : List ℕ) (most : ℕ) → most ≤ length sent
+    → All (λ table. table < most) numbers → (n : ℕ) → is_told sent n ≡ true → is_told (told_all sent numbers) n ≡ true
 unfolding told_all
-stays_told told [] most long of n h = h
-stays_told told (number ∷ numbers) most long of n h =
+stays_told sent [] most long of n h = h
+stays_told sent (number ∷ numbers) most long of n h =
     let there = All-head (λ table. table < most) number numbers of in
-    stays_told (told_one told number) numbers most (omega (arith, long, length-set told number true))
+    stays_told (told_one sent number) numbers most (omega (arith, long, length-set sent number true))
     (All-tail (λ table. table < most) number numbers of) n
-    (still_told told number n (omega (arith, there, long)) h)
+    (still_told sent number n (omega (arith, there, long)) h)
 
-each_told : (told : List Bool) (numbers : List ℕ) (most : ℕ) → most ≤ length told
-    → All (λ table. table < most) numbers → All (λ n. is_told (told_all told numbers) n ≡ true) numbers
+each_told : (sent : List Bool) (numbers : List ℕ) (most : ℕ) → most ≤ length sent
+    → All (λ table. table < most) numbers → All (λ n. is_told (told_all sent numbers) n ≡ true) numbers
 unfolding told_all
-each_told told [] most long of = All-nil (λ n. is_told told n ≡ true)
-each_told told (number ∷ numbers) most long of =
+each_told sent [] most long of = All-nil (λ n. is_told sent n ≡ true)
+each_told sent (number ∷ numbers) most long of =
     let there = All-head (λ table. table < most) number numbers of in
     let later = All-tail (λ table. table < most) number numbers of in
-    let longer : most ≤ length (told_one told number) = omega (arith, long, length-set told number true) in
-    All-cons (λ n. is_told (told_all (told_one told number) numbers) n ≡ true) number numbers
-    (stays_told (told_one told number) numbers most longer later number
-    (told_itself told number (omega (arith, there, long))))
-    (each_told (told_one told number) numbers most longer later)
+    let longer : most ≤ length (told_one sent number) = omega (arith, long, length-set sent number true) in
+    All-cons (λ n. is_told (told_all (told_one sent number) numbers) n ≡ true) number numbers
+    (stays_told (told_one sent number) numbers most longer later number
+    (told_itself sent number (omega (arith, there, long))))
+    (each_told (told_one sent number) numbers most longer later)
 
-all_known : (told : List Bool) (known : List ℕ) → AreTold told known → (numbers : List ℕ)
-    → All (λ n. is_told told n ≡ true) numbers → All (Contains known) (map oid_of numbers)
-all_known told known is [] all = All-nil (Contains known)
-all_known told known is (number ∷ numbers) all =
+all_known : (sent : List Bool) (known : List ℕ) → AreTold sent known → (numbers : List ℕ)
+    → All (λ n. is_told sent n ≡ true) numbers → All (Contains known) (map oid_of numbers)
+all_known sent known is [] all = All-nil (Contains known)
+all_known sent known is (number ∷ numbers) all =
     All-cons (Contains known) (oid_of number) (map oid_of numbers)
-    (is.each number (All-head (λ n. is_told told n ≡ true) number numbers all))
-    (all_known told known is numbers (All-tail (λ n. is_told told n ≡ true) number numbers all))
+    (is.each number (All-head (λ n. is_told sent n ≡ true) number numbers all))
+    (all_known sent known is numbers (All-tail (λ n. is_told sent n ≡ true) number numbers all))
 
-one_message : (told : List Bool) (message : Msg)
-    → ((known : List ℕ) → AreTold told known → IsIntroduced known message)
+one_message : (sent : List Bool) (message : Msg)
+    → ((known : List ℕ) → AreTold sent known → IsIntroduced known message)
     → ((known : List ℕ) → known_after known message ≡ known)
-    → Introduces told told (message ∷ [])
-one_message told message h same = record {
+    → Introduces sent sent (message ∷ [])
+one_message sent message h same = record {
   introduced = λ known is. (h known is, tt);
-  known = λ known is. subst (AreTold told) (sym (same known)) is;
+  known = λ known is. subst (AreTold sent) (sym (same known)) is;
 }
 
-of_table : (told : List Bool) (table : ℕ) → All (λ n. is_told told n ≡ true) (table ∷ []) → (known : List ℕ)
-    → AreTold told known → Contains known (oid_of table)
-of_table told table all known is = is.each table (All-head (λ n. is_told told n ≡ true) table [] all)
+of_table : (sent : List Bool) (table : ℕ) → All (λ n. is_told sent n ≡ true) (table ∷ []) → (known : List ℕ)
+    → AreTold sent known → Contains known (oid_of table)
+of_table sent table all known is = is.each table (All-head (λ n. is_told sent n ≡ true) table [] all)
 
-change_message : (told : List Bool) (change : r.ChangeOf) → All (λ n. is_told told n ≡ true) (named_in change)
-    → Introduces told told (message_of change)
-change_message told (r.Insert table new) all = one_message told _ (of_table told table all) (λ known. refl)
-change_message told (r.Update table part new) all = one_message told _ (of_table told table all) (λ known. refl)
-change_message told (r.Delete table None) all = nothing told
-change_message told (r.Delete table (Some part)) all = one_message told _ (of_table told table all) (λ known. refl)
-change_message told (r.Truncate numbers) all =
-    one_message told _ (λ known is. all_known told known is numbers all) (λ known. refl)
+change_message : (sent : List Bool) (change : r.ChangeOf) → All (λ n. is_told sent n ≡ true) (named_in change)
+    → Introduces sent sent (message_of change)
+change_message sent (r.Insert table new) all = one_message sent _ (of_table sent table all) (λ known. refl)
+change_message sent (r.Update table part new) all = one_message sent _ (of_table sent table all) (λ known. refl)
+change_message sent (r.Delete table None) all = nothing sent
+change_message sent (r.Delete table (Some part)) all = one_message sent _ (of_table sent table all) (λ known. refl)
+change_message sent (r.Truncate numbers) all =
+    one_message sent _ (λ known is. all_known sent known is numbers all) (λ known. refl)
 
 -- ---- what a subscriber gets of a change is of the tables of the change
 
@@ -254,70 +254,70 @@ got_of checked subscriber (r.Truncate numbers) h =
 
 -- ---- what is sent for changes
 
-one_said : (tables : List Table) (told : List Bool) (change : Option r.ChangeOf) → length tables ≤ length told
+one_said : (tables : List Table) (sent : List Bool) (change : Option r.ChangeOf) → length tables ≤ length sent
     → IfOf tables change
-    → Introduces told (told_by told change) (said tables told change)
+    → Introduces sent (told_by sent change) (said tables sent change)
 unfolding said told_by IfOf
-one_said tables told None long h = nothing told
-one_said tables told (Some change) long h =
-    both told (told_all told (named_in change)) (told_all told (named_in change))
-    (relations_of tables told (named_in change)) (message_of change)
-    (all_relations tables told (named_in change) long h)
-    (change_message (told_all told (named_in change)) change (each_told told (named_in change) (length tables) long h))
+one_said tables sent None long h = nothing sent
+one_said tables sent (Some change) long h =
+    both sent (told_all sent (named_in change)) (told_all sent (named_in change))
+    (relations_of tables sent (named_in change)) (message_of change)
+    (all_relations tables sent (named_in change) long h)
+    (change_message (told_all sent (named_in change)) change (each_told sent (named_in change) (length tables) long h))
 
-length-told_by : (told : List Bool) (change : Option r.ChangeOf) → length (told_by told change) ≡ length told
+length-told_by : (sent : List Bool) (change : Option r.ChangeOf) → length (told_by sent change) ≡ length sent
 unfolding told_by
-length-told_by told None = refl
-length-told_by told (Some change) = length-told_all told (named_in change)
+length-told_by sent None = refl
+length-told_by sent (Some change) = length-told_all sent (named_in change)
 
-all_said : (checked : CheckedOf) (subscriber : ℕ) (told : List Bool) (changes : List r.ChangeOf)
-    → length checked.catalog.tables ≤ length told
+all_said : (checked : CheckedOf) (subscriber : ℕ) (sent : List Bool) (changes : List r.ChangeOf)
+    → length checked.catalog.tables ≤ length sent
     → All (IsChangeOf checked.catalog.tables) changes
-    → Introduces told (told_each checked subscriber told changes) (said_each checked subscriber told changes)
+    → Introduces sent (told_each checked subscriber sent changes) (said_each checked subscriber sent changes)
 unfolding said_each told_each
-all_said checked subscriber told [] long of = nothing told
-all_said checked subscriber told (change ∷ changes) long of =
+all_said checked subscriber sent [] long of = nothing sent
+all_said checked subscriber sent (change ∷ changes) long of =
     let tables = checked.catalog.tables in
     let mine = got (setting_in checked) subscriber change in
-    let longer : length tables ≤ length (told_by told mine) = omega (arith, long, length-told_by told mine) in
-    both told (told_by told mine) (told_each checked subscriber (told_by told mine) changes) (said tables told mine)
-    (said_each checked subscriber (told_by told mine) changes)
-    (one_said tables told mine long (got_of checked subscriber change (All-head (IsChangeOf tables) change changes of)))
-    (all_said checked subscriber (told_by told mine) changes longer (All-tail (IsChangeOf tables) change changes of))
+    let longer : length tables ≤ length (told_by sent mine) = omega (arith, long, length-told_by sent mine) in
+    both sent (told_by sent mine) (told_each checked subscriber (told_by sent mine) changes) (said tables sent mine)
+    (said_each checked subscriber (told_by sent mine) changes)
+    (one_said tables sent mine long (got_of checked subscriber change (All-head (IsChangeOf tables) change changes of)))
+    (all_said checked subscriber (told_by sent mine) changes longer (All-tail (IsChangeOf tables) change changes of))
 
-length-told_each : (checked : CheckedOf) (subscriber : ℕ) (told : List Bool) (changes : List r.ChangeOf)
-    → length (told_each checked subscriber told changes) ≡ length told
+length-told_each : (checked : CheckedOf) (subscriber : ℕ) (sent : List Bool) (changes : List r.ChangeOf)
+    → length (told_each checked subscriber sent changes) ≡ length sent
 unfolding told_each
-length-told_each checked subscriber told [] = refl
-length-told_each checked subscriber told (change ∷ changes) =
+length-told_each checked subscriber sent [] = refl
+length-told_each checked subscriber sent (change ∷ changes) =
     let mine = got (setting_in checked) subscriber change in
-    length-told_each checked subscriber (told_by told mine) changes ∙ length-told_by told mine
+    length-told_each checked subscriber (told_by sent mine) changes ∙ length-told_by sent mine
 
 -- ---- commits
 
-between : (told after : List Bool) (commit : CommitOf) (messages : List Msg) → Introduces told after messages
-    → Introduces told after (enclosed commit messages)
-between told after commit [] h = h
-between told after commit (first ∷ others) h =
-    both told told after (begin_of commit ∷ []) ((first ∷ others) ++ commit_of commit ∷ [])
-    (one_message told (begin_of commit) (λ known is. tt) (λ known. refl))
-    (both told after after (first ∷ others) (commit_of commit ∷ []) h
+between : (sent after : List Bool) (commit : CommitOf) (messages : List Msg) → Introduces sent after messages
+    → Introduces sent after (enclosed commit messages)
+between sent after commit [] h = h
+between sent after commit (first ∷ others) h =
+    both sent sent after (begin_of commit ∷ []) ((first ∷ others) ++ commit_of commit ∷ [])
+    (one_message sent (begin_of commit) (λ known is. tt) (λ known. refl))
+    (both sent after after (first ∷ others) (commit_of commit ∷ []) h
     (one_message after (commit_of commit) (λ known is. tt) (λ known. refl)))
 
 pub commits_introduce : CommitsIntroduce
-commits_introduce checked subscriber told commit long of =
-    between told (told_each checked subscriber told commit.changes) commit
-    (said_each checked subscriber told commit.changes)
-    (all_said checked subscriber told commit.changes long of)
+commits_introduce checked subscriber sent commit long of =
+    between sent (told_each checked subscriber sent commit.changes) commit
+    (said_each checked subscriber sent commit.changes)
+    (all_said checked subscriber sent commit.changes long of)
 
 pub in_turn_introduce : CommitsInTurnIntroduce
-in_turn_introduce checked subscriber told [] long of = nothing told
-in_turn_introduce checked subscriber told (commit ∷ commits) long of =
+in_turn_introduce checked subscriber sent [] long of = nothing sent
+in_turn_introduce checked subscriber sent (commit ∷ commits) long of =
     let tables = checked.catalog.tables in
-    let after = told_after checked subscriber told commit in
+    let after = told_after checked subscriber sent commit in
     let longer : length tables ≤ length after =
-    omega (arith, long, length-told_each checked subscriber told commit.changes) in
-    both told after (told_in_turn checked subscriber after commits) (messages_for checked subscriber told commit)
+    omega (arith, long, length-told_each checked subscriber sent commit.changes) in
+    both sent after (told_in_turn checked subscriber after commits) (messages_for checked subscriber sent commit)
     (messages_in_turn checked subscriber after commits)
-    (commits_introduce checked subscriber told commit long (All-head (IsOf tables) commit commits of))
+    (commits_introduce checked subscriber sent commit long (All-head (IsOf tables) commit commits of))
     (in_turn_introduce checked subscriber after commits longer (All-tail (IsOf tables) commit commits of))

@@ -76,12 +76,12 @@ relation_room tables number (Some table) e limited =
 
 -- ---- all messages
 
-pub messages_room : (checked : CheckedOf) (subscriber : ℕ) (told : List Bool) (commit : CommitOf) → IsSendable commit
+pub messages_room : (checked : CheckedOf) (subscriber : ℕ) (sent : List Bool) (commit : CommitOf) → IsSendable commit
     → IsLimited checked.catalog
-    → All IsWithinRange (messages_for checked subscriber told commit)
-messages_room checked subscriber told commit h limited =
+    → All IsWithinRange (messages_for checked subscriber sent commit)
+messages_room checked subscriber sent commit h limited =
     let tables = checked.catalog.tables in
-    all_messages IsWithinRange checked subscriber told commit h
+    all_messages IsWithinRange checked subscriber sent commit h
     (record {
       relations =
           λ number. relation_room tables number (slice_get tables number) refl limited.each_table;

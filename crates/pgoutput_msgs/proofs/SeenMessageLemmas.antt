@@ -31,16 +31,16 @@ none_once : (tables : List Table) (number : ℕ) (b : Bool) → filter is_change
 none_once tables number true = refl
 none_once tables number false = no_change tables number (slice_get tables number)
 
-none_in_relations : (tables : List Table) (told : List Bool) (numbers : List ℕ)
-    → filter is_change (relations_of tables told numbers) ≡ []
+none_in_relations : (tables : List Table) (sent : List Bool) (numbers : List ℕ)
+    → filter is_change (relations_of tables sent numbers) ≡ []
 unfolding relations_of relation_once
-none_in_relations tables told [] = refl
-none_in_relations tables told (number ∷ numbers) =
-    filter-append is_change (introduced tables (slice_index_or told number false) number)
-    (relations_of tables (told_one told number) numbers)
-    ∙ ap (λ (x : List Msg). x ++ filter is_change (relations_of tables (told_one told number) numbers))
-    (none_once tables number (slice_index_or told number false))
-    ∙ none_in_relations tables (told_one told number) numbers
+none_in_relations tables sent [] = refl
+none_in_relations tables sent (number ∷ numbers) =
+    filter-append is_change (introduced tables (slice_index_or sent number false) number)
+    (relations_of tables (told_one sent number) numbers)
+    ∙ ap (λ (x : List Msg). x ++ filter is_change (relations_of tables (told_one sent number) numbers))
+    (none_once tables number (slice_index_or sent number false))
+    ∙ none_in_relations tables (told_one sent number) numbers
 
 is_its_own : (change : r.ChangeOf) → filter is_change (message_of change) ≡ message_of change
 is_its_own (r.Insert table new) = refl
@@ -53,30 +53,30 @@ is_its_own (r.Truncate numbers) = refl
 abbrev messages_in : List r.ChangeOf → List Msg
 messages_in changes = flat_map message_of changes
 
-one_said : (tables : List Table) (told : List Bool) (change : Option r.ChangeOf) (others : List r.ChangeOf)
-    → filter is_change (said tables told change) ++ messages_in others ≡ messages_in (cons_option change others)
+one_said : (tables : List Table) (sent : List Bool) (change : Option r.ChangeOf) (others : List r.ChangeOf)
+    → filter is_change (said tables sent change) ++ messages_in others ≡ messages_in (cons_option change others)
 unfolding said
-one_said tables told None others = refl
-one_said tables told (Some change) others =
+one_said tables sent None others = refl
+one_said tables sent (Some change) others =
     ap (λ (x : List Msg). x ++ messages_in others)
-    (filter-append is_change (relations_of tables told (named_in change)) (message_of change)
+    (filter-append is_change (relations_of tables sent (named_in change)) (message_of change)
     ∙ ap (λ (x : List Msg). x ++ filter is_change (message_of change))
-    (none_in_relations tables told (named_in change)) ∙ is_its_own change)
+    (none_in_relations tables sent (named_in change)) ∙ is_its_own change)
     ∙ sym (flat_map-cons message_of change others)
 
-all_said : (checked : CheckedOf) (subscriber : ℕ) (told : List Bool) (changes : List r.ChangeOf)
-    → filter is_change (said_each checked subscriber told changes)
+all_said : (checked : CheckedOf) (subscriber : ℕ) (sent : List Bool) (changes : List r.ChangeOf)
+    → filter is_change (said_each checked subscriber sent changes)
     ≡ messages_in (filter_map (got (setting_in checked) subscriber) changes)
 unfolding said_each
-all_said checked subscriber told [] = refl
-all_said checked subscriber told (change ∷ changes) =
+all_said checked subscriber sent [] = refl
+all_said checked subscriber sent (change ∷ changes) =
     let mine = got (setting_in checked) subscriber change in
     let tables = checked.catalog.tables in
-    let later = said_each checked subscriber (told_by told mine) changes in
-    filter-append is_change (said tables told mine) later
-    ∙ ap (λ (x : List Msg). filter is_change (said tables told mine) ++ x)
-    (all_said checked subscriber (told_by told mine) changes)
-    ∙ one_said tables told mine (filter_map (got (setting_in checked) subscriber) changes)
+    let later = said_each checked subscriber (told_by sent mine) changes in
+    filter-append is_change (said tables sent mine) later
+    ∙ ap (λ (x : List Msg). filter is_change (said tables sent mine) ++ x)
+    (all_said checked subscriber (told_by sent mine) changes)
+    ∙ one_said tables sent mine (filter_map (got (setting_in checked) subscriber) changes)
 
 within_begin : (commit : CommitOf) (messages : List Msg)
     → filter is_change (enclosed commit messages) ≡ filter is_change messages
@@ -90,21 +90,21 @@ within_begin commit (first ∷ others) = filter-append is_change (first ∷ othe
 
 -- ---- nothing is sent if the subscriber gets nothing
 
-none_after : (checked : CheckedOf) (subscriber : ℕ) (told : List Bool) (mine : Option r.ChangeOf)
+none_after : (checked : CheckedOf) (subscriber : ℕ) (sent : List Bool) (mine : Option r.ChangeOf)
     (got_later : List r.ChangeOf) (changes : List r.ChangeOf)
     → ((later : List Bool) → got_later ≡ [] → said_each checked subscriber later changes ≡ [])
     → cons_option mine got_later ≡ []
-    → said checked.catalog.tables told mine ++ said_each checked subscriber (told_by told mine) changes ≡ []
+    → said checked.catalog.tables sent mine ++ said_each checked subscriber (told_by sent mine) changes ≡ []
 unfolding said told_by
-none_after checked subscriber told None got_later changes again h = again told h
-none_after checked subscriber told (Some one) got_later changes again h = absurd cc
+none_after checked subscriber sent None got_later changes again h = again sent h
+none_after checked subscriber sent (Some one) got_later changes again h = absurd cc
 
-none_said : (checked : CheckedOf) (subscriber : ℕ) (told : List Bool) (changes : List r.ChangeOf)
-    → filter_map (got (setting_in checked) subscriber) changes ≡ [] → said_each checked subscriber told changes ≡ []
+none_said : (checked : CheckedOf) (subscriber : ℕ) (sent : List Bool) (changes : List r.ChangeOf)
+    → filter_map (got (setting_in checked) subscriber) changes ≡ [] → said_each checked subscriber sent changes ≡ []
 unfolding said_each
-none_said checked subscriber told [] h = refl
-none_said checked subscriber told (change ∷ changes) h =
-    none_after checked subscriber told (got (setting_in checked) subscriber change)
+none_said checked subscriber sent [] h = refl
+none_said checked subscriber sent (change ∷ changes) h =
+    none_after checked subscriber sent (got (setting_in checked) subscriber change)
     (filter_map (got (setting_in checked) subscriber) changes) changes
     (λ later none. none_said checked subscriber later changes none) h
 
@@ -155,21 +155,21 @@ nothing_seen setting covered (one ∷ all) h =
 -- ---- the law
 
 pub tells_what_is_seen : MessagesTellWhatIsSeen
-tells_what_is_seen checked covered subscriber told commit tables number commands h recorded =
+tells_what_is_seen checked covered subscriber sent commit tables number commands h recorded =
     let setting = setting_in checked in
     let all = seen setting subscriber tables commands in
     let mine = filter_map (got setting subscriber) commit.changes in
     let gets : mine ≡ map (as_recorded setting) all =
     ap (filter_map (got setting subscriber)) recorded
     ∙ record_shows_all setting covered subscriber tables number commands h in
-    let changes : filter is_change (messages_for checked subscriber told commit) ≡ flat_map (seen_message setting) all =
-    within_begin commit (said_each checked subscriber told commit.changes)
-    ∙ all_said checked subscriber told commit.changes
+    let changes : filter is_change (messages_for checked subscriber sent commit) ≡ flat_map (seen_message setting) all =
+    within_begin commit (said_each checked subscriber sent commit.changes)
+    ∙ all_said checked subscriber sent commit.changes
     ∙ ap messages_in gets ∙ flat_map-map message_of (as_recorded setting) all ∙ as_messages setting all in
     record {
       changes = changes;
       one_each = one_seen setting covered;
-      none = λ nothing. enclosed_none commit (said_each checked subscriber told commit.changes)
-          (none_said checked subscriber told commit.changes (gets ∙ ap (map (as_recorded setting)) nothing));
+      none = λ nothing. enclosed_none commit (said_each checked subscriber sent commit.changes)
+          (none_said checked subscriber sent commit.changes (gets ∙ ap (map (as_recorded setting)) nothing));
       only = λ nothing. nothing_seen setting covered all (sym changes ∙ ap (filter is_change) nothing);
     }

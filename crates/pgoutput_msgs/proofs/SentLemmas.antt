@@ -271,12 +271,12 @@ plain_commit commit h = record {
   short = omega arith;
 }
 
-all_plain : (checked : CheckedOf) (subscriber : ℕ) (told : List Bool) (commit : CommitOf) → IsSendable commit
+all_plain : (checked : CheckedOf) (subscriber : ℕ) (sent : List Bool) (commit : CommitOf) → IsSendable commit
     → IsLimited checked.catalog
-    → All IsPlain (messages_for checked subscriber told commit)
-all_plain checked subscriber told commit h limited =
+    → All IsPlain (messages_for checked subscriber sent commit)
+all_plain checked subscriber sent commit h limited =
     let tables = checked.catalog.tables in
-    all_messages IsPlain checked subscriber told commit h
+    all_messages IsPlain checked subscriber sent commit h
     (record {
       relations = λ number. relation_found tables number (slice_get tables number) refl limited.tables
           limited.each_table;
@@ -284,11 +284,11 @@ all_plain checked subscriber told commit h limited =
     })
     (plain_begin commit h) (plain_commit commit h)
 
-pub messages_sent : (checked : CheckedOf) (subscriber : ℕ) (told : List Bool) (commit : CommitOf)
+pub messages_sent : (checked : CheckedOf) (subscriber : ℕ) (sent : List Bool) (commit : CommitOf)
     (messages : List Msg) → IsSendable commit → IsLimited checked.catalog
-    → messages ≡ messages_for checked subscriber told commit → All HasTexts messages → All IsSent messages
-messages_sent checked subscriber told commit messages h limited are texts =
-    let plain = subst (All IsPlain) (sym are) (all_plain checked subscriber told commit h limited) in
+    → messages ≡ messages_for checked subscriber sent commit → All HasTexts messages → All IsSent messages
+messages_sent checked subscriber sent commit messages h limited are texts =
+    let plain = subst (All IsPlain) (sym are) (all_plain checked subscriber sent commit h limited) in
     λ n d within. record {
       read_back = (plain n d within).read_back (texts n d within);
       short =

@@ -29,28 +29,28 @@ gets_none checked subscriber change none =
     got_none checked subscriber change checked.plan refl
     (is_none (out_for checked.plan subscriber change) none)
 
-none_said : (checked : CheckedOf) (subscriber : ℕ) (told : List Bool) (changes : List ChangeOf)
-    → concerns checked.plan changes subscriber ≡ false → said_each checked subscriber told changes ≡ []
+none_said : (checked : CheckedOf) (subscriber : ℕ) (sent : List Bool) (changes : List ChangeOf)
+    → concerns checked.plan changes subscriber ≡ false → said_each checked subscriber sent changes ≡ []
 unfolding said_each said told_by
-none_said checked subscriber told [] none = refl
-none_said checked subscriber told (change ∷ changes) none =
+none_said checked subscriber sent [] none = refl
+none_said checked subscriber sent (change ∷ changes) none =
     rw (gets_none checked subscriber change (first_false (is_for checked.plan subscriber change)
     (concerns checked.plan changes subscriber) none))
-    (none_said checked subscriber told changes (other_false (is_for checked.plan subscriber change)
+    (none_said checked subscriber sent changes (other_false (is_for checked.plan subscriber change)
     (concerns checked.plan changes subscriber) none))
 
-none_told : (checked : CheckedOf) (subscriber : ℕ) (told : List Bool) (changes : List ChangeOf)
-    → concerns checked.plan changes subscriber ≡ false → told_each checked subscriber told changes ≡ told
+none_told : (checked : CheckedOf) (subscriber : ℕ) (sent : List Bool) (changes : List ChangeOf)
+    → concerns checked.plan changes subscriber ≡ false → told_each checked subscriber sent changes ≡ sent
 unfolding told_each told_by
-none_told checked subscriber told [] none = refl
-none_told checked subscriber told (change ∷ changes) none =
+none_told checked subscriber sent [] none = refl
+none_told checked subscriber sent (change ∷ changes) none =
     rw (gets_none checked subscriber change (first_false (is_for checked.plan subscriber change)
     (concerns checked.plan changes subscriber) none))
-    (none_told checked subscriber told changes (other_false (is_for checked.plan subscriber change)
+    (none_told checked subscriber sent changes (other_false (is_for checked.plan subscriber change)
     (concerns checked.plan changes subscriber) none))
 
 pub quiet_are_silent : QuietAreSilent
-quiet_are_silent checked subscriber told commit none = record {
-  messages = ap (enclosed commit) (none_said checked subscriber told commit.changes none);
-  after = none_told checked subscriber told commit.changes none;
+quiet_are_silent checked subscriber sent commit none = record {
+  messages = ap (enclosed commit) (none_said checked subscriber sent commit.changes none);
+  after = none_told checked subscriber sent commit.changes none;
 }

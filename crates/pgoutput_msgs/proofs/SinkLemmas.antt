@@ -23,13 +23,13 @@ module _ {S : Type 0} (takes_one : S → S → Msg → Type 0) where
       (one.0, one.1, takes_both one.0 between new first second one.2 other)
 
   -- what is sent for a change that the subscriber gets: the Relations that were not sent before, and the message
-  pub takes_said : (old between new : S) (tables : List Table) (told : List Bool) (change : r.ChangeOf)
-      → Takes takes_one old between (relations_of tables told (named_in change))
+  pub takes_said : (old between new : S) (tables : List Table) (sent : List Bool) (change : r.ChangeOf)
+      → Takes takes_one old between (relations_of tables sent (named_in change))
       → Takes takes_one between new (message_of change)
-      → Takes takes_one old new (said tables told (Some change))
+      → Takes takes_one old new (said tables sent (Some change))
   unfolding said
-  takes_said old between new tables told change relations message =
-      takes_both old between new (relations_of tables told (named_in change)) (message_of change) relations message
+  takes_said old between new tables sent change relations message =
+      takes_both old between new (relations_of tables sent (named_in change)) (message_of change) relations message
 
 -- messages that were taken so far, of which this holds
 pub record Taken {S : Type 0} (takes_one : S → S → Msg → Type 0) (old now : S) (holds : List Msg → Type 0) : Type 0
@@ -40,146 +40,146 @@ pub record Taken {S : Type 0} (takes_one : S → S → Msg → Type 0) (old now 
 
 abbrev pub Introduced : {S : Type 0} → (S → S → Msg → Type 0) → List Table → List Bool → List Bool → S → S → List ℕ
     → List ℕ → Type 0
-Introduced takes_one tables told told_now old now all left =
-    Taken takes_one old now (λ (messages : List Msg). Introduces tables told told_now [] messages all left)
+Introduced takes_one tables sent told_now old now all left =
+    Taken takes_one old now (λ (messages : List Msg). Introduces tables sent told_now [] messages all left)
 
 abbrev pub Said : {S : Type 0} → (S → S → Msg → Type 0) → CheckedOf → ℕ → List Bool → List Bool → S → S → List Change
     → List Change → Type 0
-Said takes_one checked subscriber told told_now old now all left =
-    Taken takes_one old now (λ (messages : List Msg). Says checked subscriber told told_now [] messages all left)
+Said takes_one checked subscriber sent told_now old now all left =
+    Taken takes_one old now (λ (messages : List Msg). Says checked subscriber sent told_now [] messages all left)
 
 module _ {S : Type 0} (takes_one : S → S → Msg → Type 0) where
   -- ---- the Relation of a table
 
-  pub was_told : (sink : S) (tables : List Table) (told : List Bool) (number : ℕ)
-      → true ≡ slice_index_or told number false → Takes takes_one sink sink (relation_once tables told number)
+  pub was_told : (sink : S) (tables : List Table) (sent : List Bool) (number : ℕ)
+      → true ≡ slice_index_or sent number false → Takes takes_one sink sink (relation_once tables sent number)
   unfolding relation_once
-  was_told sink tables told number is =
+  was_told sink tables sent number is =
       subst (λ (b : Bool). Takes takes_one sink sink (introduced tables b number)) is refl
 
-  pub was_not_told : (old new : S) (tables : List Table) (told : List Bool) (number : ℕ)
-      → false ≡ slice_index_or told number false
+  pub was_not_told : (old new : S) (tables : List Table) (sent : List Bool) (number : ℕ)
+      → false ≡ slice_index_or sent number false
       → Takes takes_one old new (relation_at number (slice_get tables number))
-      → Takes takes_one old new (relation_once tables told number)
+      → Takes takes_one old new (relation_once tables sent number)
   unfolding relation_once
-  was_not_told old new tables told number is took =
+  was_not_told old new tables sent number is took =
       subst (λ (b : Bool). Takes takes_one old new (introduced tables b number)) is took
 
   -- ---- Relations
 
-  pub none_introduced : (sink : S) (tables : List Table) (told : List Bool) (all : List ℕ)
-      → Introduced takes_one tables told told sink sink all (drop 0 all)
-  none_introduced sink tables told all =
+  pub none_introduced : (sink : S) (tables : List Table) (sent : List Bool) (all : List ℕ)
+      → Introduced takes_one tables sent sent sink sink all (drop 0 all)
+  none_introduced sink tables sent all =
       record { messages = []; taken = refl; so_far = record { text = refl; flags = refl } }
 
-  pub more_introduced : (old now new : S) (tables : List Table) (told told_now later : List Bool) (all : List ℕ)
+  pub more_introduced : (old now new : S) (tables : List Table) (sent told_now later : List Bool) (all : List ℕ)
       (i n : ℕ) → n ≡ get_or all i 0 → i < length all
       → Takes takes_one now new (relation_once tables told_now n) → later ≡ told_one told_now n
-      → Introduced takes_one tables told told_now old now all (drop i all)
-      → Introduced takes_one tables told later old new all (drop (i + 1) all)
-  more_introduced old now new tables told told_now later all i n is within took marked before =
+      → Introduced takes_one tables sent told_now old now all (drop i all)
+      → Introduced takes_one tables sent later old new all (drop (i + 1) all)
+  more_introduced old now new tables sent told_now later all i n is within took marked before =
       let first = before.messages in
       let second = relation_once tables told_now n in
       record {
         messages = first ++ second;
         taken = takes_both takes_one old now new first second before.taken took;
-        so_far = introduces_on tables told told_now later [] first (first ++ second) all i n is within refl marked
+        so_far = introduces_on tables sent told_now later [] first (first ++ second) all i n is within refl marked
             before.so_far;
       }
 
-  pub all_taken : (old now : S) (tables : List Table) (told told_now : List Bool) (all : List ℕ) (i : ℕ)
+  pub all_taken : (old now : S) (tables : List Table) (sent told_now : List Bool) (all : List ℕ) (i : ℕ)
       → length all ≤ i
-      → Introduced takes_one tables told told_now old now all (drop i all)
-      → Takes takes_one old now (relations_of tables told all)
-  all_taken old now tables told told_now all i over so =
-      subst (Takes takes_one old now) (all_introduced tables told told_now [] so.messages all i over so.so_far) so.taken
+      → Introduced takes_one tables sent told_now old now all (drop i all)
+      → Takes takes_one old now (relations_of tables sent all)
+  all_taken old now tables sent told_now all i over so =
+      subst (Takes takes_one old now) (all_introduced tables sent told_now [] so.messages all i over so.so_far) so.taken
 
-  pub all_flags : (old now : S) (tables : List Table) (told told_now : List Bool) (all : List ℕ) (i : ℕ)
+  pub all_flags : (old now : S) (tables : List Table) (sent told_now : List Bool) (all : List ℕ) (i : ℕ)
       → length all ≤ i
-      → Introduced takes_one tables told told_now old now all (drop i all) → told_now ≡ told_all told all
-  all_flags old now tables told told_now all i over so =
-      all_marked tables told told_now [] so.messages all i over so.so_far
+      → Introduced takes_one tables sent told_now old now all (drop i all) → told_now ≡ told_all sent all
+  all_flags old now tables sent told_now all i over so =
+      all_marked tables sent told_now [] so.messages all i over so.so_far
 
   -- ---- changes
 
-  pub none_said : (sink : S) (checked : CheckedOf) (subscriber : ℕ) (told : List Bool) (all : List Change)
-      → Said takes_one checked subscriber told told sink sink all (drop 0 all)
-  none_said sink checked subscriber told all =
+  pub none_said : (sink : S) (checked : CheckedOf) (subscriber : ℕ) (sent : List Bool) (all : List Change)
+      → Said takes_one checked subscriber sent sent sink sink all (drop 0 all)
+  none_said sink checked subscriber sent all =
       record { messages = []; taken = refl; so_far = record { text = refl; flags = refl } }
 
-  pub more_said : (old now new : S) (checked : CheckedOf) (subscriber : ℕ) (told told_now later : List Bool)
+  pub more_said : (old now new : S) (checked : CheckedOf) (subscriber : ℕ) (sent told_now later : List Bool)
       (all : List Change) (i : ℕ) (c : Change) → c ≡ get_or all i c → i < length all
       → Takes takes_one now new
       (said checked.catalog.tables told_now (got (setting_in checked) subscriber (change_view c)))
       → later ≡ told_by told_now (got (setting_in checked) subscriber (change_view c))
-      → Said takes_one checked subscriber told told_now old now all (drop i all)
-      → Said takes_one checked subscriber told later old new all (drop (i + 1) all)
-  more_said old now new checked subscriber told told_now later all i c is within took marked before =
+      → Said takes_one checked subscriber sent told_now old now all (drop i all)
+      → Said takes_one checked subscriber sent later old new all (drop (i + 1) all)
+  more_said old now new checked subscriber sent told_now later all i c is within took marked before =
       let first = before.messages in
       let second = said checked.catalog.tables told_now (got (setting_in checked) subscriber (change_view c)) in
       record {
         messages = first ++ second;
         taken = takes_both takes_one old now new first second before.taken took;
-        so_far = says_on checked subscriber told told_now later [] first (first ++ second) all i c is within refl
+        so_far = says_on checked subscriber sent told_now later [] first (first ++ second) all i c is within refl
             marked before.so_far;
       }
 
-  pub all_changes_taken : (old now : S) (checked : CheckedOf) (subscriber : ℕ) (told told_now : List Bool)
+  pub all_changes_taken : (old now : S) (checked : CheckedOf) (subscriber : ℕ) (sent told_now : List Bool)
       (all : List Change) (i : ℕ) → length all ≤ i
-      → Said takes_one checked subscriber told told_now old now all (drop i all)
-      → Takes takes_one old now (said_each checked subscriber told (map change_view all))
-  all_changes_taken old now checked subscriber told told_now all i over so =
-      subst (Takes takes_one old now) (all_said checked subscriber told told_now [] so.messages all i over so.so_far)
+      → Said takes_one checked subscriber sent told_now old now all (drop i all)
+      → Takes takes_one old now (said_each checked subscriber sent (map change_view all))
+  all_changes_taken old now checked subscriber sent told_now all i over so =
+      subst (Takes takes_one old now) (all_said checked subscriber sent told_now [] so.messages all i over so.so_far)
       so.taken
 
-  pub all_changes_told : (old now : S) (checked : CheckedOf) (subscriber : ℕ) (told told_now : List Bool)
+  pub all_changes_told : (old now : S) (checked : CheckedOf) (subscriber : ℕ) (sent told_now : List Bool)
       (all : List Change) (i : ℕ) → length all ≤ i
-      → Said takes_one checked subscriber told told_now old now all (drop i all)
-      → told_now ≡ told_each checked subscriber told (map change_view all)
-  all_changes_told old now checked subscriber told told_now all i over so =
-      all_told checked subscriber told told_now [] so.messages all i over so.so_far
+      → Said takes_one checked subscriber sent told_now old now all (drop i all)
+      → told_now ≡ told_each checked subscriber sent (map change_view all)
+  all_changes_told old now checked subscriber sent told_now all i over so =
+      all_told checked subscriber sent told_now [] so.messages all i over so.so_far
 
   -- what is sent for what the subscriber gets of a change
-  pub said_of : (old new : S) (tables all : List Table) (told : List Bool) (one other : Option r.ChangeOf)
+  pub said_of : (old new : S) (tables all : List Table) (sent : List Bool) (one other : Option r.ChangeOf)
       → tables ≡ all → other ≡ one
-      → Takes takes_one old new (said tables told one) → Takes takes_one old new (said all told other)
-  said_of old new tables all told one other same is took =
-      subst (λ (change : Option r.ChangeOf). Takes takes_one old new (said all told change)) (sym is)
-      (subst (λ (ts : List Table). Takes takes_one old new (said ts told one)) same took)
+      → Takes takes_one old new (said tables sent one) → Takes takes_one old new (said all sent other)
+  said_of old new tables all sent one other same is took =
+      subst (λ (change : Option r.ChangeOf). Takes takes_one old new (said all sent change)) (sym is)
+      (subst (λ (ts : List Table). Takes takes_one old new (said ts sent one)) same took)
 
   -- if the subscriber gets nothing, nothing is taken
-  pub nothing_taken : (sink : S) (tables : List Table) (told : List Bool)
-      → Takes takes_one sink sink (said tables told None)
+  pub nothing_taken : (sink : S) (tables : List Table) (sent : List Bool)
+      → Takes takes_one sink sink (said tables sent None)
   unfolding said
-  nothing_taken sink tables told = refl
+  nothing_taken sink tables sent = refl
 
-  pub nothing_deleted : (sink : S) (tables : List Table) (told : List Bool) (table : ℕ) (part : Option r.PartOf)
+  pub nothing_deleted : (sink : S) (tables : List Table) (sent : List Bool) (table : ℕ) (part : Option r.PartOf)
       → part ≡ None
-      → Takes takes_one sink sink (said tables told (Some (r.Delete table part)))
+      → Takes takes_one sink sink (said tables sent (Some (r.Delete table part)))
   unfolding said relations_of
-  nothing_deleted sink tables told table None is = refl
-  nothing_deleted sink tables told table (Some part) is = absurd cc
+  nothing_deleted sink tables sent table None is = refl
+  nothing_deleted sink tables sent table (Some part) is = absurd cc
 
   -- if the change names this table alone
-  pub takes_named : (old between new : S) (tables : List Table) (told : List Bool) (table : ℕ) (change : r.ChangeOf)
+  pub takes_named : (old between new : S) (tables : List Table) (sent : List Bool) (table : ℕ) (change : r.ChangeOf)
       → named_in change ≡ table ∷ []
-      → Takes takes_one old between (relations_of tables told (table ∷ []))
-      → Takes takes_one between new (message_of change) → Takes takes_one old new (said tables told (Some change))
-  takes_named old between new tables told table change named relations message =
-      takes_said takes_one old between new tables told change
-      (subst (λ (ns : List ℕ). Takes takes_one old between (relations_of tables told ns)) (sym named) relations)
+      → Takes takes_one old between (relations_of tables sent (table ∷ []))
+      → Takes takes_one between new (message_of change) → Takes takes_one old new (said tables sent (Some change))
+  takes_named old between new tables sent table change named relations message =
+      takes_said takes_one old between new tables sent change
+      (subst (λ (ns : List ℕ). Takes takes_one old between (relations_of tables sent ns)) (sym named) relations)
       message
 
-pub told_named : (told later : List Bool) (table : ℕ) (change : r.ChangeOf) → named_in change ≡ table ∷ []
-    → later ≡ told_all told (table ∷ []) → later ≡ told_by told (Some change)
+pub told_named : (sent later : List Bool) (table : ℕ) (change : r.ChangeOf) → named_in change ≡ table ∷ []
+    → later ≡ told_all sent (table ∷ []) → later ≡ told_by sent (Some change)
 unfolding told_by
-told_named told later table change named is = is ∙ ap (told_all told) (sym named)
+told_named sent later table change named is = is ∙ ap (told_all sent) (sym named)
 
-pub nothing_told_deleted : (told : List Bool) (table : ℕ) (part : Option r.PartOf) → part ≡ None
-    → told ≡ told_by told (Some (r.Delete table part))
+pub nothing_told_deleted : (sent : List Bool) (table : ℕ) (part : Option r.PartOf) → part ≡ None
+    → sent ≡ told_by sent (Some (r.Delete table part))
 unfolding told_by told_all
-nothing_told_deleted told table None is = refl
-nothing_told_deleted told table (Some part) is = absurd cc
+nothing_told_deleted sent table None is = refl
+nothing_told_deleted sent table (Some part) is = absurd cc
 
 -- ---- messages in a list
 

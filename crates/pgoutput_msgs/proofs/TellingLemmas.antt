@@ -21,32 +21,32 @@ use Rattle.pgoutput_msgs.specs.Telling.{relation_once, relations_of, told_one, t
 use Rattle.pgoutput_msgs.specs.declared.message.Msg.{Msg}
 
 -- the Relations so far and those of the remaining tables are those of all
-pub record Introduces (tables : List Table) (told told_now : List Bool) (before now : List Msg) (all left : List ℕ) :
+pub record Introduces (tables : List Table) (sent told_now : List Bool) (before now : List Msg) (all left : List ℕ) :
     Type 0 where
-  pub text : now ++ relations_of tables told_now left ≡ before ++ relations_of tables told all
-  pub flags : told_all told_now left ≡ told_all told all
+  pub text : now ++ relations_of tables told_now left ≡ before ++ relations_of tables sent all
+  pub flags : told_all told_now left ≡ told_all sent all
 
-relations_of-cons : (tables : List Table) (told : List Bool) (n : ℕ) (numbers : List ℕ)
-    → relations_of tables told (n ∷ numbers) ≡ relation_once tables told n
-    ++ relations_of tables (told_one told n) numbers
+relations_of-cons : (tables : List Table) (sent : List Bool) (n : ℕ) (numbers : List ℕ)
+    → relations_of tables sent (n ∷ numbers) ≡ relation_once tables sent n
+    ++ relations_of tables (told_one sent n) numbers
 unfolding relations_of
-relations_of-cons tables told n numbers = refl
+relations_of-cons tables sent n numbers = refl
 
-told_all-cons : (told : List Bool) (n : ℕ) (numbers : List ℕ)
-    → told_all told (n ∷ numbers) ≡ told_all (told_one told n) numbers
+told_all-cons : (sent : List Bool) (n : ℕ) (numbers : List ℕ)
+    → told_all sent (n ∷ numbers) ≡ told_all (told_one sent n) numbers
 unfolding told_all
-told_all-cons told n numbers = refl
+told_all-cons sent n numbers = refl
 
 next_left : (all : List ℕ) (i n : ℕ) → n ≡ get_or all i n → i < length all → drop i all ≡ n ∷ drop (i + 1) all
 next_left all i n is within = at_drop_more (λ (x : List ℕ). x) all i n within
     ∙ ap (λ (x : ℕ). x ∷ drop (i + 1) all) (sym is)
 
-pub introduces_on : (tables : List Table) (told told_now later : List Bool) (before now after : List Msg)
+pub introduces_on : (tables : List Table) (sent told_now later : List Bool) (before now after : List Msg)
     (all : List ℕ) (i n : ℕ) → n ≡ get_or all i 0 → i < length all
     → after ≡ now ++ relation_once tables told_now n → later ≡ told_one told_now n
-    → Introduces tables told told_now before now all (drop i all)
-    → Introduces tables told later before after all (drop (i + 1) all)
-introduces_on tables told told_now later before now after all i n is within wrote marked so_far =
+    → Introduces tables sent told_now before now all (drop i all)
+    → Introduces tables sent later before after all (drop (i + 1) all)
+introduces_on tables sent told_now later before now after all i n is within wrote marked so_far =
     let left = at_drop_more (λ (x : List ℕ). x) all i 0 within ∙ ap (λ (x : ℕ). x ∷ drop (i + 1) all) (sym is) in
     record {
       text = ap (λ (x : List Msg). x ++ relations_of tables later (drop (i + 1) all)) wrote
@@ -61,56 +61,56 @@ introduces_on tables told told_now later before now after all i n is within wrot
           ∙ ap (told_all told_now) (sym left) ∙ so_far.flags;
     }
 
-pub all_introduced : (tables : List Table) (told told_now : List Bool) (before now : List Msg) (all : List ℕ) (i : ℕ)
-    → length all ≤ i → Introduces tables told told_now before now all (drop i all)
-    → now ≡ before ++ relations_of tables told all
+pub all_introduced : (tables : List Table) (sent told_now : List Bool) (before now : List Msg) (all : List ℕ) (i : ℕ)
+    → length all ≤ i → Introduces tables sent told_now before now all (drop i all)
+    → now ≡ before ++ relations_of tables sent all
 unfolding relations_of
-all_introduced tables told told_now before now all i over so_far =
+all_introduced tables sent told_now before now all i over so_far =
     sym (append-nil now) ∙ ap (λ (x : List Msg). now ++ x)
     (sym (at_drop_all (relations_of tables told_now) all i over)) ∙ so_far.text
 
-pub all_marked : (tables : List Table) (told told_now : List Bool) (before now : List Msg) (all : List ℕ) (i : ℕ)
-    → length all ≤ i → Introduces tables told told_now before now all (drop i all)
-    → told_now ≡ told_all told all
+pub all_marked : (tables : List Table) (sent told_now : List Bool) (before now : List Msg) (all : List ℕ) (i : ℕ)
+    → length all ≤ i → Introduces tables sent told_now before now all (drop i all)
+    → told_now ≡ told_all sent all
 unfolding told_all
-all_marked tables told told_now before now all i over so_far = sym (at_drop_all (told_all told_now) all i over)
+all_marked tables sent told_now before now all i over so_far = sym (at_drop_all (told_all told_now) all i over)
     ∙ so_far.flags
 
 -- ---- changes
 
 -- what was sent so far and what is sent for the remaining changes is what is sent for all
-pub record Says (checked : CheckedOf) (subscriber : ℕ) (told told_now : List Bool) (before now : List Msg)
+pub record Says (checked : CheckedOf) (subscriber : ℕ) (sent told_now : List Bool) (before now : List Msg)
     (all left : List Change) : Type 0 where
   pub text : now ++ said_each checked subscriber told_now (map change_view left) ≡ before
-      ++ said_each checked subscriber told (map change_view all)
+      ++ said_each checked subscriber sent (map change_view all)
   pub flags : told_each checked subscriber told_now (map change_view left)
-      ≡ told_each checked subscriber told (map change_view all)
+      ≡ told_each checked subscriber sent (map change_view all)
 
-said_each-cons : (checked : CheckedOf) (subscriber : ℕ) (told : List Bool) (c : ChangeOf) (changes : List ChangeOf)
-    → said_each checked subscriber told (c ∷ changes)
-    ≡ said checked.catalog.tables told (got (setting_in checked) subscriber c)
-    ++ said_each checked subscriber (told_by told (got (setting_in checked) subscriber c)) changes
+said_each-cons : (checked : CheckedOf) (subscriber : ℕ) (sent : List Bool) (c : ChangeOf) (changes : List ChangeOf)
+    → said_each checked subscriber sent (c ∷ changes)
+    ≡ said checked.catalog.tables sent (got (setting_in checked) subscriber c)
+    ++ said_each checked subscriber (told_by sent (got (setting_in checked) subscriber c)) changes
 unfolding said_each
-said_each-cons checked subscriber told c changes = refl
+said_each-cons checked subscriber sent c changes = refl
 
-told_each-cons : (checked : CheckedOf) (subscriber : ℕ) (told : List Bool) (c : ChangeOf) (changes : List ChangeOf)
-    → told_each checked subscriber told (c ∷ changes)
-    ≡ told_each checked subscriber (told_by told (got (setting_in checked) subscriber c)) changes
+told_each-cons : (checked : CheckedOf) (subscriber : ℕ) (sent : List Bool) (c : ChangeOf) (changes : List ChangeOf)
+    → told_each checked subscriber sent (c ∷ changes)
+    ≡ told_each checked subscriber (told_by sent (got (setting_in checked) subscriber c)) changes
 unfolding told_each
-told_each-cons checked subscriber told c changes = refl
+told_each-cons checked subscriber sent c changes = refl
 
 next_change : (all : List Change) (i : ℕ) (c : Change) → c ≡ get_or all i c → i < length all
     → map change_view (drop i all) ≡ change_view c ∷ map change_view (drop (i + 1) all)
 next_change all i c is within = at_drop_more (map change_view) all i c within
     ∙ ap (λ (x : Change). change_view x ∷ map change_view (drop (i + 1) all)) (sym is)
 
-pub says_on : (checked : CheckedOf) (subscriber : ℕ) (told told_now later : List Bool) (before now after : List Msg)
+pub says_on : (checked : CheckedOf) (subscriber : ℕ) (sent told_now later : List Bool) (before now after : List Msg)
     (all : List Change) (i : ℕ) (c : Change) → c ≡ get_or all i c → i < length all
     → after ≡ now ++ said checked.catalog.tables told_now (got (setting_in checked) subscriber (change_view c))
     → later ≡ told_by told_now (got (setting_in checked) subscriber (change_view c))
-    → Says checked subscriber told told_now before now all (drop i all)
-    → Says checked subscriber told later before after all (drop (i + 1) all)
-says_on checked subscriber told told_now later before now after all i c is within wrote marked so_far =
+    → Says checked subscriber sent told_now before now all (drop i all)
+    → Says checked subscriber sent later before after all (drop (i + 1) all)
+says_on checked subscriber sent told_now later before now after all i c is within wrote marked so_far =
     let left = next_change all i c is within in
     let one = said checked.catalog.tables told_now (got (setting_in checked) subscriber (change_view c)) in
     let next = told_by told_now (got (setting_in checked) subscriber (change_view c)) in
@@ -126,20 +126,20 @@ says_on checked subscriber told told_now later before now after all i c is withi
           ∙ ap (told_each checked subscriber told_now) (sym left) ∙ so_far.flags;
     }
 
-pub all_said : (checked : CheckedOf) (subscriber : ℕ) (told told_now : List Bool) (before now : List Msg)
-    (all : List Change) (i : ℕ) → length all ≤ i → Says checked subscriber told told_now before now all (drop i all)
-    → now ≡ before ++ said_each checked subscriber told (map change_view all)
+pub all_said : (checked : CheckedOf) (subscriber : ℕ) (sent told_now : List Bool) (before now : List Msg)
+    (all : List Change) (i : ℕ) → length all ≤ i → Says checked subscriber sent told_now before now all (drop i all)
+    → now ≡ before ++ said_each checked subscriber sent (map change_view all)
 unfolding said_each
-all_said checked subscriber told told_now before now all i over so_far =
+all_said checked subscriber sent told_now before now all i over so_far =
     sym (append-nil now) ∙ ap (λ (x : List Msg). now ++ x)
     (sym (at_drop_all (λ (left : List Change). said_each checked subscriber told_now (map change_view left)) all i
     over)) ∙ so_far.text
 
-pub all_told : (checked : CheckedOf) (subscriber : ℕ) (told told_now : List Bool) (before now : List Msg)
-    (all : List Change) (i : ℕ) → length all ≤ i → Says checked subscriber told told_now before now all (drop i all)
-    → told_now ≡ told_each checked subscriber told (map change_view all)
+pub all_told : (checked : CheckedOf) (subscriber : ℕ) (sent told_now : List Bool) (before now : List Msg)
+    (all : List Change) (i : ℕ) → length all ≤ i → Says checked subscriber sent told_now before now all (drop i all)
+    → told_now ≡ told_each checked subscriber sent (map change_view all)
 unfolding told_each
-all_told checked subscriber told told_now before now all i over so_far =
+all_told checked subscriber sent told_now before now all i over so_far =
     sym (at_drop_all (λ (left : List Change). told_each checked subscriber told_now (map change_view left)) all i
     over) ∙ so_far.flags
 
@@ -285,9 +285,9 @@ all_kept test all kept i over so_far =
 
 -- ---- if nothing is sent
 
-pub nothing_told : (told : List Bool) → told ≡ told_by told None
+pub nothing_told : (sent : List Bool) → sent ≡ told_by sent None
 unfolding told_by
-nothing_told told = refl
+nothing_told sent = refl
 
 pub enclosed_some : (commit : CommitOf) (messages : List Msg) → (length messages ≡ 0 → ⊥)
     → (begin_of commit ∷ messages) ++ commit_of commit ∷ [] ≡ enclosed commit messages

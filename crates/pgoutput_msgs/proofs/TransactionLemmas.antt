@@ -27,7 +27,7 @@ use Rattle.pgoutput_msgs.specs.declared.message.Msg.{Msg}
 use Rattle.filter_tree.proofs.Tests.{or_true, or_false}
 
 abbrev is_told : List Bool → ℕ → Bool
-is_told told number = slice_index_or told number false
+is_told sent number = slice_index_or sent number false
 
 -- ---- numbers
 
@@ -67,25 +67,25 @@ among_others n number named differs =
 -- ---- flags and names
 
 module _ (tables : List Table) where
-  named_one : (told : List Bool) (named : List ℕ) (number : ℕ) → AreNamed tables told named
-      → AreNamed tables (told_one told number) (named ++ number ∷ [])
-  named_one told named number is = record {
-    long = length-set told number true ∙ is.long;
+  named_one : (sent : List Bool) (named : List ℕ) (number : ℕ) → AreNamed tables sent named
+      → AreNamed tables (told_one sent number) (named ++ number ∷ [])
+  named_one sent named number is = record {
+    long = length-set sent number true ∙ is.long;
     each = λ n within. elim (same_or_other n number) [
-      | inl e ↦ subst (λ k. is_told (told_one told number) k ≡ is_among k (named ++ number ∷ [])) (sym e)
-          (get_or-set_same told number true false (let long = is.long in omega arith) ∙ sym (among_itself number named))
-      | inr differs ↦ get_or-set_other told number n true false differs ∙ is.each n within
+      | inl e ↦ subst (λ k. is_told (told_one sent number) k ≡ is_among k (named ++ number ∷ [])) (sym e)
+          (get_or-set_same sent number true false (let long = is.long in omega arith) ∙ sym (among_itself number named))
+      | inr differs ↦ get_or-set_other sent number n true false differs ∙ is.each n within
           ∙ sym (among_others n number named differs)
     ];
   }
 
-  named_all : (told : List Bool) (named numbers : List ℕ) → AreNamed tables told named
-      → AreNamed tables (told_all told numbers) (named ++ numbers)
+  named_all : (sent : List Bool) (named numbers : List ℕ) → AreNamed tables sent named
+      → AreNamed tables (told_all sent numbers) (named ++ numbers)
   unfolding told_all
-  named_all told named [] is = subst (AreNamed tables told) (search rules) is
-  named_all told named (number ∷ numbers) is =
-      subst (AreNamed tables (told_all (told_one told number) numbers)) (append_assoc named (number ∷ []) numbers)
-      (named_all (told_one told number) (named ++ number ∷ []) numbers (named_one told named number is))
+  named_all sent named [] is = subst (AreNamed tables sent) (search rules) is
+  named_all sent named (number ∷ numbers) is =
+      subst (AreNamed tables (told_all (told_one sent number) numbers)) (append_assoc named (number ∷ []) numbers)
+      (named_all (told_one sent number) (named ++ number ∷ []) numbers (named_one sent named number is))
 
   introduced_by : (b : Bool) (number : ℕ)
       → introduced tables b number ≡ (if b then [] else relation_at number (slice_get tables number))
@@ -98,38 +98,38 @@ module _ (tables : List Table) where
   none_there true number none = refl
   none_there false number none = ap (relation_at number) none
 
-  once_first : (told : List Bool) (named : List ℕ) (number : ℕ) → AreNamed tables told named
-      → relation_once tables told number ≡ first_relation tables named number
+  once_first : (sent : List Bool) (named : List ℕ) (number : ℕ) → AreNamed tables sent named
+      → relation_once tables sent number ≡ first_relation tables named number
   unfolding relation_once
-  once_first told named number is = elim (below_or_not number (length tables)) [
-    | inl within ↦ introduced_by (is_told told number) number
+  once_first sent named number is = elim (below_or_not number (length tables)) [
+    | inl within ↦ introduced_by (is_told sent number) number
         ∙ ap (λ (b : Bool). if b then [] else relation_at number (slice_get tables number)) (is.each number within)
     | inr beyond ↦
         let none : slice_get tables number ≡ None = slice_get_past tables number beyond in
-        introduced_by (is_told told number) number ∙ none_there (is_told told number) number none
+        introduced_by (is_told sent number) number ∙ none_there (is_told sent number) number none
         ∙ sym (none_there (is_among number named) number none)
   ]
 
-  relations_first : (told : List Bool) (named numbers : List ℕ) → AreNamed tables told named
-      → relations_of tables told numbers ≡ first_relations tables named numbers
+  relations_first : (sent : List Bool) (named numbers : List ℕ) → AreNamed tables sent named
+      → relations_of tables sent numbers ≡ first_relations tables named numbers
   unfolding relations_of
-  relations_first told named [] is = refl
-  relations_first told named (number ∷ numbers) is =
-      ap (λ (x : List Msg). x ++ relations_of tables (told_one told number) numbers) (once_first told named number is)
+  relations_first sent named [] is = refl
+  relations_first sent named (number ∷ numbers) is =
+      ap (λ (x : List Msg). x ++ relations_of tables (told_one sent number) numbers) (once_first sent named number is)
       ∙ ap (λ (x : List Msg). first_relation tables named number ++ x)
-      (relations_first (told_one told number) (named ++ number ∷ []) numbers (named_one told named number is))
+      (relations_first (told_one sent number) (named ++ number ∷ []) numbers (named_one sent named number is))
 
 -- ---- changes that a subscriber gets
 
 -- what is sent for them, and the tables that were announced after them
 all_said : List Table → List Bool → List r.ChangeOf → List Msg
-all_said tables told [] = []
-all_said tables told (change ∷ changes) =
-    said tables told (Some change) ++ all_said tables (told_by told (Some change)) changes
+all_said tables sent [] = []
+all_said tables sent (change ∷ changes) =
+    said tables sent (Some change) ++ all_said tables (told_by sent (Some change)) changes
 
 all_told : List Bool → List r.ChangeOf → List Bool
-all_told told [] = told
-all_told told (change ∷ changes) = all_told (told_by told (Some change)) changes
+all_told sent [] = sent
+all_told sent (change ∷ changes) = all_told (told_by sent (Some change)) changes
 
 module _ (checked : CheckedOf) (subscriber : ℕ) where
   abbrev tables : List Table
@@ -138,33 +138,33 @@ module _ (checked : CheckedOf) (subscriber : ℕ) where
   abbrev mine : r.ChangeOf → Option r.ChangeOf
   mine = got (setting_in checked) subscriber
 
-  said_one : (told : List Bool) (one : Option r.ChangeOf) (others : List r.ChangeOf)
-      → said tables told one ++ all_said tables (told_by told one) others
-      ≡ all_said tables told (cons_option one others)
+  said_one : (sent : List Bool) (one : Option r.ChangeOf) (others : List r.ChangeOf)
+      → said tables sent one ++ all_said tables (told_by sent one) others
+      ≡ all_said tables sent (cons_option one others)
   unfolding said told_by all_said
-  said_one told None others = refl
-  said_one told (Some change) others = refl
+  said_one sent None others = refl
+  said_one sent (Some change) others = refl
 
-  told_first : (told : List Bool) (one : Option r.ChangeOf) (others : List r.ChangeOf)
-      → all_told (told_by told one) others ≡ all_told told (cons_option one others)
+  told_first : (sent : List Bool) (one : Option r.ChangeOf) (others : List r.ChangeOf)
+      → all_told (told_by sent one) others ≡ all_told sent (cons_option one others)
   unfolding told_by all_told
-  told_first told None others = refl
-  told_first told (Some change) others = refl
+  told_first sent None others = refl
+  told_first sent (Some change) others = refl
 
-  said_mine : (told : List Bool) (changes : List r.ChangeOf)
-      → said_each checked subscriber told changes ≡ all_said tables told (filter_map mine changes)
+  said_mine : (sent : List Bool) (changes : List r.ChangeOf)
+      → said_each checked subscriber sent changes ≡ all_said tables sent (filter_map mine changes)
   unfolding said_each all_said
-  said_mine told [] = refl
-  said_mine told (change ∷ changes) =
-      ap (λ (x : List Msg). said tables told (mine change) ++ x) (said_mine (told_by told (mine change)) changes)
-      ∙ said_one told (mine change) (filter_map mine changes)
+  said_mine sent [] = refl
+  said_mine sent (change ∷ changes) =
+      ap (λ (x : List Msg). said tables sent (mine change) ++ x) (said_mine (told_by sent (mine change)) changes)
+      ∙ said_one sent (mine change) (filter_map mine changes)
 
-  told_mine : (told : List Bool) (changes : List r.ChangeOf)
-      → told_each checked subscriber told changes ≡ all_told told (filter_map mine changes)
+  told_mine : (sent : List Bool) (changes : List r.ChangeOf)
+      → told_each checked subscriber sent changes ≡ all_told sent (filter_map mine changes)
   unfolding told_each all_told
-  told_mine told [] = refl
-  told_mine told (change ∷ changes) = told_mine (told_by told (mine change)) changes
-      ∙ told_first told (mine change) (filter_map mine changes)
+  told_mine sent [] = refl
+  told_mine sent (change ∷ changes) = told_mine (told_by sent (mine change)) changes
+      ∙ told_first sent (mine change) (filter_map mine changes)
 
 -- ---- what is seen, as it is recorded
 
@@ -202,44 +202,44 @@ module _ (checked : CheckedOf) (covered : Covered (setting_in checked)) where
   abbrev recorded : Seen → r.ChangeOf
   recorded = as_recorded (setting_in checked)
 
-  said_as : (told : List Bool) (named : List ℕ) (one : Seen) → AreNamed all_tables told named
-      → said all_tables told (Some (recorded one)) ≡ change_told checked named one
+  said_as : (sent : List Bool) (named : List ℕ) (one : Seen) → AreNamed all_tables sent named
+      → said all_tables sent (Some (recorded one)) ≡ change_told checked named one
   unfolding said
-  said_as told named one is =
-      ap (λ (numbers : List ℕ). relations_of all_tables told numbers ++ message_of (recorded one))
+  said_as sent named one is =
+      ap (λ (numbers : List ℕ). relations_of all_tables sent numbers ++ message_of (recorded one))
       (names_as (setting_in checked) covered one)
-      ∙ ap (λ (messages : List Msg). relations_of all_tables told (tables_of one) ++ messages)
+      ∙ ap (λ (messages : List Msg). relations_of all_tables sent (tables_of one) ++ messages)
       (as_message (setting_in checked) one)
       ∙ ap (λ (relations : List Msg). relations ++ seen_message (setting_in checked) one)
-      (relations_first all_tables told named (tables_of one) is)
+      (relations_first all_tables sent named (tables_of one) is)
 
-  told_one_more : (told : List Bool) (named : List ℕ) (one : Seen) → AreNamed all_tables told named
-      → AreNamed all_tables (told_by told (Some (recorded one))) (named ++ tables_of one)
+  told_one_more : (sent : List Bool) (named : List ℕ) (one : Seen) → AreNamed all_tables sent named
+      → AreNamed all_tables (told_by sent (Some (recorded one))) (named ++ tables_of one)
   unfolding told_by
-  told_one_more told named one is =
-      subst (λ numbers. AreNamed all_tables (told_all told numbers) (named ++ tables_of one))
+  told_one_more sent named one is =
+      subst (λ numbers. AreNamed all_tables (told_all sent numbers) (named ++ tables_of one))
       (sym (names_as (setting_in checked) covered one))
-      (named_all all_tables told named (tables_of one) is)
+      (named_all all_tables sent named (tables_of one) is)
 
-  changes_as : (told : List Bool) (named : List ℕ) (all : List Seen) → AreNamed all_tables told named
-      → all_said all_tables told (map recorded all) ≡ changes_told checked named all
+  changes_as : (sent : List Bool) (named : List ℕ) (all : List Seen) → AreNamed all_tables sent named
+      → all_said all_tables sent (map recorded all) ≡ changes_told checked named all
   unfolding all_said
-  changes_as told named [] is = refl
-  changes_as told named (one ∷ all) is =
+  changes_as sent named [] is = refl
+  changes_as sent named (one ∷ all) is =
       ap (λ (messages : List Msg). messages
-      ++ all_said all_tables (told_by told (Some (recorded one))) (map recorded all)) (said_as told named one is)
+      ++ all_said all_tables (told_by sent (Some (recorded one))) (map recorded all)) (said_as sent named one is)
       ∙ ap (λ (messages : List Msg). change_told checked named one ++ messages)
-      (changes_as (told_by told (Some (recorded one))) (named ++ tables_of one) all (told_one_more told named one is))
+      (changes_as (told_by sent (Some (recorded one))) (named ++ tables_of one) all (told_one_more sent named one is))
 
-  told_as : (told : List Bool) (named : List ℕ) (all : List Seen) → AreNamed all_tables told named
-      → AreNamed all_tables (all_told told (map recorded all)) (named ++ flat_map tables_of all)
+  told_as : (sent : List Bool) (named : List ℕ) (all : List Seen) → AreNamed all_tables sent named
+      → AreNamed all_tables (all_told sent (map recorded all)) (named ++ flat_map tables_of all)
   unfolding all_told
-  told_as told named [] is = subst (AreNamed all_tables told) (search rules) is
-  told_as told named (one ∷ all) is =
-      subst (AreNamed all_tables (all_told (told_by told (Some (recorded one))) (map recorded all)))
+  told_as sent named [] is = subst (AreNamed all_tables sent) (search rules) is
+  told_as sent named (one ∷ all) is =
+      subst (AreNamed all_tables (all_told (told_by sent (Some (recorded one))) (map recorded all)))
       (append_assoc named (tables_of one) (flat_map tables_of all)
       ∙ ap (λ (numbers : List ℕ). named ++ numbers) (sym (flat_map-cons tables_of one all)))
-      (told_as (told_by told (Some (recorded one))) (named ++ tables_of one) all (told_one_more told named one is))
+      (told_as (told_by sent (Some (recorded one))) (named ++ tables_of one) all (told_one_more sent named one is))
 
   -- each change has a message
   something_told : (named : List ℕ) (one : Seen) (all : List Seen) → changes_told checked named (one ∷ all) ≢ []
@@ -264,7 +264,7 @@ told_within checked covered named commit (one ∷ all) =
 -- ---- the law
 
 pub commits_tell_transactions : CommitsTellTransactions
-commits_tell_transactions checked covered subscriber told named is commit tables number commands h as_recorded_there =
+commits_tell_transactions checked covered subscriber sent named is commit tables number commands h as_recorded_there =
     let setting = setting_in checked in
     let all = seen setting subscriber tables commands in
     let gets : filter_map (got setting subscriber) commit.changes ≡ map (as_recorded setting) all =
@@ -272,10 +272,10 @@ commits_tell_transactions checked covered subscriber told named is commit tables
     ∙ record_shows_all setting covered subscriber tables number commands h in
     record {
       messages = ap (enclosed commit)
-          (said_mine checked subscriber told commit.changes ∙ ap (all_said checked.catalog.tables told) gets
-          ∙ changes_as checked covered told named all is)
+          (said_mine checked subscriber sent commit.changes ∙ ap (all_said checked.catalog.tables sent) gets
+          ∙ changes_as checked covered sent named all is)
           ∙ told_within checked covered named commit all;
       named_after = subst (λ flags. AreNamed checked.catalog.tables flags (named ++ flat_map tables_of all))
-          (sym (told_mine checked subscriber told commit.changes ∙ ap (all_told told) gets))
-          (told_as checked covered told named all is);
+          (sym (told_mine checked subscriber sent commit.changes ∙ ap (all_told sent) gets))
+          (told_as checked covered sent named all is);
     }

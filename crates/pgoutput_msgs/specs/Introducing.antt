@@ -41,9 +41,9 @@ AreIntroduced known (message ∷ messages) = IsIntroduced known message
 -- ---- commits
 
 -- the OIDs that are known are those of the tables that were announced
-pub record AreTold (told : List Bool) (known : List ℕ) : Type 0 where
-  pub each : (table : ℕ) → slice_index_or told table false ≡ true → Contains known (oid_of table)
-  pub only : (table : ℕ) → Contains known (oid_of table) → slice_index_or told table false ≡ true
+pub record AreTold (sent : List Bool) (known : List ℕ) : Type 0 where
+  pub each : (table : ℕ) → slice_index_or sent table false ≡ true → Contains known (oid_of table)
+  pub only : (table : ℕ) → Contains known (oid_of table) → slice_index_or sent table false ≡ true
 
 -- the tables of a change
 abbrev pub tables_in : r.ChangeOf → List ℕ
@@ -61,13 +61,13 @@ IsOf tables commit = All (IsChangeOf tables) commit.changes
 
 -- the messages of commits, one after the other, and which Relations were sent after them
 abbrev pub messages_in_turn : CheckedOf → ℕ → List Bool → List CommitOf → List Msg
-messages_in_turn checked subscriber told [] = []
-messages_in_turn checked subscriber told (commit ∷ commits) =
-    messages_for checked subscriber told commit
-    ++ messages_in_turn checked subscriber (told_after checked subscriber told commit) commits
+messages_in_turn checked subscriber sent [] = []
+messages_in_turn checked subscriber sent (commit ∷ commits) =
+    messages_for checked subscriber sent commit
+    ++ messages_in_turn checked subscriber (told_after checked subscriber sent commit) commits
 
 abbrev pub told_in_turn : CheckedOf → ℕ → List Bool → List CommitOf → List Bool
-told_in_turn checked subscriber told commits = fold (told_after checked subscriber) told commits
+told_in_turn checked subscriber sent commits = fold (told_after checked subscriber) sent commits
 
 -- ---- laws
 
@@ -84,18 +84,18 @@ LogsAreOfTables = (book : Book) (transactions : List Transaction) → StandsFor 
 
 -- If the OIDs of the tables that were announced are known, the messages are introduced, and then those of the tables
 -- that were announced after them are known.
-pub record Introduces (told after : List Bool) (messages : List Msg) : Type 0 where
-  pub introduced : (known : List ℕ) → AreTold told known → AreIntroduced known messages
-  pub known : (known : List ℕ) → AreTold told known → AreTold after (fold known_after known messages)
+pub record Introduces (sent after : List Bool) (messages : List Msg) : Type 0 where
+  pub introduced : (known : List ℕ) → AreTold sent known → AreIntroduced known messages
+  pub known : (known : List ℕ) → AreTold sent known → AreTold after (fold known_after known messages)
 
 -- The same holds for the messages of a commit, if there is a flag for each table,
 abbrev pub CommitsIntroduce : Type 0
-CommitsIntroduce = (checked : CheckedOf) (subscriber : ℕ) (told : List Bool) (commit : CommitOf)
-    → length checked.catalog.tables ≤ length told → IsOf checked.catalog.tables commit
-    → Introduces told (told_after checked subscriber told commit) (messages_for checked subscriber told commit)
+CommitsIntroduce = (checked : CheckedOf) (subscriber : ℕ) (sent : List Bool) (commit : CommitOf)
+    → length checked.catalog.tables ≤ length sent → IsOf checked.catalog.tables commit
+    → Introduces sent (told_after checked subscriber sent commit) (messages_for checked subscriber sent commit)
 
 -- and for those of commits, one after the other.
 abbrev pub CommitsInTurnIntroduce : Type 0
-CommitsInTurnIntroduce = (checked : CheckedOf) (subscriber : ℕ) (told : List Bool) (commits : List CommitOf)
-    → length checked.catalog.tables ≤ length told → All (IsOf checked.catalog.tables) commits
-    → Introduces told (told_in_turn checked subscriber told commits) (messages_in_turn checked subscriber told commits)
+CommitsInTurnIntroduce = (checked : CheckedOf) (subscriber : ℕ) (sent : List Bool) (commits : List CommitOf)
+    → length checked.catalog.tables ≤ length sent → All (IsOf checked.catalog.tables) commits
+    → Introduces sent (told_in_turn checked subscriber sent commits) (messages_in_turn checked subscriber sent commits)

@@ -55,9 +55,9 @@ pub record TellsWhatIsSeen (setting : Setting) (messages : List Msg) (all : List
 -- the commands.
 abbrev pub MessagesTellWhatIsSeen : Type 0
 MessagesTellWhatIsSeen = (checked : CheckedOf) → Covered (setting_in checked)
-    → (subscriber : ℕ) (told : List Bool) (commit : CommitOf)
+    → (subscriber : ℕ) (sent : List Bool) (commit : CommitOf)
     → (tables : Tables) (number : ℕ) (commands : List Command)
     → first_fault (setting_in checked) tables number commands ≡ None
     → commit.changes ≡ record_of (setting_in checked) tables commands
-    → TellsWhatIsSeen (setting_in checked) (messages_for checked subscriber told commit)
+    → TellsWhatIsSeen (setting_in checked) (messages_for checked subscriber sent commit)
     (seen (setting_in checked) subscriber tables commands)

@@ -7,10 +7,10 @@ use Rattle.tables_log.specs.Commits.{CommitOf}
 use Rattle.pgoutput_msgs.specs.Telling.{messages_for, told_after}
 
 -- No message reports the commit, and no Relation is sent.
-pub record IsSilent (checked : CheckedOf) (subscriber : ℕ) (told : List Bool) (commit : CommitOf) : Type 0 where
-  pub messages : messages_for checked subscriber told commit ≡ []
-  pub after : told_after checked subscriber told commit ≡ told
+pub record IsSilent (checked : CheckedOf) (subscriber : ℕ) (sent : List Bool) (commit : CommitOf) : Type 0 where
+  pub messages : messages_for checked subscriber sent commit ≡ []
+  pub after : told_after checked subscriber sent commit ≡ sent
 
 abbrev pub QuietAreSilent : Type 0
-QuietAreSilent = (checked : CheckedOf) (subscriber : ℕ) (told : List Bool) (commit : CommitOf)
-    → concerns checked.plan commit.changes subscriber ≡ false → IsSilent checked subscriber told commit
+QuietAreSilent = (checked : CheckedOf) (subscriber : ℕ) (sent : List Bool) (commit : CommitOf)
+    → concerns checked.plan commit.changes subscriber ≡ false → IsSilent checked subscriber sent commit

@@ -1,6 +1,5 @@
 -- The messages that report a commit to a subscriber: PostgreSQL 15, 55.5.3. Logical Replication Protocol Message Flow,
--- and 55.9. Logical Replication Message Formats. Log sequence numbers, OIDs and numbers of transactions are this
--- project's own.
+-- and 55.9. Logical Replication Message Formats. OIDs are this project's own.
 use Rattle.std.specs.Prelude.{ℕ, ◌+◌, ◌*◌, negsuc, Bool, true, false, List, [], ◌∷◌, ◌++◌, map, slice_get, slice_index_or, slice_set, Option, Some, None}
 use Rattle.filter_tree.specs.declared.table.ColType.{ColType}
 use Rattle.filter_tree.specs.declared.table.ColType.TheVariants as k
@@ -13,6 +12,7 @@ use Rattle.shard_checker.specs.CheckedView.{CheckedOf, setting_in}
 use Rattle.table_changes.specs.Outs.{got}
 use Rattle.table_changes.specs.Records as r
 use Rattle.tables_log.specs.Commits.{CommitOf}
+use Rattle.tables_log.specs.Lsn.{lsn_of, end_lsn_of, xid_of}
 use Rattle.pgoutput_msgs.specs.Spelling.{int32}
 use Rattle.pgoutput_msgs.specs.ValueText.{cells_of}
 use Rattle.pgoutput_msgs.specs.declared.message.Msg.{Msg}
@@ -24,19 +24,7 @@ use Rattle.pgoutput_msgs.specs.declared.relation.ReplicaIdentity.TheVariants as 
 use Rattle.pgoutput_msgs.specs.declared.tuple.OldTuple.{OldTuple}
 use Rattle.pgoutput_msgs.specs.declared.tuple.OldTuple.TheVariants as o
 
--- ---- numbers of commits and of tables
-
--- the LSN of the commit of this number, which is counted from 1
-abbrev pub lsn_of : ℕ → ℕ
-lsn_of number = 64 * number
-
--- the LSN at which it ends
-abbrev pub end_lsn_of : ℕ → ℕ
-end_lsn_of number = 64 * number + 64
-
--- the number of its transaction
-abbrev pub xid_of : ℕ → ℕ
-xid_of number = number + 2
+-- ---- numbers of tables
 
 -- the OID of the table of this number, which is counted from 0
 abbrev pub oid_of : ℕ → ℕ
@@ -111,7 +99,7 @@ named_in (r.Delete table None) = []
 named_in (r.Delete table (Some part)) = table ∷ []
 named_in (r.Truncate numbers) = numbers
 
--- ---- Relations, each sent once: `told` says by a table's number whether it was
+-- ---- Relations, each sent once: `sent` is whether it was, for each table by its number
 
 abbrev pub relation_at : ℕ → Option Table → List Msg
 relation_at number None = []
@@ -123,43 +111,43 @@ introduced tables false number = relation_at number (slice_get tables number)
 
 -- the Relation of a table, if it was not sent
 unfoldable pub relation_once : List Table → List Bool → ℕ → List Msg
-relation_once tables told number = introduced tables (slice_index_or told number false) number
+relation_once tables sent number = introduced tables (slice_index_or sent number false) number
 
 abbrev pub told_one : List Bool → ℕ → List Bool
-told_one told number = slice_set told number true
+told_one sent number = slice_set sent number true
 
 -- the Relations of tables that were not sent, in this order
 unfoldable pub relations_of : List Table → List Bool → List ℕ → List Msg
-relations_of tables told [] = []
-relations_of tables told (number ∷ numbers) =
-    relation_once tables told number ++ relations_of tables (told_one told number) numbers
+relations_of tables sent [] = []
+relations_of tables sent (number ∷ numbers) =
+    relation_once tables sent number ++ relations_of tables (told_one sent number) numbers
 
 unfoldable pub told_all : List Bool → List ℕ → List Bool
-told_all told [] = told
-told_all told (number ∷ numbers) = told_all (told_one told number) numbers
+told_all sent [] = sent
+told_all sent (number ∷ numbers) = told_all (told_one sent number) numbers
 
 -- ---- commits
 
 -- what is sent for a change that the subscriber gets, if it gets one
 unfoldable pub said : List Table → List Bool → Option r.ChangeOf → List Msg
-said tables told None = []
-said tables told (Some change) = relations_of tables told (named_in change) ++ message_of change
+said tables sent None = []
+said tables sent (Some change) = relations_of tables sent (named_in change) ++ message_of change
 
 unfoldable pub told_by : List Bool → Option r.ChangeOf → List Bool
-told_by told None = told
-told_by told (Some change) = told_all told (named_in change)
+told_by sent None = sent
+told_by sent (Some change) = told_all sent (named_in change)
 
 -- what is sent for changes, one after the other
 unfoldable pub said_each : CheckedOf → ℕ → List Bool → List r.ChangeOf → List Msg
-said_each checked subscriber told [] = []
-said_each checked subscriber told (change ∷ changes) =
-    said checked.catalog.tables told (got (setting_in checked) subscriber change)
-    ++ said_each checked subscriber (told_by told (got (setting_in checked) subscriber change)) changes
+said_each checked subscriber sent [] = []
+said_each checked subscriber sent (change ∷ changes) =
+    said checked.catalog.tables sent (got (setting_in checked) subscriber change)
+    ++ said_each checked subscriber (told_by sent (got (setting_in checked) subscriber change)) changes
 
 unfoldable pub told_each : CheckedOf → ℕ → List Bool → List r.ChangeOf → List Bool
-told_each checked subscriber told [] = told
-told_each checked subscriber told (change ∷ changes) =
-    told_each checked subscriber (told_by told (got (setting_in checked) subscriber change)) changes
+told_each checked subscriber sent [] = sent
+told_each checked subscriber sent (change ∷ changes) =
+    told_each checked subscriber (told_by sent (got (setting_in checked) subscriber change)) changes
 
 abbrev pub begin_of : CommitOf → Msg
 begin_of commit = m.Begin (lsn_of commit.number) commit.time (xid_of commit.number)
@@ -174,8 +162,8 @@ enclosed commit (first ∷ others) = begin_of commit ∷ (first ∷ others) ++ c
 
 -- the messages of a commit for the subscriber of this number, if these Relations were sent before it
 abbrev pub messages_for : CheckedOf → ℕ → List Bool → CommitOf → List Msg
-messages_for checked subscriber told commit = enclosed commit (said_each checked subscriber told commit.changes)
+messages_for checked subscriber sent commit = enclosed commit (said_each checked subscriber sent commit.changes)
 
 -- the Relations that were sent after it
 abbrev pub told_after : CheckedOf → ℕ → List Bool → CommitOf → List Bool
-told_after checked subscriber told commit = told_each checked subscriber told commit.changes
+told_after checked subscriber sent commit = told_each checked subscriber sent commit.changes

@@ -1,7 +1,6 @@
 -- What a connection sends a subscriber for transactions, by what the subscriber sees of them alone: Begin, each change
 -- directly after the Relations of those of its tables that no change of the connection named before, and Commit:
--- PostgreSQL 15, 55.5.3. Logical Replication Protocol Message Flow. Log sequence numbers, OIDs and numbers of
--- transactions are this project's own.
+-- PostgreSQL 15, 55.5.3. Logical Replication Protocol Message Flow.
 use Rattle.std.specs.Prelude.{◌≡◌, ℕ, ◌<◌, nat_eq, Bool, false, List, [], ◌∷◌, ◌++◌, length, slice_get, slice_index_or, if◌then◌else◌, None}
 use Rattle.std.specs.List.{flat_map, list_any}
 use Rattle.filter_tree.specs.declared.table.Table.{Table}
@@ -13,8 +12,9 @@ use Rattle.table_changes.specs.Seen.{Seen, seen}
 use Rattle.table_changes.specs.Standing.{Covered}
 use Rattle.table_changes.specs.Tables.{Tables}
 use Rattle.tables_log.specs.Commits.{CommitOf}
+use Rattle.tables_log.specs.Lsn.{lsn_of, end_lsn_of, xid_of}
 use Rattle.pgoutput_msgs.specs.SeenMessages.{seen_message}
-use Rattle.pgoutput_msgs.specs.Telling.{lsn_of, end_lsn_of, xid_of, relation_at, messages_for, told_after}
+use Rattle.pgoutput_msgs.specs.Telling.{relation_at, messages_for, told_after}
 use Rattle.pgoutput_msgs.specs.declared.message.Msg.{Msg}
 use Rattle.pgoutput_msgs.specs.declared.message.Msg.TheVariants as m
 
@@ -64,23 +64,23 @@ transaction_told checked named number time (first ∷ others) =
 -- ---- the law
 
 -- the flags mark the tables that were named
-pub record AreNamed (tables : List Table) (told : List Bool) (named : List ℕ) : Type 0 where
-  pub long : length told ≡ length tables
-  pub each : (number : ℕ) → number < length tables → slice_index_or told number false ≡ is_among number named
+pub record AreNamed (tables : List Table) (sent : List Bool) (named : List ℕ) : Type 0 where
+  pub long : length sent ≡ length tables
+  pub each : (number : ℕ) → number < length tables → slice_index_or sent number false ≡ is_among number named
 
 -- the messages of a commit report what is seen of its transaction, and then the tables that it names are marked
-pub record TellsTransaction (checked : CheckedOf) (subscriber : ℕ) (told : List Bool) (named : List ℕ)
+pub record TellsTransaction (checked : CheckedOf) (subscriber : ℕ) (sent : List Bool) (named : List ℕ)
     (commit : CommitOf) (all : List Seen) : Type 0 where
-  pub messages : messages_for checked subscriber told commit
+  pub messages : messages_for checked subscriber sent commit
       ≡ transaction_told checked named commit.number commit.time all
-  pub named_after : AreNamed checked.catalog.tables (told_after checked subscriber told commit)
+  pub named_after : AreNamed checked.catalog.tables (told_after checked subscriber sent commit)
       (named ++ flat_map tables_of all)
 
 -- This holds for each commit whose changes are what its commands record on the tables before it.
 abbrev pub CommitsTellTransactions : Type 0
 CommitsTellTransactions = (checked : CheckedOf) → Covered (setting_in checked)
-    → (subscriber : ℕ) (told : List Bool) (named : List ℕ) → AreNamed checked.catalog.tables told named
+    → (subscriber : ℕ) (sent : List Bool) (named : List ℕ) → AreNamed checked.catalog.tables sent named
     → (commit : CommitOf) (tables : Tables) (number : ℕ) (commands : List Command)
     → first_fault (setting_in checked) tables number commands ≡ None
     → commit.changes ≡ record_of (setting_in checked) tables commands
-    → TellsTransaction checked subscriber told named commit (seen (setting_in checked) subscriber tables commands)
+    → TellsTransaction checked subscriber sent named commit (seen (setting_in checked) subscriber tables commands)

@@ -15,18 +15,18 @@ use replica_identity::OldPart;
 use std::alloc::AllocError;
 
 /// Whether the Relation of the table was sent.
-fn is_told(told: &[bool], number: usize) -> bool
-    ensures { result ≡ slice_index_or told.now number false }
+fn is_told(relation_sent: &[bool], number: usize) -> bool
+    ensures { result ≡ slice_index_or relation_sent.now number false }
 {
-    told.get(number).copied().unwrap_or(false)
+    relation_sent.get(number).copied().unwrap_or(false)
 }
 
 #[tactic(auto, using(std::proofs::lemmas::List::set_past))]
-fn mark(told: &mut [bool], number: usize)
-    ensures { told.new ≡ spec.told_one told.old number }
+fn mark(relation_sent: &mut [bool], number: usize)
+    ensures { relation_sent.new ≡ spec.told_one relation_sent.old number }
 {
-    if number < told.len() {
-        told[number] = true;
+    if number < relation_sent.len() {
+        relation_sent[number] = true;
     }
 }
 
@@ -60,14 +60,15 @@ fn say_new_relation<S: MessageSink>(
 fn say_relation<S: MessageSink>(
     tables: &[Table],
     number: usize,
-    told: &[bool],
+    relation_sent: &[bool],
     sink: &mut S,
 ) -> Result<(), AllocError>
     requires number { IsTableNumber number }
     requires limited { All IsLimitedTable tables.now }
-    ensures { OnOk result (Takes S.takes_one sink.old sink.new (spec.relation_once tables.now told.now number)) }
+    ensures { OnOk result
+        (Takes S.takes_one sink.old sink.new (spec.relation_once tables.now relation_sent.now number)) }
 {
-    if is_told(told, number) {
+    if is_told(relation_sent, number) {
         return Ok(());
     }
     say_new_relation(tables, number, sink)?;
@@ -78,18 +79,18 @@ fn say_relation<S: MessageSink>(
 pub(crate) fn say_relations<S: MessageSink>(
     tables: &[Table],
     numbers: &[usize],
-    told: &mut [bool],
+    relation_sent: &mut [bool],
     sink: &mut S,
 ) -> Result<(), AllocError>
     requires numbers { All IsTableNumber numbers.now }
     requires limited { All IsLimitedTable tables.now }
     ensures said { OnOk result (Takes S.takes_one sink.old sink.new
-        (spec.relations_of tables.now told.old numbers.now)) }
-    ensures told { OnOk result (told.new ≡ spec.told_all told.old numbers.now) }
+        (spec.relations_of tables.now relation_sent.old numbers.now)) }
+    ensures relation_sent { OnOk result (relation_sent.new ≡ spec.told_all relation_sent.old numbers.now) }
 {
     for number in numbers {
-        say_relation(tables, *number, told, sink)?;
-        mark(told, *number);
+        say_relation(tables, *number, relation_sent, sink)?;
+        mark(relation_sent, *number);
     }
     Ok(())
 }
@@ -99,16 +100,17 @@ pub(crate) fn say_insert<S: MessageSink>(
     tables: &[Table],
     table: usize,
     new: &Row,
-    told: &mut [bool],
+    relation_sent: &mut [bool],
     sink: &mut S,
 ) -> Result<(), AllocError>
     requires sendable { IsSendableChange (r.Insert table new.now) }
     requires limited { All IsLimitedTable tables.now }
     ensures said { OnOk result (Takes S.takes_one sink.old sink.new
-        (spec.said tables.now told.old (Some (r.Insert table new.now)))) }
-    ensures told { OnOk result (told.new ≡ spec.told_by told.old (Some (r.Insert table new.now))) }
+        (spec.said tables.now relation_sent.old (Some (r.Insert table new.now)))) }
+    ensures relation_sent { OnOk result
+        (relation_sent.new ≡ spec.told_by relation_sent.old (Some (r.Insert table new.now))) }
 {
-    say_relations(tables, &[table], told, sink)?;
+    say_relations(tables, &[table], relation_sent, sink)?;
     sink.insert(table, new)?;
     Ok(())
 }
@@ -119,16 +121,17 @@ pub(crate) fn say_update<S: MessageSink>(
     table: usize,
     old: &OldPart,
     new: &Row,
-    told: &mut [bool],
+    relation_sent: &mut [bool],
     sink: &mut S,
 ) -> Result<(), AllocError>
     requires sendable { IsSendableChange (r.Update table (part_view old.now) new.now) }
     requires limited { All IsLimitedTable tables.now }
     ensures said { OnOk result (Takes S.takes_one sink.old sink.new
-        (spec.said tables.now told.old (Some (r.Update table (part_view old.now) new.now)))) }
-    ensures told { OnOk result (told.new ≡ spec.told_by told.old (Some (r.Update table (part_view old.now) new.now))) }
+        (spec.said tables.now relation_sent.old (Some (r.Update table (part_view old.now) new.now)))) }
+    ensures relation_sent { OnOk result
+        (relation_sent.new ≡ spec.told_by relation_sent.old (Some (r.Update table (part_view old.now) new.now))) }
 {
-    say_relations(tables, &[table], told, sink)?;
+    say_relations(tables, &[table], relation_sent, sink)?;
     sink.update(table, old, new)?;
     Ok(())
 }
@@ -137,17 +140,18 @@ fn say_gone<S: MessageSink>(
     tables: &[Table],
     table: usize,
     old: &OldPart,
-    told: &mut [bool],
+    relation_sent: &mut [bool],
     sink: &mut S,
 ) -> Result<(), AllocError>
     requires recorded { spec.named_in (r.Delete table (part_view old.now)) ≡ table ∷ [] }
     requires sendable { IsSendableChange (r.Delete table (part_view old.now)) }
     requires limited { All IsLimitedTable tables.now }
     ensures said { OnOk result (Takes S.takes_one sink.old sink.new
-        (spec.said tables.now told.old (Some (r.Delete table (part_view old.now))))) }
-    ensures told { OnOk result (told.new ≡ spec.told_by told.old (Some (r.Delete table (part_view old.now)))) }
+        (spec.said tables.now relation_sent.old (Some (r.Delete table (part_view old.now))))) }
+    ensures relation_sent { OnOk result
+        (relation_sent.new ≡ spec.told_by relation_sent.old (Some (r.Delete table (part_view old.now)))) }
 {
-    say_relations(tables, &[table], told, sink)?;
+    say_relations(tables, &[table], relation_sent, sink)?;
     sink.delete(table, old)?;
     Ok(())
 }
@@ -157,18 +161,25 @@ pub(crate) fn say_delete<S: MessageSink>(
     tables: &[Table],
     table: usize,
     old: &OldPart,
-    told: &mut [bool],
+    relation_sent: &mut [bool],
     sink: &mut S,
 ) -> Result<(), AllocError>
     requires sendable { IsSendableChange (r.Delete table (part_view old.now)) }
     requires limited { All IsLimitedTable tables.now }
     ensures said { OnOk result (Takes S.takes_one sink.old sink.new
-        (spec.said tables.now told.old (Some (r.Delete table (part_view old.now))))) }
-    ensures told { OnOk result (told.new ≡ spec.told_by told.old (Some (r.Delete table (part_view old.now)))) }
+        (spec.said tables.now relation_sent.old (Some (r.Delete table (part_view old.now))))) }
+    ensures relation_sent { OnOk result
+        (relation_sent.new ≡ spec.told_by relation_sent.old (Some (r.Delete table (part_view old.now)))) }
 {
     match old {
         OldPart::None => Ok(()),
-        OldPart::Key(_) | OldPart::Full(_) => Ok(say_gone(tables, table, old, told, sink)?),
+        OldPart::Key(_) | OldPart::Full(_) => Ok(say_gone(
+            tables,
+            table,
+            old,
+            relation_sent,
+            sink,
+        )?),
     }
 }
 
@@ -176,16 +187,17 @@ pub(crate) fn say_delete<S: MessageSink>(
 pub(crate) fn say_truncate<S: MessageSink>(
     tables: &[Table],
     numbers: &[usize],
-    told: &mut [bool],
+    relation_sent: &mut [bool],
     sink: &mut S,
 ) -> Result<(), AllocError>
     requires sendable { IsSendableChange (r.Truncate numbers.now) }
     requires limited { All IsLimitedTable tables.now }
     ensures said { OnOk result (Takes S.takes_one sink.old sink.new
-        (spec.said tables.now told.old (Some (r.Truncate numbers.now)))) }
-    ensures told { OnOk result (told.new ≡ spec.told_by told.old (Some (r.Truncate numbers.now))) }
+        (spec.said tables.now relation_sent.old (Some (r.Truncate numbers.now)))) }
+    ensures relation_sent { OnOk result
+        (relation_sent.new ≡ spec.told_by relation_sent.old (Some (r.Truncate numbers.now))) }
 {
-    say_relations(tables, numbers, told, sink)?;
+    say_relations(tables, numbers, relation_sent, sink)?;
     sink.truncate(numbers)?;
     Ok(())
 }

@@ -18,6 +18,7 @@ use crate::message::Msg;
 use crate::saying::{say_delete, say_insert, say_truncate, say_update};
 use crate::sink::MessageSink;
 use crate::spoken::Spoken;
+use crate::transaction::{begin_message, commit_message};
 use filter_tree::Table;
 use replica_identity::{Change, Out, Plan, carries, transform};
 use shard_checker::Checked;
@@ -25,12 +26,12 @@ use std::alloc::{AllocError, Global};
 use tables_log::Commit;
 
 /// The messages that report a commit to the subscriber of this number: Begin, then for each change that is for it the
-/// message of what it gets, and Commit; none if no change is for it. `told` says by a table's number whether its
-/// Relation was sent: one that wasn't is sent directly before the first message that names its table, before a Truncate
-/// in its order, and is marked from then on. Each message fits its layout (`room`), the bytes that spell it are decoded
-/// as that message, and there are at most 13,108,011 of them (`sent`). Commit n has the LSN `64 * n`, ends at `64 * n +
-/// 64` and is transaction `n + 2`; table j has the OID `16384 + j`. The only error is out of memory, which leaves
-/// `told` as it was.
+/// message of what it gets, and Commit; none if no change is for it. `relation_sent` is, for each table by its number,
+/// whether its Relation was sent: one that wasn't is sent directly before the first message that names its table,
+/// before a Truncate in its order, and is marked from then on. Each message fits its layout (`room`), the bytes that
+/// spell it are decoded as that message, and there are at most 13,108,011 of them (`sent`). Positions and transaction
+/// numbers are those of `Lsn` and `xid_of_commit`, and OIDs those of `oid_of`. The only error is out of memory, which
+/// leaves `relation_sent` as it was.
 ///
 /// PostgreSQL 15, 55.5.3. Logical Replication Protocol Message Flow.
 pub fn messages_of(
@@ -38,16 +39,17 @@ pub fn messages_of(
     checked: &Checked,
     subscriber: usize,
     commit: &Commit,
-    told: &mut [bool],
+    relation_sent: &mut [bool],
 ) -> Result<Vec<Msg>, AllocError>
     ensures exact { IfOk result (λ messages. messages.items
-        ≡ spec.messages_for (checked_view checked.now) subscriber told.old commit.now) }
-    ensures told { OnOk result (told.new ≡ spec.told_after (checked_view checked.now) subscriber told.old commit.now) }
-    ensures err { OnErr result (told.new ≡ told.old) }
+        ≡ spec.messages_for (checked_view checked.now) subscriber relation_sent.old commit.now) }
+    ensures relation_sent { OnOk result
+        (relation_sent.new ≡ spec.told_after (checked_view checked.now) subscriber relation_sent.old commit.now) }
+    ensures err { OnErr result (relation_sent.new ≡ relation_sent.old) }
     ensures room { IfOk result (λ messages. All IsWithinRange messages.items) }
     ensures sent { IfOk result (λ messages. All IsSent messages.items) }
 {
-    let mut after = Vec::from_slice(alloc, told)?;
+    let mut after = Vec::from_slice(alloc, relation_sent)?;
     let mut spoken = Spoken::new(alloc);
     tell_each(
         alloc,
@@ -58,7 +60,7 @@ pub fn messages_of(
         &mut spoken,
     )?;
     let messages = enclosed(commit, spoken.into_messages())?;
-    told.copy_from_slice(after.as_slice());
+    relation_sent.copy_from_slice(after.as_slice());
     Ok(messages)
 }
 
@@ -72,20 +74,9 @@ fn enclosed(commit: &Commit, said: Vec<Msg>) -> Result<Vec<Msg>, AllocError>
     if said.is_empty() {
         return Ok(said);
     }
-    let lsn = 64 * u64::from(commit.number());
-    let begin = Msg::Begin {
-        final_lsn: lsn,
-        time: commit.time(),
-        xid: commit.number() + 2,
-    };
-    let end = Msg::Commit {
-        lsn,
-        end_lsn: lsn + 64,
-        time: commit.time(),
-    };
     let mut messages = said;
-    messages.insert(0, begin)?;
-    messages.push(end)?;
+    messages.insert(0, begin_message(commit))?;
+    messages.push(commit_message(commit))?;
     Ok(messages)
 }
 
@@ -98,9 +89,9 @@ fn tables_of(checked: &Checked) -> &[Table]
 }
 
 /// Reports to the subscriber of this number the changes of a commit that are for it, and tables whose Relation was not
-/// sent: the messages between Begin and Commit of `messages_of`, which a sink takes one after the other. `told` says by
-/// a table's number whether its Relation was sent. The only error is out of memory; then `sink` has taken the first few
-/// messages.
+/// sent: the messages between Begin and Commit of `messages_of`, which a sink takes one after the other.
+/// `relation_sent` is, for each table by its number, whether its Relation was sent. The only error is out of memory;
+/// then `sink` has taken the first few messages.
 ///
 /// PostgreSQL 15, 55.5.3. Logical Replication Protocol Message Flow.
 pub fn tell_changes<S: MessageSink>(
@@ -108,14 +99,22 @@ pub fn tell_changes<S: MessageSink>(
     checked: &Checked,
     subscriber: usize,
     commit: &Commit,
-    told: &mut [bool],
+    relation_sent: &mut [bool],
     sink: &mut S,
 ) -> Result<(), AllocError>
     ensures said { OnOk result (Takes S.takes_one sink.old sink.new
-        (spec.said_each (checked_view checked.now) subscriber told.old commit.now.changes)) }
-    ensures told { OnOk result (told.new ≡ spec.told_after (checked_view checked.now) subscriber told.old commit.now) }
+        (spec.said_each (checked_view checked.now) subscriber relation_sent.old commit.now.changes)) }
+    ensures relation_sent { OnOk result
+        (relation_sent.new ≡ spec.told_after (checked_view checked.now) subscriber relation_sent.old commit.now) }
 {
-    tell_each(alloc, checked, subscriber, commit.changes(), told, sink)?;
+    tell_each(
+        alloc,
+        checked,
+        subscriber,
+        commit.changes(),
+        relation_sent,
+        sink,
+    )?;
     Ok(())
 }
 
@@ -125,17 +124,17 @@ fn tell_each<S: MessageSink>(
     checked: &Checked,
     subscriber: usize,
     changes: &[Change],
-    told: &mut [bool],
+    relation_sent: &mut [bool],
     sink: &mut S,
 ) -> Result<(), AllocError>
     requires { All IsSendableChange (map change_view changes.now) }
     ensures said { OnOk result (Takes S.takes_one sink.old sink.new
-        (spec.said_each (checked_view checked.now) subscriber told.old (map change_view changes.now))) }
-    ensures told { OnOk result (told.new
-        ≡ spec.told_each (checked_view checked.now) subscriber told.old (map change_view changes.now)) }
+        (spec.said_each (checked_view checked.now) subscriber relation_sent.old (map change_view changes.now))) }
+    ensures relation_sent { OnOk result (relation_sent.new
+        ≡ spec.told_each (checked_view checked.now) subscriber relation_sent.old (map change_view changes.now)) }
 {
     for change in changes {
-        tell_change(alloc, checked, subscriber, change, told, sink)?;
+        tell_change(alloc, checked, subscriber, change, relation_sent, sink)?;
     }
     Ok(())
 }
@@ -147,26 +146,34 @@ fn tell_change<S: MessageSink>(
     checked: &Checked,
     subscriber: usize,
     change: &Change,
-    told: &mut [bool],
+    relation_sent: &mut [bool],
     sink: &mut S,
 ) -> Result<(), AllocError>
     requires { IsSendableChange (change_view change.now) }
     ensures said { OnOk result (Takes S.takes_one sink.old sink.new (spec.said (checked_view checked.now).catalog.tables
-        told.old (got (setting_in (checked_view checked.now)) subscriber (change_view change.now)))) }
-    ensures told { OnOk result (told.new
-        ≡ spec.told_by told.old (got (setting_in (checked_view checked.now)) subscriber (change_view change.now))) }
+        relation_sent.old (got (setting_in (checked_view checked.now)) subscriber (change_view change.now)))) }
+    ensures relation_sent { OnOk result (relation_sent.new
+        ≡ spec.told_by relation_sent.old
+        (got (setting_in (checked_view checked.now)) subscriber (change_view change.now))) }
 {
     let plan = checked.plan();
     let tables = tables_of(checked);
     let table = table_of(change);
     match transform(plan, subscriber, change) {
         None => Ok(()),
-        Some(Out::Insert(new)) => Ok(say_insert(tables, table, new, told, sink)?),
-        Some(Out::Update(old, new)) => Ok(say_update(tables, table, old, new, told, sink)?),
-        Some(Out::Delete(old)) => Ok(say_delete(tables, table, old, told, sink)?),
+        Some(Out::Insert(new)) => Ok(say_insert(tables, table, new, relation_sent, sink)?),
+        Some(Out::Update(old, new)) => Ok(say_update(
+            tables,
+            table,
+            old,
+            new,
+            relation_sent,
+            sink,
+        )?),
+        Some(Out::Delete(old)) => Ok(say_delete(tables, table, old, relation_sent, sink)?),
         Some(Out::Truncate(numbers)) => {
             let carried = carried_of(alloc, plan, subscriber, numbers)?;
-            Ok(say_truncate(tables, carried.as_slice(), told, sink)?)
+            Ok(say_truncate(tables, carried.as_slice(), relation_sent, sink)?)
         }
     }
 }

@@ -6,11 +6,12 @@ use Rattle.std.specs.Cmp.{unsigned_Decides}
 use Rattle.std.proofs.lemmas.Bool.{leb-true, leb-false}
 use Rattle.shard_checker.specs.CheckedView.{CheckedOf}
 use Rattle.tables_log.specs.Commits.{CommitOf}
-use Rattle.copy_both.specs.Streams.{Place, count_before, end_of}
+use Rattle.tables_log.specs.Lsn.{commits_before, end_lsn_of}
+use Rattle.copy_both.specs.Streams.{StreamStateOf}
 use Rattle.shard_world.specs.CatchingUp.{next_peer, sent_by, caught_up, SubscribersCatchUp}
 use Rattle.stream_laws.specs.Following.{IsPublished}
 use Rattle.stream_laws.specs.LayoutRoom.{FitsLayouts}
-use Rattle.shard_world.specs.World.{position_now, Asks, Connection, Peer, World, PeerEvent, Open, Hear, Take, Keep, Deliver, Report, Lose, Event, Commit, On, Answer, first_world, spelled_up, heard_of, hears, place_of, takes, take_step, keep_step, open_step, shut_step, peer_step, broken, with_peer, with_transaction, StepsOn, Steps, Leads, Source, source_in, step_in, broken_in, asking_length}
+use Rattle.shard_world.specs.World.{position_now, Asks, Connection, Peer, World, PeerEvent, Open, Hear, Take, Keep, Deliver, Report, Lose, Event, Commit, On, Answer, first_world, spelled_up, heard_of, hears, state_of, takes, take_step, keep_step, open_step, shut_step, peer_step, broken, with_peer, with_transaction, StepsOn, Steps, Leads, Source, source_in, step_in, broken_in, asking_length}
 use Rattle.shard_world.proofs.EndLemmas.{IsEnd}
 use Rattle.shard_world.proofs.EndSteps.{now_end, peer_end, take_many_end, take_many_good, ends_at}
 use Rattle.shard_world.proofs.CatchingUpLemmas.{hears_start, catches_up}
@@ -40,17 +41,17 @@ module _ (source : Source) (now : ℕ) where
       cc))
       (λ part. leb-false (asking_length source peer.position) (c.heard + more) part)
 
-  takes_asked : (peer : Peer) (c : Connection) (place : Place) (found : Option CommitOf)
+  takes_asked : (peer : Peer) (c : Connection) (state : StreamStateOf) (found : Option CommitOf)
       → IsAsked source.checked source.number peer → IsAskedAt source.checked source.number peer.position (Some c)
-      → IsAsked source.checked source.number (takes source.checked now peer c place found).1
-  takes_asked peer c place None whole still = whole
-  takes_asked peer c place (Some commit) whole still = still
+      → IsAsked source.checked source.number (takes source.checked now peer c state found).1
+  takes_asked peer c state None whole still = whole
+  takes_asked peer c state (Some commit) whole still = still
 
   take_asked : (peer : Peer) (c : Connection) (start : Option ℕ) → IsAsked source.checked source.number peer
       → IsAskedAt source.checked source.number peer.position (Some c)
       → IsAsked source.checked source.number (take_step source now peer c start).1
   take_asked peer c None whole still = whole
-  take_asked peer c (Some start) whole still = takes_asked peer c (place_of source start c.moves) _ whole still
+  take_asked peer c (Some start) whole still = takes_asked peer c (state_of source start c.moves) _ whole still
 
   keep_asked : (want : Bool) (peer : Peer) (c : Connection) (start : Option ℕ)
       → IsAsked source.checked source.number peer → IsAskedAt source.checked source.number peer.position (Some c)
@@ -146,11 +147,11 @@ leads_asked checked most (event ∷ events) world last leads all =
     (step_asked checked most world event.0 event.1 leads.0 leads.1 leads.2 all)
 
 -- a position that counts this number of commits, and isn't 0, is where the last of them ends
-pub end_of_count : (position count : ℕ) → IsEnd position → count_before position ≡ count → 1 ≤ position
-    → position ≡ end_of count
+pub end_of_count : (position count : ℕ) → IsEnd position → commits_before position ≡ count → 1 ≤ position
+    → position ≡ end_lsn_of count
 end_of_count position count ends counts some = elim ends [
   | inl zero ↦ absurd (omega (arith, zero, some))
-  | inr is ↦ is ∙ ap end_of counts
+  | inr is ↦ is ∙ ap end_lsn_of counts
 ]
 
 pub subscribers_catch_up : SubscribersCatchUp

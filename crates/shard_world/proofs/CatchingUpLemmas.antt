@@ -6,18 +6,19 @@ use Rattle.std.proofs.lemmas.Bool.{le-leb, lt-leb}
 use Rattle.table_changes.specs.Tables.{no_rows}
 use Rattle.shard_checker.specs.CheckedView.{CheckedOf, setting_in}
 use Rattle.tables_log.specs.Commits.{CommitOf}
+use Rattle.tables_log.specs.Lsn.{commits_before}
 use Rattle.tables_log.specs.StandsFor.{AreAccepted}
 use Rattle.copy_both.specs.Streams as s
-use Rattle.copy_both.specs.Streams.{Item, Response, spelled, Place, Move, count_before, place_at, keep_item, moved, taken_place, all_moved}
+use Rattle.copy_both.specs.Streams.{Item, Response, spelled, StreamStateOf, Move, state_at, keep_item, moved, taken_state, all_moved}
 use Rattle.copy_both.specs.Tellings.{telling_of}
 use Rattle.copy_both.proofs.StreamLemmas.{moved_append, items_append}
 use Rattle.shard_world.specs.CatchingUp.{next_peer, sent_by, sent_to, take_many, delivered_all, caught_up}
 use Rattle.stream_laws.specs.Cutting.{if_whole, whole_in}
 use Rattle.stream_laws.specs.Following.{raised_by, position_after, IsPublished}
 use Rattle.stream_laws.specs.LayoutRoom.{FitsLayouts}
-use Rattle.shard_world.specs.World.{Up, Asks, Says, Connection, Peer, PeerEvent, Hear, Take, Keep, Deliver, Session, down_items, down_bytes, position_now, spelled_up, whole_up, ups_of, start_at, hear_up, newly, heard_of, hears, delivers, as_many, place_of, takes, take_step, keep_step, moves_on, open_step, peer_step, Source, up_bytes, down_of, log_in, asking_length}
+use Rattle.shard_world.specs.World.{Up, Asks, Says, Connection, Peer, PeerEvent, Hear, Take, Keep, Deliver, Session, down_items, down_bytes, position_now, spelled_up, whole_up, ups_of, start_at, hear_up, newly, heard_of, hears, delivers, as_many, state_of, takes, take_step, keep_step, moves_on, open_step, peer_step, Source, up_bytes, down_of, log_in, asking_length}
 use Rattle.stream_laws.proofs.EntryLemmas.{entry_at, entries_length, past_end}
-use Rattle.stream_laws.proofs.FollowingLemmas.{first_sent}
+use Rattle.stream_laws.proofs.FollowingLemmas.{first_sent_counts}
 use Rattle.shard_world.proofs.WorldPeers.{IsGood, good_follows}
 use Rattle.shard_world.proofs.WorldSteps.{peer_good}
 use Rattle.filter_tree.proofs.Tests.{by_test}
@@ -90,54 +91,54 @@ hears_start source now peer c more still whole = by_start c.start refl
 
 -- how many commits are counted by what was sent
 module _ (source : Source) (accepted : AreAccepted (setting_in source.checked) no_rows source.transactions) where
-  take_counts : (place : Place) (found : Option CommitOf) → slice_get (log_in source) place.done ≡ found
-      → count_before place.sent ≡ place.done
-      → count_before (taken_place (telling_of source.checked) place found).sent
-      ≡ (taken_place (telling_of source.checked) place found).done
-  take_counts place None e counts = counts
-  take_counts place (Some commit) e counts =
-      let entry = entry_at (setting_in source.checked) no_rows 1 source.transactions place.done commit accepted e in
-      let number : commit.number ≡ 1 + place.done = ap (λ (one : CommitOf). one.number) entry.is in
+  take_counts : (state : StreamStateOf) (found : Option CommitOf) → slice_get (log_in source) state.done ≡ found
+      → commits_before state.sent ≡ state.done
+      → commits_before (taken_state (telling_of source.checked) state found).sent
+      ≡ (taken_state (telling_of source.checked) state found).done
+  take_counts state None e counts = counts
+  take_counts state (Some commit) e counts =
+      let entry = entry_at (setting_in source.checked) no_rows 1 source.transactions state.done commit accepted e in
+      let number : commit.number ≡ 1 + state.done = ap (λ (one : CommitOf). one.number) entry.is in
       omega (arith, number)
 
-  move_counts : (place : Place) (move : Move) → count_before place.sent ≡ place.done
-      → count_before (moved (telling_of source.checked) (log_in source) place move).sent
-      ≡ (moved (telling_of source.checked) (log_in source) place move).done
-  move_counts place (s.Take clock) counts = take_counts place (slice_get (log_in source) place.done) refl counts
-  move_counts place (s.Keep clock want) counts = counts
+  move_counts : (state : StreamStateOf) (move : Move) → commits_before state.sent ≡ state.done
+      → commits_before (moved (telling_of source.checked) (log_in source) state move).sent
+      ≡ (moved (telling_of source.checked) (log_in source) state move).done
+  move_counts state (s.Take clock) counts = take_counts state (slice_get (log_in source) state.done) refl counts
+  move_counts state (s.Keep clock want) counts = counts
 
-  moves_count : (moves : List Move) (place : Place) → count_before place.sent ≡ place.done
-      → count_before (all_moved (telling_of source.checked) (log_in source) place moves).sent
-      ≡ (all_moved (telling_of source.checked) (log_in source) place moves).done
-  moves_count [] place counts = counts
-  moves_count (move ∷ moves) place counts =
-      moves_count moves (moved (telling_of source.checked) (log_in source) place move) (move_counts place move counts)
+  moves_count : (moves : List Move) (state : StreamStateOf) → commits_before state.sent ≡ state.done
+      → commits_before (all_moved (telling_of source.checked) (log_in source) state moves).sent
+      ≡ (all_moved (telling_of source.checked) (log_in source) state moves).done
+  moves_count [] state counts = counts
+  moves_count (move ∷ moves) state counts =
+      moves_count moves (moved (telling_of source.checked) (log_in source) state move) (move_counts state move counts)
 
   pub place_counts : (start : ℕ) (moves : List Move)
-      → count_before (place_of source start moves).sent ≡ (place_of source start moves).done
+      → commits_before (state_of source start moves).sent ≡ (state_of source start moves).done
   place_counts start moves =
-      moves_count moves (place_at source.number (length source.checked.catalog.tables) start) (first_sent start)
+      moves_count moves (state_at source.number (length source.checked.catalog.tables) start) (first_sent_counts start)
 
 -- what was sent is never 0
-move_sent : (checked : CheckedOf) (log : List CommitOf) (place : Place) (move : Move) → 1 ≤ place.sent
-    → 1 ≤ (moved (telling_of checked) log place move).sent
-move_sent checked log place (s.Take clock) sent = by_found (slice_get log place.done)
+move_sent : (checked : CheckedOf) (log : List CommitOf) (state : StreamStateOf) (move : Move) → 1 ≤ state.sent
+    → 1 ≤ (moved (telling_of checked) log state move).sent
+move_sent checked log state (s.Take clock) sent = by_found (slice_get log state.done)
   where
-    by_found : (found : Option CommitOf) → 1 ≤ (taken_place (telling_of checked) place found).sent
+    by_found : (found : Option CommitOf) → 1 ≤ (taken_state (telling_of checked) state found).sent
     by_found None = sent
     by_found (Some commit) = omega arith
-move_sent checked log place (s.Keep clock want) sent = sent
+move_sent checked log state (s.Keep clock want) sent = sent
 
-moves_sent : (checked : CheckedOf) (log : List CommitOf) (moves : List Move) (place : Place) → 1 ≤ place.sent
-    → 1 ≤ (all_moved (telling_of checked) log place moves).sent
-moves_sent checked log [] place sent = sent
-moves_sent checked log (move ∷ moves) place sent =
-    moves_sent checked log moves (moved (telling_of checked) log place move) (move_sent checked log place move sent)
+moves_sent : (checked : CheckedOf) (log : List CommitOf) (moves : List Move) (state : StreamStateOf) → 1 ≤ state.sent
+    → 1 ≤ (all_moved (telling_of checked) log state moves).sent
+moves_sent checked log [] state sent = sent
+moves_sent checked log (move ∷ moves) state sent =
+    moves_sent checked log moves (moved (telling_of checked) log state move) (move_sent checked log state move sent)
 
-place_sent : (source : Source) (start : ℕ) (moves : List Move) → 1 ≤ (place_of source start moves).sent
-place_sent source start moves =
+state_sent : (source : Source) (start : ℕ) (moves : List Move) → 1 ≤ (state_of source start moves).sent
+state_sent source start moves =
     moves_sent source.checked (log_in source) moves
-    (place_at source.number (length source.checked.catalog.tables) start) (first_some start)
+    (state_at source.number (length source.checked.catalog.tables) start) (first_some start)
   where
     not_zero : (p : ℕ) → (p == 0) ≡ false → 1 ≤ p
     not_zero zero h = absurd (let same : (0 == 0) ≡ true = refl in cc)
@@ -180,7 +181,7 @@ pub record IsRunning (source : Source) (start : ℕ) (peer : Peer) : Type 0 wher
 -- this number of commits or fewer remain
 pub record IsLeft (source : Source) (start count : ℕ) (peer : Peer) : Type 0 where
   pub running : IsRunning source start peer
-  pub left : length (log_in source) ≤ (place_of source start running.c.moves).done + count
+  pub left : length (log_in source) ≤ (state_of source start running.c.moves).done + count
 
 module _ (source : Source) (published : IsPublished source.checked source.transactions)
     (sayable : FitsLayouts source.checked source.transactions) (now : ℕ) (timed : now < 2 ^ 64) where
@@ -198,47 +199,47 @@ module _ (source : Source) (published : IsPublished source.checked source.transa
       subst (IsLeft source start count)
       (sym (as_step Take peer h.running.c h.running.is
       ∙ ap (λ from. (take_step source now peer h.running.c from).1) h.running.start_is))
-      (by_found (slice_get (log_in source) (place_of source start h.running.c.moves).done) refl
+      (by_found (slice_get (log_in source) (state_of source start h.running.c.moves).done) refl
       (subst (IsGood source)
       (as_step Take peer h.running.c h.running.is
       ∙ ap (λ from. (take_step source now peer h.running.c from).1) h.running.start_is)
       (next_good Take peer h.running.good)))
     where
       by_found : (found : Option CommitOf)
-          → slice_get (log_in source) (place_of source start h.running.c.moves).done ≡ found
-          → IsGood source (takes source.checked now peer h.running.c (place_of source start h.running.c.moves)
-          (slice_get (log_in source) (place_of source start h.running.c.moves).done)).1
+          → slice_get (log_in source) (state_of source start h.running.c.moves).done ≡ found
+          → IsGood source (takes source.checked now peer h.running.c (state_of source start h.running.c.moves)
+          (slice_get (log_in source) (state_of source start h.running.c.moves).done)).1
           → IsLeft source start count
-          (takes source.checked now peer h.running.c (place_of source start h.running.c.moves)
-          (slice_get (log_in source) (place_of source start h.running.c.moves).done)).1
+          (takes source.checked now peer h.running.c (state_of source start h.running.c.moves)
+          (slice_get (log_in source) (state_of source start h.running.c.moves).done)).1
       by_found None e good =
           subst (λ found. IsLeft source start count
-          (takes source.checked now peer h.running.c (place_of source start h.running.c.moves) found).1) (sym e)
+          (takes source.checked now peer h.running.c (state_of source start h.running.c.moves) found).1) (sym e)
           (record {
             running = h.running;
-            left = let end = past_end (log_in source) (place_of source start h.running.c.moves).done e in
+            left = let end = past_end (log_in source) (state_of source start h.running.c.moves).done e in
                 omega (arith, end);
           })
       by_found (Some commit) e good =
           subst (λ found. IsLeft source start count
-          (takes source.checked now peer h.running.c (place_of source start h.running.c.moves) found).1) (sym e)
+          (takes source.checked now peer h.running.c (state_of source start h.running.c.moves) found).1) (sym e)
           (record {
             running = record {
               c = record h.running.c { moves = h.running.c.moves ++ s.Take now ∷ [] };
               is = refl;
               start_is = h.running.start_is;
               good = subst (λ found. IsGood source
-                  (takes source.checked now peer h.running.c (place_of source start h.running.c.moves) found).1) e
+                  (takes source.checked now peer h.running.c (state_of source start h.running.c.moves) found).1) e
                   good;
             };
             left =
-                let further : (place_of source start (h.running.c.moves ++ s.Take now ∷ [])).done
-                ≡ (place_of source start h.running.c.moves).done + 1 =
-                ap (λ (at : Place). at.done)
+                let further : (state_of source start (h.running.c.moves ++ s.Take now ∷ [])).done
+                ≡ (state_of source start h.running.c.moves).done + 1 =
+                ap (λ (at : StreamStateOf). at.done)
                 (moved_append (telling_of source.checked) (log_in source)
-                (place_at source.number (length source.checked.catalog.tables) start) h.running.c.moves
+                (state_at source.number (length source.checked.catalog.tables) start) h.running.c.moves
                 (s.Take now)
-                ∙ ap (taken_place (telling_of source.checked) (place_of source start h.running.c.moves)) e) in
+                ∙ ap (taken_state (telling_of source.checked) (state_of source start h.running.c.moves)) e) in
                 omega (arith, further, h.left);
           })
 
@@ -265,11 +266,11 @@ module _ (source : Source) (published : IsPublished source.checked source.transa
   -- after the keepalive the whole stream reports the end of the log
   -- it counts all commits, and isn't 0
   pub record CountsAll (position : ℕ) : Type 0 where
-    pub all : length (log_in source) ≤ count_before position
+    pub all : length (log_in source) ≤ commits_before position
     pub some : 1 ≤ position
 
   pub reaches_end : (start : ℕ) (position : ℕ) (c : Connection) → c.start ≡ Some start
-      → length (log_in source) ≤ (place_of source start c.moves).done + 0
+      → length (log_in source) ≤ (state_of source start c.moves).done + 0
       → (delivered : ℕ) → delivered ≤ length
       (flat_map spelled (down_items source c.start (c.moves ++ s.Keep now false ∷ [])))
       → CountsAll (position_after position (whole_in
@@ -280,15 +281,15 @@ module _ (source : Source) (published : IsPublished source.checked source.transa
       let before : List Item = down_items source (Some start) c.moves in
       subst CountsAll (sym (ap (position_after position)
       (whole (down_items source c.start (c.moves ++ s.Keep now false ∷ [])) delivered within ∙ items_are)
-      ∙ after_one position before (keep_item (place_of source start c.moves) now false)))
+      ∙ after_one position before (keep_item (state_of source start c.moves) now false)))
       (record { all = at_least (position_after position before); some = at_some (position_after position before) })
     where
       items_are : down_items source c.start (c.moves ++ s.Keep now false ∷ [])
-          ≡ down_items source (Some start) c.moves ++ keep_item (place_of source start c.moves) now false ∷ []
+          ≡ down_items source (Some start) c.moves ++ keep_item (state_of source start c.moves) now false ∷ []
       items_are = ap (λ from. down_items source from (c.moves ++ s.Keep now false ∷ [])) start_is
           ∙ ap (λ items. Response ∷ items)
           (items_append (telling_of source.checked) (log_in source)
-          (place_at source.number (length source.checked.catalog.tables) start) c.moves (s.Keep now false))
+          (state_at source.number (length source.checked.catalog.tables) start) c.moves (s.Keep now false))
 
       whole : (items : List Item) (done : ℕ) → done ≤ length (flat_map spelled items)
           → whole_in (done + as_many (length (flat_map spelled items)) (length (flat_map spelled items)) done) items
@@ -299,14 +300,14 @@ module _ (source : Source) (published : IsPublished source.checked source.transa
           all_of : (count done : ℕ) → done ≤ count → done + as_many count count done ≡ count
           all_of count done h = omega (arith, h)
 
-      counts : count_before (place_of source start c.moves).sent ≡ (place_of source start c.moves).done
+      counts : commits_before (state_of source start c.moves).sent ≡ (state_of source start c.moves).done
       counts = place_counts source published.accepted start c.moves
 
-      at_least : (p : ℕ) → length (log_in source) ≤ count_before (max p (place_of source start c.moves).sent)
+      at_least : (p : ℕ) → length (log_in source) ≤ commits_before (max p (state_of source start c.moves).sent)
       at_least p = omega (arith, counts, left)
 
-      at_some : (p : ℕ) → 1 ≤ max p (place_of source start c.moves).sent
-      at_some p = omega (arith, place_sent source start c.moves)
+      at_some : (p : ℕ) → 1 ≤ max p (state_of source start c.moves).sent
+      at_some p = omega (arith, state_sent source start c.moves)
 
   -- ---- all of it
 
@@ -319,7 +320,7 @@ module _ (source : Source) (published : IsPublished source.checked source.transa
 
   -- a subscriber that has applied all commits
   pub record CatchesUp (final : Peer) : Type 0 where
-    pub counts : count_before (position_now source final) ≡ length source.transactions
+    pub counts : commits_before (position_now source final) ≡ length source.transactions
     pub some : 1 ≤ position_now source final
     pub good : IsGood source final
 
@@ -375,7 +376,7 @@ module _ (source : Source) (published : IsPublished source.checked source.transa
 
       both : (final : Peer) → length (log_in source) ≡ length source.transactions
           → CountsAll (position_now source final)
-          → IsGood source final → count_before (position_now source final) ≤ length source.transactions
+          → IsGood source final → commits_before (position_now source final) ≤ length source.transactions
           → CatchesUp final
       both final e low good high = let all = low.all in
           record { counts = omega (arith, e, all, high); some = low.some; good = good }

@@ -8,7 +8,7 @@ use Rattle.filter_tree.specs.Datum.{Datum}
 use Rattle.shard_checker.specs.CheckedView.{CheckedOf, setting_in}
 use Rattle.table_changes.specs.Standing.{DividesRows}
 use Rattle.table_changes.specs.Tables.{holds}
-use Rattle.copy_both.specs.Streams.{count_before}
+use Rattle.tables_log.specs.Lsn.{commits_before}
 use Rattle.stream_laws.specs.ShardRows.{in_shard}
 use Rattle.shard_world.specs.ViewContents.{AllAt}
 use Rattle.shard_world.specs.ViewMeaning.{AreRows, DividesShown, ShowsRow, ShowsSubscriber, shown_rows, tables_after}
@@ -64,7 +64,7 @@ module _ (checked : CheckedOf) (world : w.World) (shown : View)
   have_applied number h =
       let there = get_there shown.subscribers.items number (within number h) in
       let its = shown_at number there.0 there.1 in
-      sym (its.applied_is ∙ ap count_before its.position_is) ∙ applied_at number there.0 there.1
+      sym (its.applied_is ∙ ap commits_before its.position_is) ∙ applied_at number there.0 there.1
 
   -- its rows of a table
   rows_at : (number table : ℕ) (subscriber : SubscriberView) (rows : List (List Datum))

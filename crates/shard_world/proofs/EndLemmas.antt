@@ -8,11 +8,12 @@ use Rattle.table_changes.specs.Outs.{got}
 use Rattle.table_changes.specs.Records as r
 use Rattle.shard_checker.specs.CheckedView.{CheckedOf, setting_in}
 use Rattle.tables_log.specs.Commits.{CommitOf}
+use Rattle.tables_log.specs.Lsn.{commits_before, end_lsn_of}
 use Rattle.pgoutput_msgs.specs.Telling.{relation_at, introduced, relation_once, relations_of, told_one, told_by, named_in, message_of, said, said_each, begin_of, commit_of, enclosed, messages_for}
 use Rattle.pgoutput_msgs.specs.declared.message.Msg.{Msg}
 use Rattle.pgoutput_msgs.specs.declared.message.Msg.TheVariants as m
 use Rattle.copy_both.specs.Streams as s
-use Rattle.copy_both.specs.Streams.{Item, Response, Carries, Alive, spelled, Place, Move, count_before, end_of, place_at, place_after, taken_place, head_of, take_items, keep_item, all_items, stream_items}
+use Rattle.copy_both.specs.Streams.{Item, Response, Carries, Alive, spelled, StreamStateOf, Move, state_at, state_after, taken_state, head_of, take_items, keep_item, all_items, stream_items}
 use Rattle.copy_both.specs.Tellings.{telling_of}
 use Rattle.stream_laws.specs.Cutting.{if_whole, whole_in}
 use Rattle.stream_laws.specs.Following.{raised_by_message, raised_by, position_after}
@@ -22,7 +23,7 @@ use Rattle.filter_tree.proofs.Tests.{by_test}
 
 -- it is 0, or where the last of the commits ends that it counts
 abbrev pub IsEnd : ℕ → Type 0
-IsEnd position = (position ≡ 0) ⊎ (position ≡ end_of (count_before position))
+IsEnd position = (position ≡ 0) ⊎ (position ≡ end_lsn_of (commits_before position))
 
 pub greater_end : (one other : ℕ) → IsEnd one → IsEnd other → IsEnd (max one other)
 greater_end one other first second = by_test (nat_lt one other)
@@ -35,7 +36,7 @@ greater_end one other first second = by_test (nat_lt one other)
     is_one : (a b : ℕ) → b ≤ a → max a b ≡ a
     is_one a b h = omega (arith, h)
 
-pub end_is : (number : ℕ) → IsEnd (end_of number)
+pub end_is : (number : ℕ) → IsEnd (end_lsn_of number)
 end_is number = inr (omega arith)
 
 -- ---- what items report
@@ -99,18 +100,18 @@ module _ (P : ℕ → Type 0) where
   found_by number None = All-nil (TellsBy P)
   found_by number (Some table) = All-cons (TellsBy P) (m.Relation _) [] tt (All-nil (TellsBy P))
 
-  once_by : (tables : List Table) (told : Bool) (number : ℕ) → All (TellsBy P) (introduced tables told number)
+  once_by : (tables : List Table) (sent : Bool) (number : ℕ) → All (TellsBy P) (introduced tables sent number)
   once_by tables true number = All-nil (TellsBy P)
   once_by tables false number = found_by number (slice_get tables number)
 
-  relations_by : (tables : List Table) (told : List Bool) (numbers : List ℕ)
-      → All (TellsBy P) (relations_of tables told numbers)
+  relations_by : (tables : List Table) (sent : List Bool) (numbers : List ℕ)
+      → All (TellsBy P) (relations_of tables sent numbers)
   unfolding relations_of relation_once
-  relations_by tables told [] = All-nil (TellsBy P)
-  relations_by tables told (number ∷ numbers) =
-      All-append (TellsBy P) (introduced tables (slice_index_or told number false) number)
-      (relations_of tables (told_one told number) numbers)
-      (once_by tables (slice_index_or told number false) number) (relations_by tables (told_one told number) numbers)
+  relations_by tables sent [] = All-nil (TellsBy P)
+  relations_by tables sent (number ∷ numbers) =
+      All-append (TellsBy P) (introduced tables (slice_index_or sent number false) number)
+      (relations_of tables (told_one sent number) numbers)
+      (once_by tables (slice_index_or sent number false) number) (relations_by tables (told_one sent number) numbers)
 
   own_by : (change : r.ChangeOf) → All (TellsBy P) (message_of change)
   own_by (r.Insert table new) = All-cons (TellsBy P) (m.Insert _ _) [] tt (All-nil (TellsBy P))
@@ -119,25 +120,25 @@ module _ (P : ℕ → Type 0) where
   own_by (r.Delete table (Some part)) = All-cons (TellsBy P) (m.Delete _ _) [] tt (All-nil (TellsBy P))
   own_by (r.Truncate numbers) = All-cons (TellsBy P) (m.Truncate _ _) [] tt (All-nil (TellsBy P))
 
-  change_by : (tables : List Table) (told : List Bool) (change : Option r.ChangeOf)
-      → All (TellsBy P) (said tables told change)
+  change_by : (tables : List Table) (sent : List Bool) (change : Option r.ChangeOf)
+      → All (TellsBy P) (said tables sent change)
   unfolding said
-  change_by tables told None = All-nil (TellsBy P)
-  change_by tables told (Some change) =
-      All-append (TellsBy P) (relations_of tables told (named_in change)) (message_of change)
-      (relations_by tables told (named_in change)) (own_by change)
+  change_by tables sent None = All-nil (TellsBy P)
+  change_by tables sent (Some change) =
+      All-append (TellsBy P) (relations_of tables sent (named_in change)) (message_of change)
+      (relations_by tables sent (named_in change)) (own_by change)
 
-  said_by : (checked : CheckedOf) (subscriber : ℕ) (told : List Bool) (changes : List r.ChangeOf)
-      → All (TellsBy P) (said_each checked subscriber told changes)
+  said_by : (checked : CheckedOf) (subscriber : ℕ) (sent : List Bool) (changes : List r.ChangeOf)
+      → All (TellsBy P) (said_each checked subscriber sent changes)
   unfolding said_each
-  said_by checked subscriber told [] = All-nil (TellsBy P)
-  said_by checked subscriber told (change ∷ changes) =
-      All-append (TellsBy P) (said checked.catalog.tables told (got (setting_in checked) subscriber change))
-      (said_each checked subscriber (told_by told (got (setting_in checked) subscriber change)) changes)
-      (change_by checked.catalog.tables told (got (setting_in checked) subscriber change))
-      (said_by checked subscriber (told_by told (got (setting_in checked) subscriber change)) changes)
+  said_by checked subscriber sent [] = All-nil (TellsBy P)
+  said_by checked subscriber sent (change ∷ changes) =
+      All-append (TellsBy P) (said checked.catalog.tables sent (got (setting_in checked) subscriber change))
+      (said_each checked subscriber (told_by sent (got (setting_in checked) subscriber change)) changes)
+      (change_by checked.catalog.tables sent (got (setting_in checked) subscriber change))
+      (said_by checked subscriber (told_by sent (got (setting_in checked) subscriber change)) changes)
 
-  enclosed_by : (commit : CommitOf) → P (end_of commit.number) → (messages : List Msg) → All (TellsBy P) messages
+  enclosed_by : (commit : CommitOf) → P (end_lsn_of commit.number) → (messages : List Msg) → All (TellsBy P) messages
       → All (TellsBy P) (enclosed commit messages)
   enclosed_by commit here [] all = All-nil (TellsBy P)
   enclosed_by commit here (first ∷ others) all =
@@ -145,11 +146,11 @@ module _ (P : ℕ → Type 0) where
       (All-append (TellsBy P) (first ∷ others) (commit_of commit ∷ []) all
       (All-cons (TellsBy P) (commit_of commit) [] here (All-nil (TellsBy P))))
 
-  pub messages_tell : (checked : CheckedOf) (subscriber : ℕ) (told : List Bool) (commit : CommitOf)
-      → P (end_of commit.number) → All (TellsBy P) (messages_for checked subscriber told commit)
-  messages_tell checked subscriber told commit here =
-      enclosed_by commit here (said_each checked subscriber told commit.changes)
-      (said_by checked subscriber told commit.changes)
+  pub messages_tell : (checked : CheckedOf) (subscriber : ℕ) (sent : List Bool) (commit : CommitOf)
+      → P (end_lsn_of commit.number) → All (TellsBy P) (messages_for checked subscriber sent commit)
+  messages_tell checked subscriber sent commit here =
+      enclosed_by commit here (said_each checked subscriber sent commit.changes)
+      (said_by checked subscriber sent commit.changes)
 
 -- ---- items of a stream
 
@@ -162,25 +163,25 @@ carried_end number clock (message ∷ messages) rest all later =
     (carried_end number clock messages rest (All-tail TellsEnd message messages all) later)
 
 module _ (checked : CheckedOf) (log : List CommitOf) where
-  take_end : (moves : List Move) (place : Place) (clock : ℕ) (found : Option CommitOf) → IsEnd place.sent
-      → ((at : Place) → IsEnd at.sent → All ItemTellsEnd (all_items (telling_of checked) log at moves))
-      → All ItemTellsEnd (take_items (telling_of checked) place found clock
-      ++ all_items (telling_of checked) log (taken_place (telling_of checked) place found) moves)
-  take_end moves place clock None sent later = later place sent
-  take_end moves place clock (Some commit) sent later =
-      carried_end commit.number clock (messages_for checked place.slot place.told commit)
-      (all_items (telling_of checked) log (place_after (telling_of checked) place commit) moves)
-      (messages_tell IsEnd checked place.slot place.told commit (end_is commit.number))
-      (later (place_after (telling_of checked) place commit) (end_is commit.number))
+  take_end : (moves : List Move) (state : StreamStateOf) (clock : ℕ) (found : Option CommitOf) → IsEnd state.sent
+      → ((at : StreamStateOf) → IsEnd at.sent → All ItemTellsEnd (all_items (telling_of checked) log at moves))
+      → All ItemTellsEnd (take_items (telling_of checked) state found clock
+      ++ all_items (telling_of checked) log (taken_state (telling_of checked) state found) moves)
+  take_end moves state clock None sent later = later state sent
+  take_end moves state clock (Some commit) sent later =
+      carried_end commit.number clock (messages_for checked state.slot state.relation_sent commit)
+      (all_items (telling_of checked) log (state_after (telling_of checked) state commit) moves)
+      (messages_tell IsEnd checked state.slot state.relation_sent commit (end_is commit.number))
+      (later (state_after (telling_of checked) state commit) (end_is commit.number))
 
-  moves_end : (moves : List Move) (place : Place) → IsEnd place.sent
-      → All ItemTellsEnd (all_items (telling_of checked) log place moves)
-  moves_end [] place sent = All-nil ItemTellsEnd
-  moves_end (s.Take clock ∷ moves) place sent =
-      take_end moves place clock (slice_get log place.done) sent (λ at tells. moves_end moves at tells)
-  moves_end (s.Keep clock want ∷ moves) place sent =
-      All-cons ItemTellsEnd (keep_item place clock want) (all_items (telling_of checked) log place moves) sent
-      (moves_end moves place sent)
+  moves_end : (moves : List Move) (state : StreamStateOf) → IsEnd state.sent
+      → All ItemTellsEnd (all_items (telling_of checked) log state moves)
+  moves_end [] state sent = All-nil ItemTellsEnd
+  moves_end (s.Take clock ∷ moves) state sent =
+      take_end moves state clock (slice_get log state.done) sent (λ at tells. moves_end moves at tells)
+  moves_end (s.Keep clock want ∷ moves) state sent =
+      All-cons ItemTellsEnd (keep_item state clock want) (all_items (telling_of checked) log state moves) sent
+      (moves_end moves state sent)
 
 first_end : (position : ℕ) → IsEnd position → IsEnd (if position == 0 then 64 else position)
 first_end position h = by_test (position == 0)
@@ -193,8 +194,8 @@ pub stream_end : (checked : CheckedOf) (log : List CommitOf) (subscriber start :
     → IsEnd (position_after position (whole_in count
     (stream_items (telling_of checked) log subscriber (length checked.catalog.tables) start moves)))
 stream_end checked log subscriber start moves count position begins h =
-    let place : Place = place_at subscriber (length checked.catalog.tables) start in
-    let items : List Item = all_items (telling_of checked) log place moves in
+    let state : StreamStateOf = state_at subscriber (length checked.catalog.tables) start in
+    let items : List Item = all_items (telling_of checked) log state moves in
     items_end position (whole_in count (Response ∷ items))
     (whole_end count (Response ∷ items)
-    (All-cons ItemTellsEnd Response items tt (moves_end checked log moves place (first_end start begins)))) h
+    (All-cons ItemTellsEnd Response items tt (moves_end checked log moves state (first_end start begins)))) h

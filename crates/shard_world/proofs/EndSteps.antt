@@ -5,12 +5,12 @@ use Rattle.std.proofs.lemmas.List.Elements.{All-head, All-tail}
 use Rattle.table_changes.specs.Standing.{Covered, KeepsApart}
 use Rattle.shard_checker.specs.CheckedView.{CheckedOf, setting_in}
 use Rattle.tables_log.specs.Commits.{CommitOf}
-use Rattle.copy_both.specs.Streams.{Place}
+use Rattle.copy_both.specs.Streams.{StreamStateOf}
 use Rattle.shard_world.specs.CatchingUp.{next_peer, take_many}
 use Rattle.stream_laws.specs.Cutting.{whole_in}
 use Rattle.stream_laws.specs.Following.{position_after, IsPublished}
 use Rattle.stream_laws.specs.LayoutRoom.{FitsLayouts}
-use Rattle.shard_world.specs.World.{Connection, Peer, World, PeerEvent, Open, Hear, Take, Keep, Deliver, Report, Lose, Event, Commit, On, Answer, first_world, down_items, position_in, position_now, place_of, takes, take_step, keep_step, open_step, shut_step, peer_step, broken, with_peer, with_transaction, StepsOn, Steps, Leads, Source, source_in, step_in, broken_in, in_part, log_in}
+use Rattle.shard_world.specs.World.{Connection, Peer, World, PeerEvent, Open, Hear, Take, Keep, Deliver, Report, Lose, Event, Commit, On, Answer, first_world, down_items, position_in, position_now, state_of, takes, take_step, keep_step, open_step, shut_step, peer_step, broken, with_peer, with_transaction, StepsOn, Steps, Leads, Source, source_in, step_in, broken_in, in_part, log_in}
 use Rattle.shard_world.proofs.EndLemmas.{IsEnd, stream_end}
 use Rattle.shard_world.proofs.WorldItems.{sayable_first}
 use Rattle.shard_world.proofs.WorldLemmas.{IsTimed, leads_grow, IsGoodWorld, published, step_good, first_good}
@@ -37,15 +37,16 @@ module _ (source : Source) where
 
   -- ---- steps
 
-  takes_end : (now : ℕ) (peer : Peer) (c : Connection) (place : Place) (found : Option CommitOf) → IsEnd peer.position
-      → IsEnd (takes source.checked now peer c place found).1.position
-  takes_end now peer c place None h = h
-  takes_end now peer c place (Some commit) h = h
+  takes_end : (now : ℕ) (peer : Peer) (c : Connection) (state : StreamStateOf) (found : Option CommitOf)
+      → IsEnd peer.position
+      → IsEnd (takes source.checked now peer c state found).1.position
+  takes_end now peer c state None h = h
+  takes_end now peer c state (Some commit) h = h
 
   take_end : (now : ℕ) (peer : Peer) (c : Connection) (start : Option ℕ) → IsEnd peer.position
       → IsEnd (take_step source now peer c start).1.position
   take_end now peer c None h = h
-  take_end now peer c (Some start) h = takes_end now peer c (place_of source start c.moves) _ h
+  take_end now peer c (Some start) h = takes_end now peer c (state_of source start c.moves) _ h
 
   keep_end : (now : ℕ) (want : Bool) (peer : Peer) (c : Connection) (start : Option ℕ) → IsEnd peer.position
       → IsEnd (keep_step now want peer c start).1.position

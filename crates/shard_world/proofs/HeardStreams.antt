@@ -11,11 +11,11 @@ use Rattle.tables_log.specs.Commits.{CommitOf}
 use Rattle.tables_log.specs.Slots.{end_after}
 use Rattle.tables_log.specs.declared.slots.Slot.{Slot}
 use Rattle.copy_frames.specs.declared.status.Status.{Status}
-use Rattle.copy_both.specs.Hearing.{HearingOf, answer_by, answer_of, heard_told, first_sent, is_over, is_over_by}
+use Rattle.copy_both.specs.Hearing.{HearingOf, answer_by, answer_of, heard_told, is_over, is_over_by}
 use Rattle.copy_both.specs.LinkLaws.{IsStreaming, Goes_on, Starts, with_moves, first_run, started_at}
 use Rattle.copy_both.specs.Links.{HearSays, closing, ended_stage, link_checked, link_output, link_stage, frames_said, stage_said, frames_by, stage_by}
-use Rattle.copy_both.specs.StreamLaws.{first_place}
-use Rattle.copy_both.specs.Streams.{Place, Move, Keep}
+use Rattle.copy_both.specs.StreamLaws.{first_state}
+use Rattle.copy_both.specs.Streams.{StreamStateOf, Move, Keep, first_sent}
 use Rattle.copy_both.specs.Voices as voices
 use Rattle.copy_both.specs.declared.heard.Heard.{Heard}
 use Rattle.copy_both.specs.declared.link.Link.{Link}
@@ -29,7 +29,7 @@ use Rattle.shard_world.specs.Joined.{IsLinked, IsOneStatus, IsSilent, Speaks, ru
 use Rattle.shard_world.specs.PeerSteps.{Case, IsCase, peer_of, source_of}
 use Rattle.shard_world.specs.SubscriberFrames.{IsWithin}
 use Rattle.shard_world.specs.World as w
-use Rattle.shard_world.specs.World.{Connection, Session, down_bytes, down_items, place_of, position_now, down_of, log_in}
+use Rattle.shard_world.specs.World.{Connection, Session, down_bytes, down_items, state_of, position_now, down_of, log_in}
 use Rattle.shard_world.proofs.CaseLemmas.{case_good, case_published, now_small}
 use Rattle.stream_laws.proofs.EntryLemmas.{entry_at, entries_length}
 use Rattle.shard_world.proofs.JoinedFeeding.{Connected}
@@ -44,9 +44,9 @@ log_long case = entries_length (setting_in case.checked) no_rows 1 case.world.tr
 
 log_numbered : (case : Case) → IsCase case → (place : ℕ) (commit : CommitOf)
     → slice_get (log_in (source_of case)) place ≡ Some commit → commit.number ≡ 1 + place
-log_numbered case is place commit at =
+log_numbered case is state commit at =
     ap (λ (one : CommitOf). one.number)
-    (entry_at (setting_in case.checked) no_rows 1 case.world.transactions place commit
+    (entry_at (setting_in case.checked) no_rows 1 case.world.transactions state commit
     (case_published case is).accepted at).is
 
 -- ---- statuses report no more than what was sent
@@ -63,7 +63,7 @@ module _ (case : Case) (is : IsCase case) (c : Connection) (some : (peer_of case
 
   -- what was sent, if the stream started, or will be if it starts now
   pub sent_by : (at : Connected case c) (start : Option ℕ) (sent : ℕ) → c.start ≡ start
-      → ((begin : ℕ) → start ≡ Some begin → sent ≡ (place_of (source_of case) begin c.moves).sent)
+      → ((begin : ℕ) → start ≡ Some begin → sent ≡ (state_of (source_of case) begin c.moves).sent)
       → at.reached ≤ min (sent_limit start (peer_of case).position sent) (end_after (length case.world.transactions))
   sent_by at None sent none is_sent =
       let here : (peer_of case).position ≡ at.reached =
@@ -76,8 +76,8 @@ module _ (case : Case) (is : IsCase case) (c : Connection) (some : (peer_of case
       let from : begin ≡ (peer_of case).position = subst (StartsAt (peer_of case).position) start at.is.started in
       let log = log_in (source_of case) in
       let there = at.is.there in
-      let low : at.reached ≤ (place_of (source_of case) (peer_of case).position c.moves).sent =
-      subst (λ n. n ≤ (place_of (source_of case) (peer_of case).position c.moves).sent)
+      let low : at.reached ≤ (state_of (source_of case) (peer_of case).position c.moves).sent =
+      subst (λ n. n ≤ (state_of (source_of case) (peer_of case).position c.moves).sent)
       (ap (λ its. position_after (peer_of case).position
       (whole_in c.delivered (down_items (source_of case) its c.moves))) (ap Some (sym from) ∙ sym start)
       ∙ at.is.reached_is)
@@ -85,8 +85,8 @@ module _ (case : Case) (is : IsCase case) (c : Connection) (some : (peer_of case
       c.delivered) in
       let ends = sent_is_there case.checked log (log_numbered case is) case.number (peer_of case).position c.moves there
       (omega (arith, (case_good case is).follows.within, log_long case)) in
-      let sent_here : sent ≡ (place_of (source_of case) (peer_of case).position c.moves).sent =
-      is_sent begin refl ∙ ap (λ n. (place_of (source_of case) n c.moves).sent) from in
+      let sent_here : sent ≡ (state_of (source_of case) (peer_of case).position c.moves).sent =
+      is_sent begin refl ∙ ap (λ n. (state_of (source_of case) n c.moves).sent) from in
       both at.reached sent (end_after (length case.world.transactions))
       (subst (λ n. at.reached ≤ n) (sym sent_here) low)
       (omega (arith, low, ends, log_long case))
@@ -126,25 +126,26 @@ pub record SpeaksOn (case : Case) (new : Link) (c : Connection) (session : Sessi
 
 -- by what was passed on
 streams_on : (case : Case) (new : Link) (start : ℕ) (moves extra : List Move) (delivered : ℕ) (passed : List ℕ)
-    (place : Place) → length passed ≡ delivered
+    (state : StreamStateOf) → length passed ≡ delivered
     → IsStreaming new (with_moves (record (run_of (source_of case) start moves delivered) { passed = passed }) extra)
-    place
+    state
     → (take delivered (down_bytes (source_of case) (Some start) (moves ++ extra)) ≡ passed)
     × Speaks (source_of case) new (moves ++ extra) delivered (Some start)
-streams_on case new start moves extra delivered passed place long streams =
+streams_on case new start moves extra delivered passed state long streams =
     let first : take delivered (down_bytes (source_of case) (Some start) (moves ++ extra)) ≡ passed =
     ap (take delivered) (sym streams.says.bytes) ∙ take_at passed (link_output new) delivered long in (
       first,
       subst (λ its. IsStreaming new
           (record (run_of (source_of case) start (moves ++ extra) delivered) { passed = its })
-          (place_of (source_of case) start (moves ++ extra)))
+          (state_of (source_of case) start (moves ++ extra)))
           (sym first) (subst (IsStreaming new _) streams.says.at streams),
     )
 
-streams_within : (case : Case) (new : Link) (start : ℕ) (moves extra : List Move) (passed : List ℕ) (place : Place)
-    → IsStreaming new (with_moves (record (run_of (source_of case) start moves 0) { passed = passed }) extra) place
+streams_within : (case : Case) (new : Link) (start : ℕ) (moves extra : List Move) (passed : List ℕ)
+    (state : StreamStateOf)
+    → IsStreaming new (with_moves (record (run_of (source_of case) start moves 0) { passed = passed }) extra) state
     → length passed ≤ length (down_bytes (source_of case) (Some start) (moves ++ extra))
-streams_within case new start moves extra passed place streams =
+streams_within case new start moves extra passed state streams =
     subst (λ bytes. length passed ≤ length bytes) streams.says.bytes
     (omega (arith, length-append passed (link_output new)))
 
@@ -189,14 +190,14 @@ module _ (case : Case) (is : IsCase case) (slots : List Slot) (link new : Link) 
       let long : length passed ≡ c.delivered =
       length-take-le c.delivered (down_bytes (source_of case) (Some start) c.moves) within in
       let streams : IsStreaming link (run_of (source_of case) start c.moves c.delivered)
-      (place_of (source_of case) start c.moves) =
+      (state_of (source_of case) start c.moves) =
       subst (Speaks (source_of case) link c.moves c.delivered) before linked.speaks in
       let next = hears link new (run_of (source_of case) start c.moves c.delivered)
-      (place_of (source_of case) start c.moves) h heard case.now
+      (state_of (source_of case) start c.moves) h heard case.now
       (Goes_on streams) goes_on says in
-      let on = streams_on case new start c.moves kept c.delivered passed (place_of (source_of case) start c.moves)
+      let on = streams_on case new start c.moves kept c.delivered passed (state_of (source_of case) start c.moves)
       long next in
-      let low = streams_within case new start c.moves kept passed (place_of (source_of case) start c.moves) next in
+      let low = streams_within case new start c.moves kept passed (state_of (source_of case) start c.moves) next in
       to_session (Some start) (c.moves ++ kept) after moves_are
       (subst (λ n. n ≤ length (down_bytes (source_of case) (Some start) (c.moves ++ kept))) long low)
       (on.0 ∙ ap (λ its. take c.delivered (down_bytes (source_of case) its c.moves)) (sym before)) on.1
@@ -208,16 +209,16 @@ module _ (case : Case) (is : IsCase case) (slots : List Slot) (link new : Link) 
       subst (Speaks (source_of case) link c.moves c.delivered) before linked.speaks in
       let zero_is : c.delivered ≡ 0 = none_delivered case c before linked.delivered in
       let run = first_run case.checked (log_in (source_of case)) (case.number, start) in
-      let next = hears link new run (first_place (started_at case.checked (case.number, start))) h heard case.now
+      let next = hears link new run (first_state (started_at case.checked (case.number, start))) h heard case.now
       (Starts (case.number, start) (record {
         waits = silent.stage_is;
         silent = silent.output;
         started_is = started ∙ ap (stream_of case.number) after;
         run_is = ap (λ checked. first_run checked (log_in (source_of case)) (case.number, start))
             (sym linked.checked_is);
-        place_is = ap (λ checked. first_place (started_at checked (case.number, start))) (sym linked.checked_is);
+        state_is = ap (λ checked. first_state (started_at checked (case.number, start))) (sym linked.checked_is);
       })) goes_on says in
-      let on = streams_on case new start [] kept 0 [] (first_place (started_at case.checked (case.number, start)))
+      let on = streams_on case new start [] kept 0 [] (first_state (started_at case.checked (case.number, start)))
       refl next in
       to_session (Some start) kept after (moves_are ∙ ap (λ its. its ++ kept) silent.none) (omega (arith, zero_is))
       (ap (λ n. take n (down_bytes (source_of case) (Some start) kept)) zero_is ∙ on.0

@@ -20,7 +20,7 @@ use Rattle.shard_world.specs.Connections.{DeliversStep, front_of}
 use Rattle.shard_world.specs.Joined.{AlikeBut, Speaks, run_of}
 use Rattle.shard_world.specs.PeerSteps.{Case, IsCase, peer_of, source_of}
 use Rattle.shard_world.specs.World as w
-use Rattle.shard_world.specs.World.{Connection, as_many, down_items, down_bytes, place_of, down_of}
+use Rattle.shard_world.specs.World.{Connection, as_many, down_items, down_bytes, state_of, down_of}
 use Rattle.shard_world.proofs.WorldSteps.{stays_within}
 use Rattle.shard_world.proofs.CaseLemmas.{case_good, case_published, case_sayable, is_open}
 use Rattle.stream_laws.proofs.CuttingLemmas.{IsPiece, pieces_are_cut}
@@ -207,8 +207,8 @@ delivers_on case is slots old link new after count stands some feeds passes =
         nothing (suc n) = refl
     passes_by case link new moves delivered more (Some start) passes out streams =
         subst (λ passed. IsStreaming new (record (run_of (source_of case) start moves delivered) { passed = passed })
-        (place_of (source_of case) start moves))
+        (state_of (source_of case) start moves))
         (ap (λ bytes. take delivered (down_bytes (source_of case) (Some start) moves) ++ take more bytes) out
         ∙ sym (take-add delivered more (down_bytes (source_of case) (Some start) moves)))
-        (passes_on link new (run_of (source_of case) start moves delivered) (place_of (source_of case) start moves)
+        (passes_on link new (run_of (source_of case) start moves delivered) (state_of (source_of case) start moves)
         more streams passes)

@@ -11,8 +11,8 @@ use Rattle.copy_frames.specs.FrameLaws.{AreFrames}
 use Rattle.copy_frames.specs.Frames.{framed}
 use Rattle.copy_frames.specs.declared.frame.Frame.{Frame}
 use Rattle.copy_frames.specs.declared.status.Status.{Status}
-use Rattle.copy_both.specs.Hearing.{HearingOf, Served, Begins, begun, first_sent, frame_heard, frames_heard, is_over}
-use Rattle.copy_both.specs.Streams.{Move, Keep}
+use Rattle.copy_both.specs.Hearing.{HearingOf, Served, Begins, begun, frame_heard, frames_heard, is_over}
+use Rattle.copy_both.specs.Streams.{Move, Keep, first_sent}
 use Rattle.stream_laws.specs.Cutting.{if_whole, whole_by}
 use Rattle.shard_world.specs.Joined.{HasSlot, IsAsked, stream_of}
 use Rattle.shard_world.specs.PeerSteps.{Case, IsCase, peer_of, source_of}

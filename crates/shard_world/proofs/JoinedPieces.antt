@@ -31,7 +31,7 @@ use Rattle.stream_laws.specs.Following.{position_after}
 use Rattle.shard_world.specs.Joined.{AlikeBut, HasSlot, PeerOf, IsAsked, IsLinked, Speaks, run_of}
 use Rattle.shard_world.specs.PeerSteps.{Case, IsCase, HasLog, peer_of, StandsIn, source_of}
 use Rattle.shard_world.specs.World as w
-use Rattle.shard_world.specs.World.{Says, Connection, Session, hear_up, as_many, down_items, heard_of, newly, place_of, up_frame, ups_of, up_bytes, down_of, asking_length}
+use Rattle.shard_world.specs.World.{Says, Connection, Session, hear_up, as_many, down_items, heard_of, newly, state_of, up_frame, ups_of, up_bytes, down_of, asking_length}
 use Rattle.shard_world.proofs.WorldSteps.{stays_within}
 use Rattle.shard_world.proofs.CaseLemmas.{Open, is_open}
 use Rattle.shard_world.proofs.CatchingUpLemmas.{HasStart, start_stays, starts_by}
@@ -97,10 +97,10 @@ module _ (case : Case) (is : IsCase case) (before after : Book) (old : PeerOf) (
   at = connected case is connection here.some
 
   sent_is : (begin : ℕ) → connection.start ≡ Some begin
-      → link_sent link ≡ (place_of (source_of case) begin connection.moves).sent
+      → link_sent link ≡ (state_of (source_of case) begin connection.moves).sent
   sent_is begin e =
       let streams : IsStreaming link (run_of (source_of case) begin connection.moves connection.delivered)
-      (place_of (source_of case) begin connection.moves) =
+      (state_of (source_of case) begin connection.moves) =
       subst (Speaks (source_of case) link connection.moves connection.delivered) e linked.speaks in
       ap (λ stage. unwrap_or (sent_of stage) 0) streams.stage_is
 

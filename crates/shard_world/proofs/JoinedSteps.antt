@@ -18,7 +18,7 @@ use Rattle.copy_both.specs.LinkLaws as links
 use Rattle.copy_both.specs.LinkLaws.{IsStreaming, with_moves}
 use Rattle.copy_both.specs.Links.{LinkSays, link_checked, link_ear, link_output, link_stage, found_answer, next_answer, next_bytes, next_stage}
 use Rattle.copy_both.specs.Streams as s
-use Rattle.copy_both.specs.Streams.{spelled, Move, place_at, moved, taken_place}
+use Rattle.copy_both.specs.Streams.{spelled, Move, state_at, moved, taken_state}
 use Rattle.copy_both.specs.Tellings.{telling_of}
 use Rattle.copy_both.specs.Voices.{keep_answer, kept_bytes, taken_of}
 use Rattle.copy_both.specs.declared.link.Link.{Link}
@@ -36,7 +36,7 @@ use Rattle.shard_world.specs.Connections.{OpensStep, TakesStep, KeepsStep, Repor
 use Rattle.shard_world.specs.Joined.{PeerOf, AlikeBut, StaysAlike, IsNamed, IsSilent, IsOneStatus, Hears, IsLinked, IsAt, PeerIs, Speaks, run_of}
 use Rattle.shard_world.specs.PeerSteps.{Case, IsCase, peer_of, StepsTo, source_of}
 use Rattle.shard_world.specs.World as w
-use Rattle.shard_world.specs.World.{Answer, Opened, Reported, Connection, PeerEvent, start_of, spelled_up, with_connection, moves_on, place_of, position_now, down_items, down_bytes, took, keep_step, take_step, peer_step, up_bytes, down_of, log_in}
+use Rattle.shard_world.specs.World.{Answer, Opened, Reported, Connection, PeerEvent, start_of, spelled_up, with_connection, moves_on, state_of, position_now, down_items, down_bytes, took, keep_step, take_step, peer_step, up_bytes, down_of, log_in}
 use Rattle.shard_world.proofs.CaseLemmas.{case_asks, case_good, case_follows, opened_small, Open, is_shut, is_open}
 use Rattle.copy_both.proofs.StreamLemmas.{moved_append}
 use Rattle.stream_laws.proofs.CuttingLemmas.{cut_nothing}
@@ -282,7 +282,7 @@ pub record Streaming (case : Case) (link : Link) (c : Connection) (start : ℕ) 
   pub at : c.start ≡ Some start
   pub within : c.delivered ≤ length (down_bytes (source_of case) (Some start) c.moves)
   pub streams : IsStreaming link (run_of (source_of case) start c.moves c.delivered)
-      (place_of (source_of case) start c.moves)
+      (state_of (source_of case) start c.moves)
 
 streaming : (case : Case) (slots : List Slot) (link : Link) (subscriber : Subscriber) (c : Connection) (start : ℕ)
     → c.start ≡ Some start
@@ -302,12 +302,12 @@ moved_peer : (case : Case) (slots : List Slot) (old : PeerOf) (link new : Link) 
     → IsLinked (source_of case) slots link old.subscriber (peer_of case) c → IsSameEar (link_ear link) (link_ear new)
     → link_checked new ≡ case.checked
     → IsStreaming new (record (run_of (source_of case) start c.moves c.delivered) { moves = c.moves ++ move ∷ [] })
-    (place_of (source_of case) start (c.moves ++ move ∷ []))
+    (state_of (source_of case) start (c.moves ++ move ∷ []))
     → PeerIs (source_of case) slots (with_link old new) (moves_on (peer_of case) c move)
 moved_peer case slots old link new c move start named at linked same checked_is streams = record {
   named = named;
   at = moves_linked case slots link new old.subscriber c move start at linked same checked_is
-      (subst (λ run. IsStreaming new run (place_of (source_of case) start (c.moves ++ move ∷ [])))
+      (subst (λ run. IsStreaming new run (state_of (source_of case) start (c.moves ++ move ∷ [])))
       (run_more case start c.moves c.delivered move
       (streaming case slots link old.subscriber c start at linked).within) streams);
 }
@@ -366,8 +366,8 @@ keeps_by case slots old link new c want (Some start) named some at linked says s
     (says.voice.checked ∙ linked.checked_is)
     (subst (IsStreaming new _)
     (sym (moved_append (telling_of case.checked) (log_in (source_of case))
-    (place_at case.number (length case.checked.catalog.tables) start) c.moves (s.Keep case.now want)))
-    (keeps_on link new (run_of (source_of case) start c.moves c.delivered) (place_of (source_of case) start c.moves)
+    (state_at case.number (length case.checked.catalog.tables) start) c.moves (s.Keep case.now want)))
+    (keeps_on link new (run_of (source_of case) start c.moves c.delivered) (state_of (source_of case) start c.moves)
     case.now want streams.streams says))))
 
 pub keeps : KeepsStep
@@ -390,47 +390,48 @@ takes_by : (case : Case) (slots : List Slot) (old : PeerOf) (link new : Link) (c
     (next_stage (link_checked link) (link_stage link) (log_in (source_of case)) case.now)
     → (found : Taken) → Ok found ≡ next_answer (link_checked link) (link_stage link) (log_in (source_of case))
     → (next : Option CommitOf)
-    → slice_get (log_in (source_of case)) (place_of (source_of case) start c.moves).done ≡ next
+    → slice_get (log_in (source_of case)) (state_of (source_of case) start c.moves).done ≡ next
     → StepsTo case w.Take (answer_of found) slots (with_link old new)
 takes_by case slots old link new c start named some at linked says found answer next is =
     let log = log_in (source_of case) in
-    let place = place_of (source_of case) start c.moves in
+    let state = state_of (source_of case) start c.moves in
     let streams = streaming case slots link old.subscriber c start at linked in
-    let goes = takes_on link new (run_of (source_of case) start c.moves c.delivered) place case.now streams.streams
+    let goes = takes_on link new (run_of (source_of case) start c.moves c.delivered) state case.now streams.streams
     says in
-    let told : Ok found ≡ found_answer case.checked place next =
+    let told : Ok found ≡ found_answer case.checked state next =
     answer ∙ ap (λ checked. next_answer checked (link_stage link) log) linked.checked_is
     ∙ ap (λ stage. next_answer case.checked stage log) streams.streams.stage_is
-    ∙ ap (found_answer case.checked place) is in
+    ∙ ap (found_answer case.checked state) is in
     steps_to case w.Take (answer_of found) slots (with_link old new) (Some c) some
     (answered next told ∙ sym
     (ap (λ its. (take_step (source_of case) case.now (peer_of case) c its).0) at
-    ∙ ap (λ its. (w.takes case.checked case.now (peer_of case) c place its).0) is))
+    ∙ ap (λ its. (w.takes case.checked case.now (peer_of case) c state its).0) is))
     (subst (λ its. PeerIs (source_of case) slots (with_link old new)
     (take_step (source_of case) case.now (peer_of case) c its).1) (sym at)
     (subst (λ its. PeerIs (source_of case) slots (with_link old new)
-    (w.takes case.checked case.now (peer_of case) c place its).1) (sym is)
+    (w.takes case.checked case.now (peer_of case) c state its).1) (sym is)
     (left next is goes)))
   where
     answered : (its : Option CommitOf)
-        → Ok found ≡ found_answer case.checked (place_of (source_of case) start c.moves) its
-        → answer_of found ≡ (w.takes case.checked case.now (peer_of case) c (place_of (source_of case) start c.moves)
+        → Ok found ≡ found_answer case.checked (state_of (source_of case) start c.moves) its
+        → answer_of found ≡ (w.takes case.checked case.now (peer_of case) c (state_of (source_of case) start c.moves)
         its).0
     answered None e = ap answer_of (ok_of found taken.Idle e)
     answered (Some commit) e =
-        let place = place_of (source_of case) start c.moves in
-        ap answer_of (ok_of found (taken_of commit.number (messages_for case.checked place.slot place.told commit)) e)
-        ∙ took_is commit.number (messages_for case.checked place.slot place.told commit)
+        let state = state_of (source_of case) start c.moves in
+        ap answer_of (ok_of found
+        (taken_of commit.number (messages_for case.checked state.slot state.relation_sent commit)) e)
+        ∙ took_is commit.number (messages_for case.checked state.slot state.relation_sent commit)
 
     left : (its : Option CommitOf)
-        → slice_get (log_in (source_of case)) (place_of (source_of case) start c.moves).done ≡ its
+        → slice_get (log_in (source_of case)) (state_of (source_of case) start c.moves).done ≡ its
         → IsStreaming new (with_moves (run_of (source_of case) start c.moves c.delivered)
-        (links.took (slice_get (log_in (source_of case)) (place_of (source_of case) start c.moves).done)
+        (links.took (slice_get (log_in (source_of case)) (state_of (source_of case) start c.moves).done)
         case.now))
-        (moved (telling_of case.checked) (log_in (source_of case)) (place_of (source_of case) start c.moves)
+        (moved (telling_of case.checked) (log_in (source_of case)) (state_of (source_of case) start c.moves)
         (s.Take case.now))
         → PeerIs (source_of case) slots (with_link old new)
-        (w.takes case.checked case.now (peer_of case) c (place_of (source_of case) start c.moves) its).1
+        (w.takes case.checked case.now (peer_of case) c (state_of (source_of case) start c.moves) its).1
     left None e goes = record {
       named = named;
       at = subst (IsAt (source_of case) slots (Some new) old.subscriber (peer_of case)) (sym some)
@@ -438,20 +439,20 @@ takes_by case slots old link new c start named some at linked says found answer 
           (subst (Speaks (source_of case) new c.moves c.delivered) (sym at)
           (subst (λ moves. IsStreaming new
           (record (run_of (source_of case) start c.moves c.delivered) { moves = moves })
-          (place_of (source_of case) start c.moves)) (append-nil c.moves)
+          (state_of (source_of case) start c.moves)) (append-nil c.moves)
           (subst (λ found. IsStreaming new
           (with_moves (run_of (source_of case) start c.moves c.delivered) (links.took found case.now))
-          (taken_place (telling_of case.checked) (place_of (source_of case) start c.moves) found)) e goes))));
+          (taken_state (telling_of case.checked) (state_of (source_of case) start c.moves) found)) e goes))));
     }
     left (Some commit) e goes =
         moved_peer case slots old link new c (s.Take case.now) start named at linked says.ear
         (says.voice.checked ∙ linked.checked_is)
         (subst (IsStreaming new _)
         (sym (moved_append (telling_of case.checked) (log_in (source_of case))
-        (place_at case.number (length case.checked.catalog.tables) start) c.moves (s.Take case.now)))
+        (state_at case.number (length case.checked.catalog.tables) start) c.moves (s.Take case.now)))
         (subst (λ found. IsStreaming new
         (with_moves (run_of (source_of case) start c.moves c.delivered) (links.took found case.now))
-        (moved (telling_of case.checked) (log_in (source_of case)) (place_of (source_of case) start c.moves)
+        (moved (telling_of case.checked) (log_in (source_of case)) (state_of (source_of case) start c.moves)
         (s.Take case.now))) e goes))
 
 takes_before : (case : Case) (slots : List Slot) (old : PeerOf) (link new : Link) (c : Connection)

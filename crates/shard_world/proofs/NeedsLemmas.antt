@@ -6,12 +6,12 @@ use Rattle.tables_log.specs.declared.slots.Slot.{Slot}
 use Rattle.pgoutput_msgs.specs.Telling.{messages_for}
 use Rattle.pgoutput_msgs.specs.declared.message.Msg.{Msg}
 use Rattle.copy_both.specs.Links.{HasNext, link_stage}
-use Rattle.copy_both.specs.Streams.{Place}
+use Rattle.copy_both.specs.Streams.{StreamStateOf}
 use Rattle.copy_both.specs.Voices.{IsStarted}
 use Rattle.copy_both.specs.declared.link.Link.{Link}
 use Rattle.shard_world.specs.Joined.{PeerOf, Speaks}
 use Rattle.shard_world.specs.PeerSteps.{Case, StandsIn, peer_of, stepped, source_of}
-use Rattle.shard_world.specs.World.{AsksMemory, Connection, PeerEvent, Open, Hear, Take, Keep, Deliver, Report, keep_step, peer_step, place_of, take_step, takes, took, log_in}
+use Rattle.shard_world.specs.World.{AsksMemory, Connection, PeerEvent, Open, Hear, Take, Keep, Deliver, Report, keep_step, peer_step, state_of, take_step, takes, took, log_in}
 use Rattle.shard_world.proofs.CaseLemmas.{is_open, is_shut}
 
 -- by the connection of the subscriber, if it has one
@@ -62,16 +62,16 @@ module _ (case : Case) (slots : List Slot) (old : PeerOf) (link : Link) where
       took_asks number [] = tt
       took_asks number (message ∷ messages) = tt
 
-      found : (c : Connection) (place : Place) (its : Option CommitOf) → IsSome its
-          → AsksMemory (takes case.checked case.now (peer_of case) c place its).0
-      found c place None there = absurd cc
-      found c place (Some commit) there =
-          took_asks commit.number (messages_for case.checked place.slot place.told commit)
+      found : (c : Connection) (state : StreamStateOf) (its : Option CommitOf) → IsSome its
+          → AsksMemory (takes case.checked case.now (peer_of case) c state its).0
+      found c state None there = absurd cc
+      found c state (Some commit) there =
+          took_asks commit.number (messages_for case.checked state.slot state.relation_sent commit)
 
       by_start : (c : Connection) (start : Option ℕ) → Speaks (source_of case) link c.moves c.delivered start
           → AsksMemory (take_step (source_of case) case.now (peer_of case) c start).0
       by_start c None silent = absurd (subst (λ stage. HasNext stage (log_in (source_of case))) silent.stage_is next)
       by_start c (Some start) streams =
-          let place = place_of (source_of case) start c.moves in
-          found c place (slice_get (log_in (source_of case)) place.done)
+          let state = state_of (source_of case) start c.moves in
+          found c state (slice_get (log_in (source_of case)) state.done)
           (subst (λ stage. HasNext stage (log_in (source_of case))) streams.stage_is next)

@@ -7,13 +7,13 @@ use Rattle.table_changes.specs.Tables.{no_rows}
 use Rattle.shard_checker.specs.CheckedView.{setting_in}
 use Rattle.tables_log.specs.Commits.{CommitOf}
 use Rattle.copy_both.specs.Streams as s
-use Rattle.copy_both.specs.Streams.{Place}
+use Rattle.copy_both.specs.Streams.{StreamStateOf}
 use Rattle.pgoutput_msgs.specs.declared.message.Msg.{Msg}
 use Rattle.shard_world.specs.CatchingUp.{next_peer}
 use Rattle.stream_laws.specs.Following.{IsPublished}
 use Rattle.shard_world.specs.Pumping.{EndsIdle, GoesOn, all_bytes}
 use Rattle.stream_laws.specs.LayoutRoom.{FitsLayouts}
-use Rattle.shard_world.specs.World.{Asks, Says, Connection, Peer, Answer, Idle, PeerEvent, Hear, Take, Keep, Deliver, Report, down_bytes, position_in, position_now, spelled_up, hears, as_many, place_of, took, takes, take_step, moves_on, peer_step, Source, up_bytes, log_in, asking_length}
+use Rattle.shard_world.specs.World.{Asks, Says, Connection, Peer, Answer, Idle, PeerEvent, Hear, Take, Keep, Deliver, Report, down_bytes, position_in, position_now, spelled_up, hears, as_many, state_of, took, takes, take_step, moves_on, peer_step, Source, up_bytes, log_in, asking_length}
 use Rattle.shard_world.proofs.AskingLemmas.{IsAskedAt}
 use Rattle.shard_world.proofs.CatchingUpLemmas.{CountsAll, IsLeft, as_step, hears_start, keeps_on, next_good, reaches_end, take_next}
 use Rattle.stream_laws.proofs.EntryLemmas.{entries_length, past_end}
@@ -136,25 +136,25 @@ module _ (source : Source) (published : IsPublished source.checked source.transa
   no_took number [] is = cc
   no_took number (message ∷ messages) is = cc
 
-  none_found : (peer : Peer) (c : Connection) (place : Place) (found : Option CommitOf)
-      → Idle ≡ (takes source.checked now peer c place found).0 → (found ≡ None)
-      × ((takes source.checked now peer c place found).1 ≡ peer)
-  none_found peer c place None is = (refl, refl)
-  none_found peer c place (Some commit) is = absurd (no_took commit.number _ is)
+  none_found : (peer : Peer) (c : Connection) (state : StreamStateOf) (found : Option CommitOf)
+      → Idle ≡ (takes source.checked now peer c state found).0 → (found ≡ None)
+      × ((takes source.checked now peer c state found).1 ≡ peer)
+  none_found peer c state None is = (refl, refl)
+  none_found peer c state (Some commit) is = absurd (no_took commit.number _ is)
 
   takes_none : (start count : ℕ) (peer : Peer) → Left start count peer
       → Idle ≡ (peer_step source now Take peer peer.connection).0 → Left start 0 (next Take peer)
   takes_none start count peer left idle =
       let c : Connection = left.running.c in
-      let place : Place = place_of source start c.moves in
+      let state : StreamStateOf = state_of source start c.moves in
       let step : peer_step source now Take peer peer.connection
-      ≡ takes source.checked now peer c place (slice_get (log_in source) place.done) =
+      ≡ takes source.checked now peer c state (slice_get (log_in source) state.done) =
       ap (λ connection. peer_step source now Take peer connection) left.running.is
       ∙ ap (take_step source now peer c) left.running.start_is in
-      let none = none_found peer c place (slice_get (log_in source) place.done) (idle ∙ ap (λ both. both.0) step) in
+      let none = none_found peer c state (slice_get (log_in source) state.done) (idle ∙ ap (λ both. both.0) step) in
       subst (Left start 0) (sym (ap (λ both. both.1) step ∙ none.1)) (record {
         running = left.running;
-        left = let end = past_end (log_in source) place.done none.0 in omega (arith, end);
+        left = let end = past_end (log_in source) state.done none.0 in omega (arith, end);
       })
 
   takes_idle : (start count times : ℕ) (earlier : List Answer) (peer last : Peer)
@@ -189,7 +189,7 @@ module _ (source : Source) (published : IsPublished source.checked source.transa
   -- after the keepalive all is delivered, and a status is sent and heard
   tells_with : (start : ℕ) (peer : Peer) (c : Connection) → peer.connection ≡ Some c → c.start ≡ Some start
       → IsGood source peer
-      → length (log_in source) ≤ (place_of source start c.moves).done + 0
+      → length (log_in source) ≤ (state_of source start c.moves).done + 0
       → as_many all_bytes (length (down_bytes source c.start (c.moves ++ s.Keep now false ∷ []))) c.delivered < 2 ^ 63
       → PastAll (position_now source
       (next (Hear all_bytes)

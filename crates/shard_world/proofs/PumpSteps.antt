@@ -6,11 +6,11 @@ use Rattle.std.proofs.lemmas.Bool.{lt-ltb}
 use Rattle.std.proofs.lemmas.List.Elements.{All-head, All-tail}
 use Rattle.shard_checker.specs.CheckedView.{CheckedOf}
 use Rattle.tables_log.specs.Commits.{CommitOf}
-use Rattle.copy_both.specs.Streams.{Place}
+use Rattle.copy_both.specs.Streams.{StreamStateOf}
 use Rattle.pgoutput_msgs.specs.declared.message.Msg.{Msg}
 use Rattle.shard_world.specs.CatchingUp.{next_peer}
 use Rattle.shard_world.specs.Pumping.{EndsWalk, GoesOn, on_clock}
-use Rattle.shard_world.specs.World.{Connection, Peer, World, PeerEvent, Open, Hear, Take, Keep, Deliver, Report, Lose, On, Answer, OutOfMemory, place_of, took, takes, take_step, keep_step, open_step, peer_step, with_peer, Steps, StepsOn, Source, source_in, step_in}
+use Rattle.shard_world.specs.World.{Connection, Peer, World, PeerEvent, Open, Hear, Take, Keep, Deliver, Report, Lose, On, Answer, OutOfMemory, state_of, took, takes, take_step, keep_step, open_step, peer_step, with_peer, Steps, StepsOn, Source, source_in, step_in}
 use Rattle.shard_world.specs.WorldCalls.{Runs}
 
 -- ---- one event
@@ -51,15 +51,15 @@ KeepsOpen Lose = ⊥
 KeepsOpen event = Unit {0}
 
 module _ (source : Source) (now : ℕ) where
-  takes_keep : (peer : Peer) (c : Connection) (place : Place) (found : Option CommitOf) → HasConnection peer
-      → HasConnection (takes source.checked now peer c place found).1
-  takes_keep peer c place None has = has
-  takes_keep peer c place (Some commit) has = record { c = _; is = refl }
+  takes_keep : (peer : Peer) (c : Connection) (state : StreamStateOf) (found : Option CommitOf) → HasConnection peer
+      → HasConnection (takes source.checked now peer c state found).1
+  takes_keep peer c state None has = has
+  takes_keep peer c state (Some commit) has = record { c = _; is = refl }
 
   take_keeps : (peer : Peer) (c : Connection) (start : Option ℕ) → HasConnection peer
       → HasConnection (take_step source now peer c start).1
   take_keeps peer c None has = has
-  take_keeps peer c (Some start) has = takes_keep peer c (place_of source start c.moves) _ has
+  take_keeps peer c (Some start) has = takes_keep peer c (state_of source start c.moves) _ has
 
   keep_keeps : (want : Bool) (peer : Peer) (c : Connection) (start : Option ℕ) → HasConnection peer
       → HasConnection (keep_step now want peer c start).1
@@ -87,14 +87,14 @@ module _ (source : Source) (now : ℕ) where
   took_on number [] ends = ends
   took_on number (message ∷ messages) ends = ends
 
-  takes_on : (peer : Peer) (c : Connection) (place : Place) (found : Option CommitOf)
-      → EndsWalk (takes source.checked now peer c place found).0 → ⊥
-  takes_on peer c place None ends = ends
-  takes_on peer c place (Some commit) ends = took_on commit.number _ ends
+  takes_on : (peer : Peer) (c : Connection) (state : StreamStateOf) (found : Option CommitOf)
+      → EndsWalk (takes source.checked now peer c state found).0 → ⊥
+  takes_on peer c state None ends = ends
+  takes_on peer c state (Some commit) ends = took_on commit.number _ ends
 
   take_on : (peer : Peer) (c : Connection) (start : Option ℕ) → EndsWalk (take_step source now peer c start).0 → ⊥
   take_on peer c None ends = ends
-  take_on peer c (Some start) ends = takes_on peer c (place_of source start c.moves) _ ends
+  take_on peer c (Some start) ends = takes_on peer c (state_of source start c.moves) _ ends
 
   keep_on : (want : Bool) (peer : Peer) (c : Connection) (start : Option ℕ)
       → EndsWalk (keep_step now want peer c start).0 → ⊥

@@ -6,8 +6,8 @@ use Rattle.std.proofs.lemmas.List.Elements.{All-nil, All-cons, All-head, All-tai
 use Rattle.table_changes.specs.Tables.{no_rows}
 use Rattle.shard_checker.specs.CheckedView.{CheckedOf, setting_in}
 use Rattle.tables_log.specs.BookView.{book_log}
+use Rattle.tables_log.specs.Lsn.{commits_before, end_lsn_of}
 use Rattle.tables_log.specs.StandsFor.{Transaction}
-use Rattle.copy_both.specs.Streams.{count_before, end_of}
 use Rattle.stream_laws.specs.Following.{log_of}
 use Rattle.shard_world.specs.Pumping.{EndsIdle, IsPosition, IsEndOfLog, InEach, ReachesEnd, TakesEnough, WantsMemory, WalksAll, TakesAll, PumpsAll, PumpsSome, PumpsThrough, Walks, all_bytes, on_clock, pump_events}
 use Rattle.shard_world.specs.World as w
@@ -65,13 +65,13 @@ end_of_log before after subscriber position reaches at there most events world i
 
 -- a position that counts all commits, and isn't 0
 record IsPast (source : Source) (peer : Peer) : Type 0 where
-  all : length (log_in source) ≤ count_before (position_now source peer)
+  all : length (log_in source) ≤ commits_before (position_now source peer)
   some : 1 ≤ position_now source peer
 
 past_is_end : (code : World) (subscriber most : ℕ) (events : List (ℕ × Event)) (world : w.World)
     → IsWorld code most events world
     → IsPast (source_in (world_checked code) world subscriber) (world.peers subscriber)
-    → position_of (world_checked code) world subscriber ≡ end_of (length world.transactions)
+    → position_of (world_checked code) world subscriber ≡ end_lsn_of (length world.transactions)
 past_is_end code subscriber most events world is past =
     let checked : CheckedOf = world_checked code in
     let sayable = can_be_said checked most is.publisher events is.times world is.leads in
@@ -89,8 +89,8 @@ past_is_end code subscriber most events world is past =
     (all_counted (position_of checked world subscriber) (length world.transactions)
     (length (log_of checked world.transactions)) count past.all follows.within) past.some
   where
-    all_counted : (position count logged : ℕ) → logged ≡ count → logged ≤ count_before position
-        → count_before position ≤ count → count_before position ≡ count
+    all_counted : (position count logged : ℕ) → logged ≡ count → logged ≤ commits_before position
+        → commits_before position ≤ count → commits_before position ≡ count
     all_counted position count logged e low high = omega (arith, e, low, high)
 
 module _ (before between later after : World) (now subscriber : ℕ) (timed : now < 2 ^ 64)
@@ -186,7 +186,7 @@ module _ (before between later after : World) (now subscriber : ℕ) (timed : no
             (subst (λ its. IsPast (source_in its told.next subscriber) (told.next.peers subscriber)) (sym same)
             (subst (λ its. IsPast (record { checked = world_checked before; transactions = its; number = subscriber })
             (told.next.peers subscriber)) (sym past.1) past.0))
-            ∙ ap end_of (ap length past.1);
+            ∙ ap end_lsn_of (ap length past.1);
       }
 
   takes_enough : InEach before subscriber

@@ -9,7 +9,7 @@ use Rattle.copy_frames.specs.Frames.{cut}
 use Rattle.copy_both.specs.Ears.{answer_in}
 use Rattle.copy_both.specs.Hearing.{answer_of, heard_told}
 use Rattle.copy_both.specs.Links.{found_answer, link_heard, link_stage, next_answer}
-use Rattle.copy_both.specs.Streams.{Place}
+use Rattle.copy_both.specs.Streams.{StreamStateOf}
 use Rattle.pgoutput_msgs.specs.Telling.{messages_for}
 use Rattle.copy_both.specs.Voices.{keep_answer, taken_of, told_fault}
 use Rattle.copy_both.specs.declared.link.Link.{Link}
@@ -27,7 +27,7 @@ use Rattle.shard_world.specs.Joined.{IsLinked, Speaks}
 use Rattle.shard_world.specs.PeerSteps.{Case, peer_of, source_of}
 use Rattle.shard_world.specs.Refusals.{IsAnswered, HearsAreAnswered, KeepsAreAnswered, OpensAreAnswered, ReportsAreAnswered, TakesAreAnswered}
 use Rattle.shard_world.specs.World as w
-use Rattle.shard_world.specs.World.{Connection, place_of, spelled_up, down_of, log_in}
+use Rattle.shard_world.specs.World.{Connection, state_of, spelled_up, down_of, log_in}
 use Rattle.shard_world.proofs.CaseLemmas.{is_open, is_shut}
 use Rattle.shard_world.proofs.JoinedPieces.{commits, connection, heard_all, heard_before, heard_is, linked, more, piece, start_view}
 use Rattle.shard_world.proofs.HeardStreams.{not_over}
@@ -63,11 +63,14 @@ takes_are_answered case is slots old link stands some =
     (sym here.linked.checked_is)
     (by_start here.c here.c.start here.linked.speaks)
   where
-    found : (place : Place) (its : Option CommitOf) → slice_get (log_in (source_of case)) place.done ≡ its
-        → IsAnswered (found_answer case.checked place its)
-    found place None e = record { value = taken.Idle; is = refl }
-    found place (Some commit) e =
-        record { value = taken_of commit.number (messages_for case.checked place.slot place.told commit); is = refl }
+    found : (state : StreamStateOf) (its : Option CommitOf) → slice_get (log_in (source_of case)) state.done ≡ its
+        → IsAnswered (found_answer case.checked state its)
+    found state None e = record { value = taken.Idle; is = refl }
+    found state (Some commit) e =
+        record {
+          value = taken_of commit.number (messages_for case.checked state.slot state.relation_sent commit);
+          is = refl;
+        }
 
     by_start : (c : Connection) (start : Option ℕ) → Speaks (source_of case) link c.moves c.delivered start
         → IsAnswered (next_answer case.checked (link_stage link) (log_in (source_of case)))
@@ -78,9 +81,9 @@ takes_are_answered case is slots old link stands some =
               ap (λ stage. next_answer case.checked stage (log_in (source_of case))) silent.stage_is;
         }
     by_start c (Some start) streams =
-        let place = place_of (source_of case) start c.moves in
+        let state = state_of (source_of case) start c.moves in
         subst (λ stage. IsAnswered (next_answer case.checked stage (log_in (source_of case)))) (sym streams.stage_is)
-        (found place (slice_get (log_in (source_of case)) place.done) refl)
+        (found state (slice_get (log_in (source_of case)) state.done) refl)
 
 -- ---- report
 

@@ -4,12 +4,13 @@ use Rattle.std.specs.Prelude.{Option, Some, None, All, ◌==◌, nat_le, slice_g
 use Rattle.std.proofs.lemmas.List.Elements.{All-nil, All-cons, All-head, All-tail}
 use Rattle.shard_checker.specs.CheckedView.{CheckedOf}
 use Rattle.tables_log.specs.Commits.{CommitOf}
+use Rattle.tables_log.specs.Lsn.{commits_before, end_lsn_of}
 use Rattle.pgoutput_msgs.specs.Telling.{messages_for}
 use Rattle.pgoutput_msgs.specs.declared.message.Msg.{Msg}
 use Rattle.pgoutput_msgs.specs.declared.message.Msg.TheVariants as m
 use Rattle.copy_both.specs.Streams as s
 use Rattle.copy_both.specs.StreamLaws.{AllThere}
-use Rattle.copy_both.specs.Streams.{Item, Response, Carries, Alive, frame_in, Place, Move, count_before, end_of, place_at, place_after, taken_place, moved, all_moved, head_of, take_items, keep_item, all_items, stream_items}
+use Rattle.copy_both.specs.Streams.{Item, Response, Carries, Alive, frame_in, StreamStateOf, Move, state_at, state_after, taken_state, moved, all_moved, head_of, take_items, keep_item, all_items, stream_items}
 use Rattle.copy_both.specs.Tellings.{telling_of}
 use Rattle.copy_frames.specs.Frames.{framed}
 use Rattle.stream_laws.specs.Cutting.{if_whole, whole_in}
@@ -62,33 +63,33 @@ whole_within P count (item ∷ items) all =
 -- ---- places
 
 -- no more was sent than up to where the last commit that is done ends
-abbrev pub IsSentPlace : Place → Type 0
-IsSentPlace place = place.sent ≤ end_of place.done
+abbrev pub IsSentPlace : StreamStateOf → Type 0
+IsSentPlace state = state.sent ≤ end_lsn_of state.done
 
 module _ (checked : CheckedOf) (log : List CommitOf)
     (numbered : (place : ℕ) (commit : CommitOf) → slice_get log place ≡ Some commit → commit.number ≡ 1 + place) where
-  record Next (place next : Place) : Type 0 where
+  record Next (state next : StreamStateOf) : Type 0 where
     sent : IsSentPlace next
-    more : place.sent ≤ next.sent
+    more : state.sent ≤ next.sent
 
-  next_taken : (place : Place) (found : Option CommitOf) → slice_get log place.done ≡ found → IsSentPlace place
-      → Next place (taken_place (telling_of checked) place found)
-  next_taken place None e sent = record { sent = sent; more = omega arith }
-  next_taken place (Some commit) e sent =
-      let number = numbered place.done commit e in
+  next_taken : (state : StreamStateOf) (found : Option CommitOf) → slice_get log state.done ≡ found → IsSentPlace state
+      → Next state (taken_state (telling_of checked) state found)
+  next_taken state None e sent = record { sent = sent; more = omega arith }
+  next_taken state (Some commit) e sent =
+      let number = numbered state.done commit e in
       record { sent = omega (arith, number); more = omega (arith, number, sent) }
 
-  next_place : (place : Place) (move : Move) → IsSentPlace place
-      → Next place (moved (telling_of checked) log place move)
-  next_place place (s.Take clock) sent = next_taken place (slice_get log place.done) refl sent
-  next_place place (s.Keep clock want) sent = record { sent = sent; more = omega arith }
+  next_place : (state : StreamStateOf) (move : Move) → IsSentPlace state
+      → Next state (moved (telling_of checked) log state move)
+  next_place state (s.Take clock) sent = next_taken state (slice_get log state.done) refl sent
+  next_place state (s.Keep clock want) sent = record { sent = sent; more = omega arith }
 
-  all_sent : (moves : List Move) (place : Place) → IsSentPlace place
-      → Next place (all_moved (telling_of checked) log place moves)
-  all_sent [] place sent = record { sent = sent; more = omega arith }
-  all_sent (move ∷ moves) place sent =
-      let here = next_place place move sent in
-      let later = all_sent moves (moved (telling_of checked) log place move) here.sent in
+  all_sent : (moves : List Move) (state : StreamStateOf) → IsSentPlace state
+      → Next state (all_moved (telling_of checked) log state moves)
+  all_sent [] state sent = record { sent = sent; more = omega arith }
+  all_sent (move ∷ moves) state sent =
+      let here = next_place state move sent in
+      let later = all_sent moves (moved (telling_of checked) log state move) here.sent in
       record { sent = later.sent; more = le_trans here.more later.more }
 
   carried_within : (most number clock : ℕ) (messages : List Msg) (rest : List Item)
@@ -102,39 +103,39 @@ module _ (checked : CheckedOf) (log : List CommitOf)
       (carried_within most number clock messages rest (All-tail (TellsBy (λ end. end ≤ most)) message messages all)
       later)
 
-  take_within : (most : ℕ) (moves : List Move) (place : Place) (clock : ℕ) (found : Option CommitOf)
-      → (taken_place (telling_of checked) place found).sent ≤ most
+  take_within : (most : ℕ) (moves : List Move) (state : StreamStateOf) (clock : ℕ) (found : Option CommitOf)
+      → (taken_state (telling_of checked) state found).sent ≤ most
       → All (IsWithinItem most)
-      (all_items (telling_of checked) log (taken_place (telling_of checked) place found) moves)
+      (all_items (telling_of checked) log (taken_state (telling_of checked) state found) moves)
       → All (IsWithinItem most)
-      (take_items (telling_of checked) place found clock
-      ++ all_items (telling_of checked) log (taken_place (telling_of checked) place found) moves)
-  take_within most moves place clock None low later = later
-  take_within most moves place clock (Some commit) low later =
-      carried_within most commit.number clock (messages_for checked place.slot place.told commit)
-      (all_items (telling_of checked) log (place_after (telling_of checked) place commit) moves)
-      (messages_tell (λ end. end ≤ most) checked place.slot place.told commit low) later
+      (take_items (telling_of checked) state found clock
+      ++ all_items (telling_of checked) log (taken_state (telling_of checked) state found) moves)
+  take_within most moves state clock None low later = later
+  take_within most moves state clock (Some commit) low later =
+      carried_within most commit.number clock (messages_for checked state.slot state.relation_sent commit)
+      (all_items (telling_of checked) log (state_after (telling_of checked) state commit) moves)
+      (messages_tell (λ end. end ≤ most) checked state.slot state.relation_sent commit low) later
 
-  moves_within : (most : ℕ) (moves : List Move) (place : Place) → IsSentPlace place
-      → (all_moved (telling_of checked) log place moves).sent ≤ most
-      → All (IsWithinItem most) (all_items (telling_of checked) log place moves)
-  moves_within most [] place sent low = All-nil (IsWithinItem most)
-  moves_within most (s.Take clock ∷ moves) place sent low =
-      let here = next_place place (s.Take clock) sent in
-      let later = all_sent moves (moved (telling_of checked) log place (s.Take clock)) here.sent in
-      take_within most moves place clock (slice_get log place.done) (omega (arith, later.more, low))
-      (moves_within most moves (moved (telling_of checked) log place (s.Take clock)) here.sent low)
-  moves_within most (s.Keep clock want ∷ moves) place sent low =
-      let later = all_sent moves place sent in
-      All-cons (IsWithinItem most) (keep_item place clock want) (all_items (telling_of checked) log place moves)
+  moves_within : (most : ℕ) (moves : List Move) (state : StreamStateOf) → IsSentPlace state
+      → (all_moved (telling_of checked) log state moves).sent ≤ most
+      → All (IsWithinItem most) (all_items (telling_of checked) log state moves)
+  moves_within most [] state sent low = All-nil (IsWithinItem most)
+  moves_within most (s.Take clock ∷ moves) state sent low =
+      let here = next_place state (s.Take clock) sent in
+      let later = all_sent moves (moved (telling_of checked) log state (s.Take clock)) here.sent in
+      take_within most moves state clock (slice_get log state.done) (omega (arith, later.more, low))
+      (moves_within most moves (moved (telling_of checked) log state (s.Take clock)) here.sent low)
+  moves_within most (s.Keep clock want ∷ moves) state sent low =
+      let later = all_sent moves state sent in
+      All-cons (IsWithinItem most) (keep_item state clock want) (all_items (telling_of checked) log state moves)
       (omega (arith, later.more, low))
-      (moves_within most moves place sent low)
+      (moves_within most moves state sent low)
 
-first_sent_place : (number tables position : ℕ) → IsSentPlace (place_at number tables position)
+first_sent_place : (number tables position : ℕ) → IsSentPlace (state_at number tables position)
 first_sent_place number tables position = by_test (position == 0)
-    (λ zero. subst (λ n. n ≤ end_of (count_before position)) (sym (ap (λ b. if b then 64 else position) zero))
+    (λ zero. subst (λ n. n ≤ end_lsn_of (commits_before position)) (sym (ap (λ b. if b then 64 else position) zero))
     (omega arith))
-    (λ more. subst (λ n. n ≤ end_of (count_before position)) (sym (ap (λ b. if b then 64 else position) more))
+    (λ more. subst (λ n. n ≤ end_lsn_of (commits_before position)) (sym (ap (λ b. if b then 64 else position) more))
     (omega arith))
 
 pub first_reached : (position : ℕ) → position ≤ (if position == 0 then 64 else position)
@@ -149,44 +150,44 @@ pub reached_is_sent : (checked : CheckedOf) (log : List CommitOf)
     → (subscriber position : ℕ) (moves : List Move) (count : ℕ)
     → position_after position (whole_in count
     (stream_items (telling_of checked) log subscriber (length checked.catalog.tables) position moves)) ≤
-    (all_moved (telling_of checked) log (place_at subscriber (length checked.catalog.tables) position) moves).sent
+    (all_moved (telling_of checked) log (state_at subscriber (length checked.catalog.tables) position) moves).sent
 reached_is_sent checked log numbered subscriber position moves count =
-    let place = place_at subscriber (length checked.catalog.tables) position in
-    let items : List Item = all_items (telling_of checked) log place moves in
+    let state = state_at subscriber (length checked.catalog.tables) position in
+    let items : List Item = all_items (telling_of checked) log state moves in
     let first = first_sent_place subscriber (length checked.catalog.tables) position in
-    let last = all_sent checked log numbered moves place first in
-    let most = (all_moved (telling_of checked) log place moves).sent in
+    let last = all_sent checked log numbered moves state first in
+    let most = (all_moved (telling_of checked) log state moves).sent in
     items_within most position (whole_in count (Response ∷ items))
     (whole_within (IsWithinItem most) count (Response ∷ items)
     (All-cons (IsWithinItem most) Response items tt
-    (moves_within checked log numbered most moves place first (omega arith))))
+    (moves_within checked log numbered most moves state first (omega arith))))
     (omega (arith, first_reached position, last.more))
 
 -- ---- within the log
 
-done_within : (checked : CheckedOf) (log : List CommitOf) (moves : List Move) (place : Place)
-    → AllThere (telling_of checked) log place moves → place.done ≤ length log
-    → (all_moved (telling_of checked) log place moves).done ≤ length log
-done_within checked log [] place there low = low
-done_within checked log (s.Take clock ∷ moves) place there low =
-    done_within checked log moves (moved (telling_of checked) log place (s.Take clock)) there.1
-    (taken (slice_get log place.done))
+done_within : (checked : CheckedOf) (log : List CommitOf) (moves : List Move) (state : StreamStateOf)
+    → AllThere (telling_of checked) log state moves → state.done ≤ length log
+    → (all_moved (telling_of checked) log state moves).done ≤ length log
+done_within checked log [] state there low = low
+done_within checked log (s.Take clock ∷ moves) state there low =
+    done_within checked log moves (moved (telling_of checked) log state (s.Take clock)) there.1
+    (taken (slice_get log state.done))
   where
-    taken : (found : Option CommitOf) → (taken_place (telling_of checked) place found).done ≤ length log
+    taken : (found : Option CommitOf) → (taken_state (telling_of checked) state found).done ≤ length log
     taken None = low
     taken (Some commit) = omega (arith, there.0)
-done_within checked log (s.Keep clock want ∷ moves) place there low = done_within checked log moves place there.1 low
+done_within checked log (s.Keep clock want ∷ moves) state there low = done_within checked log moves state there.1 low
 
 -- no more is sent than up to where the log ends
 pub sent_is_there : (checked : CheckedOf) (log : List CommitOf)
     → ((place : ℕ) (commit : CommitOf) → slice_get log place ≡ Some commit → commit.number ≡ 1 + place)
     → (subscriber position : ℕ) (moves : List Move)
-    → AllThere (telling_of checked) log (place_at subscriber (length checked.catalog.tables) position) moves
-    → count_before position ≤ length log
-    → (all_moved (telling_of checked) log (place_at subscriber (length checked.catalog.tables) position) moves).sent ≤
-    end_of (length log)
+    → AllThere (telling_of checked) log (state_at subscriber (length checked.catalog.tables) position) moves
+    → commits_before position ≤ length log
+    → (all_moved (telling_of checked) log (state_at subscriber (length checked.catalog.tables) position) moves).sent ≤
+    end_lsn_of (length log)
 sent_is_there checked log numbered subscriber position moves there low =
-    let place = place_at subscriber (length checked.catalog.tables) position in
-    let last = all_sent checked log numbered moves place
+    let state = state_at subscriber (length checked.catalog.tables) position in
+    let last = all_sent checked log numbered moves state
     (first_sent_place subscriber (length checked.catalog.tables) position) in
-    omega (arith, last.sent, done_within checked log moves place there low)
+    omega (arith, last.sent, done_within checked log moves state there low)

@@ -12,6 +12,7 @@ use Rattle.table_changes.proofs.CommandListLemmas.{are_alike}
 use Rattle.table_changes.proofs.TableLemmas.{row_found}
 use Rattle.tables_log.specs.BookView.{book_checked, book_listed, book_rows, book_slots}
 use Rattle.tables_log.specs.Listing.{ListsFound, AreRowsOf}
+use Rattle.tables_log.specs.Lsn.{commits_before}
 use Rattle.tables_log.specs.Places.{IsInOrder}
 use Rattle.tables_log.specs.StandsFor.{Transaction, StandsFor, after}
 use Rattle.tables_log.specs.declared.book.Book.{Book}
@@ -19,7 +20,6 @@ use Rattle.tables_log.proofs.ListingLemmas.{rows_in_order}
 use Rattle.tables_log.proofs.StandLemmas.{books_are_right, each_is_logged, listed_are_rows}
 use Rattle.pgoutput_msgs.specs.Telling.{oid_of}
 use Rattle.tables_log.specs.Slots.{confirmed_at}
-use Rattle.copy_both.specs.Streams.{count_before}
 use Rattle.copy_both.specs.declared.link.Link.{Link}
 use Rattle.test_subscriber.specs.Subscribers.{sub_listed, sub_machine}
 use Rattle.stream_laws.specs.ShardRows.{FindsRows, in_shard}
@@ -179,7 +179,7 @@ module _ (checked : CheckedOf) (most : ℕ) (book : Book) (peers : List PeerOf) 
       (good.peers number)
 
   -- it has its shard after as many commits as are shown
-  finds_shown : (number count table : ℕ) (code : PeerOf) → count ≡ count_before (position_of checked world number)
+  finds_shown : (number count table : ℕ) (code : PeerOf) → count ≡ commits_before (position_of checked world number)
       → StaysAlike (sub_machine code.subscriber) (machine_of checked world number)
       → FindsRows (own_key checked table) ((sub_machine code.subscriber).rows (oid_of table))
       (in_shard (setting_in checked) number (tables_after checked world.transactions count) table)
@@ -189,7 +189,7 @@ module _ (checked : CheckedOf) (most : ℕ) (book : Book) (peers : List PeerOf) 
       (finds_alike (own_key checked table) ((machine_of checked world number).rows (oid_of table))
       ((sub_machine code.subscriber).rows (oid_of table))
       (in_shard (setting_in checked) number
-      (tables_after checked world.transactions (count_before (position_of checked world number))) table)
+      (tables_after checked world.transactions (commits_before (position_of checked world number))) table)
       (λ key. alike.rows (oid_of table) key) ((follows_at number).rows table))
 
   -- what a subscriber's share of a table takes is what its publications let through
@@ -219,7 +219,7 @@ module _ (checked : CheckedOf) (most : ℕ) (book : Book) (peers : List PeerOf) 
       (λ table rows there found. are_rows (own_key checked table) ((sub_machine code.subscriber).rows (oid_of table))
       (in_shard (setting_in checked) number (tables_after checked world.transactions shown.applied) table)
       (sub_listed code.subscriber (oid_of table)) rows.items
-      (finds_shown number shown.applied table code (seen.applied_is ∙ ap count_before position) alike) found.lists
+      (finds_shown number shown.applied table code (seen.applied_is ∙ ap commits_before position) alike) found.lists
       found.in_order) in
       record {
         position_is = position;

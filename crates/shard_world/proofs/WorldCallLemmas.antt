@@ -8,7 +8,7 @@ use Rattle.tables_log.specs.StandsFor.{Transaction}
 use Rattle.tables_log.specs.declared.slots.Slot.{Slot}
 use Rattle.copy_both.specs.LinkLaws.{Run, IsStreaming}
 use Rattle.copy_both.specs.StreamLaws.{AllThere}
-use Rattle.copy_both.specs.Streams.{spelled, Place, Move, all_moved, place_at}
+use Rattle.copy_both.specs.Streams.{spelled, StreamStateOf, Move, all_moved, state_at}
 use Rattle.copy_both.specs.Tellings.{telling_of}
 use Rattle.copy_both.specs.declared.link.Link.{Link}
 use Rattle.copy_both.proofs.LinkStreams.{log_grows}
@@ -22,7 +22,7 @@ use Rattle.test_subscriber.specs.declared.subscriber.Subscriber.{Subscriber}
 use Rattle.stream_laws.specs.Following.{log_of}
 use Rattle.shard_world.specs.Joined.{PeerOf, PeerIs, IsAt, IsLinked, AlikeBut, Speaks, run_of}
 use Rattle.shard_world.specs.World as w
-use Rattle.shard_world.specs.World.{Connection, Event, Answer, Steps, Leads, down_bytes, place_of, Source, log_in}
+use Rattle.shard_world.specs.World.{Connection, Event, Answer, Steps, Leads, down_bytes, state_of, Source, log_in}
 use Rattle.shard_world.proofs.WorldHearing.{down_longer}
 use Rattle.shard_world.proofs.WorldItems.{log_goes_on, with_more}
 use Rattle.shard_world.proofs.WorldPeers.{StartsAt, IsConnected, IsConnectedAt, IsGood}
@@ -69,22 +69,22 @@ module _ (source : Source) (before after : List Slot)
 module _ (source : Source) (more : List Transaction) (position : ℕ) where
   abbrev IsThereAt : List Move → Type 0
   IsThereAt moves = AllThere (telling_of source.checked) (log_in source)
-      (place_at source.number (length source.checked.catalog.tables) position) moves
+      (state_at source.number (length source.checked.catalog.tables) position) moves
 
   bytes_longer : (start : Option ℕ) → StartsAt position start → (moves : List Move) → IsThereAt moves
       → down_bytes (with_more source more) start moves ≡ down_bytes source start moves
   bytes_longer start at moves there = ap (flat_map spelled) (down_longer source more position start at moves there)
 
-  place_longer : (start : ℕ) → start ≡ position → (moves : List Move) → IsThereAt moves
-      → place_of (with_more source more) start moves ≡ place_of source start moves
-  place_longer start at moves there =
+  state_longer : (start : ℕ) → start ≡ position → (moves : List Move) → IsThereAt moves
+      → state_of (with_more source more) start moves ≡ state_of source start moves
+  state_longer start at moves there =
       let on = log_goes_on source.checked source.transactions more in
       ap (λ log. all_moved (telling_of source.checked) log
-      (place_at source.number (length source.checked.catalog.tables) start) moves) on.is
+      (state_at source.number (length source.checked.catalog.tables) start) moves) on.is
       ∙ all_moved_longer (telling_of source.checked) (log_in source) on.others
-      (place_at source.number (length source.checked.catalog.tables) start) moves
+      (state_at source.number (length source.checked.catalog.tables) start) moves
       (subst (λ p. AllThere (telling_of source.checked) (log_in source)
-      (place_at source.number (length source.checked.catalog.tables) p) moves) (sym at) there)
+      (state_at source.number (length source.checked.catalog.tables) p) moves) (sym at) there)
 
   abbrev run_with : ℕ → List Move → List CommitOf → List ℕ → Run
   run_with start moves log passed = record (run_of source start moves 0) { log = log; passed = passed }
@@ -95,18 +95,18 @@ module _ (source : Source) (more : List Transaction) (position : ℕ) where
   speaks_longer link moves delivered there None at speaks = speaks
   speaks_longer link moves delivered there (Some start) at speaks =
       let on = log_goes_on source.checked source.transactions more in
-      let place : Place = place_of source start moves in
+      let state : StreamStateOf = state_of source start moves in
       let grown : IsStreaming link
       (run_with start moves (log_in source ++ on.others) (take delivered (down_bytes source (Some start) moves)))
-      place =
-      log_grows link (run_of source start moves delivered) place on.others speaks in
+      state =
+      log_grows link (run_of source start moves delivered) state on.others speaks in
       subst (IsStreaming link (run_of (with_more source more) start moves delivered))
-      (sym (place_longer start at moves there))
+      (sym (state_longer start at moves there))
       (subst (λ bytes. IsStreaming link
-      (run_with start moves (log_of source.checked (source.transactions ++ more)) (take delivered bytes)) place)
+      (run_with start moves (log_of source.checked (source.transactions ++ more)) (take delivered bytes)) state)
       (sym (bytes_longer (Some start) at moves there))
       (subst (λ log. IsStreaming link
-      (run_with start moves log (take delivered (down_bytes source (Some start) moves))) place) (sym on.is)
+      (run_with start moves log (take delivered (down_bytes source (Some start) moves))) state) (sym on.is)
       grown))
 
 module _ (source : Source) (more : List Transaction) where

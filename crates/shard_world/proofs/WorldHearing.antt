@@ -7,7 +7,7 @@ use Rattle.std.proofs.lemmas.List.Elements.{All-nil, All-cons, All-head, All-tai
 use Rattle.shard_checker.specs.CheckedView.{CheckedOf}
 use Rattle.tables_log.specs.StandsFor.{Transaction}
 use Rattle.copy_both.specs.StreamLaws.{AllThere}
-use Rattle.copy_both.specs.Streams.{Response, spelled, Move, Keep, place_at, all_items}
+use Rattle.copy_both.specs.Streams.{Response, spelled, Move, Keep, state_at, all_items}
 use Rattle.copy_both.specs.Tellings.{telling_of}
 use Rattle.copy_both.proofs.StreamLemmas.{items_longer, all_there_longer}
 use Rattle.copy_frames.specs.declared.status.Status.{Status}
@@ -178,18 +178,18 @@ hears_stay source now timed peer c more good =
 pub down_longer : (source : Source) (more : List Transaction) (position : ℕ) (start : Option ℕ)
     → StartsAt position start → (moves : List Move)
     → AllThere (telling_of source.checked) (log_in source)
-    (place_at source.number (length source.checked.catalog.tables) position) moves
+    (state_at source.number (length source.checked.catalog.tables) position) moves
     → down_items (with_more source more) start moves ≡ down_items source start moves
 down_longer source more position None at moves there = refl
 down_longer source more position (Some start) at moves there =
     let on = log_goes_on source.checked source.transactions more in
     let there_at = subst (λ p. AllThere (telling_of source.checked) (log_in source)
-    (place_at source.number (length source.checked.catalog.tables) p) moves) (sym at) there in
+    (state_at source.number (length source.checked.catalog.tables) p) moves) (sym at) there in
     ap (λ log. Response ∷ all_items (telling_of source.checked) log
-    (place_at source.number (length source.checked.catalog.tables) start) moves) on.is
+    (state_at source.number (length source.checked.catalog.tables) start) moves) on.is
     ∙ ap (λ items. Response ∷ items)
     (items_longer (telling_of source.checked) (log_in source) on.others
-    (place_at source.number (length source.checked.catalog.tables) start) moves there_at)
+    (state_at source.number (length source.checked.catalog.tables) start) moves there_at)
 
 longer_connected : (source : Source) (more : List Transaction) (position confirmed reached : ℕ) (c : Connection)
     → IsConnected source position confirmed reached c → IsConnected (with_more source more) position confirmed reached c
@@ -199,9 +199,9 @@ longer_connected source more position confirmed reached c connected =
     record {
       started = connected.started;
       there = subst (λ log. AllThere (telling_of source.checked) log
-          (place_at source.number (length source.checked.catalog.tables) position) c.moves) (sym on.is)
+          (state_at source.number (length source.checked.catalog.tables) position) c.moves) (sym on.is)
           (all_there_longer (telling_of source.checked) (log_in source) on.others
-          (place_at source.number (length source.checked.catalog.tables) position) c.moves connected.there);
+          (state_at source.number (length source.checked.catalog.tables) position) c.moves connected.there);
       clocked = connected.clocked;
       delivered = subst (λ items. c.delivered ≤ length (flat_map spelled items)) (sym same) connected.delivered;
       reached_is = ap (λ items. position_after position (whole_in c.delivered items)) same ∙ connected.reached_is;

@@ -129,7 +129,7 @@ sayable_first checked transactions more h =
     let on = log_goes_on checked transactions more in
     record {
       few = omega (arith, h.few, length-append transactions more);
-      said = λ subscriber told place commit at. h.said subscriber told place commit
+      said = λ subscriber sent place commit at. h.said subscriber sent place commit
           (ap (λ all. slice_get all place) on.is
           ∙ got_longer (log_of checked transactions) on.others place
           (slice_get_within (log_of checked transactions) place commit at) ∙ at);

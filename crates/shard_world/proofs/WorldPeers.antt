@@ -6,7 +6,7 @@ use Rattle.std.proofs.lemmas.List.{length-take-le, take-append-drop}
 use Rattle.std.proofs.lemmas.List.Concat.{flat_map-append}
 use Rattle.std.proofs.lemmas.List.Elements.{All-nil, All-cons, All-head, All-tail, All-append}
 use Rattle.copy_both.specs.StreamLaws.{IsThere, AllThere}
-use Rattle.copy_both.specs.Streams.{Item, Response, spelled, Move, place_at, all_moved, move_items}
+use Rattle.copy_both.specs.Streams.{Item, Response, spelled, Move, state_at, all_moved, move_items}
 use Rattle.copy_both.specs.Tellings.{telling_of}
 use Rattle.copy_both.proofs.StreamLemmas.{items_append, there_append}
 use Rattle.copy_frames.specs.Frames.{cut}
@@ -40,7 +40,7 @@ IsReported reached status = status.flushed ≤ reached
 pub record IsConnected (source : Source) (position confirmed reached : ℕ) (c : Connection) : Type 0 where
   pub started : StartsAt position c.start
   pub there : AllThere (telling_of source.checked) (log_in source)
-      (place_at source.number (length source.checked.catalog.tables) position) c.moves
+      (state_at source.number (length source.checked.catalog.tables) position) c.moves
   pub clocked : All IsClocked c.moves
   pub delivered : c.delivered ≤ length (flat_map spelled (down_items source c.start c.moves))
   pub reached_is : position_after position (whole_in c.delivered (down_items source c.start c.moves)) ≡ reached
@@ -162,10 +162,10 @@ grows source None moves move = record { more = []; is = refl }
 grows source (Some start) moves move = record {
   more = move_items (telling_of source.checked) (log_in source)
       (all_moved (telling_of source.checked) (log_in source)
-      (place_at source.number (length source.checked.catalog.tables) start) moves) move;
+      (state_at source.number (length source.checked.catalog.tables) start) moves) move;
   is = ap (λ items. Response ∷ items)
       (items_append (telling_of source.checked) (log_in source)
-      (place_at source.number (length source.checked.catalog.tables) start) moves move);
+      (state_at source.number (length source.checked.catalog.tables) start) moves move);
 }
 
 module _ (source : Source) (position confirmed reached : ℕ) where
@@ -173,14 +173,14 @@ module _ (source : Source) (position confirmed reached : ℕ) where
       → IsClocked move
       → IsThere (log_in source)
       (all_moved (telling_of source.checked) (log_in source)
-      (place_at source.number (length source.checked.catalog.tables) position) c.moves) move
+      (state_at source.number (length source.checked.catalog.tables) position) c.moves) move
       → IsConnected source position confirmed reached (record c { moves = c.moves ++ move ∷ [] })
   moves_connected c move connected clock here =
       let grown = grows source c.start c.moves move in
       record {
         started = connected.started;
         there = there_append (telling_of source.checked) (log_in source)
-            (place_at source.number (length source.checked.catalog.tables) position) c.moves move connected.there
+            (state_at source.number (length source.checked.catalog.tables) position) c.moves move connected.there
             here;
         clocked = All-append IsClocked c.moves (move ∷ []) connected.clocked
             (All-cons IsClocked move [] clock (All-nil IsClocked));

@@ -6,9 +6,9 @@ use Rattle.std.proofs.lemmas.Option.{slice_get_within}
 use Rattle.tables_log.specs.Commits.{CommitOf}
 use Rattle.copy_both.specs.StreamLaws.{IsThere}
 use Rattle.copy_both.specs.Streams as s
-use Rattle.copy_both.specs.Streams.{Place, Move}
+use Rattle.copy_both.specs.Streams.{StreamStateOf, Move}
 use Rattle.stream_laws.specs.Following.{IsPublished}
-use Rattle.shard_world.specs.World.{Connection, Peer, PeerEvent, Open, Hear, Take, Keep, Deliver, Report, Lose, down_bytes, ups_of, spelled_up, as_many, hears, delivers, moves_on, place_of, take_step, keep_step, open_step, shut_step, peer_step, broken, Source, up_bytes, down_of, in_part, log_in}
+use Rattle.shard_world.specs.World.{Connection, Peer, PeerEvent, Open, Hear, Take, Keep, Deliver, Report, Lose, down_bytes, ups_of, spelled_up, as_many, hears, delivers, moves_on, state_of, take_step, keep_step, open_step, shut_step, peer_step, broken, Source, up_bytes, down_of, in_part, log_in}
 use Rattle.shard_world.specs.World as w
 use Rattle.stream_laws.specs.LayoutRoom.{FitsLayouts}
 use Rattle.shard_world.proofs.WorldHearing.{hears_good}
@@ -40,7 +40,7 @@ module _ (source : Source) (published : IsPublished source.checked source.transa
 
   moves_good : (peer : Peer) (c : Connection) (move : Move) → IsGood source (record peer { connection = Some c })
       → IsClocked move
-      → IsThere (log_in source) (place_of source peer.position c.moves) move
+      → IsThere (log_in source) (state_of source peer.position c.moves) move
       → IsGood source (moves_on peer c move)
   moves_good peer c move good clock here = record {
     follows = good.follows;
@@ -50,25 +50,25 @@ module _ (source : Source) (published : IsPublished source.checked source.transa
     );
   }
 
-  takes_good : (peer : Peer) (c : Connection) (place : Place) (found : Option CommitOf)
-      → slice_get (log_in source) place.done ≡ found
-      → place ≡ place_of source peer.position c.moves
+  takes_good : (peer : Peer) (c : Connection) (state : StreamStateOf) (found : Option CommitOf)
+      → slice_get (log_in source) state.done ≡ found
+      → state ≡ state_of source peer.position c.moves
       → (connection : Option Connection) → peer.connection ≡ connection → IsGood source peer
       → IsGood source (record peer { connection = Some c })
-      → IsGood source (w.takes source.checked now peer c place found).1
-  takes_good peer c place None e at connection is whole good = whole
-  takes_good peer c place (Some commit) e at connection is whole good =
+      → IsGood source (w.takes source.checked now peer c state found).1
+  takes_good peer c state None e at connection is whole good = whole
+  takes_good peer c state (Some commit) e at connection is whole good =
       moves_good peer c (s.Take now) good timed
-      (subst (λ p. p.done < length (log_in source)) at (slice_get_within (log_in source) place.done commit e))
+      (subst (λ p. p.done < length (log_in source)) at (slice_get_within (log_in source) state.done commit e))
 
   take_good : (peer : Peer) (c : Connection) (start : Option ℕ) → c.start ≡ start → IsGood source peer
       → IsGood source (record peer { connection = Some c })
       → IsGood source (take_step source now peer c start).1
   take_good peer c None e whole good = whole
   take_good peer c (Some start) e whole good =
-      takes_good peer c (place_of source start c.moves)
-      (slice_get (log_in source) (place_of source start c.moves).done) refl
-      (ap (λ p. place_of source p c.moves) at) peer.connection refl whole good
+      takes_good peer c (state_of source start c.moves)
+      (slice_get (log_in source) (state_of source start c.moves).done) refl
+      (ap (λ p. state_of source p c.moves) at) peer.connection refl whole good
     where
       at : start ≡ peer.position
       at = subst (StartsAt peer.position) e good.connected.1.started

@@ -2,7 +2,7 @@
 -- keepalive is sent, and all is delivered: PostgreSQL 15, 55.4. Streaming Replication Protocol.
 use Rattle.std.specs.Prelude.{◌≡◌, ◌<◌, ◌^◌, ℕ, zero, suc, false, List, All, length, Option, Some, None}
 use Rattle.shard_checker.specs.CheckedView.{CheckedOf}
-use Rattle.copy_both.specs.Streams.{end_of}
+use Rattle.tables_log.specs.Lsn.{end_lsn_of}
 use Rattle.shard_world.specs.World.{Connection, Peer, World, PeerEvent, Hear, Take, Keep, Deliver, Event, first_world, position_now, peer_step, Leads, Source, source_in, up_bytes, down_of}
 use Rattle.shard_world.specs.WorldLaws.{IsPublisher, IsTimedEvent}
 
@@ -42,4 +42,4 @@ SubscribersCatchUp = (checked : CheckedOf) (most : ℕ) → IsPublisher checked 
     → (c : Connection) → (world.peers subscriber).connection ≡ Some c
     → position_now (source_in checked world subscriber)
     (caught_up (source_in checked world subscriber) now (world.peers subscriber))
-    ≡ end_of (length world.transactions)
+    ≡ end_lsn_of (length world.transactions)

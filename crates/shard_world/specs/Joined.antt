@@ -23,7 +23,7 @@ use Rattle.shard_world.specs.World.{Connection, down_bytes, machine_in, Source, 
 
 -- ---- machines
 
--- the same except for whether a status is wanted
+-- the same except for whether a status is requested
 pub record AlikeBut (one other : Machine) : Type 0 where
   pub phase : one.phase ≡ other.phase
   pub position : one.position ≡ other.position
@@ -75,7 +75,7 @@ run_of source start moves delivered = record {
 abbrev pub Speaks : Source → Link → List Move → ℕ → Option ℕ → Type 0
 Speaks source link moves delivered None = IsSilent link moves
 Speaks source link moves delivered (Some start) =
-    IsStreaming link (run_of source start moves delivered) (w.place_of source start moves)
+    IsStreaming link (run_of source start moves delivered) (w.state_of source start moves)
 
 abbrev pub stream_of : ℕ → Option ℕ → Option (ℕ × ℕ)
 stream_of number None = None

@@ -1,8 +1,8 @@
 -- What a pump makes happen on the connection of a subscriber, so that it gets all that was committed and reports it:
 -- PostgreSQL 15, 55.4. Streaming Replication Protocol.
 use Rattle.std.specs.Prelude.{◌≡◌, ◌<◌, ◌⊎◌, ℕ, ◌-◌, ◌^◌, false, List, [], ◌∷◌, ◌++◌, All, length, map, replicate, Some, Result, Ok, Err}
-use Rattle.copy_both.specs.Streams.{end_of}
 use Rattle.tables_log.specs.BookView.{book_log}
+use Rattle.tables_log.specs.Lsn.{end_lsn_of}
 use Rattle.shard_world.specs.PeerCalls.{IsCounted}
 use Rattle.shard_world.specs.World as w
 use Rattle.shard_world.specs.World.{Answer, At, Connection, Event, Idle, NoSubscriber, NotOpen, On, OutOfMemory, PeerEvent, Hear, Take, Keep, Deliver, Report, position_now, position_of}
@@ -121,7 +121,7 @@ pub record IsAtEnd (before after : World) (subscriber count most : ℕ) : Type 0
   pub world : w.World
   pub is : IsWorld after most events world
   pub checked : world_checked after ≡ world_checked before
-  pub position_is : position_of (world_checked after) world subscriber ≡ end_of count
+  pub position_is : position_of (world_checked after) world subscriber ≡ end_lsn_of count
 
 -- where the log ends
 abbrev pub ReachesEnd : World → World → ℕ → Type 0
@@ -130,7 +130,7 @@ ReachesEnd before after subscriber =
 
 abbrev pub IsEndOfLog : World → ℕ → ℕ → Type 0
 IsEndOfLog before subscriber position =
-    InEach before subscriber (λ most world. position ≡ end_of (length world.transactions))
+    InEach before subscriber (λ most world. position ≡ end_lsn_of (length world.transactions))
 
 -- a subscriber that has a connection loses it only if memory runs out
 abbrev pub WantsMemory : World → ℕ → Answer → Type 0

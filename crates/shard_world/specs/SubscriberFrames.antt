@@ -4,8 +4,8 @@ use Rattle.std.specs.Prelude.{◌≡◌, ◌<◌, ◌≤◌, ◌^◌, ℕ, max, 
 use Rattle.pub_catalog.specs.declared.catalog.Subscription.{Subscription}
 use Rattle.tables_log.specs.Slots.{end_after, confirmed_at, start_fault}
 use Rattle.copy_frames.specs.declared.status.Status.{Status}
-use Rattle.copy_both.specs.Hearing.{HearingOf, Served, first_sent, frame_heard, frames_heard, is_over}
-use Rattle.copy_both.specs.Streams.{Move, Keep}
+use Rattle.copy_both.specs.Hearing.{HearingOf, Served, frame_heard, frames_heard, is_over}
+use Rattle.copy_both.specs.Streams.{Move, Keep, first_sent}
 use Rattle.stream_laws.specs.Asking.{CanAsk}
 use Rattle.shard_world.specs.World.{Asks, Says, Session, hear_up, up_frame}
 
@@ -13,7 +13,7 @@ abbrev pub start_in : Option (ℕ × ℕ) → Option ℕ
 start_in None = None
 start_in (Some begun) = Some begun.1
 
--- What was heard as a session of the world, if these moves were made before. Each reply that is wanted is a keepalive.
+-- What was heard as a session of the world, if these moves were made before. Each requested reply is a keepalive.
 abbrev pub session_of : ℕ → ℕ → List Move → HearingOf → Session
 session_of subscriber now moves h =
     record {
@@ -63,7 +63,7 @@ StartsAreHeard = (served : Served) (subscriber position now : ℕ) (subscription
     × IsBegun subscriber (max position (confirmed_at h.slots subscriber))
     (frame_heard served h (up_frame served.checked subscriber (Asks position)))
 
--- Statuses, which report no more than what was sent and what the log has. Each that wants a reply has one.
+-- Statuses, which report no more than what was sent and what the log has. Each that requests a reply has one.
 abbrev pub StatusesAreHeard : Type 0
 StatusesAreHeard = (served : Served) (subscriber start now : ℕ) (moves : List Move) (statuses : List Status)
     (h : HearingOf)

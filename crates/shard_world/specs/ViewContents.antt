@@ -3,11 +3,11 @@ use Rattle.std.specs.Prelude.{◌≡◌, ℕ, List, length, slice_get, IfSome, O
 use Rattle.filter_tree.specs.Datum.{Datum}
 use Rattle.tables_log.specs.BookView.{book_listed, book_log, book_rows, book_slots}
 use Rattle.tables_log.specs.Listing.{ListsFound}
+use Rattle.tables_log.specs.Lsn.{commits_before}
 use Rattle.tables_log.specs.Places.{IsInOrder}
 use Rattle.tables_log.specs.Slots.{confirmed_at}
 use Rattle.tables_log.specs.declared.book.Book.{Book}
 use Rattle.pgoutput_msgs.specs.Telling.{oid_of}
-use Rattle.copy_both.specs.Streams.{count_before}
 use Rattle.test_subscriber.specs.Subscribers.{sub_listed, sub_machine}
 use Rattle.test_subscriber.specs.declared.subscriber.Subscriber.{Subscriber}
 use Rattle.shard_world.specs.Joined.{PeerOf}
@@ -33,7 +33,7 @@ FoundBy subscriber table rows =
 -- what is seen of the subscriber of this number
 pub record IsSeen (book : Book) (tables number : ℕ) (subscriber : Subscriber) (shown : SubscriberView) : Type 0 where
   pub position_is : shown.position ≡ (sub_machine subscriber).position
-  pub applied_is : shown.applied ≡ count_before shown.position
+  pub applied_is : shown.applied ≡ commits_before shown.position
   pub confirmed_is : shown.confirmed ≡ confirmed_at (book_slots book) number
   pub width : length shown.rows.items ≡ tables
   pub rows : AllAt (λ table rows. FoundBy subscriber table rows.items) shown.rows.items

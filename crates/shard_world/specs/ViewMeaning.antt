@@ -8,8 +8,8 @@ use Rattle.filter_tree.specs.Order.{row_cmp}
 use Rattle.replica_identity.specs.Passes.{passes}
 use Rattle.shard_checker.specs.CheckedView.{CheckedOf, setting_in}
 use Rattle.table_changes.specs.Tables.{Tables, holds}
+use Rattle.tables_log.specs.Lsn.{commits_before}
 use Rattle.tables_log.specs.StandsFor.{Transaction, after}
-use Rattle.copy_both.specs.Streams.{count_before}
 use Rattle.stream_laws.specs.ShardRows.{in_shard}
 use Rattle.shard_world.specs.ViewContents.{AllAt}
 use Rattle.shard_world.specs.World as w
@@ -36,7 +36,7 @@ is_let_through checked number tables table row =
 -- after these commits, which are those that its publications let through.
 pub record ShowsSubscriber (source : Source) (peer : w.Peer) (shown : SubscriberView) : Type 0 where
   pub position_is : shown.position ≡ position_now source peer
-  pub applied_is : shown.applied ≡ count_before shown.position
+  pub applied_is : shown.applied ≡ commits_before shown.position
   pub confirmed_is : shown.confirmed ≡ peer.confirmed
   pub tables : length shown.rows.items ≡ length source.checked.catalog.tables
   pub rows : AllAt (λ table rows. AreRows

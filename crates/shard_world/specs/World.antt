@@ -4,7 +4,7 @@
 use Rattle.std.specs.Prelude.{◌≡◌, ◌<◌, ◌⊎◌, ℕ, ◌+◌, ◌-◌, ◌==◌, max, min, nat_lt, Bool, true, false, if◌then◌else◌, List, [], ◌∷◌, ◌++◌, drop, fold, length, map, slice_get, take, Option, Some, None}
 use Rattle.std.specs.List.{flat_map}
 use Rattle.copy_both.specs.Streams as s
-use Rattle.copy_both.specs.Streams.{Item, spelled, Place, Move, place_at, all_moved}
+use Rattle.copy_both.specs.Streams.{Item, spelled, StreamStateOf, Move, state_at, all_moved}
 use Rattle.copy_both.specs.Tellings.{telling_of}
 use Rattle.copy_frames.specs.Frames.{cut}
 use Rattle.copy_frames.specs.declared.status.Status.{Status}
@@ -158,7 +158,7 @@ abbrev pub replied : Bool → ℕ → List Move
 replied true now = s.Keep now false ∷ []
 replied false now = []
 
--- a status confirms what it reports as flushed, and is answered if it wants a reply
+-- a status confirms what it reports as flushed, and is answered if it requests a reply
 abbrev pub hear_up : ℕ → Session → Up → Session
 hear_up now session (Asks position) = record session { start = start_at session.start position session.confirmed }
 hear_up now session (Says status) =
@@ -209,25 +209,25 @@ abbrev pub moves_on : Peer → Connection → Move → Peer
 moves_on peer c move = with_connection peer (record c { moves = c.moves ++ move ∷ [] })
 
 -- where a stream of these moves is
-abbrev pub place_of : Source → ℕ → List Move → Place
-place_of source start moves =
+abbrev pub state_of : Source → ℕ → List Move → StreamStateOf
+state_of source start moves =
     all_moved (telling_of source.checked) (log_in source)
-    (place_at source.number (length source.checked.catalog.tables) start) moves
+    (state_at source.number (length source.checked.catalog.tables) start) moves
 
 abbrev pub took : ℕ → List Msg → Answer
 took number [] = Skipped number
 took number (message ∷ messages) = Sent number
 
-abbrev pub takes : CheckedOf → ℕ → Peer → Connection → Place → Option CommitOf → Answer × Peer
-takes checked now peer c place None = (Idle, peer)
-takes checked now peer c place (Some commit) =
-    (took commit.number (messages_for checked place.slot place.told commit), moves_on peer c (s.Take now))
+abbrev pub takes : CheckedOf → ℕ → Peer → Connection → StreamStateOf → Option CommitOf → Answer × Peer
+takes checked now peer c state None = (Idle, peer)
+takes checked now peer c state (Some commit) =
+    (took commit.number (messages_for checked state.slot state.relation_sent commit), moves_on peer c (s.Take now))
 
 abbrev pub take_step : Source → ℕ → Peer → Connection → Option ℕ → Answer × Peer
 take_step source now peer c None = (NotStarted, peer)
 take_step source now peer c (Some start) =
-    let place = place_of source start c.moves in
-    takes source.checked now peer c place (slice_get (log_in source) place.done)
+    let state = state_of source start c.moves in
+    takes source.checked now peer c state (slice_get (log_in source) state.done)
 
 abbrev pub keep_step : ℕ → Bool → Peer → Connection → Option ℕ → Answer × Peer
 keep_step now want peer c None = (NotStarted, peer)

@@ -10,9 +10,9 @@ use Rattle.pub_catalog.specs.CatalogNames.{IsNamedCatalog}
 use Rattle.replica_identity.specs.Plans.{plan_of}
 use Rattle.shard_checker.specs.CheckedView.{CheckedOf, checked_view, setting_in}
 use Rattle.shard_checker.specs.declared.checked.Checked.{Checked}
+use Rattle.tables_log.specs.Lsn.{commits_before}
 use Rattle.tables_log.specs.StandsFor.{after}
 use Rattle.pgoutput_msgs.specs.Telling.{oid_of}
-use Rattle.copy_both.specs.Streams.{count_before}
 use Rattle.stream_laws.specs.Following.{own_key, HasShard}
 use Rattle.shard_world.specs.World.{Connection, Peer, World, Event, Commit, On, first_world, Leads, position_of, machine_of}
 
@@ -62,7 +62,7 @@ WorldsStartAsAsked = (checked : CheckedOf) (most : ℕ) → IsPublisher checked 
 
 -- how many commits a subscriber has applied: those among them without a change for it are counted too
 abbrev pub applied_in : CheckedOf → World → ℕ → ℕ
-applied_in checked world subscriber = count_before (position_of checked world subscriber)
+applied_in checked world subscriber = commits_before (position_of checked world subscriber)
 
 abbrev pub HoldsExactly : CheckedOf → World → Type 0
 HoldsExactly checked world = (subscriber : ℕ)

@@ -13,11 +13,11 @@ pub enum PeerEvent {
     Hear { bytes: usize },
     /// The publisher takes the next commit, and sends the messages that report it to the subscriber.
     Take,
-    /// The publisher sends a keepalive, which may want a status.
+    /// The publisher sends a keepalive, which may request a status.
     Keep { want: bool },
     /// The next bytes of the publisher, at most `bytes`, are delivered to the subscriber.
     Deliver { bytes: usize },
-    /// The subscriber reports its position, and may want a keepalive.
+    /// The subscriber reports its position, and may request a keepalive.
     Report { want: bool },
     /// The connection is lost.
     Lose,

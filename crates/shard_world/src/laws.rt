@@ -47,7 +47,7 @@ pub fn checked_catalogs_publish()
 
 /// A law about the frames of a subscriber of the world, as the publisher's end of its connection hears them
 /// (`frames_heard` of `copy_both`). The command that requests the stream (`start`), and then statuses (`statuses`), do
-/// to the slot's confirmed position, to where the stream starts and to the replies that are wanted what they do to a
+/// to the slot's confirmed position, to where the stream starts and to the requested replies what they do to a
 /// session of the world (`hear_up`), with no fault. A status reports no more than what was sent and what the log has.
 ///
 /// PostgreSQL 15, 55.4. Streaming Replication Protocol.

@@ -5,12 +5,10 @@ ghost use Rattle.shard_world.specs.ViewContents.{AllAt, AreSeen, FoundBy, FoundI
 
 use crate::peer::Peer;
 use filter_tree::Row;
+use pgoutput_msgs::oid_of;
 use std::alloc::{AllocError, Global};
-use tables_log::Book;
+use tables_log::{Book, Lsn};
 use test_subscriber::Subscriber;
-
-/// The OID of the first table on the wire; table j has this plus j.
-const FIRST_OID: u32 = 16_384;
 
 /// What is in a subscriber: its position in the log, in bytes, how many commits that counts, the position up to which
 /// its slot is confirmed, in bytes, and for each table of the catalog its rows, in their order.
@@ -57,7 +55,7 @@ fn rows_of_copies(
 {
     let mut rows = Vec::with_capacity(alloc, tables)?;
     for table in 0..tables {
-        rows.push(subscriber.rows(FIRST_OID + table as u32)?)?;
+        rows.push(subscriber.rows(oid_of(table))?)?;
     }
     Ok(rows)
 }
@@ -76,7 +74,7 @@ fn seen_of(
     let position = subscriber.position();
     Ok(SubscriberView {
         position,
-        applied: position.saturating_sub(1) / 64,
+        applied: Lsn::new(position).commits_before(),
         confirmed: book.confirmed(number),
         rows: rows_of_copies(alloc, subscriber, tables)?,
     })

@@ -192,10 +192,10 @@ module _ (checked : CheckedOf) (transactions : List Transaction) (subscriber beg
     (new_fits : (row : List Datum) → new ≡ Some row → fits (setting_in checked) number row ≡ true) where
   done : (away coming : Option (List Datum)) → passing ((setting_in checked).passes subscriber number) old ≡ away
       → passing ((setting_in checked).passes subscriber number) new ≡ coming
-      → (told : List Bool) (machine : Machine) → Inside checked subscriber begin outer told before machine
+      → (sent : List Bool) (machine : Machine) → Inside checked subscriber begin outer sent before machine
       → IsDone (own_key checked number) (machine.work (oid_of number)) away coming
       (in_shard (setting_in checked) subscriber after number)
-  done away coming e f told machine inside =
+  done away coming e f sent machine inside =
       subst (λ o. IsDone (own_key checked number) (machine.work (oid_of number)) o coming
       (in_shard (setting_in checked) subscriber after number)) e
       (subst (λ o. IsDone (own_key checked number) (machine.work (oid_of number))
@@ -207,108 +207,108 @@ module _ (checked : CheckedOf) (transactions : List Transaction) (subscriber beg
   one_table = All-cons (λ n. n < length checked.catalog.tables) number []
       (slice_get_within checked.catalog.tables number table there) (All-nil (λ n. n < length checked.catalog.tables))
 
-  flag_there : (told : List Bool) → length told ≡ length checked.catalog.tables → number < length told
-  flag_there told long = subst (λ c. number < c) (sym long) (slice_get_within checked.catalog.tables number table there)
+  flag_there : (sent : List Bool) → length sent ≡ length checked.catalog.tables → number < length sent
+  flag_there sent long = subst (λ c. number < c) (sym long) (slice_get_within checked.catalog.tables number table there)
 
   -- the message of a change, if its table was announced
-  ends_with : (told : List Bool) (machine : Machine) (message : Msg) (change : Change) (found : Found)
-      → length told ≡ length checked.catalog.tables
-      → Inside checked subscriber begin outer (told_one told number) before machine
+  ends_with : (sent : List Bool) (machine : Machine) (message : Msg) (change : Change) (found : Found)
+      → length sent ≡ length checked.catalog.tables
+      → Inside checked subscriber begin outer (told_one sent number) before machine
       → hear_in machine.phase message machine ≡ change_in (oid_of number) change machine
       → change (shape_for number table) (machine.work (oid_of number)) ≡ Ok found
       → FindsRows (own_key checked number) found (in_shard (setting_in checked) subscriber after number)
       → raised_by_message position message ≡ position
       → Safe (Follows checked transactions subscriber) position (message ∷ []) machine
-      (λ at next. (at ≡ position) × Inside checked subscriber begin outer (told_one told number) after next)
-  ends_with told machine message change found long inside is made finds stays =
-      let flag = told_same told number (flag_there told long) in
+      (λ at next. (at ≡ position) × Inside checked subscriber begin outer (told_one sent number) after next)
+  ends_with sent machine message change found long inside is made finds stays =
+      let flag = told_same sent number (flag_there sent long) in
       safe_heard (Follows checked transactions subscriber)
-      (λ at next. (at ≡ position) × Inside checked subscriber begin outer (told_one told number) after next)
+      (λ at next. (at ≡ position) × Inside checked subscriber begin outer (told_one sent number) after next)
       position message [] machine (record machine { work = with_found machine.work (oid_of number) found })
-      (good checked transactions subscriber begin position outer follows before (told_one told number) machine inside)
+      (good checked transactions subscriber begin position outer follows before (told_one sent number) machine inside)
       (is ∙ change_heard machine (oid_of number) change (shape_for number table) found
       (inside.knows.known number ∙ flag) (inside.knows.kept number table there flag) made) (
         stays,
-        staged_inside checked subscriber begin outer (told_one told number) before after machine number found inside
+        staged_inside checked subscriber begin outer (told_one sent number) before after machine number found inside
             finds
             (λ other differ. (steps (λ t. machine.work (oid_of t)) inside.work).beside other differ),
       )
 
   -- its table's Relation, if it has to be sent, and then its message
-  with_relation : (told : List Bool) (machine : Machine) (message : Msg)
-      → Inside checked subscriber begin outer told before machine
-      → ((next : Machine) → Inside checked subscriber begin outer (told_one told number) before next
+  with_relation : (sent : List Bool) (machine : Machine) (message : Msg)
+      → Inside checked subscriber begin outer sent before machine
+      → ((next : Machine) → Inside checked subscriber begin outer (told_one sent number) before next
       → Safe (Follows checked transactions subscriber) position (message ∷ []) next
-      (λ at last. (at ≡ position) × Inside checked subscriber begin outer (told_one told number) after last))
+      (λ at last. (at ≡ position) × Inside checked subscriber begin outer (told_one sent number) after last))
       → Safe (Follows checked transactions subscriber) position
-      (relations_of checked.catalog.tables told (number ∷ []) ++ message ∷ []) machine
-      (λ at last. (at ≡ position) × Inside checked subscriber begin outer (told_one told number) after last)
+      (relations_of checked.catalog.tables sent (number ∷ []) ++ message ∷ []) machine
+      (λ at last. (at ≡ position) × Inside checked subscriber begin outer (told_one sent number) after last)
   unfolding told_all
-  with_relation told machine message inside on =
+  with_relation sent machine message inside on =
       safe_both (Follows checked transactions subscriber)
-      (λ at last. (at ≡ position) × Inside checked subscriber begin outer (told_one told number) after last)
-      (Inside checked subscriber begin outer (told_one told number) before) position
-      (relations_of checked.catalog.tables told (number ∷ [])) (message ∷ []) machine
-      (relations_safe checked transactions subscriber begin position outer follows before (number ∷ []) told machine
+      (λ at last. (at ≡ position) × Inside checked subscriber begin outer (told_one sent number) after last)
+      (Inside checked subscriber begin outer (told_one sent number) before) position
+      (relations_of checked.catalog.tables sent (number ∷ [])) (message ∷ []) machine
+      (relations_safe checked transactions subscriber begin position outer follows before (number ∷ []) sent machine
       one_table inside) on
 
   by_seen : (away coming : Option (List Datum)) → passing ((setting_in checked).passes subscriber number) old ≡ away
       → passing ((setting_in checked).passes subscriber number) new ≡ coming
-      → (told : List Bool) (machine : Machine) → Inside checked subscriber begin outer told before machine
+      → (sent : List Bool) (machine : Machine) → Inside checked subscriber begin outer sent before machine
       → Safe (Follows checked transactions subscriber) position
-      (said checked.catalog.tables told
+      (said checked.catalog.tables sent
       (option_map (as_recorded (setting_in checked)) (seen_rows number away coming))) machine
       (λ at next. (at ≡ position)
       × Inside checked subscriber begin outer
-      (told_by told (option_map (as_recorded (setting_in checked)) (seen_rows number away coming))) after next)
+      (told_by sent (option_map (as_recorded (setting_in checked)) (seen_rows number away coming))) after next)
   unfolding said told_by told_all
-  by_seen None None e f told machine inside = (
+  by_seen None None e f sent machine inside = (
     refl,
-    stays_inside checked subscriber begin outer told before after machine inside
+    stays_inside checked subscriber begin outer sent before after machine inside
         (λ other. by_test (number == other)
         (λ same. subst (λ n. FindsRows (own_key checked n) (machine.work (oid_of n))
         (in_shard (setting_in checked) subscriber after n)) ((unsigned_Decides number other).0 same)
-        (done None None e f told machine inside))
+        (done None None e f sent machine inside))
         (λ differ. (steps (λ t. machine.work (oid_of t)) inside.work).beside other differ)),
   )
-  by_seen None (Some coming) e f told machine inside =
+  by_seen None (Some coming) e f sent machine inside =
       let is = passing_some ((setting_in checked).passes subscriber number) new coming f in
-      with_relation told machine (m.Insert (oid_of number) (cells_of coming)) inside
+      with_relation sent machine (m.Insert (oid_of number) (cells_of coming)) inside
       (λ next reached.
-      let finished = done None (Some coming) e f (told_one told number) next reached in
-      ends_with told next (m.Insert (oid_of number) (cells_of coming))
+      let finished = done None (Some coming) e f (told_one sent number) next reached in
+      ends_with sent next (m.Insert (oid_of number) (cells_of coming))
       (λ shape found. inserted shape found (cells_of coming))
       (put (next.work (oid_of number)) (own_key checked number coming) (Some coming)) inside.knows.flags reached
       (ap (λ phase. hear_in phase (m.Insert (oid_of number) (cells_of coming)) next) reached.busy)
       (insert_made checked number table there (next.work (oid_of number)) coming (new_fits coming is.0) finished.0)
       finished.1 refl)
-  by_seen (Some away) None e f told machine inside =
+  by_seen (Some away) None e f sent machine inside =
       let was = passing_some ((setting_in checked).passes subscriber number) old away e in
       let recorded = has_part checked covered number away in
       subst (λ part. Safe (Follows checked transactions subscriber) position
-      (said checked.catalog.tables told (Some (r.Delete number part))) machine
+      (said checked.catalog.tables sent (Some (r.Delete number part))) machine
       (λ at next. (at ≡ position)
-      × Inside checked subscriber begin outer (told_by told (Some (r.Delete number part))) after next))
+      × Inside checked subscriber begin outer (told_by sent (Some (r.Delete number part))) after next))
       (sym recorded.is)
-      (with_relation told machine (m.Delete (oid_of number) (old_of recorded.part)) inside
+      (with_relation sent machine (m.Delete (oid_of number) (old_of recorded.part)) inside
       (λ next reached.
-      let finished = done (Some away) None e f (told_one told number) next reached in
-      ends_with told next (m.Delete (oid_of number) (old_of recorded.part))
+      let finished = done (Some away) None e f (told_one sent number) next reached in
+      ends_with sent next (m.Delete (oid_of number) (old_of recorded.part))
       (λ shape found. deleted shape found (old_of recorded.part))
       (put (next.work (oid_of number)) (own_key checked number away) None) inside.knows.flags reached
       (ap (λ phase. hear_in phase (m.Delete (oid_of number) (old_of recorded.part)) next) reached.busy)
       (delete_made checked number table there (next.work (oid_of number)) away (old_of recorded.part)
       (part_read checked number table there covered away (old_fits away was.0) None recorded.part recorded.is))
       finished.1 refl))
-  by_seen (Some away) (Some coming) e f told machine inside =
+  by_seen (Some away) (Some coming) e f sent machine inside =
       let was = passing_some ((setting_in checked).passes subscriber number) old away e in
       let is = passing_some ((setting_in checked).passes subscriber number) new coming f in
-      with_relation told machine
+      with_relation sent machine
       (m.Update (oid_of number) (maybe_old_of (part_of (setting_in checked) number away (Some coming)))
       (cells_of coming)) inside
       (λ next reached.
-      let finished = done (Some away) (Some coming) e f (told_one told number) next reached in
-      ends_with told next (m.Update (oid_of number)
+      let finished = done (Some away) (Some coming) e f (told_one sent number) next reached in
+      ends_with sent next (m.Update (oid_of number)
       (maybe_old_of (part_of (setting_in checked) number away (Some coming))) (cells_of coming))
       (λ shape found. updated shape found (maybe_old_of (part_of (setting_in checked) number away (Some coming)))
       (cells_of coming))
@@ -331,16 +331,16 @@ module _ (checked : CheckedOf) (transactions : List Transaction) (subscriber beg
           ap Ok (key_here checked number table there coming ∙ same_key checked covered number away coming fit also h)
       gone_by (Some part) h fit also = part_read checked number table there covered away fit (Some coming) part h
 
-  pub row_change_safe : (told : List Bool) (machine : Machine)
-      → Inside checked subscriber begin outer told before machine
+  pub row_change_safe : (sent : List Bool) (machine : Machine)
+      → Inside checked subscriber begin outer sent before machine
       → Safe (Follows checked transactions subscriber) position
-      (said checked.catalog.tables told (option_map (as_recorded (setting_in checked))
+      (said checked.catalog.tables sent (option_map (as_recorded (setting_in checked))
       (seen_rows number (passing ((setting_in checked).passes subscriber number) old)
       (passing ((setting_in checked).passes subscriber number) new)))) machine
       (λ at next. (at ≡ position)
-      × Inside checked subscriber begin outer (told_by told (option_map (as_recorded (setting_in checked))
+      × Inside checked subscriber begin outer (told_by sent (option_map (as_recorded (setting_in checked))
       (seen_rows number (passing ((setting_in checked).passes subscriber number) old)
       (passing ((setting_in checked).passes subscriber number) new)))) after next)
-  row_change_safe told machine inside =
+  row_change_safe sent machine inside =
       by_seen (passing ((setting_in checked).passes subscriber number) old)
-      (passing ((setting_in checked).passes subscriber number) new) refl refl told machine inside
+      (passing ((setting_in checked).passes subscriber number) new) refl refl sent machine inside

@@ -63,16 +63,16 @@ module _ (checked : CheckedOf) (transactions : List Transaction) (subscriber beg
     (keeps : KeepsApart (setting_in checked)) where
   -- what is sent of a change leaves the machine safe, and inside the transaction, after the change
   abbrev Tells : Option r.ChangeOf → Tables → List Bool → Machine → Type 0
-  Tells mine after told machine =
-      Safe (Follows checked transactions subscriber) position (said checked.catalog.tables told mine) machine
-      (λ at next. (at ≡ position) × Inside checked subscriber begin outer (told_by told mine) after next)
+  Tells mine after sent machine =
+      Safe (Follows checked transactions subscriber) position (said checked.catalog.tables sent mine) machine
+      (λ at next. (at ≡ position) × Inside checked subscriber begin outer (told_by sent mine) after next)
 
   by_seen : (tables : Tables) (command : Command) → IsRight (setting_in checked) tables
       → fault_of (setting_in checked) tables command ≡ None
-      → (told : List Bool) (machine : Machine) → Inside checked subscriber begin outer told tables machine
+      → (sent : List Bool) (machine : Machine) → Inside checked subscriber begin outer sent tables machine
       → Tells (option_map (as_recorded (setting_in checked)) (seen_of (setting_in checked) subscriber tables command))
-      (applied (setting_in checked) tables command) told machine
-  by_seen tables (Insert number row) right h told machine inside =
+      (applied (setting_in checked) tables command) sent machine
+  by_seen tables (Insert number row) right h sent machine inside =
       let setting = setting_in checked in
       let has = has_primary_keys checked.catalog checked.plan in
       let after = applied setting tables (Insert number row) in
@@ -86,8 +86,8 @@ module _ (checked : CheckedOf) (transactions : List Transaction) (subscriber beg
       after finds next.fit next.apart number None (Some row) changes)
       (old_fits setting tables after number None (Some row) changes right.fit)
       (new_fits setting tables after number None (Some row) changes next.fit)
-      told machine inside
-  by_seen tables (Update number key row) right h told machine inside =
+      sent machine inside
+  by_seen tables (Update number key row) right h sent machine inside =
       let setting = setting_in checked in
       let has = has_primary_keys checked.catalog checked.plan in
       let after = applied setting tables (Update number key row) in
@@ -101,8 +101,8 @@ module _ (checked : CheckedOf) (transactions : List Transaction) (subscriber beg
       after finds next.fit next.apart number (named tables number key) (Some row) changes)
       (old_fits setting tables after number (named tables number key) (Some row) changes right.fit)
       (new_fits setting tables after number (named tables number key) (Some row) changes next.fit)
-      told machine inside
-  by_seen tables (Delete number key) right h told machine inside =
+      sent machine inside
+  by_seen tables (Delete number key) right h sent machine inside =
       let setting = setting_in checked in
       let has = has_primary_keys checked.catalog checked.plan in
       let after = applied setting tables (Delete number key) in
@@ -118,15 +118,15 @@ module _ (checked : CheckedOf) (transactions : List Transaction) (subscriber beg
       after finds next.fit next.apart number (named tables number key) None changes)
       (old_fits setting tables after number (named tables number key) None changes right.fit)
       (new_fits setting tables after number (named tables number key) None changes next.fit)
-      told machine inside
-  by_seen tables (Truncate numbers) right h told machine inside =
+      sent machine inside
+  by_seen tables (Truncate numbers) right h sent machine inside =
       let setting = setting_in checked in
       truncate_safe checked transactions subscriber begin position outer follows tables
       (applied setting tables (Truncate numbers))
       (filter (setting.carries subscriber) (distinct nat_eq numbers)) (carried_known numbers h)
       (λ copies finds. truncate_clears setting (has_primary_keys checked.catalog checked.plan) covered
       (own_key checked) subscriber copies tables right.stands finds numbers h)
-      told machine inside
+      sent machine inside
     where
       carried_known : (all : List ℕ) → fault_of (setting_in checked) tables (Truncate all) ≡ None
           → All (λ number. number < length checked.catalog.tables)
@@ -140,26 +140,26 @@ module _ (checked : CheckedOf) (transactions : List Transaction) (subscriber beg
 
   command_safe : (tables : Tables) (command : Command) → IsRight (setting_in checked) tables
       → fault_of (setting_in checked) tables command ≡ None
-      → (told : List Bool) (machine : Machine) → Inside checked subscriber begin outer told tables machine
+      → (sent : List Bool) (machine : Machine) → Inside checked subscriber begin outer sent tables machine
       → Tells (got (setting_in checked) subscriber (change_of (setting_in checked) tables command))
-      (applied (setting_in checked) tables command) told machine
-  command_safe tables command right h told machine inside =
-      subst (λ mine. Tells mine (applied (setting_in checked) tables command) told machine)
+      (applied (setting_in checked) tables command) sent machine
+  command_safe tables command right h sent machine inside =
+      subst (λ mine. Tells mine (applied (setting_in checked) tables command) sent machine)
       (sym (shows checked covered subscriber tables command h))
-      (by_seen tables command right h told machine inside)
+      (by_seen tables command right h sent machine inside)
 
   pub commands_safe : (commands : List Command) (tables : Tables) (number : ℕ) → IsRight (setting_in checked) tables
       → first_fault (setting_in checked) tables number commands ≡ None
-      → (told : List Bool) (machine : Machine) → Inside checked subscriber begin outer told tables machine
+      → (sent : List Bool) (machine : Machine) → Inside checked subscriber begin outer sent tables machine
       → Safe (Follows checked transactions subscriber) position
-      (said_each checked subscriber told (record_of (setting_in checked) tables commands)) machine
+      (said_each checked subscriber sent (record_of (setting_in checked) tables commands)) machine
       (λ at next. (at ≡ position)
       × Inside checked subscriber begin outer
-      (told_each checked subscriber told (record_of (setting_in checked) tables commands))
+      (told_each checked subscriber sent (record_of (setting_in checked) tables commands))
       (all_applied (setting_in checked) tables commands) next)
   unfolding said_each told_each
-  commands_safe [] tables number right h told machine inside = (refl, inside)
-  commands_safe (command ∷ commands) tables number right h told machine inside =
+  commands_safe [] tables number right h sent machine inside = (refl, inside)
+  commands_safe (command ∷ commands) tables number right h sent machine inside =
       let setting = setting_in checked in
       let none = not_numbered number (fault_of setting tables command)
       (first_fault setting (applied setting tables command) (number + 1) commands) h in
@@ -167,10 +167,10 @@ module _ (checked : CheckedOf) (transactions : List Transaction) (subscriber beg
       let later = record_of setting (applied setting tables command) commands in
       safe_both (Follows checked transactions subscriber)
       (λ at next. (at ≡ position)
-      × Inside checked subscriber begin outer (told_each checked subscriber (told_by told mine) later)
+      × Inside checked subscriber begin outer (told_each checked subscriber (told_by sent mine) later)
       (all_applied setting (applied setting tables command) commands) next)
-      (Inside checked subscriber begin outer (told_by told mine) (applied setting tables command))
-      position (said checked.catalog.tables told mine) (said_each checked subscriber (told_by told mine) later) machine
-      (command_safe tables command right none.0 told machine inside)
+      (Inside checked subscriber begin outer (told_by sent mine) (applied setting tables command))
+      position (said checked.catalog.tables sent mine) (said_each checked subscriber (told_by sent mine) later) machine
+      (command_safe tables command right none.0 sent machine inside)
       (λ next reached. commands_safe commands (applied setting tables command) (number + 1)
-      (right_after checked keeps tables command none.0 right) none.1 (told_by told mine) next reached)
+      (right_after checked keeps tables command none.0 right) none.1 (told_by sent mine) next reached)

@@ -8,9 +8,10 @@ use Rattle.filter_tree.specs.Datum.{Datum}
 use Rattle.table_changes.specs.Keys.{key_at}
 use Rattle.table_changes.specs.Tables.{is_row, found_at, no_rows}
 use Rattle.shard_checker.specs.CheckedView.{CheckedOf, setting_in}
+use Rattle.tables_log.specs.Lsn.{commits_before}
 use Rattle.tables_log.specs.StandsFor.{Transaction, after}
 use Rattle.pgoutput_msgs.specs.Telling.{oid_of}
-use Rattle.copy_both.specs.Streams.{Item, Response, Carries, Alive, frame_in, spelled, Move, count_before}
+use Rattle.copy_both.specs.Streams.{Item, Response, Carries, Alive, frame_in, spelled, Move}
 use Rattle.copy_frames.specs.FrameLaws.{AreFrames}
 use Rattle.copy_frames.specs.Frames.{IsFrame, Cut, Rest, Then, cut, after_frames, frames_of, rest_of}
 use Rattle.copy_frames.specs.declared.frame.Frame.{Frame}
@@ -99,7 +100,7 @@ follows_alike checked transactions number position one other follows at rows kep
   position_is = at ∙ follows.position_is;
   within = follows.within;
   rows = has_rows checked number one.rows other.rows
-      (after (setting_in checked) (take (count_before position) transactions)) (λ oid key. sym (rows oid key))
+      (after (setting_in checked) (take (commits_before position) transactions)) (λ oid key. sym (rows oid key))
       follows.rows;
   relations = λ table known shape there h. follows.relations table known shape there (sym (kept (oid_of table)) ∙ h);
 }
@@ -388,6 +389,6 @@ follows_longer checked transactions more number position machine follows = recor
   position_is = follows.position_is;
   within = omega (arith, follows.within, length-append transactions more);
   rows = subst (λ taken. HasShard checked number machine (after (setting_in checked) taken))
-      (sym (take-append-le (count_before position) transactions more follows.within)) follows.rows;
+      (sym (take-append-le (commits_before position) transactions more follows.within)) follows.rows;
   relations = follows.relations;
 }

@@ -1,5 +1,6 @@
 -- A subscriber follows its stream, item by item.
 use Rattle.std.proofs.Common.{◌≡◌, ℕ, ◌<◌, ◌^◌, false, List, [], ◌∷◌, ◌++◌, length, map, refl, sym, ◌∙◌, ap, subst, arith}
+use Rattle.std.specs.Int.{to_be_bytes, w64}
 use Rattle.std.specs.Prelude.{Option, Some, None, Ok, Err, ◌==◌, if◌then◌else◌, All, max, nat_lt, replicate, slice_get, slice_index_or}
 use Rattle.std.specs.Cmp.{unsigned_Decides}
 use Rattle.std.specs.Result.{IsOkAnd}
@@ -9,15 +10,16 @@ use Rattle.std.proofs.lemmas.List.Elements.{All-head, All-tail}
 use Rattle.filter_tree.specs.Datum.{Datum}
 use Rattle.shard_checker.specs.CheckedView.{CheckedOf}
 use Rattle.tables_log.specs.Commits.{CommitOf}
+use Rattle.tables_log.specs.Lsn.{commits_before}
 use Rattle.tables_log.specs.StandsFor.{Transaction}
 use Rattle.pgoutput_msgs.specs.Sent.{IsSent}
 use Rattle.pgoutput_msgs.specs.Spelling.{spelling_of}
 use Rattle.pgoutput_msgs.specs.Telling.{oid_of, messages_for}
 use Rattle.pgoutput_msgs.specs.declared.message.Msg.{Msg}
 use Rattle.pgoutput_msgs.proofs.SpellingLaws.{are_decoded}
-use Rattle.copy_both.specs.Streams.{Item, Response, Carries, Alive, frame_in, Place, Move, Take, Keep, count_before, place_at, place_after, taken_place, head_of, take_items, keep_item, all_items}
+use Rattle.copy_both.specs.Streams.{Item, Response, Carries, Alive, frame_in, StreamStateOf, Move, Take, Keep, state_at, state_after, taken_state, head_of, take_items, keep_item, all_items, first_sent}
 use Rattle.copy_both.specs.Tellings.{telling_of}
-use Rattle.copy_frames.specs.Contents.{int64, xlog_data_in}
+use Rattle.copy_frames.specs.Contents.{xlog_data_in}
 use Rattle.copy_frames.specs.declared.keepalive.Keepalive.{Keepalive}
 use Rattle.copy_frames.specs.declared.xlog_data.XLogData.{XLogData}
 use Rattle.copy_frames.proofs.ContentLemmas.{data_is_read, keepalive_is_read}
@@ -47,7 +49,8 @@ data_content bytes machine = rw (not_empty 119 bytes) refl
 carried : (head : XLogData) (message : Msg) (machine : Machine) → IsHead head → IsSent message
     → hear_stream (frame_in (Carries head message)) machine ≡ hear message machine
 carried head message machine bounds sent =
-    data_content (int64 head.start ++ (int64 head.end ++ (int64 head.clock ++ spelling_of message))) machine
+    data_content (to_be_bytes w64 head.start
+    ++ (to_be_bytes w64 head.end ++ (to_be_bytes w64 head.clock ++ spelling_of message))) machine
     ∙ ap (λ found. hear_data found machine)
     (data_is_read head (spelling_of message) bounds.start bounds.end bounds.clock)
     ∙ ap (λ result. hear_decoded result machine) (are_decoded message sent.read_back)
@@ -151,66 +154,66 @@ all_last (x ∷ xs) ys h = all_last xs ys (All-tail IsSentItem x (xs ++ ys) h)
 -- ---- moves
 
 module _ (checked : CheckedOf) (transactions : List Transaction) (published : IsPublished checked transactions) where
-  abbrev items_on : Place → List Move → List Item
-  items_on place moves = all_items (telling_of checked) (log_of checked transactions) place moves
+  abbrev items_on : StreamStateOf → List Move → List Item
+  items_on state moves = all_items (telling_of checked) (log_of checked transactions) state moves
 
   -- what comes after a move
   abbrev Later : List Move → Type 0
-  Later moves = (place : Place) (position : ℕ) (machine : Machine)
-      → Between checked transactions place position machine → All IsSentItem (items_on place moves)
-      → SafeItems checked transactions place.slot position (items_on place moves) machine
+  Later moves = (state : StreamStateOf) (position : ℕ) (machine : Machine)
+      → Between checked transactions state position machine → All IsSentItem (items_on state moves)
+      → SafeItems checked transactions state.slot position (items_on state moves) machine
 
   take_safe : (moves : List Move) → Later moves
-      → (place : Place) (clock position : ℕ) (machine : Machine) (found : Option CommitOf)
-      → slice_get (log_of checked transactions) place.done ≡ found
-      → Between checked transactions place position machine
-      → All IsSentItem (take_items (telling_of checked) place found clock
-      ++ items_on (taken_place (telling_of checked) place found) moves)
-      → SafeItems checked transactions place.slot position
-      (take_items (telling_of checked) place found clock
-      ++ items_on (taken_place (telling_of checked) place found) moves) machine
-  take_safe moves later place clock position machine None e between sent = later place position machine between sent
-  take_safe moves later place clock position machine (Some commit) e between sent =
-      by_messages (messages_for checked place.slot place.told commit)
-      (commit_safe checked transactions published place position machine between commit e) sent
+      → (state : StreamStateOf) (clock position : ℕ) (machine : Machine) (found : Option CommitOf)
+      → slice_get (log_of checked transactions) state.done ≡ found
+      → Between checked transactions state position machine
+      → All IsSentItem (take_items (telling_of checked) state found clock
+      ++ items_on (taken_state (telling_of checked) state found) moves)
+      → SafeItems checked transactions state.slot position
+      (take_items (telling_of checked) state found clock
+      ++ items_on (taken_state (telling_of checked) state found) moves) machine
+  take_safe moves later state clock position machine None e between sent = later state position machine between sent
+  take_safe moves later state clock position machine (Some commit) e between sent =
+      by_messages (messages_for checked state.slot state.relation_sent commit)
+      (commit_safe checked transactions published state position machine between commit e) sent
     where
       by_messages : (messages : List Msg)
-          → Safe (Follows checked transactions place.slot) position messages machine
-          (Between checked transactions (place_after (telling_of checked) place commit))
+          → Safe (Follows checked transactions state.slot) position messages machine
+          (Between checked transactions (state_after (telling_of checked) state commit))
           → All IsSentItem (map (Carries (head_of commit.number clock)) messages
-          ++ items_on (place_after (telling_of checked) place commit) moves)
-          → SafeItems checked transactions place.slot position
+          ++ items_on (state_after (telling_of checked) state commit) moves)
+          → SafeItems checked transactions state.slot position
           (map (Carries (head_of commit.number clock)) messages
-          ++ items_on (place_after (telling_of checked) place commit) moves) machine
-      by_messages [] h all = later (place_after (telling_of checked) place commit) position machine h all
+          ++ items_on (state_after (telling_of checked) state commit) moves) machine
+      by_messages [] h all = later (state_after (telling_of checked) state commit) position machine h all
       by_messages (message ∷ messages) h all =
-          let rest = items_on (place_after (telling_of checked) place commit) moves in
+          let rest = items_on (state_after (telling_of checked) state commit) moves in
           let first = All-head IsSentItem (Carries (head_of commit.number clock) message)
           (map (Carries (head_of commit.number clock)) messages ++ rest) all in
-          carried_safe checked transactions place.slot (head_of commit.number clock) first.0 (message ∷ messages) rest
+          carried_safe checked transactions state.slot (head_of commit.number clock) first.0 (message ∷ messages) rest
           position machine all
-          (safe_on (Follows checked transactions place.slot)
-          (Between checked transactions (place_after (telling_of checked) place commit))
-          (λ at last. SafeItems checked transactions place.slot at rest last) position (message ∷ messages) machine h
-          (λ at last reached. later (place_after (telling_of checked) place commit) at last reached
+          (safe_on (Follows checked transactions state.slot)
+          (Between checked transactions (state_after (telling_of checked) state commit))
+          (λ at last. SafeItems checked transactions state.slot at rest last) position (message ∷ messages) machine h
+          (λ at last reached. later (state_after (telling_of checked) state commit) at last reached
           (all_last (map (Carries (head_of commit.number clock)) (message ∷ messages)) rest all)))
 
   walk_safe : (moves : List Move) → Later moves
-  walk_safe [] place position machine between sent = between_follows checked transactions place position machine between
-  walk_safe (Take clock ∷ moves) place position machine between sent =
-      take_safe moves (λ at p m b s. walk_safe moves at p m b s) place clock position machine
-      (slice_get (log_of checked transactions) place.done) refl between sent
-  walk_safe (Keep clock want ∷ moves) place position machine between sent =
-      let keepalive : Keepalive = record { position = place.sent; clock = clock; wants_reply = want } in
-      let bounds = All-head IsSentItem (keep_item place clock want) (items_on place moves) sent in
-      let others = All-tail IsSentItem (keep_item place clock want) (items_on place moves) sent in (
-        between_follows checked transactions place position machine between,
-        ok_as (Ok (kept_alive keepalive machine)) (hear_frame (frame_in (keep_item place clock want)) machine)
-            (SafeItems checked transactions place.slot (max position place.sent) (items_on place moves))
+  walk_safe [] state position machine between sent = between_follows checked transactions state position machine between
+  walk_safe (Take clock ∷ moves) state position machine between sent =
+      take_safe moves (λ at p m b s. walk_safe moves at p m b s) state clock position machine
+      (slice_get (log_of checked transactions) state.done) refl between sent
+  walk_safe (Keep clock want ∷ moves) state position machine between sent =
+      let keepalive : Keepalive = record { position = state.sent; clock = clock; wants_reply = want } in
+      let bounds = All-head IsSentItem (keep_item state clock want) (items_on state moves) sent in
+      let others = All-tail IsSentItem (keep_item state clock want) (items_on state moves) sent in (
+        between_follows checked transactions state position machine between,
+        ok_as (Ok (kept_alive keepalive machine)) (hear_frame (frame_in (keep_item state clock want)) machine)
+            (SafeItems checked transactions state.slot (max position state.sent) (items_on state moves))
             (sym (kept_up keepalive machine between.idle bounds))
-            (walk_safe moves place (max position place.sent) (kept_alive keepalive machine)
-            (keepalive_between checked transactions published place position machine (kept_alive keepalive machine)
-            between refl (ap (λ phase. raised phase place.sent machine.position) between.idle) refl refl refl refl)
+            (walk_safe moves state (max position state.sent) (kept_alive keepalive machine)
+            (keepalive_between checked transactions published state position machine (kept_alive keepalive machine)
+            between refl (ap (λ phase. raised phase state.sent machine.position) between.idle) refl refl refl refl)
             others),
       )
 
@@ -222,13 +225,13 @@ told_nothing count number = by_test (nat_lt number count)
     (λ past. get_or_past (replicate count false) number false
     (omega (arith, ltb-false number count past, length-replicate count false)))
 
-pub first_sent : (position : ℕ) → count_before (if position == 0 then 64 else position) ≡ count_before position
-first_sent position = by_test (position == 0)
-    (λ zero. ap (λ b. count_before (if b then 64 else position)) zero
+pub first_sent_counts : (position : ℕ) → commits_before (first_sent position) ≡ commits_before position
+first_sent_counts position = by_test (position == 0)
+    (λ zero. ap (λ b. commits_before (if b then 64 else position)) zero
     ∙ sym (only_zero ((unsigned_Decides position 0).0 zero)))
-    (λ more. ap (λ b. count_before (if b then 64 else position)) more)
+    (λ more. ap (λ b. commits_before (if b then 64 else position)) more)
   where
-    only_zero : position ≡ 0 → count_before position ≡ count_before 64
+    only_zero : position ≡ 0 → commits_before position ≡ commits_before 64
     only_zero e = omega (arith, e)
 
 -- a connection was opened: it waits for the stream's start, no Relation came, and nothing is staged
@@ -245,20 +248,20 @@ pub stream_safe : (checked : CheckedOf) (transactions : List Transaction) → Is
     → SafeItems checked transactions subscriber position (items_from checked transactions subscriber position moves)
     machine
 stream_safe checked transactions published subscriber machine at_start position follows moves sent =
-    let place : Place = place_at subscriber (length checked.catalog.tables) position in
-    let items : List Item = all_items (telling_of checked) (log_of checked transactions) place moves in (
+    let state : StreamStateOf = state_at subscriber (length checked.catalog.tables) position in
+    let items : List Item = all_items (telling_of checked) (log_of checked transactions) state moves in (
       follows,
       ok_as (Ok (started machine)) (hear_frame (frame_in Response) machine)
           (SafeItems checked transactions subscriber position items)
           (sym (ap (λ phase. hear_frame_in phase (frame_in Response) machine) at_start.waits))
-          (walk_safe checked transactions published moves place position (started machine)
+          (walk_safe checked transactions published moves state position (started machine)
           (record {
             idle = refl;
             position_is = follows.position_is;
             work_is = at_start.work_is;
             done = follows.within;
             counted = omega arith;
-            sent = first_sent position;
+            sent = first_sent_counts position;
             at_done = follows.rows;
             at_position = follows.rows;
             knows = record {

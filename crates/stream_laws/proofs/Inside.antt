@@ -8,10 +8,10 @@ use Rattle.std.proofs.lemmas.List.Elements.{All-head, All-tail}
 use Rattle.filter_tree.specs.declared.table.Table.{Table}
 use Rattle.table_changes.specs.Tables.{Tables}
 use Rattle.shard_checker.specs.CheckedView.{CheckedOf, setting_in}
+use Rattle.tables_log.specs.Lsn.{commits_before}
 use Rattle.tables_log.specs.StandsFor.{Transaction, after}
 use Rattle.pgoutput_msgs.specs.Telling.{oid_of, relation_of, relation_at, introduced, relation_once, relations_of, told_one, told_all}
 use Rattle.pgoutput_msgs.specs.declared.message.Msg.TheVariants as m
-use Rattle.copy_both.specs.Streams.{count_before}
 use Rattle.test_subscriber.specs.Hearing.{with_found, hear_in}
 use Rattle.test_subscriber.specs.Machine.{Rows, Machine}
 use Rattle.test_subscriber.specs.declared.phase.Phase.TheVariants.{Busy}
@@ -26,104 +26,104 @@ use Rattle.stream_laws.proofs.EntryLemmas.{past_end}
 use Rattle.filter_tree.proofs.Tests.{by_test}
 
 -- the number of a table that was announced stays announced
-pub record Inside (checked : CheckedOf) (subscriber begin : ℕ) (outer : Machine) (told : List Bool) (tables : Tables)
+pub record Inside (checked : CheckedOf) (subscriber begin : ℕ) (outer : Machine) (sent : List Bool) (tables : Tables)
     (machine : Machine) : Type 0 where
   pub busy : machine.phase ≡ Busy begin
   pub position : machine.position ≡ outer.position
   pub rows : machine.rows ≡ outer.rows
-  pub knows : Knows checked told machine
+  pub knows : Knows checked sent machine
   pub relations : KeepsRelations checked machine
   pub work : FindsShard (setting_in checked) (own_key checked) subscriber (λ table. machine.work (oid_of table)) tables
 
 pub inside_follows : (checked : CheckedOf) (transactions : List Transaction) (subscriber begin position : ℕ)
-    (outer : Machine) (told : List Bool) (tables : Tables) (machine : Machine)
+    (outer : Machine) (sent : List Bool) (tables : Tables) (machine : Machine)
     → Follows checked transactions subscriber position outer
-    → Inside checked subscriber begin outer told tables machine
+    → Inside checked subscriber begin outer sent tables machine
     → Follows checked transactions subscriber position machine
-inside_follows checked transactions subscriber begin position outer told tables machine follows inside = record {
+inside_follows checked transactions subscriber begin position outer sent tables machine follows inside = record {
   position_is = inside.position ∙ follows.position_is;
   within = follows.within;
   rows = λ table. let P : Rows → Type 0 =
       λ rows. FindsRows (own_key checked table) (rows (oid_of table))
       (in_shard (setting_in checked) subscriber
-      (after (setting_in checked) (take (count_before position) transactions)) table) in
+      (after (setting_in checked) (take (commits_before position) transactions)) table) in
       subst P (sym inside.rows) (follows.rows table);
   relations = inside.relations;
 }
 
 -- each is the number of a table, and each was announced
 abbrev pub AllTold : List Bool → List ℕ → Type 0
-AllTold told [] = Unit {0}
-AllTold told (number ∷ numbers) = (slice_index_or told number false ≡ true) × AllTold told numbers
+AllTold sent [] = Unit {0}
+AllTold sent (number ∷ numbers) = (slice_index_or sent number false ≡ true) × AllTold sent numbers
 
 -- a table that was announced stays announced
-stays_told_one : (told : List Bool) (number other : ℕ) → number < length told → slice_index_or told other false ≡ true
-    → slice_index_or (told_one told number) other false ≡ true
-stays_told_one told number other less h = by_test (other == number)
-    (λ here. ap (λ n. slice_index_or (told_one told number) n false) (eqb-true other number here)
-    ∙ told_same told number less)
-    (λ beside. told_other told number other beside ∙ h)
+stays_told_one : (sent : List Bool) (number other : ℕ) → number < length sent → slice_index_or sent other false ≡ true
+    → slice_index_or (told_one sent number) other false ≡ true
+stays_told_one sent number other less h = by_test (other == number)
+    (λ here. ap (λ n. slice_index_or (told_one sent number) n false) (eqb-true other number here)
+    ∙ told_same sent number less)
+    (λ beside. told_other sent number other beside ∙ h)
 
-still_told_one : (told : List Bool) (number other : ℕ) → slice_index_or told number false ≡ true
-    → slice_index_or (told_one told number) other false ≡ slice_index_or told other false
-still_told_one told number other h = by_test (other == number)
+still_told_one : (sent : List Bool) (number other : ℕ) → slice_index_or sent number false ≡ true
+    → slice_index_or (told_one sent number) other false ≡ slice_index_or sent other false
+still_told_one sent number other h = by_test (other == number)
     (λ here.
     let same : other ≡ number = eqb-true other number here in
-    ap (λ n. slice_index_or (told_one told number) n false) same ∙ told_same told number (within told number h)
-    ∙ sym h ∙ ap (λ n. slice_index_or told n false) (sym same))
-    (λ beside. told_other told number other beside)
+    ap (λ n. slice_index_or (told_one sent number) n false) same ∙ told_same sent number (within sent number h)
+    ∙ sym h ∙ ap (λ n. slice_index_or sent n false) (sym same))
+    (λ beside. told_other sent number other beside)
   where
     within : (flags : List Bool) (n : ℕ) → slice_index_or flags n false ≡ true → n < length flags
     within [] n e = absurd cc
     within (flag ∷ flags) zero e = omega arith
     within (flag ∷ flags) (suc n) e = let less : n < length flags = within flags n e in omega (arith, less)
 
-pub told_stays : (told : List Bool) (numbers : List ℕ) (count other : ℕ) → length told ≡ count
+pub told_stays : (sent : List Bool) (numbers : List ℕ) (count other : ℕ) → length sent ≡ count
     → All (λ number. number < count) numbers
-    → slice_index_or told other false ≡ true → slice_index_or (told_all told numbers) other false ≡ true
+    → slice_index_or sent other false ≡ true → slice_index_or (told_all sent numbers) other false ≡ true
 unfolding told_all
-told_stays told [] count other long within h = h
-told_stays told (number ∷ numbers) count other long within h =
-    told_stays (told_one told number) numbers count other (length-set told number true ∙ long)
+told_stays sent [] count other long within h = h
+told_stays sent (number ∷ numbers) count other long within h =
+    told_stays (told_one sent number) numbers count other (length-set sent number true ∙ long)
     (All-tail (λ n. n < count) number numbers within)
-    (stays_told_one told number other
+    (stays_told_one sent number other
     (subst (λ c. number < c) (sym long) (All-head (λ n. n < count) number numbers within)) h)
 
-pub all_are_told : (told : List Bool) (numbers : List ℕ) (count : ℕ) → length told ≡ count
-    → All (λ number. number < count) numbers → AllTold (told_all told numbers) numbers
+pub all_are_told : (sent : List Bool) (numbers : List ℕ) (count : ℕ) → length sent ≡ count
+    → All (λ number. number < count) numbers → AllTold (told_all sent numbers) numbers
 unfolding told_all
-all_are_told told [] count long within = tt
-all_are_told told (number ∷ numbers) count long within =
-    let less : number < length told =
+all_are_told sent [] count long within = tt
+all_are_told sent (number ∷ numbers) count long within =
+    let less : number < length sent =
     subst (λ c. number < c) (sym long) (All-head (λ n. n < count) number numbers within) in
     let others = All-tail (λ n. n < count) number numbers within in (
-      told_stays (told_one told number) numbers count number (length-set told number true ∙ long) others
-          (told_same told number less),
-      all_are_told (told_one told number) numbers count (length-set told number true ∙ long) others,
+      told_stays (told_one sent number) numbers count number (length-set sent number true ∙ long) others
+          (told_same sent number less),
+      all_are_told (told_one sent number) numbers count (length-set sent number true ∙ long) others,
     )
 
 -- ---- within one transaction
 
 module _ (checked : CheckedOf) (transactions : List Transaction) (subscriber begin position : ℕ) (outer : Machine)
     (follows : Follows checked transactions subscriber position outer) (tables : Tables) where
-  pub good : (told : List Bool) (machine : Machine) → Inside checked subscriber begin outer told tables machine
+  pub good : (sent : List Bool) (machine : Machine) → Inside checked subscriber begin outer sent tables machine
       → Follows checked transactions subscriber position machine
-  good told machine inside =
-      inside_follows checked transactions subscriber begin position outer told tables machine follows inside
+  good sent machine inside =
+      inside_follows checked transactions subscriber begin position outer sent tables machine follows inside
 
   -- the Relation of a table that wasn't announced
-  new_relation : (told : List Bool) (number : ℕ) (found : Option Table) (machine : Machine)
-      → slice_get checked.catalog.tables number ≡ found → number < length told
-      → Inside checked subscriber begin outer told tables machine
+  new_relation : (sent : List Bool) (number : ℕ) (found : Option Table) (machine : Machine)
+      → slice_get checked.catalog.tables number ≡ found → number < length sent
+      → Inside checked subscriber begin outer sent tables machine
       → Safe (Follows checked transactions subscriber) position (relation_at number found) machine
-      (λ at next. (at ≡ position) × Inside checked subscriber begin outer (told_one told number) tables next)
-  new_relation told number None machine e less inside =
+      (λ at next. (at ≡ position) × Inside checked subscriber begin outer (told_one sent number) tables next)
+  new_relation sent number None machine e less inside =
       absurd (let past = past_end checked.catalog.tables number e in omega (arith, past, less, inside.knows.flags))
-  new_relation told number (Some table) machine e less inside =
-      let learnt = learns checked told machine number table e less inside.knows inside.relations in
+  new_relation sent number (Some table) machine e less inside =
+      let learnt = learns checked sent machine number table e less inside.knows inside.relations in
       safe_heard (Follows checked transactions subscriber)
-      (λ at next. (at ≡ position) × Inside checked subscriber begin outer (told_one told number) tables next)
-      position (m.Relation (relation_of number table)) [] machine learnt.next (good told machine inside)
+      (λ at next. (at ≡ position) × Inside checked subscriber begin outer (told_one sent number) tables next)
+      position (m.Relation (relation_of number table)) [] machine learnt.next (good sent machine inside)
       (ap (λ phase. hear_in phase (m.Relation (relation_of number table)) machine) inside.busy ∙ learnt.heard) (
         refl,
         record {
@@ -140,67 +140,67 @@ module _ (checked : CheckedOf) (transactions : List Transaction) (subscriber beg
       )
 
   -- a table that was announced before
-  no_relation : (told : List Bool) (number : ℕ) (machine : Machine) → slice_index_or told number false ≡ true
-      → Inside checked subscriber begin outer told tables machine
-      → Inside checked subscriber begin outer (told_one told number) tables machine
-  no_relation told number machine flag inside = record {
+  no_relation : (sent : List Bool) (number : ℕ) (machine : Machine) → slice_index_or sent number false ≡ true
+      → Inside checked subscriber begin outer sent tables machine
+      → Inside checked subscriber begin outer (told_one sent number) tables machine
+  no_relation sent number machine flag inside = record {
     busy = inside.busy;
     position = inside.position;
     rows = inside.rows;
     knows = record {
-      flags = length-set told number true ∙ inside.knows.flags;
-      known = λ other. inside.knows.known other ∙ sym (still_told_one told number other flag);
+      flags = length-set sent number true ∙ inside.knows.flags;
+      known = λ other. inside.knows.known other ∙ sym (still_told_one sent number other flag);
       kept = λ other table there told_too. inside.knows.kept other table there
-          (sym (still_told_one told number other flag) ∙ told_too);
+          (sym (still_told_one sent number other flag) ∙ told_too);
     };
     relations = inside.relations;
     work = inside.work;
   }
 
-  one_relation : (told : List Bool) (number : ℕ) (machine : Machine) (flag : Bool)
-      → slice_index_or told number false ≡ flag → number < length told
-      → Inside checked subscriber begin outer told tables machine
+  one_relation : (sent : List Bool) (number : ℕ) (machine : Machine) (flag : Bool)
+      → slice_index_or sent number false ≡ flag → number < length sent
+      → Inside checked subscriber begin outer sent tables machine
       → Safe (Follows checked transactions subscriber) position (introduced checked.catalog.tables flag number) machine
-      (λ at next. (at ≡ position) × Inside checked subscriber begin outer (told_one told number) tables next)
-  one_relation told number machine true e less inside = (refl, no_relation told number machine e inside)
-  one_relation told number machine false e less inside =
-      new_relation told number (slice_get checked.catalog.tables number) machine refl less inside
+      (λ at next. (at ≡ position) × Inside checked subscriber begin outer (told_one sent number) tables next)
+  one_relation sent number machine true e less inside = (refl, no_relation sent number machine e inside)
+  one_relation sent number machine false e less inside =
+      new_relation sent number (slice_get checked.catalog.tables number) machine refl less inside
 
-  pub relations_safe : (numbers : List ℕ) (told : List Bool) (machine : Machine)
+  pub relations_safe : (numbers : List ℕ) (sent : List Bool) (machine : Machine)
       → All (λ number. number < length checked.catalog.tables) numbers
-      → Inside checked subscriber begin outer told tables machine
-      → Safe (Follows checked transactions subscriber) position (relations_of checked.catalog.tables told numbers)
+      → Inside checked subscriber begin outer sent tables machine
+      → Safe (Follows checked transactions subscriber) position (relations_of checked.catalog.tables sent numbers)
       machine
-      (λ at next. (at ≡ position) × Inside checked subscriber begin outer (told_all told numbers) tables next)
+      (λ at next. (at ≡ position) × Inside checked subscriber begin outer (told_all sent numbers) tables next)
   unfolding relations_of relation_once told_all
-  relations_safe [] told machine within inside = (refl, inside)
-  relations_safe (number ∷ numbers) told machine within inside =
-      let less : number < length told =
+  relations_safe [] sent machine within inside = (refl, inside)
+  relations_safe (number ∷ numbers) sent machine within inside =
+      let less : number < length sent =
       subst (λ c. number < c) (sym inside.knows.flags)
       (All-head (λ n. n < length checked.catalog.tables) number numbers within) in
       safe_both (Follows checked transactions subscriber)
       (λ at next. (at ≡ position)
-      × Inside checked subscriber begin outer (told_all (told_one told number) numbers) tables next)
-      (Inside checked subscriber begin outer (told_one told number) tables)
-      position (introduced checked.catalog.tables (slice_index_or told number false) number)
-      (relations_of checked.catalog.tables (told_one told number) numbers) machine
-      (one_relation told number machine (slice_index_or told number false) refl less inside)
-      (λ next reached. relations_safe numbers (told_one told number) next
+      × Inside checked subscriber begin outer (told_all (told_one sent number) numbers) tables next)
+      (Inside checked subscriber begin outer (told_one sent number) tables)
+      position (introduced checked.catalog.tables (slice_index_or sent number false) number)
+      (relations_of checked.catalog.tables (told_one sent number) numbers) machine
+      (one_relation sent number machine (slice_index_or sent number false) refl less inside)
+      (λ next reached. relations_safe numbers (told_one sent number) next
       (All-tail (λ n. n < length checked.catalog.tables) number numbers within) reached)
 
 -- ---- what is staged
 
 -- another copy of one table, if the shard changes in that table alone
-pub staged_inside : (checked : CheckedOf) (subscriber begin : ℕ) (outer : Machine) (told : List Bool)
+pub staged_inside : (checked : CheckedOf) (subscriber begin : ℕ) (outer : Machine) (sent : List Bool)
     (before after : Tables) (machine : Machine) (number : ℕ) (found : Found)
-    → Inside checked subscriber begin outer told before machine
+    → Inside checked subscriber begin outer sent before machine
     → FindsRows (own_key checked number) found (in_shard (setting_in checked) subscriber after number)
     → ((other : ℕ) → (number == other) ≡ false
     → FindsRows (own_key checked other) (machine.work (oid_of other))
     (in_shard (setting_in checked) subscriber after other))
-    → Inside checked subscriber begin outer told after
+    → Inside checked subscriber begin outer sent after
     (record machine { work = with_found machine.work (oid_of number) found })
-staged_inside checked subscriber begin outer told before after machine number found inside here beside = record {
+staged_inside checked subscriber begin outer sent before after machine number found inside here beside = record {
   busy = inside.busy;
   position = inside.position;
   rows = inside.rows;
@@ -231,12 +231,12 @@ staged_inside checked subscriber begin outer told before after machine number fo
         (λ differ. differ)
 
 -- nothing is staged if the shard stays as it is
-pub stays_inside : (checked : CheckedOf) (subscriber begin : ℕ) (outer : Machine) (told : List Bool)
+pub stays_inside : (checked : CheckedOf) (subscriber begin : ℕ) (outer : Machine) (sent : List Bool)
     (before after : Tables) (machine : Machine)
-    → Inside checked subscriber begin outer told before machine
+    → Inside checked subscriber begin outer sent before machine
     → FindsShard (setting_in checked) (own_key checked) subscriber (λ table. machine.work (oid_of table)) after
-    → Inside checked subscriber begin outer told after machine
-stays_inside checked subscriber begin outer told before after machine inside finds = record {
+    → Inside checked subscriber begin outer sent after machine
+stays_inside checked subscriber begin outer sent before after machine inside finds = record {
   busy = inside.busy;
   position = inside.position;
   rows = inside.rows;

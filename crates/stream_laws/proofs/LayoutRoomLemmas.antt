@@ -227,27 +227,27 @@ module _ (checked : CheckedOf) (limited : IsLimited checked.catalog) where
       (relation_text number table (narrow number table e).named)
       (All-nil HasTexts)
 
-  once_text : (told : Bool) (number : ℕ) → All HasTexts (introduced checked.catalog.tables told number)
+  once_text : (sent : Bool) (number : ℕ) → All HasTexts (introduced checked.catalog.tables sent number)
   once_text true number = All-nil HasTexts
   once_text false number = found_text number (slice_get checked.catalog.tables number) refl
 
-  relations_text : (told : List Bool) (numbers : List ℕ)
-      → All HasTexts (relations_of checked.catalog.tables told numbers)
+  relations_text : (sent : List Bool) (numbers : List ℕ)
+      → All HasTexts (relations_of checked.catalog.tables sent numbers)
   unfolding relations_of relation_once
-  relations_text told [] = All-nil HasTexts
-  relations_text told (number ∷ numbers) =
-      All-append HasTexts (introduced checked.catalog.tables (slice_index_or told number false) number)
-      (relations_of checked.catalog.tables (told_one told number) numbers)
-      (once_text (slice_index_or told number false) number) (relations_text (told_one told number) numbers)
+  relations_text sent [] = All-nil HasTexts
+  relations_text sent (number ∷ numbers) =
+      All-append HasTexts (introduced checked.catalog.tables (slice_index_or sent number false) number)
+      (relations_of checked.catalog.tables (told_one sent number) numbers)
+      (once_text (slice_index_or sent number false) number) (relations_text (told_one sent number) numbers)
 
   -- what is sent of a change, if its own message is a text
-  change_text : (told : List Bool) (change : Option r.ChangeOf) → IfSome change (λ one. All HasTexts (message_of one))
-      → All HasTexts (said checked.catalog.tables told change)
+  change_text : (sent : List Bool) (change : Option r.ChangeOf) → IfSome change (λ one. All HasTexts (message_of one))
+      → All HasTexts (said checked.catalog.tables sent change)
   unfolding said
-  change_text told None h = All-nil HasTexts
-  change_text told (Some change) h =
-      All-append HasTexts (relations_of checked.catalog.tables told (named_in change)) (message_of change)
-      (relations_text told (named_in change)) h
+  change_text sent None h = All-nil HasTexts
+  change_text sent (Some change) h =
+      All-append HasTexts (relations_of checked.catalog.tables sent (named_in change)) (message_of change)
+      (relations_text sent (named_in change)) h
 
   part_told : (number : ℕ) (part : Option PartOf) → IsSendablePart part → IsTextPart part
       → All HasTexts (message_of (r.Delete number part))
@@ -335,24 +335,24 @@ module _ (checked : CheckedOf) (limited : IsLimited checked.catalog) where
 
     all_told : (commands : List Command) (tables : Tables) (number : ℕ)
         → first_fault (setting_in checked) tables number commands ≡ None → IsSaid (setting_in checked) tables
-        → (told : List Bool) → All HasTexts
-        (said_each checked subscriber told (record_of (setting_in checked) tables commands))
+        → (sent : List Bool) → All HasTexts
+        (said_each checked subscriber sent (record_of (setting_in checked) tables commands))
     unfolding said_each
-    all_told [] tables number h so told = All-nil HasTexts
-    all_told (command ∷ commands) tables number h so told =
+    all_told [] tables number h so sent = All-nil HasTexts
+    all_told (command ∷ commands) tables number h so sent =
         let setting = setting_in checked in
         let none = not_numbered number (fault_of setting tables command)
         (first_fault setting (applied setting tables command) (number + 1) commands) h in
         let mine = got setting subscriber (change_of setting tables command) in
-        All-append HasTexts (said checked.catalog.tables told mine)
-        (said_each checked subscriber (told_by told mine)
+        All-append HasTexts (said checked.catalog.tables sent mine)
+        (said_each checked subscriber (told_by sent mine)
         (record_of setting (applied setting tables command) commands))
-        (change_text told mine
+        (change_text sent mine
         (subst (λ one. IfSome one (λ change. All HasTexts (message_of change)))
         (sym (shows checked covered subscriber tables command none.0))
         (seen_told tables command none.0 so)))
         (all_told commands (applied setting tables command) (number + 1) none.1 (said_after tables command none.0 so)
-        (told_by told mine))
+        (told_by sent mine))
 
     enclosed_text : (commit : CommitOf) (messages : List Msg) → All HasTexts messages
         → All HasTexts (enclosed commit messages)
@@ -364,11 +364,11 @@ module _ (checked : CheckedOf) (limited : IsLimited checked.catalog) where
 
     commit_sent : (number time : ℕ) (commands : List Command) (tables : Tables) → 1 ≤ number → number ≤ 1000000000
         → time < 2 ^ 64 → first_fault (setting_in checked) tables 1 commands ≡ None
-        → IsSaid (setting_in checked) tables → (told : List Bool)
-        → All IsSent (messages_for checked subscriber told
+        → IsSaid (setting_in checked) tables → (sent : List Bool)
+        → All IsSent (messages_for checked subscriber sent
         (commit_of number time (record_of (setting_in checked) tables commands)))
-    commit_sent number time commands tables first last timed h so told =
-        messages_sent checked subscriber told (commit_of number time (record_of (setting_in checked) tables commands)) _
+    commit_sent number time commands tables first last timed h so sent =
+        messages_sent checked subscriber sent (commit_of number time (record_of (setting_in checked) tables commands)) _
         (record {
           numbered = first;
           numbered_within = last;
@@ -377,8 +377,8 @@ module _ (checked : CheckedOf) (limited : IsLimited checked.catalog) where
               changes_sendable commands tables 1 h so;
         }) limited refl
         (enclosed_text (commit_of number time (record_of (setting_in checked) tables commands))
-        (said_each checked subscriber told (record_of (setting_in checked) tables commands))
-        (all_told commands tables 1 h so told))
+        (said_each checked subscriber sent (record_of (setting_in checked) tables commands))
+        (all_told commands tables 1 h so sent))
 
   -- ---- the tables before each commit
 
@@ -405,16 +405,16 @@ module _ (checked : CheckedOf) (limited : IsLimited checked.catalog) where
 pub logs_fit_layouts : LogsFitLayouts
 logs_fit_layouts checked covered limited transactions accepted timed few = record {
   few = few;
-  said = λ subscriber told place commit at.
+  said = λ subscriber sent place commit at.
       let entry = entry_at (setting_in checked) no_rows 1 transactions place commit accepted at in
       let begins = begins_well (setting_in checked) in
       let first : IsSaid (setting_in checked) no_rows = record { stands = begins.keyed; fit = begins.fit } in
       let own = time_of transactions entry.transaction place entry.there timed in
-      subst (λ one. All IsSent (messages_for checked subscriber told one)) (sym entry.is)
+      subst (λ one. All IsSent (messages_for checked subscriber sent one)) (sym entry.is)
       (commit_sent checked limited covered subscriber (1 + place) entry.transaction.time entry.transaction.commands
       (fold (left_by (setting_in checked)) no_rows (take place transactions)) (omega arith)
       (omega (arith, entry.within, few)) own entry.accepted.no_fault
-      (said_at checked limited transactions no_rows place accepted first) told);
+      (said_at checked limited transactions no_rows place accepted first) sent);
 }
   where
     time_of : (all : List Transaction) (transaction : Transaction) (place : ℕ)

@@ -88,11 +88,11 @@ has_shape number table =
 -- ---- which tables were announced to it
 
 -- those that the stream's flags mark, and of them it keeps what their Relations say
-pub record Knows (checked : CheckedOf) (told : List Bool) (machine : Machine) : Type 0 where
-  pub flags : length told ≡ length checked.catalog.tables
-  pub known : (number : ℕ) → machine.known (oid_of number) ≡ slice_index_or told number false
+pub record Knows (checked : CheckedOf) (sent : List Bool) (machine : Machine) : Type 0 where
+  pub flags : length sent ≡ length checked.catalog.tables
+  pub known : (number : ℕ) → machine.known (oid_of number) ≡ slice_index_or sent number false
   pub kept : (number : ℕ) (table : Table) → slice_get checked.catalog.tables number ≡ Some table
-      → slice_index_or told number false ≡ true
+      → slice_index_or sent number false ≡ true
       → machine.kept (oid_of number) ≡ Some (shape_for number table)
 
 oid_differs : (one other : ℕ) → (one == other) ≡ false → (oid_of one == oid_of other) ≡ false
@@ -103,60 +103,60 @@ oid_differs one other h = by_test (oid_of one == oid_of other)
     cc))
     (λ differ. differ)
 
-pub told_same : (told : List Bool) (number : ℕ) → number < length told
-    → slice_index_or (told_one told number) number false ≡ true
-told_same told number less = get_or-set_same told number true false less
+pub told_same : (sent : List Bool) (number : ℕ) → number < length sent
+    → slice_index_or (told_one sent number) number false ≡ true
+told_same sent number less = get_or-set_same sent number true false less
 
-pub told_other : (told : List Bool) (number other : ℕ) → (other == number) ≡ false
-    → slice_index_or (told_one told number) other false ≡ slice_index_or told other false
-told_other told number other h = get_or-set_other told number other true false
+pub told_other : (sent : List Bool) (number other : ℕ) → (other == number) ≡ false
+    → slice_index_or (told_one sent number) other false ≡ slice_index_or sent other false
+told_other sent number other h = get_or-set_other sent number other true false
     (λ same. let here : (other == number) ≡ true = (unsigned_Decides other number).1 same in absurd cc)
 
 -- ---- one Relation
 
 -- a machine that heard it
-pub record Learns (checked : CheckedOf) (told : List Bool) (old : Machine) (relation : Relation) : Type 0 where
+pub record Learns (checked : CheckedOf) (sent : List Bool) (old : Machine) (relation : Relation) : Type 0 where
   pub next : Machine
   pub heard : hear_relation relation old ≡ Ok next
   pub phase : next.phase ≡ old.phase
   pub position : next.position ≡ old.position
   pub rows : next.rows ≡ old.rows
   pub work : next.work ≡ old.work
-  pub knows : Knows checked told next
+  pub knows : Knows checked sent next
   pub relations : KeepsRelations checked next
 
-knows_more : (checked : CheckedOf) (told : List Bool) (machine next : Machine) (number : ℕ) → number < length told
-    → Knows checked told machine
+knows_more : (checked : CheckedOf) (sent : List Bool) (machine next : Machine) (number : ℕ) → number < length sent
+    → Knows checked sent machine
     → next.known ≡ knows machine (oid_of number) → (other : ℕ)
-    → next.known (oid_of other) ≡ slice_index_or (told_one told number) other false
-knows_more checked told machine next number less known is other = ap (λ (f : ℕ → Bool). f (oid_of other)) is
+    → next.known (oid_of other) ≡ slice_index_or (told_one sent number) other false
+knows_more checked sent machine next number less known is other = ap (λ (f : ℕ → Bool). f (oid_of other)) is
     ∙ by_test (other == number)
     (λ here.
     let same : other ≡ number = (unsigned_Decides other number).0 here in
     let oids : (oid_of other == oid_of number) ≡ true =
     (unsigned_Decides (oid_of other) (oid_of number)).1 (ap oid_of same) in
-    ap (λ b. b || machine.known (oid_of other)) oids ∙ sym (told_same told number less)
-    ∙ ap (λ n. slice_index_or (told_one told number) n false) (sym same))
+    ap (λ b. b || machine.known (oid_of other)) oids ∙ sym (told_same sent number less)
+    ∙ ap (λ n. slice_index_or (told_one sent number) n false) (sym same))
     (λ beside. ap (λ b. b || machine.known (oid_of other)) (oid_differs other number beside) ∙ known.known other
-    ∙ sym (told_other told number other beside))
+    ∙ sym (told_other sent number other beside))
 
 shape_is : (one other : TableShape) → Some one ≡ Some other → one ≡ other
 shape_is one other h = cc
 
-same_flags : (checked : CheckedOf) (told : List Bool) (number : ℕ) → length told ≡ length checked.catalog.tables
-    → length (told_one told number) ≡ length checked.catalog.tables
-same_flags checked told number h = length-set told number true ∙ h
+same_flags : (checked : CheckedOf) (sent : List Bool) (number : ℕ) → length sent ≡ length checked.catalog.tables
+    → length (told_one sent number) ≡ length checked.catalog.tables
+same_flags checked sent number h = length-set sent number true ∙ h
 
-pub learns : (checked : CheckedOf) (told : List Bool) (machine : Machine) (number : ℕ) (table : Table)
-    → slice_get checked.catalog.tables number ≡ Some table → number < length told
-    → Knows checked told machine → KeepsRelations checked machine
-    → Learns checked (told_one told number) machine (relation_of number table)
-learns checked told machine number table there less known keeps_all = by_kept (machine.kept (oid_of number)) refl
+pub learns : (checked : CheckedOf) (sent : List Bool) (machine : Machine) (number : ℕ) (table : Table)
+    → slice_get checked.catalog.tables number ≡ Some table → number < length sent
+    → Knows checked sent machine → KeepsRelations checked machine
+    → Learns checked (told_one sent number) machine (relation_of number table)
+learns checked sent machine number table there less known keeps_all = by_kept (machine.kept (oid_of number)) refl
   where
     kept_after : (next : Machine) → next.kept (oid_of number) ≡ Some (shape_for number table)
         → ((other : ℕ) → (other == number) ≡ false → next.kept (oid_of other) ≡ machine.kept (oid_of other))
         → (other : ℕ) (another : Table) → slice_get checked.catalog.tables other ≡ Some another
-        → slice_index_or (told_one told number) other false ≡ true
+        → slice_index_or (told_one sent number) other false ≡ true
         → next.kept (oid_of other) ≡ Some (shape_for other another)
     kept_after next here elsewhere other another at flag = by_test (other == number)
         (λ same.
@@ -166,7 +166,7 @@ learns checked told machine number table there less known keeps_all = by_kept (m
         ap (λ n. next.kept (oid_of n)) numbers ∙ here ∙ ap (λ n. Some (shape_for n table)) (sym numbers)
         ∙ ap (λ (t : Table). Some (shape_for other t)) tables)
         (λ beside. elsewhere other beside
-        ∙ known.kept other another at (sym (told_other told number other beside) ∙ flag))
+        ∙ known.kept other another at (sym (told_other sent number other beside) ∙ flag))
 
     relations_after : (next : Machine) → next.kept (oid_of number) ≡ Some (shape_for number table)
         → ((other : ℕ) → (other == number) ≡ false → next.kept (oid_of other) ≡ machine.kept (oid_of other))
@@ -183,7 +183,7 @@ learns checked told machine number table there less known keeps_all = by_kept (m
         (λ beside. keeps_all other another shape at (sym (elsewhere other beside) ∙ h))
 
     by_kept : (found : Option TableShape) → machine.kept (oid_of number) ≡ found
-        → Learns checked (told_one told number) machine (relation_of number table)
+        → Learns checked (told_one sent number) machine (relation_of number table)
     by_kept None e =
         let next : Machine = learned (oid_of number) (shape_for number table) machine in
         let here : next.kept (oid_of number) ≡ Some (shape_for number table) =
@@ -200,8 +200,8 @@ learns checked told machine number table there less known keeps_all = by_kept (m
           rows = refl;
           work = refl;
           knows = record {
-            flags = same_flags checked told number known.flags;
-            known = knows_more checked told machine next number less known refl;
+            flags = same_flags checked sent number known.flags;
+            known = knows_more checked sent machine next number less known refl;
             kept = kept_after next here elsewhere;
           };
           relations = relations_after next here elsewhere;
@@ -223,8 +223,8 @@ learns checked told machine number table there less known keeps_all = by_kept (m
           rows = refl;
           work = refl;
           knows = record {
-            flags = same_flags checked told number known.flags;
-            known = knows_more checked told machine next number less known refl;
+            flags = same_flags checked sent number known.flags;
+            known = knows_more checked sent machine next number less known refl;
             kept = kept_after next here (λ other beside. refl);
           };
           relations = relations_after next here (λ other beside. refl);

@@ -65,14 +65,14 @@ both_clear true true found = refl
 both_clear true false found = refl
 both_clear false later found = refl
 
-empties : (checked : CheckedOf) (told : List Bool) (numbers : List ℕ) (machine : Machine)
+empties : (checked : CheckedOf) (sent : List Bool) (numbers : List ℕ) (machine : Machine)
     → All (λ number. number < length checked.catalog.tables) numbers
-    → ((number : ℕ) → machine.known (oid_of number) ≡ slice_index_or told number false)
+    → ((number : ℕ) → machine.known (oid_of number) ≡ slice_index_or sent number false)
     → ((number : ℕ) (table : Table) → slice_get checked.catalog.tables number ≡ Some table
-    → slice_index_or told number false ≡ true → machine.kept (oid_of number) ≡ Some (shape_for number table))
-    → AllTold told numbers → Empties machine numbers
+    → slice_index_or sent number false ≡ true → machine.kept (oid_of number) ≡ Some (shape_for number table))
+    → AllTold sent numbers → Empties machine numbers
 unfolding hear_truncate
-empties checked told [] machine within known kept flags =
+empties checked sent [] machine within known kept flags =
     record {
       next = machine;
       heard = refl;
@@ -84,14 +84,14 @@ empties checked told [] machine within known kept flags =
           refl;
       work = λ table key. refl;
     }
-empties checked told (number ∷ numbers) machine within known kept flags =
+empties checked sent (number ∷ numbers) machine within known kept flags =
     let there = there_of checked.catalog.tables number
     (All-head (λ n. n < length checked.catalog.tables) number numbers within) in
     let one : hear_empty (oid_of number) machine
     ≡ Ok (record machine { work = with_found machine.work (oid_of number) (λ key. None) }) =
     change_heard machine (oid_of number) emptied (shape_for number there.table) (λ key. None) (known number ∙ flags.0)
     (kept number there.table there.is flags.0) refl in
-    let later = empties checked told numbers
+    let later = empties checked sent numbers
     (record machine { work = with_found machine.work (oid_of number) (λ key. None) })
     (All-tail (λ n. n < length checked.catalog.tables) number numbers within) known kept flags.1 in
     record {
@@ -114,15 +114,15 @@ module _ (checked : CheckedOf) (transactions : List Transaction) (subscriber beg
       → ((copies : ℕ → List Datum → Option (List Datum))
       → FindsShard (setting_in checked) (own_key checked) subscriber copies before
       → FindsShard (setting_in checked) (own_key checked) subscriber (cleared copies numbers) after)
-      → (told : List Bool) (machine : Machine) → Inside checked subscriber begin outer told before machine
+      → (sent : List Bool) (machine : Machine) → Inside checked subscriber begin outer sent before machine
       → Safe (Follows checked transactions subscriber) position
-      (said checked.catalog.tables told (option_map (as_recorded (setting_in checked)) (seen_tables numbers)))
+      (said checked.catalog.tables sent (option_map (as_recorded (setting_in checked)) (seen_tables numbers)))
       machine
       (λ at next. (at ≡ position)
       × Inside checked subscriber begin outer
-      (told_by told (option_map (as_recorded (setting_in checked)) (seen_tables numbers))) after next)
+      (told_by sent (option_map (as_recorded (setting_in checked)) (seen_tables numbers))) after next)
   unfolding said told_by
-  truncate_safe [] within clears told machine inside = (
+  truncate_safe [] within clears sent machine inside = (
     refl,
     record {
       busy = inside.busy;
@@ -133,24 +133,24 @@ module _ (checked : CheckedOf) (transactions : List Transaction) (subscriber beg
       work = λ table. clears (λ t. machine.work (oid_of t)) inside.work table;
     },
   )
-  truncate_safe (number ∷ numbers) within clears told machine inside =
+  truncate_safe (number ∷ numbers) within clears sent machine inside =
       safe_both (Follows checked transactions subscriber)
       (λ at next. (at ≡ position)
-      × Inside checked subscriber begin outer (told_all told (number ∷ numbers)) after next)
-      (Inside checked subscriber begin outer (told_all told (number ∷ numbers)) before) position
-      (relations_of checked.catalog.tables told (number ∷ numbers))
+      × Inside checked subscriber begin outer (told_all sent (number ∷ numbers)) after next)
+      (Inside checked subscriber begin outer (told_all sent (number ∷ numbers)) before) position
+      (relations_of checked.catalog.tables sent (number ∷ numbers))
       (m.Truncate 0 (map oid_of (number ∷ numbers)) ∷ []) machine
-      (relations_safe checked transactions subscriber begin position outer follows before (number ∷ numbers) told
+      (relations_safe checked transactions subscriber begin position outer follows before (number ∷ numbers) sent
       machine within inside)
       (λ next reached.
-      let flags = all_are_told told (number ∷ numbers) (length checked.catalog.tables) inside.knows.flags within in
-      let emptied_all = empties checked (told_all told (number ∷ numbers)) (number ∷ numbers) next within
+      let flags = all_are_told sent (number ∷ numbers) (length checked.catalog.tables) inside.knows.flags within in
+      let emptied_all = empties checked (told_all sent (number ∷ numbers)) (number ∷ numbers) next within
       reached.knows.known reached.knows.kept flags in
       safe_heard (Follows checked transactions subscriber)
       (λ at last. (at ≡ position)
-      × Inside checked subscriber begin outer (told_all told (number ∷ numbers)) after last)
+      × Inside checked subscriber begin outer (told_all sent (number ∷ numbers)) after last)
       position (m.Truncate 0 (map oid_of (number ∷ numbers))) [] next emptied_all.next
-      (good checked transactions subscriber begin position outer follows before (told_all told (number ∷ numbers))
+      (good checked transactions subscriber begin position outer follows before (told_all sent (number ∷ numbers))
       next reached)
       (ap (λ phase. hear_in phase (m.Truncate 0 (map oid_of (number ∷ numbers))) next) reached.busy
       ∙ emptied_all.heard) (

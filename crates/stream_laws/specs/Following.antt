@@ -10,12 +10,13 @@ use Rattle.table_changes.specs.Standing.{Covered, KeepsApart}
 use Rattle.table_changes.specs.Tables.{Tables, no_rows}
 use Rattle.shard_checker.specs.CheckedView.{CheckedOf, setting_in}
 use Rattle.tables_log.specs.Commits.{CommitOf}
+use Rattle.tables_log.specs.Lsn.{commits_before}
 use Rattle.tables_log.specs.StandsFor.{Transaction, after, AreAccepted, entries_from}
 use Rattle.pgoutput_msgs.specs.Sent.{IsSent}
 use Rattle.pgoutput_msgs.specs.Telling.{oid_of, columns_from, relation_of}
 use Rattle.pgoutput_msgs.specs.declared.message.Msg.{Msg}
 use Rattle.pgoutput_msgs.specs.declared.message.Msg.TheVariants as m
-use Rattle.copy_both.specs.Streams.{Item, Response, Carries, Alive, frame_in, Move, count_before, stream_items}
+use Rattle.copy_both.specs.Streams.{Item, Response, Carries, Alive, frame_in, Move, stream_items}
 use Rattle.copy_both.specs.Tellings.{telling_of}
 use Rattle.copy_frames.specs.declared.xlog_data.XLogData.{XLogData}
 use Rattle.test_subscriber.specs.Feeding.{hear_frames}
@@ -72,9 +73,9 @@ KeepsRelations checked machine = (number : ℕ) (table : Table) (shape : TableSh
 pub record Follows (checked : CheckedOf) (transactions : List Transaction) (subscriber position : ℕ)
     (machine : Machine) : Type 0 where
   pub position_is : machine.position ≡ position
-  pub within : count_before position ≤ length transactions
+  pub within : commits_before position ≤ length transactions
   pub rows : HasShard checked subscriber machine
-      (after (setting_in checked) (take (count_before position) transactions))
+      (after (setting_in checked) (take (commits_before position) transactions))
   pub relations : KeepsRelations checked machine
 
 -- ---- what is required of a stream

@@ -6,18 +6,19 @@ use Rattle.shard_checker.specs.CheckedView.{CheckedOf, setting_in}
 use Rattle.table_changes.specs.Standing.{Covered}
 use Rattle.table_changes.specs.Tables.{no_rows}
 use Rattle.tables_log.specs.Commits.{CommitOf}
+use Rattle.tables_log.specs.Lsn.{commits_before}
 use Rattle.tables_log.specs.StandsFor.{Transaction, AreAccepted}
 use Rattle.pgoutput_msgs.specs.Sent.{IsSent}
 use Rattle.pgoutput_msgs.specs.Telling.{messages_for}
-use Rattle.copy_both.specs.Streams.{Move, Take, Keep, count_before}
+use Rattle.copy_both.specs.Streams.{Move, Take, Keep}
 use Rattle.stream_laws.specs.Following.{log_of, items_from, IsSentItem}
 
 -- the layouts have room for what is sent of each commit
 pub record FitsLayouts (checked : CheckedOf) (transactions : List Transaction) : Type 0 where
   pub few : length transactions ≤ 1000000000
-  pub said : (subscriber : ℕ) (told : List Bool) (place : ℕ) (commit : CommitOf)
+  pub said : (subscriber : ℕ) (sent : List Bool) (place : ℕ) (commit : CommitOf)
       → slice_get (log_of checked transactions) place ≡ Some commit
-      → All IsSent (messages_for checked subscriber told commit)
+      → All IsSent (messages_for checked subscriber sent commit)
 
 -- its time has 64 bits
 abbrev pub IsTimedTransaction : Transaction → Type 0
@@ -42,5 +43,6 @@ LogsFitLayouts = (checked : CheckedOf) → Covered (setting_in checked) → IsLi
 abbrev pub StreamsCanBeSent : Type 0
 StreamsCanBeSent = (checked : CheckedOf) (transactions : List Transaction)
     → AreAccepted (setting_in checked) no_rows transactions → FitsLayouts checked transactions
-    → (subscriber position : ℕ) (moves : List Move) → count_before position ≤ length transactions → All IsClocked moves
+    → (subscriber position : ℕ) (moves : List Move) → commits_before position ≤ length transactions
+    → All IsClocked moves
     → All IsSentItem (items_from checked transactions subscriber position moves)

@@ -15,7 +15,7 @@ pub record Machine : Type 0 where
   pub phase : Phase
   -- the LSN up to which all is applied
   pub position : ℕ
-  -- whether the publisher wants a status
+  -- whether the publisher requests a status
   pub wants_reply : Bool
   -- what the Relation of an OID said, on this connection or an earlier one, and whether it came on this one
   pub kept : ℕ → Option TableShape

@@ -100,8 +100,8 @@ impl Replica {
         }
     }
 
-    /// Raises the position to that of a keepalive, unless a transaction is not committed, and keeps whether it wants a
-    /// status.
+    /// Raises the position to that of a keepalive, unless a transaction is not committed, and keeps whether it requests
+    /// a status.
     fn keep_alive(&mut self, keepalive: &Keepalive)
         ensures { Alike (machine_view self.new) (kept_alive keepalive.now (machine_view self.old)) }
     {

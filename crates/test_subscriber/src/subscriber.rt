@@ -164,7 +164,7 @@ impl Subscriber {
         Ok(())
     }
 
-    /// Whether a keepalive came that wants a status, since the last `status`, `open` or `lose`.
+    /// Whether a keepalive came that requests a status, since the last `status`, `open` or `lose`.
     pub fn reply_wanted(&self) -> bool
         ensures { result ≡ (sub_machine self.now).wants_reply }
     {

@@ -6,10 +6,10 @@ use Rattle.pgoutput_msgs.proofs.saying.say_delete.Goals as goal
 pub returns-in-None-clause-said : goal.returns-in-None-clause-said
 returns-in-None-clause-said g c =
     let none : part_view c.args.old.now ≡ None = search rules in
-    nothing_deleted g.S.MessageSink.takes_one c.args.sink.now c.args.tables.now c.args.told.now c.args.table
+    nothing_deleted g.S.MessageSink.takes_one c.args.sink.now c.args.tables.now c.args.relation_sent.now c.args.table
     (part_view c.args.old.now) none
 
-pub returns-in-None-clause-told : goal.returns-in-None-clause-told
-returns-in-None-clause-told g c =
+pub returns-in-None-clause-relation_sent : goal.returns-in-None-clause-relation_sent
+returns-in-None-clause-relation_sent g c =
     let none : part_view c.args.old.now ≡ None = search rules in
-    nothing_told_deleted c.args.told.now c.args.table (part_view c.args.old.now) none
+    nothing_told_deleted c.args.relation_sent.now c.args.table (part_view c.args.old.now) none

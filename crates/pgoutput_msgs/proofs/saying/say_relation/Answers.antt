@@ -5,11 +5,11 @@ use Rattle.pgoutput_msgs.proofs.saying.say_relation.Goals as goal
 
 pub returns-then-is_told : goal.returns-then-is_told
 returns-then-is_told g c =
-    let is : true ≡ slice_index_or c.args.told.now c.args.number false = search rules in
-    was_told g.S.MessageSink.takes_one c.args.sink.now c.args.tables.now c.args.told.now c.args.number is
+    let is : true ≡ slice_index_or c.args.relation_sent.now c.args.number false = search rules in
+    was_told g.S.MessageSink.takes_one c.args.sink.now c.args.tables.now c.args.relation_sent.now c.args.number is
 
 pub returns : goal.returns
 returns g c =
-    let is : false ≡ slice_index_or c.args.told.now c.args.number false = search rules in
+    let is : false ≡ slice_index_or c.args.relation_sent.now c.args.number false = search rules in
     was_not_told g.S.MessageSink.takes_one c.args.sink.now c.say_new_relation.new.sink c.args.tables.now
-    c.args.told.now c.args.number is c.in_ok-say_new_relation.ensures
+    c.args.relation_sent.now c.args.number is c.in_ok-say_new_relation.ensures

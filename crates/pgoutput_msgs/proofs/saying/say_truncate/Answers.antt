@@ -5,5 +5,5 @@ use Rattle.pgoutput_msgs.proofs.saying.say_truncate.Goals as goal
 pub returns-clause-said : goal.returns-clause-said
 returns-clause-said g c =
     takes_said g.S.MessageSink.takes_one c.args.sink.now c.say_relations.new.sink c.truncate.new.self
-    c.args.tables.now c.args.told.now (r.Truncate c.args.numbers.now)
+    c.args.tables.now c.args.relation_sent.now (r.Truncate c.args.numbers.now)
     c.in_ok-say_relations.ensures.said c.in_ok-truncate.ensures

@@ -18,12 +18,12 @@ pub returns-clause-room : goal.returns-clause-room
 returns-clause-room c =
     let checked = checked_view c.args.checked.now in
     subst (All IsWithinRange) (sym (returns-clause-exact c))
-    (messages_room checked c.args.subscriber c.args.told.now c.args.commit.now c.changes.ensures.sendable
+    (messages_room checked c.args.subscriber c.args.relation_sent.now c.args.commit.now c.changes.ensures.sendable
     (checked_limited c.args.checked.now))
 
 pub returns-clause-sent : goal.returns-clause-sent
 returns-clause-sent c =
     let checked = checked_view c.args.checked.now in
-    messages_sent checked c.args.subscriber c.args.told.now c.args.commit.now c.in_ok-messages.messages.items
+    messages_sent checked c.args.subscriber c.args.relation_sent.now c.args.commit.now c.in_ok-messages.messages.items
     c.changes.ensures.sendable (checked_limited c.args.checked.now) (returns-clause-exact c)
     c.in_ok-messages.ensures.texts

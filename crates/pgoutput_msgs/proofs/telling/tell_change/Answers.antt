@@ -31,16 +31,16 @@ returns-in-None-clause-said g c =
     let own : plan ≡ checked.plan = search rules in
     let out : None ≡ out_for plan c.args.subscriber change = search rules in
     said_of g.S.MessageSink.takes_one c.args.sink.now c.args.sink.now checked.catalog.tables checked.catalog.tables
-    c.args.told.now None (got (setting_in checked) c.args.subscriber change)
+    c.args.relation_sent.now None (got (setting_in checked) c.args.subscriber change)
     refl (got_none checked c.args.subscriber change plan own out)
-    (nothing_taken g.S.MessageSink.takes_one c.args.sink.now checked.catalog.tables c.args.told.now)
+    (nothing_taken g.S.MessageSink.takes_one c.args.sink.now checked.catalog.tables c.args.relation_sent.now)
 
-pub returns-in-None-clause-told : goal.returns-in-None-clause-told
-returns-in-None-clause-told g c =
+pub returns-in-None-clause-relation_sent : goal.returns-in-None-clause-relation_sent
+returns-in-None-clause-relation_sent g c =
     let checked : CheckedOf = checked_view c.args.checked.now in
     let change : r.ChangeOf = change_view c.args.change.now in
     let plan : PlanOf = plan_view c.plan-plan.result.now in
     let own : plan ≡ checked.plan = search rules in
     let out : None ≡ out_for plan c.args.subscriber change = search rules in
-    nothing_told c.args.told.now
-    ∙ ap (told_by c.args.told.now) (sym (got_none checked c.args.subscriber change plan own out))
+    nothing_told c.args.relation_sent.now
+    ∙ ap (told_by c.args.relation_sent.now) (sym (got_none checked c.args.subscriber change plan own out))

@@ -5,5 +5,6 @@ use Rattle.pgoutput_msgs.proofs.telling.tell_each.Given as goal
 
 abbrev pub invariant-loop-change : goal.invariant-loop-change
 invariant-loop-change g l =
-    Said g.S.MessageSink.takes_one (checked_view l.checked) l.subscriber l.fn.told l.told l.fn.sink l.sink l.changes
+    Said g.S.MessageSink.takes_one
+    (checked_view l.checked) l.subscriber l.fn.relation_sent l.relation_sent l.fn.sink l.sink l.changes
     (drop l.change-index l.changes)
