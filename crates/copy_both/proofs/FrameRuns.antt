@@ -12,7 +12,7 @@ use Rattle.copy_frames.specs.declared.frame.Frame.{Frame}
 use Rattle.copy_frames.specs.declared.status.Status.{Status}
 use Rattle.copy_both.specs.Events.{read_event, status_event, headed_event, data_event, is_end, event_of}
 use Rattle.copy_both.specs.HeardFrames.{IsFirst, IsAmong, IsLater, AsksFor, AsksIfStarted, IsStartedBy, HasEnd, Terminates, Ends, HasBadFrame, IsRefusedStart, IsStatus, HasStatusAhead, sent_then}
-use Rattle.copy_both.specs.Hearing.{HearingOf, Served, BeginOf, Begins, Refuses, begin_by, begin_of, begun, confirmed_by, ended_by, event_heard, first_sent, frame_heard, frames_heard, is_over, is_over_by, next_heard, offer_in, unless_fault, unless_over, with_fault}
+use Rattle.copy_both.specs.Hearing.{HearingOf, Served, BeginOf, Begins, Refuses, begin_by, begin_of, begun, confirmed_by, ended_by, event_heard, frame_heard, frames_heard, is_over, is_over_by, next_heard, offer_in, unless_fault, unless_over, with_fault}
 use Rattle.copy_both.specs.Refusals.{ExpectedQuery, state_of}
 use Rattle.copy_both.specs.StartAnswers.{StartAnswerOf, Stream, Refused, asked_in, asked_of, text_in}
 use Rattle.copy_both.specs.StartOrder.{slot_name}
@@ -21,6 +21,7 @@ use Rattle.copy_both.specs.declared.event.Event.TheVariants as event
 use Rattle.copy_both.specs.declared.link_fault.LinkFault.{LinkFault}
 use Rattle.copy_both.specs.declared.link_fault.LinkFault.TheVariants as fault
 use Rattle.copy_both.specs.declared.sql_state.SqlState.{SqlState}
+use Rattle.copy_both.specs.Streams.{first_sent}
 use Rattle.copy_both.proofs.HearingLemmas.{over_stays}
 use Rattle.copy_both.proofs.LinkLemmas.{frames_started}
 use Rattle.filter_tree.proofs.Tests.{by_test}

@@ -1,11 +1,11 @@
 -- Messages are framed one after another.
 use Rattle.std.proofs.Common.{◌≡◌, ℕ, ◌+◌, ◌<◌, ◌≤◌, Option, Some, None, List, [], ◌∷◌, ◌++◌, length, length-append, take, drop, refl, sym, ap, ◌∙◌, append_assoc, append-nil, arith}
 use Rattle.std.specs.Prelude.{All, map}
-use Rattle.std.specs.Int.{to_be_bytes, w32}
+use Rattle.std.specs.Int.{to_be_bytes, w32, w64}
 use Rattle.std.proofs.lemmas.List.{take_at, take_all, drop_at, drop_all}
 use Rattle.std.proofs.lemmas.List.Concat.{flat_map-cons}
 use Rattle.std.proofs.lemmas.List.Elements.{All-nil, All-cons}
-use Rattle.copy_frames.specs.Contents.{int64, xlog_data_body}
+use Rattle.copy_frames.specs.Contents.{xlog_data_body}
 use Rattle.copy_frames.specs.declared.xlog_data.XLogData.{XLogData}
 use Rattle.pgoutput_msgs.specs.Ranges.{HasTexts, IsMaybeOldText}
 use Rattle.pgoutput_msgs.specs.Sinks.{Takes}
@@ -29,9 +29,9 @@ use Rattle.copy_both.specs.declared.frames.Frames.{Frames}
 
 pub body_with : (head : XLogData) (message : List ℕ) → xlog_data_body head [] ++ message ≡ xlog_data_body head message
 body_with head message =
-    let start = int64 head.start in
-    let end = int64 head.end in
-    let clock = int64 head.clock in
+    let start = to_be_bytes w64 head.start in
+    let end = to_be_bytes w64 head.end in
+    let clock = to_be_bytes w64 head.clock in
     ap (λ (x : List ℕ). 119 ∷ x)
     (append_assoc start (end ++ (clock ++ [])) message ∙ ap (λ (x : List ℕ). start ++ x)
     (append_assoc end (clock ++ []) message ∙ ap (λ (x : List ℕ). end ++ x)
@@ -86,9 +86,9 @@ pub frame_room : (old written : List ℕ) (head : XLogData) (message : List ℕ)
     → written ≡ old ++ 100 ∷ 0 ∷ 0 ∷ 0 ∷ 0 ∷ xlog_data_body head message
     → length written ≡ length old + (length message + 30)
 frame_room old written head message is =
-    let start = int64 head.start in
-    let end = int64 head.end in
-    let clock = int64 head.clock in
+    let start = to_be_bytes w64 head.start in
+    let end = to_be_bytes w64 head.end in
+    let clock = to_be_bytes w64 head.clock in
     omega (
       arith,
       ap length is,
@@ -197,12 +197,12 @@ some_bytes head message messages =
 -- ---- the frames of a commit
 
 -- if nothing was added after Begin, the commit has no message
-pub none_framed : (commit : CommitOf) (begin told : Frames) (said : List Msg) → Takes AddsFrame begin told said
-    → length told.bytes.items ≡ length begin.bytes.items
+pub none_framed : (commit : CommitOf) (begin filled : Frames) (said : List Msg) → Takes AddsFrame begin filled said
+    → length filled.bytes.items ≡ length begin.bytes.items
     → enclosed commit said ≡ []
-none_framed commit begin told [] took same = refl
-none_framed commit begin told (message ∷ messages) took same =
-    let all = all_framed begin told (message ∷ messages) took in
+none_framed commit begin filled [] took same = refl
+none_framed commit begin filled (message ∷ messages) took same =
+    let all = all_framed begin filled (message ∷ messages) took in
     absurd (omega (
       arith,
       same,
@@ -212,18 +212,18 @@ none_framed commit begin told (message ∷ messages) took same =
     ))
 
 -- otherwise all its messages are in frames
-pub commit_framed : (commit : CommitOf) (new begin told ended : Frames) (said : List Msg)
+pub commit_framed : (commit : CommitOf) (new begin filled ended : Frames) (said : List Msg)
     → AddsFrame new begin (begin_of commit)
-    → Takes AddsFrame begin told said → (length told.bytes.items ≡ length begin.bytes.items → ⊥)
-    → AddsFrame told ended (commit_of commit)
+    → Takes AddsFrame begin filled said → (length filled.bytes.items ≡ length begin.bytes.items → ⊥)
+    → AddsFrame filled ended (commit_of commit)
     → AddsFrames new ended (enclosed commit said)
-commit_framed commit new begin told ended [] one took more last =
+commit_framed commit new begin filled ended [] one took more last =
     absurd (more (ap (λ (frames : Frames). length frames.bytes.items) took))
-commit_framed commit new begin told ended (message ∷ messages) one took more last =
+commit_framed commit new begin filled ended (message ∷ messages) one took more last =
     all_framed new ended (begin_of commit ∷ (message ∷ messages) ++ commit_of commit ∷ []) (
       begin,
       one,
-      takes_both AddsFrame begin told ended (message ∷ messages) (commit_of commit ∷ []) took
+      takes_both AddsFrame begin filled ended (message ∷ messages) (commit_of commit ∷ []) took
           (ended, last, refl),
     )
 

@@ -87,8 +87,8 @@ begun_with : (checked : CheckedOf) (stage : StageOf) (old new : Option (ℕ × �
     → ((s : ℕ × ℕ) → old ≡ Some s → new ≡ Some s) → streams_by new ≡ said_state (begun_stage checked stage new)
 begun_with checked voices.NotStarted old None together stays = refl
 begun_with checked voices.NotStarted old (Some started) together stays = refl
-begun_with checked (voices.Started place) None new together stays = absurd cc
-begun_with checked (voices.Started place) (Some s) new together stays = ap streams_by (stays s refl) ∙ together
+begun_with checked (voices.Started state) None new together stays = absurd cc
+begun_with checked (voices.Started state) (Some s) new together stays = ap streams_by (stays s refl) ∙ together
 begun_with checked voices.Closed None new together stays = absurd cc
 begun_with checked voices.Closed (Some s) new together stays = absurd cc
 

@@ -10,8 +10,8 @@ use Rattle.copy_frames.specs.Contents.{copy_both_response}
 use Rattle.copy_both.specs.Hearing.{HeardOf, HearingOf}
 use Rattle.copy_both.specs.LinkLaws.{Run, stream_of, with_moves, IsStreaming, replied, started_at, first_run, Goes, Goes_on, Starts, took, LinkHears, LinkEnds, LinkBreaks, LinkStops, LinkTakes, LinkKeeps, LinkPassesOn, LinkRestPassesOn, LinkFrontPassesOn, LogGrows}
 use Rattle.copy_both.specs.Links.{link_checked, link_stage, link_output, frames_by, stage_by, frames_said, closing, ended_stage, next_bytes, next_stage, stage_said}
-use Rattle.copy_both.specs.StreamLaws.{Start, Speaks, first_place}
-use Rattle.copy_both.specs.Streams.{spelled, Telling, Place, Move, Take, Keep, keep_bytes, take_items, taken_place, move_items, moved}
+use Rattle.copy_both.specs.StreamLaws.{Start, Speaks, first_state}
+use Rattle.copy_both.specs.Streams.{spelled, Telling, StreamStateOf, Move, Take, Keep, keep_bytes, take_items, taken_state, move_items, moved}
 use Rattle.copy_both.specs.Tellings.{telling_of}
 use Rattle.copy_both.specs.Voices as voices
 use Rattle.copy_both.specs.Voices.{StageOf, kept_bytes}
@@ -21,56 +21,56 @@ use Rattle.copy_both.proofs.StreamLemmas.{starts, takes, keeps, passes, grows}
 -- ---- replies
 
 speaks_more : (telling : Telling CommitOf) (log : List CommitOf) (start : Start) (moves : List Move)
-    (passed output : List ℕ) (place : Place) (clock n : ℕ)
-    → Speaks telling log start moves passed output place
+    (passed output : List ℕ) (state : StreamStateOf) (clock n : ℕ)
+    → Speaks telling log start moves passed output state
     → Speaks telling log start (moves ++ replicate n (Keep clock false)) passed
-    (output ++ concat (replicate n (keep_bytes place clock false))) place
-speaks_more telling log start moves passed output place clock zero speaks =
-    subst (λ (m : List Move). Speaks telling log start m passed (output ++ []) place) (sym (append-nil moves))
-    (subst (λ (o : List ℕ). Speaks telling log start moves passed o place) (sym (append-nil output)) speaks)
-speaks_more telling log start moves passed output place clock (suc n) speaks =
+    (output ++ concat (replicate n (keep_bytes state clock false))) state
+speaks_more telling log start moves passed output state clock zero speaks =
+    subst (λ (m : List Move). Speaks telling log start m passed (output ++ []) state) (sym (append-nil moves))
+    (subst (λ (o : List ℕ). Speaks telling log start moves passed o state) (sym (append-nil output)) speaks)
+speaks_more telling log start moves passed output state clock (suc n) speaks =
     let keep : Move = Keep clock false in
-    let said : List ℕ = keep_bytes place clock false in
+    let said : List ℕ = keep_bytes state clock false in
     let on : Speaks telling log start ((moves ++ keep ∷ []) ++ replicate n keep) passed
-    ((output ++ said) ++ concat (replicate n said)) place =
-    speaks_more telling log start (moves ++ keep ∷ []) passed (output ++ said) place clock n
-    (keeps telling log start moves passed output place clock false speaks) in
-    subst (λ (m : List Move). Speaks telling log start m passed (output ++ (said ++ concat (replicate n said))) place)
+    ((output ++ said) ++ concat (replicate n said)) state =
+    speaks_more telling log start (moves ++ keep ∷ []) passed (output ++ said) state clock n
+    (keeps telling log start moves passed output state clock false speaks) in
+    subst (λ (m : List Move). Speaks telling log start m passed (output ++ (said ++ concat (replicate n said))) state)
     (append_assoc moves (keep ∷ []) (replicate n keep))
-    (subst (λ (o : List ℕ). Speaks telling log start ((moves ++ keep ∷ []) ++ replicate n keep) passed o place)
+    (subst (λ (o : List ℕ). Speaks telling log start ((moves ++ keep ∷ []) ++ replicate n keep) passed o state)
     (append_assoc output said (concat (replicate n said))) on)
 
 concat_last : (xss : List (List ℕ)) (xs : List ℕ) → concat (xss ++ xs ∷ []) ≡ concat xss ++ xs
 concat_last xss xs = concat-append xss (xs ∷ []) ∙ ap (λ (x : List ℕ). concat xss ++ x) (append-nil xs)
 
 -- what is sent while it streams
-said_on : (checked : CheckedOf) (place : Place) (started : Option (ℕ × ℕ)) (heard : HeardOf) (clock : ℕ)
-    → concat (frames_by checked (voices.Started place) started heard clock)
-    ≡ concat (replicate heard.replies (keep_bytes place clock false)) ++ closing (voices.Started place) heard.ended
-said_on checked place started heard clock =
-    concat_last (replicate heard.replies (keep_bytes place clock false)) (closing (voices.Started place) heard.ended)
+said_on : (checked : CheckedOf) (state : StreamStateOf) (started : Option (ℕ × ℕ)) (heard : HeardOf) (clock : ℕ)
+    → concat (frames_by checked (voices.Started state) started heard clock)
+    ≡ concat (replicate heard.replies (keep_bytes state clock false)) ++ closing (voices.Started state) heard.ended
+said_on checked state started heard clock =
+    concat_last (replicate heard.replies (keep_bytes state clock false)) (closing (voices.Started state) heard.ended)
 
 -- ---- what was heard is answered
 
 -- with these bytes it would be at this place, and what is sent comes after them
-record IsOpened (old : Link) (h : HearingOf) (clock : ℕ) (run : Run) (place : Place) : Type 0 where
+record IsOpened (old : Link) (h : HearingOf) (clock : ℕ) (run : Run) (state : StreamStateOf) : Type 0 where
   output : List ℕ
-  speaks : Speaks (telling_of run.checked) run.log run.start run.moves run.passed output place
+  speaks : Speaks (telling_of run.checked) run.log run.start run.moves run.passed output state
   checked_is : link_checked old ≡ run.checked
   said : link_output old ++ concat (frames_said (link_checked old) (link_stage old) h clock)
-      ≡ output ++ (concat (replicate h.heard.replies (keep_bytes place clock false))
-      ++ closing (voices.Started place) h.heard.ended)
-  stage_is : stage_said (link_checked old) (link_stage old) h ≡ ended_stage h.heard.ended (voices.Started place)
+      ≡ output ++ (concat (replicate h.heard.replies (keep_bytes state clock false))
+      ++ closing (voices.Started state) h.heard.ended)
+  stage_is : stage_said (link_checked old) (link_stage old) h ≡ ended_stage h.heard.ended (voices.Started state)
 
-opened_on : (old : Link) (run : Run) (place : Place) (h : HearingOf) (clock : ℕ) → IsStreaming old run place
-    → IsOpened old h clock run place
-opened_on old run place h clock streams = record {
+opened_on : (old : Link) (run : Run) (state : StreamStateOf) (h : HearingOf) (clock : ℕ) → IsStreaming old run state
+    → IsOpened old h clock run state
+opened_on old run state h clock streams = record {
   output = link_output old;
   speaks = streams.says;
   checked_is = streams.checked_is;
   said =
       ap (λ (s : StageOf). link_output old ++ concat (frames_said (link_checked old) s h clock)) streams.stage_is
-      ∙ ap (λ (x : List ℕ). link_output old ++ x) (said_on (link_checked old) place h.started h.heard clock);
+      ∙ ap (λ (x : List ℕ). link_output old ++ x) (said_on (link_checked old) state h.started h.heard clock);
   stage_is = ap (λ (s : StageOf). stage_said (link_checked old) s h) streams.stage_is;
 }
 
@@ -78,11 +78,11 @@ opened_first : (old : Link) (log : List CommitOf) (h : HearingOf) (clock : ℕ) 
     → link_stage old ≡ voices.NotStarted
     → link_output old ≡ [] → h.started ≡ Some started
     → IsOpened old h clock (first_run (link_checked old) log started)
-    (first_place (started_at (link_checked old) started))
+    (first_state (started_at (link_checked old) started))
 opened_first old log h clock started waits silent is =
     let checked : CheckedOf = link_checked old in
     let start : Start = started_at checked started in
-    let place : Place = first_place start in
+    let state : StreamStateOf = first_state start in
     record {
       output = copy_both_response;
       speaks = starts (telling_of checked) log start;
@@ -92,70 +92,73 @@ opened_first old log h clock started waits silent is =
           ∙ ap (λ (s : StageOf). concat (frames_by checked s h.started h.heard clock)) waits
           ∙ ap (λ (s : Option (ℕ × ℕ)). concat (frames_by checked voices.NotStarted s h.heard clock)) is
           ∙ ap (λ (x : List ℕ). copy_both_response ++ x)
-          (concat_last (replicate h.heard.replies (keep_bytes place clock false))
-          (closing (voices.Started place) h.heard.ended));
+          (concat_last (replicate h.heard.replies (keep_bytes state clock false))
+          (closing (voices.Started state) h.heard.ended));
       stage_is =
           ap (λ (s : StageOf). stage_by checked s h.started h.heard) waits
           ∙ ap (λ (s : Option (ℕ × ℕ)). stage_by checked voices.NotStarted s h.heard) is;
     }
 
-opened : (old : Link) (run : Run) (place : Place) (h : HearingOf) (clock : ℕ) → Goes old h run place
-    → IsOpened old h clock run place
-opened old run place h clock (Goes_on streams) = opened_on old run place h clock streams
-opened old run place h clock (Starts started at) =
-    subst (λ (r : Run). IsOpened old h clock r place) (sym at.run_is)
-    (subst (λ (p : Place). IsOpened old h clock (first_run (link_checked old) run.log started) p) (sym at.place_is)
+opened : (old : Link) (run : Run) (state : StreamStateOf) (h : HearingOf) (clock : ℕ) → Goes old h run state
+    → IsOpened old h clock run state
+opened old run state h clock (Goes_on streams) = opened_on old run state h clock streams
+opened old run state h clock (Starts started at) =
+    subst (λ (r : Run). IsOpened old h clock r state) (sym at.run_is)
+    (subst (λ (p : StreamStateOf). IsOpened old h clock (first_run (link_checked old) run.log started) p)
+    (sym at.state_is)
     (opened_first old run.log h clock started at.waits at.silent at.started_is))
 
-more_said : (old : Link) (run : Run) (place : Place) (h : HearingOf) (clock : ℕ) (o : IsOpened old h clock run place)
+more_said : (old : Link) (run : Run) (state : StreamStateOf) (h : HearingOf) (clock : ℕ)
+    (o : IsOpened old h clock run state)
     → Speaks (telling_of run.checked) run.log run.start (run.moves ++ replied h clock) run.passed
-    (o.output ++ concat (replicate h.heard.replies (keep_bytes place clock false))) place
-more_said old run place h clock o =
-    speaks_more (telling_of run.checked) run.log run.start run.moves run.passed o.output place clock h.heard.replies
+    (o.output ++ concat (replicate h.heard.replies (keep_bytes state clock false))) state
+more_said old run state h clock o =
+    speaks_more (telling_of run.checked) run.log run.start run.moves run.passed o.output state clock h.heard.replies
     o.speaks
 
 pub hears : LinkHears
-hears old new run place h heard clock goes none says =
-    let o : IsOpened old h clock run place = opened old run place h clock goes in
-    let keeps_said : List ℕ = concat (replicate h.heard.replies (keep_bytes place clock false)) in
+hears old new run state h heard clock goes none says =
+    let o : IsOpened old h clock run state = opened old run state h clock goes in
+    let keeps_said : List ℕ = concat (replicate h.heard.replies (keep_bytes state clock false)) in
     let output_is : link_output new ≡ o.output ++ keeps_said =
     says.output ∙ o.said
     ∙ ap (λ (x : List ℕ). o.output ++ x)
-    (ap (λ (e : Option ℕ). keeps_said ++ closing (voices.Started place) e) none ∙ append-nil keeps_said) in
+    (ap (λ (e : Option ℕ). keeps_said ++ closing (voices.Started state) e) none ∙ append-nil keeps_said) in
     record {
       checked_is = says.checked ∙ o.checked_is;
-      stage_is = says.stage_is ∙ o.stage_is ∙ ap (λ (e : Option ℕ). ended_stage e (voices.Started place)) none;
+      stage_is = says.stage_is ∙ o.stage_is ∙ ap (λ (e : Option ℕ). ended_stage e (voices.Started state)) none;
       says =
           subst (λ (x : List ℕ). Speaks (telling_of run.checked) run.log run.start (run.moves ++ replied h clock)
-          run.passed x place) (sym output_is)
-          (more_said old run place h clock o);
+          run.passed x state) (sym output_is)
+          (more_said old run state h clock o);
     }
 
 -- all that was sent, with what comes last
-said_last : (old : Link) (run : Run) (place : Place) (h : HearingOf) (clock : ℕ) → IsOpened old h clock run place
+said_last : (old : Link) (run : Run) (state : StreamStateOf) (h : HearingOf) (clock : ℕ)
+    → IsOpened old h clock run state
     → run.passed ++ (link_output old ++ concat (frames_said (link_checked old) (link_stage old) h clock))
-    ≡ stream_of (with_moves run (replied h clock)) ++ closing (voices.Started place) h.heard.ended
-said_last old run place h clock o =
-    let keeps_said : List ℕ = concat (replicate h.heard.replies (keep_bytes place clock false)) in
-    let last : List ℕ = closing (voices.Started place) h.heard.ended in
+    ≡ stream_of (with_moves run (replied h clock)) ++ closing (voices.Started state) h.heard.ended
+said_last old run state h clock o =
+    let keeps_said : List ℕ = concat (replicate h.heard.replies (keep_bytes state clock false)) in
+    let last : List ℕ = closing (voices.Started state) h.heard.ended in
     ap (λ (x : List ℕ). run.passed ++ x) (o.said ∙ sym (append_assoc o.output keeps_said last))
     ∙ sym (append_assoc run.passed (o.output ++ keeps_said) last)
-    ∙ ap (λ (x : List ℕ). x ++ last) (more_said old run place h clock o).bytes
+    ∙ ap (λ (x : List ℕ). x ++ last) (more_said old run state h clock o).bytes
 
 pub ends : LinkEnds
-ends old new run place h heard clock kind goes some says =
-    let o : IsOpened old h clock run place = opened old run place h clock goes in
+ends old new run state h heard clock kind goes some says =
+    let o : IsOpened old h clock run state = opened old run state h clock goes in
     record {
-      stage_is = says.stage_is ∙ o.stage_is ∙ ap (λ (e : Option ℕ). ended_stage e (voices.Started place)) some;
+      stage_is = says.stage_is ∙ o.stage_is ∙ ap (λ (e : Option ℕ). ended_stage e (voices.Started state)) some;
       bytes =
-          ap (λ (x : List ℕ). run.passed ++ x) says.output ∙ said_last old run place h clock o
-          ∙ ap (λ (e : Option ℕ). stream_of (with_moves run (replied h clock)) ++ closing (voices.Started place) e)
+          ap (λ (x : List ℕ). run.passed ++ x) says.output ∙ said_last old run state h clock o
+          ∙ ap (λ (e : Option ℕ). stream_of (with_moves run (replied h clock)) ++ closing (voices.Started state) e)
           some;
     }
 
 pub breaks : LinkBreaks
-breaks old new run place h clock goes some =
-    let o : IsOpened old h clock run place = opened old run place h clock goes in
+breaks old new run state h clock goes some =
+    let o : IsOpened old h clock run state = opened old run state h clock goes in
     record {
       stage_is = some.says.stage_is;
       others = concat some.others;
@@ -165,11 +168,11 @@ breaks old new run place h clock goes some =
           (ap (λ (x : List ℕ). x ++ concat some.others) some.says.output
           ∙ append_assoc (link_output old) (concat some.said) (concat some.others)
           ∙ ap (λ (x : List ℕ). link_output old ++ x) (sym (concat-append some.said some.others) ∙ ap concat some.all))
-          ∙ said_last old run place h clock o;
+          ∙ said_last old run state h clock o;
     }
 
 pub stops : LinkStops
-stops old new run place streams closes = record {
+stops old new run state streams closes = record {
   stage_is = closes.stage_is;
   bytes =
       ap (λ (x : List ℕ). run.passed ++ x) closes.output ∙ streams.says.bytes ∙ sym (append-nil (stream_of run));
@@ -177,66 +180,66 @@ stops old new run place streams closes = record {
 
 -- ---- moves
 
-takes_by : (found : Option CommitOf) (run : Run) (output : List ℕ) (place : Place) (clock : ℕ)
-    → slice_get run.log place.done ≡ found
-    → Speaks (telling_of run.checked) run.log run.start run.moves run.passed output place
+takes_by : (found : Option CommitOf) (run : Run) (output : List ℕ) (state : StreamStateOf) (clock : ℕ)
+    → slice_get run.log state.done ≡ found
+    → Speaks (telling_of run.checked) run.log run.start run.moves run.passed output state
     → Speaks (telling_of run.checked) run.log run.start (run.moves ++ took found clock) run.passed
-    (output ++ flat_map spelled (take_items (telling_of run.checked) place found clock))
-    (taken_place (telling_of run.checked) place found)
-takes_by None run output place clock is speaks =
-    subst (λ (m : List Move). Speaks (telling_of run.checked) run.log run.start m run.passed (output ++ []) place)
+    (output ++ flat_map spelled (take_items (telling_of run.checked) state found clock))
+    (taken_state (telling_of run.checked) state found)
+takes_by None run output state clock is speaks =
+    subst (λ (m : List Move). Speaks (telling_of run.checked) run.log run.start m run.passed (output ++ []) state)
     (sym (append-nil run.moves))
-    (subst (λ (o : List ℕ). Speaks (telling_of run.checked) run.log run.start run.moves run.passed o place)
+    (subst (λ (o : List ℕ). Speaks (telling_of run.checked) run.log run.start run.moves run.passed o state)
     (sym (append-nil output)) speaks)
-takes_by (Some commit) run output place clock is speaks =
-    takes (telling_of run.checked) run.log run.start run.moves run.passed output place commit clock speaks is
+takes_by (Some commit) run output state clock is speaks =
+    takes (telling_of run.checked) run.log run.start run.moves run.passed output state commit clock speaks is
 
 pub takes_on : LinkTakes
-takes_on old new run place clock streams says =
+takes_on old new run state clock streams says =
     let telling : Telling CommitOf = telling_of run.checked in
     let output_is : link_output new
-    ≡ link_output old ++ flat_map spelled (move_items telling run.log place (Take clock)) =
+    ≡ link_output old ++ flat_map spelled (move_items telling run.log state (Take clock)) =
     says.voice.output
     ∙ ap (λ (s : StageOf). link_output old ++ next_bytes (link_checked old) s run.log clock) streams.stage_is
-    ∙ ap (λ (k : CheckedOf). link_output old ++ flat_map spelled (move_items (telling_of k) run.log place (Take clock)))
+    ∙ ap (λ (k : CheckedOf). link_output old ++ flat_map spelled (move_items (telling_of k) run.log state (Take clock)))
     streams.checked_is in
     record {
       checked_is = says.voice.checked ∙ streams.checked_is;
       stage_is =
           says.voice.stage_is
           ∙ ap (λ (s : StageOf). next_stage (link_checked old) s run.log clock) streams.stage_is
-          ∙ ap (λ (k : CheckedOf). voices.Started (moved (telling_of k) run.log place (Take clock))) streams.checked_is;
+          ∙ ap (λ (k : CheckedOf). voices.Started (moved (telling_of k) run.log state (Take clock))) streams.checked_is;
       says =
           subst (λ (o : List ℕ).
-          Speaks telling run.log run.start (run.moves ++ took (slice_get run.log place.done) clock) run.passed o
-          (moved telling run.log place (Take clock)))
-          (sym output_is) (takes_by (slice_get run.log place.done) run (link_output old) place clock refl streams.says);
+          Speaks telling run.log run.start (run.moves ++ took (slice_get run.log state.done) clock) run.passed o
+          (moved telling run.log state (Take clock)))
+          (sym output_is) (takes_by (slice_get run.log state.done) run (link_output old) state clock refl streams.says);
     }
 
 pub keeps_on : LinkKeeps
-keeps_on old new run place clock want streams says =
+keeps_on old new run state clock want streams says =
     let telling : Telling CommitOf = telling_of run.checked in
-    let output_is : link_output new ≡ link_output old ++ keep_bytes place clock want =
+    let output_is : link_output new ≡ link_output old ++ keep_bytes state clock want =
     says.voice.output ∙ ap (λ (s : StageOf). link_output old ++ kept_bytes s clock want) streams.stage_is in
     record {
       checked_is = says.voice.checked ∙ streams.checked_is;
       stage_is = says.voice.stage_is ∙ streams.stage_is;
       says =
           subst (λ (o : List ℕ). Speaks telling run.log run.start (run.moves ++ Keep clock want ∷ []) run.passed o
-          place) (sym output_is)
-          (keeps telling run.log run.start run.moves run.passed (link_output old) place clock want streams.says);
+          state) (sym output_is)
+          (keeps telling run.log run.start run.moves run.passed (link_output old) state clock want streams.says);
     }
 
 pub passes_on : LinkPassesOn
-passes_on old new run place count streams says =
+passes_on old new run state count streams says =
     let telling : Telling CommitOf = telling_of run.checked in
     record {
       checked_is = says.voice.checked ∙ streams.checked_is;
       stage_is = says.voice.stage_is ∙ streams.stage_is;
       says =
           subst (λ (o : List ℕ). Speaks telling run.log run.start run.moves
-          (run.passed ++ take count (link_output old)) o place) (sym says.voice.output)
-          (passes telling run.log run.start run.moves run.passed (link_output old) place count streams.says);
+          (run.passed ++ take count (link_output old)) o state) (sym says.voice.output)
+          (passes telling run.log run.start run.moves run.passed (link_output old) state count streams.says);
     }
 
 -- what was passed on and what waits stay together
@@ -261,9 +264,9 @@ front_passes_on old new run last count begun says = record {
 }
 
 pub log_grows : LogGrows
-log_grows link run place more streams = record {
+log_grows link run state more streams = record {
   checked_is = streams.checked_is;
   stage_is = streams.stage_is;
-  says = grows (telling_of run.checked) run.log more run.start run.moves run.passed (link_output link) place
+  says = grows (telling_of run.checked) run.log more run.start run.moves run.passed (link_output link) state
       streams.says;
 }

@@ -13,7 +13,7 @@ use Rattle.pgoutput_msgs.specs.Telling.{told_after}
 use Rattle.pgoutput_msgs.specs.Transactions.{AreNamed, TellsTransaction}
 use Rattle.pgoutput_msgs.proofs.TransactionLemmas.{commits_tell_transactions}
 use Rattle.copy_both.specs.SeenStreams.{Reached, reached_at, seen_next, next_told, reached_next, move_told, moves_told, StreamsTellTransactions}
-use Rattle.copy_both.specs.Streams.{Item, Response, Carries, spelled, Place, Move, Take, Keep, head_of, take_items, taken_place, all_items}
+use Rattle.copy_both.specs.Streams.{Item, Response, Carries, spelled, StreamStateOf, Move, Take, Keep, head_of, take_items, taken_state, all_items}
 use Rattle.copy_both.specs.Tellings.{telling_of}
 
 -- ---- entries of a log
@@ -75,9 +75,9 @@ module _ (checked : CheckedOf) (covered : Covered (setting_in checked)) (transac
   entry done transaction =
       entry_of (setting_in checked) (after (setting_in checked) (take done transactions)) (done + 1) transaction
 
-  -- the same place, if these flags say which tables were announced
-  abbrev place_by : Reached → List Bool → Place
-  place_by at told = record { slot = subscriber; done = at.done; told = told; sent = at.sent }
+  -- the same state, if these flags say which tables were announced
+  abbrev state_by : Reached → List Bool → StreamStateOf
+  state_by at sent = record { slot = subscriber; done = at.done; relation_sent = sent; sent = at.sent }
 
   entry_after : (done : ℕ) → slice_get log done ≡ option_map (entry done) (slice_get transactions done)
   entry_after done =
@@ -85,66 +85,67 @@ module _ (checked : CheckedOf) (covered : Covered (setting_in checked)) (transac
       ∙ numbered (setting_in checked) (after (setting_in checked) (take done transactions))
       (slice_get transactions done) (1 + done) (done + 1) (omega arith)
 
-  tells : (at : Reached) (told : List Bool) (transaction : Transaction)
-      → AreNamed checked.catalog.tables told at.named → slice_get transactions at.done ≡ Some transaction
-      → TellsTransaction checked subscriber told at.named (entry at.done transaction)
+  tells : (at : Reached) (sent : List Bool) (transaction : Transaction)
+      → AreNamed checked.catalog.tables sent at.named → slice_get transactions at.done ≡ Some transaction
+      → TellsTransaction checked subscriber sent at.named (entry at.done transaction)
       (seen_next checked transactions subscriber at.done transaction)
   unfolding entry_of
-  tells at told transaction named there =
-      commits_tell_transactions checked covered subscriber told at.named named (entry at.done transaction)
+  tells at sent transaction named there =
+      commits_tell_transactions checked covered subscriber sent at.named named (entry at.done transaction)
       (after (setting_in checked) (take at.done transactions)) 1 transaction.commands
       (accepted_there (setting_in checked) no_rows transactions at.done transaction accepted there).no_fault refl
 
   -- the flags after the next transaction
-  told_next : List Bool → Reached → Option Transaction → List Bool
-  told_next told at None = told
-  told_next told at (Some transaction) = told_after checked subscriber told (entry at.done transaction)
+  sent_next : List Bool → Reached → Option Transaction → List Bool
+  sent_next sent at None = sent
+  sent_next sent at (Some transaction) = told_after checked subscriber sent (entry at.done transaction)
 
-  items_next : (at : Reached) (told : List Bool) (found : Option Transaction) (clock : ℕ)
-      → AreNamed checked.catalog.tables told at.named → slice_get transactions at.done ≡ found
-      → take_items (telling_of checked) (place_by at told) (option_map (entry at.done) found) clock
+  items_next : (at : Reached) (sent : List Bool) (found : Option Transaction) (clock : ℕ)
+      → AreNamed checked.catalog.tables sent at.named → slice_get transactions at.done ≡ found
+      → take_items (telling_of checked) (state_by at sent) (option_map (entry at.done) found) clock
       ≡ next_told checked transactions subscriber at found clock
   unfolding entry_of
-  items_next at told None clock named there = refl
-  items_next at told (Some transaction) clock named there =
-      ap (map (Carries (head_of (at.done + 1) clock))) (tells at told transaction named there).messages
+  items_next at sent None clock named there = refl
+  items_next at sent (Some transaction) clock named there =
+      ap (map (Carries (head_of (at.done + 1) clock))) (tells at sent transaction named there).messages
 
-  place_next : (at : Reached) (told : List Bool) (found : Option Transaction)
-      → taken_place (telling_of checked) (place_by at told) (option_map (entry at.done) found)
-      ≡ place_by (reached_next checked transactions subscriber at found) (told_next told at found)
-  unfolding entry_of told_next
-  place_next at told None = refl
-  place_next at told (Some transaction) = refl
+  state_next : (at : Reached) (sent : List Bool) (found : Option Transaction)
+      → taken_state (telling_of checked) (state_by at sent) (option_map (entry at.done) found)
+      ≡ state_by (reached_next checked transactions subscriber at found) (sent_next sent at found)
+  unfolding entry_of sent_next
+  state_next at sent None = refl
+  state_next at sent (Some transaction) = refl
 
-  named_next : (at : Reached) (told : List Bool) (found : Option Transaction)
-      → AreNamed checked.catalog.tables told at.named → slice_get transactions at.done ≡ found
-      → AreNamed checked.catalog.tables (told_next told at found)
+  named_next : (at : Reached) (sent : List Bool) (found : Option Transaction)
+      → AreNamed checked.catalog.tables sent at.named → slice_get transactions at.done ≡ found
+      → AreNamed checked.catalog.tables (sent_next sent at found)
       (reached_next checked transactions subscriber at found).named
-  unfolding told_next
-  named_next at told None named there = named
-  named_next at told (Some transaction) named there = (tells at told transaction named there).named_after
+  unfolding sent_next
+  named_next at sent None named there = named
+  named_next at sent (Some transaction) named there = (tells at sent transaction named there).named_after
 
-  moves_as : (at : Reached) (told : List Bool) → AreNamed checked.catalog.tables told at.named → (moves : List Move)
-      → all_items (telling_of checked) log (place_by at told) moves
+  moves_as : (at : Reached) (sent : List Bool) → AreNamed checked.catalog.tables sent at.named → (moves : List Move)
+      → all_items (telling_of checked) log (state_by at sent) moves
       ≡ moves_told checked transactions subscriber at moves
-  moves_as at told named [] = refl
-  moves_as at told named (Take clock ∷ moves) =
+  moves_as at sent named [] = refl
+  moves_as at sent named (Take clock ∷ moves) =
       let found = slice_get transactions at.done in
       let next = reached_next checked transactions subscriber at found in
-      ap (λ (one : Option CommitOf). take_items (telling_of checked) (place_by at told) one clock
-      ++ all_items (telling_of checked) log (taken_place (telling_of checked) (place_by at told) one) moves)
+      ap (λ (one : Option CommitOf). take_items (telling_of checked) (state_by at sent) one clock
+      ++ all_items (telling_of checked) log (taken_state (telling_of checked) (state_by at sent) one) moves)
       (entry_after at.done)
-      ∙ ap (λ (place : Place). take_items (telling_of checked) (place_by at told) (option_map (entry at.done) found)
-      clock ++ all_items (telling_of checked) log place moves)
-      (place_next at told found)
+      ∙ ap (λ (state : StreamStateOf). take_items (telling_of checked) (state_by at sent)
+      (option_map (entry at.done) found)
+      clock ++ all_items (telling_of checked) log state moves)
+      (state_next at sent found)
       ∙ ap (λ (items : List Item). items
-      ++ all_items (telling_of checked) log (place_by next (told_next told at found)) moves)
-      (items_next at told found clock named refl)
+      ++ all_items (telling_of checked) log (state_by next (sent_next sent at found)) moves)
+      (items_next at sent found clock named refl)
       ∙ ap (λ (items : List Item). next_told checked transactions subscriber at found clock ++ items)
-      (moves_as next (told_next told at found) (named_next at told found named refl) moves)
-  moves_as at told named (Keep clock want ∷ moves) =
+      (moves_as next (sent_next sent at found) (named_next at sent found named refl) moves)
+  moves_as at sent named (Keep clock want ∷ moves) =
       ap (λ (items : List Item). move_told checked transactions subscriber at (Keep clock want) ++ items)
-      (moves_as at told named moves)
+      (moves_as at sent named moves)
 
 -- ---- the law
 

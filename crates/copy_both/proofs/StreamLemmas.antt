@@ -6,40 +6,43 @@ use Rattle.std.proofs.lemmas.List.{append-nil, take-append-drop}
 use Rattle.std.proofs.lemmas.List.Concat.{flat_map-append}
 use Rattle.std.proofs.lemmas.Option.{slice_get_within}
 use Rattle.copy_frames.specs.Contents.{copy_both_response}
-use Rattle.copy_both.specs.Streams.{Item, Response, spelled, Telling, Place, Move, Take, Keep, take_items, taken_place, keep_item, keep_bytes, move_items, moved, all_items, all_moved}
-use Rattle.copy_both.specs.StreamLaws.{IsThere, AllThere, Start, first_place, Speaks, Starts, Takes, Keeps, Passes, Grows}
+use Rattle.copy_both.specs.Streams.{Item, Response, spelled, Telling, StreamStateOf, Move, Take, Keep, take_items, taken_state, keep_item, keep_bytes, move_items, moved, all_items, all_moved}
+use Rattle.copy_both.specs.StreamLaws.{IsThere, AllThere, Start, first_state, Speaks, Starts, Takes, Keeps, Passes, Grows}
 
-pub moved_append : {C : Type 0} (telling : Telling C) (log : List C) (place : Place) (moves : List Move) (move : Move)
-    → all_moved telling log place (moves ++ move ∷ []) ≡ moved telling log (all_moved telling log place moves) move
-moved_append telling log place [] move = refl
-moved_append telling log place (first ∷ moves) move =
-    moved_append telling log (moved telling log place first) moves move
+pub moved_append : {C : Type 0} (telling : Telling C) (log : List C) (state : StreamStateOf) (moves : List Move)
+    (move : Move)
+    → all_moved telling log state (moves ++ move ∷ []) ≡ moved telling log (all_moved telling log state moves) move
+moved_append telling log state [] move = refl
+moved_append telling log state (first ∷ moves) move =
+    moved_append telling log (moved telling log state first) moves move
 
-pub items_append : {C : Type 0} (telling : Telling C) (log : List C) (place : Place) (moves : List Move) (move : Move)
-    → all_items telling log place (moves ++ move ∷ []) ≡ all_items telling log place moves
-    ++ move_items telling log (all_moved telling log place moves) move
-items_append telling log place [] move = append-nil (move_items telling log place move)
-items_append telling log place (first ∷ moves) move =
-    ap (λ later. move_items telling log place first ++ later)
-    (items_append telling log (moved telling log place first) moves move)
-    ∙ sym (append_assoc (move_items telling log place first) _ _)
+pub items_append : {C : Type 0} (telling : Telling C) (log : List C) (state : StreamStateOf) (moves : List Move)
+    (move : Move)
+    → all_items telling log state (moves ++ move ∷ []) ≡ all_items telling log state moves
+    ++ move_items telling log (all_moved telling log state moves) move
+items_append telling log state [] move = append-nil (move_items telling log state move)
+items_append telling log state (first ∷ moves) move =
+    ap (λ later. move_items telling log state first ++ later)
+    (items_append telling log (moved telling log state first) moves move)
+    ∙ sym (append_assoc (move_items telling log state first) _ _)
 
-pub there_append : {C : Type 0} (telling : Telling C) (log : List C) (place : Place) (moves : List Move) (move : Move)
-    → AllThere telling log place moves → IsThere log (all_moved telling log place moves) move
-    → AllThere telling log place (moves ++ move ∷ [])
-there_append telling log place [] move there here = (here, tt)
-there_append telling log place (first ∷ moves) move there here =
-    (there.0, there_append telling log (moved telling log place first) moves move there.1 here)
+pub there_append : {C : Type 0} (telling : Telling C) (log : List C) (state : StreamStateOf) (moves : List Move)
+    (move : Move)
+    → AllThere telling log state moves → IsThere log (all_moved telling log state moves) move
+    → AllThere telling log state (moves ++ move ∷ [])
+there_append telling log state [] move there here = (here, tt)
+there_append telling log state (first ∷ moves) move there here =
+    (there.0, there_append telling log (moved telling log state first) moves move there.1 here)
 
 -- one more move, whatever it is
 speaks_on : {C : Type 0} (telling : Telling C) (log : List C) (start : Start) (moves : List Move)
-    (passed output : List ℕ) (place : Place) (move : Move)
-    → Speaks telling log start moves passed output place → IsThere log place move
+    (passed output : List ℕ) (state : StreamStateOf) (move : Move)
+    → Speaks telling log start moves passed output state → IsThere log state move
     → Speaks telling log start (moves ++ move ∷ []) passed
-    (output ++ flat_map spelled (move_items telling log place move)) (moved telling log place move)
-speaks_on telling log start moves passed output place move speaks here =
-    let first : Place = first_place start in
-    let more : List Item = move_items telling log place move in
+    (output ++ flat_map spelled (move_items telling log state move)) (moved telling log state move)
+speaks_on telling log start moves passed output state move speaks here =
+    let first : StreamStateOf = first_state start in
+    let more : List Item = move_items telling log state move in
     record {
       bytes =
           sym (append_assoc passed output (flat_map spelled more))
@@ -50,26 +53,26 @@ speaks_on telling log start moves passed output place move speaks here =
           ∙ sym (items_append telling log first moves move));
       at = ap (λ at. moved telling log at move) speaks.at ∙ sym (moved_append telling log first moves move);
       there = there_append telling log first moves move speaks.there
-          (let P : Place → Type 0 = λ at. IsThere log at move in subst P speaks.at here);
+          (let P : StreamStateOf → Type 0 = λ at. IsThere log at move in subst P speaks.at here);
     }
 
 pub starts : {C : Type 0} (telling : Telling C) → Starts telling
 starts telling log start = record { bytes = sym (append-nil copy_both_response); at = refl; there = tt }
 
 pub takes : {C : Type 0} (telling : Telling C) → Takes telling
-takes telling log start moves passed output place commit clock speaks got =
-    let on = speaks_on telling log start moves passed output place (Take clock) speaks
-    (slice_get_within log place.done commit got) in
+takes telling log start moves passed output state commit clock speaks got =
+    let on = speaks_on telling log start moves passed output state (Take clock) speaks
+    (slice_get_within log state.done commit got) in
     rw got at on
 
 pub keeps : {C : Type 0} (telling : Telling C) → Keeps telling
-keeps telling log start moves passed output place clock want speaks =
-    subst (λ bytes. Speaks telling log start (moves ++ Keep clock want ∷ []) passed (output ++ bytes) place)
-    (append-nil (keep_bytes place clock want))
-    (speaks_on telling log start moves passed output place (Keep clock want) speaks tt)
+keeps telling log start moves passed output state clock want speaks =
+    subst (λ bytes. Speaks telling log start (moves ++ Keep clock want ∷ []) passed (output ++ bytes) state)
+    (append-nil (keep_bytes state clock want))
+    (speaks_on telling log start moves passed output state (Keep clock want) speaks tt)
 
 pub passes : {C : Type 0} (telling : Telling C) → Passes telling
-passes telling log start moves passed output place n speaks = record {
+passes telling log start moves passed output state n speaks = record {
   bytes = append_assoc passed (take n output) (drop n output)
       ∙ ap (λ bytes. passed ++ bytes) (take-append-drop n output) ∙ speaks.bytes;
   at = speaks.at;
@@ -83,46 +86,48 @@ got_longer [] more n less = absurd (omega arith)
 got_longer (first ∷ log) more zero less = refl
 got_longer (first ∷ log) more (suc n) less = got_longer log more n (omega arith)
 
-pub all_moved_longer : {C : Type 0} (telling : Telling C) (log more : List C) (place : Place) (moves : List Move)
-    → AllThere telling log place moves
-    → all_moved telling (log ++ more) place moves ≡ all_moved telling log place moves
-all_moved_longer telling log more place [] there = refl
-all_moved_longer telling log more place (Take clock ∷ moves) there =
-    ap (λ got. all_moved telling (log ++ more) (taken_place telling place got) moves)
-    (got_longer log more place.done there.0)
-    ∙ all_moved_longer telling log more (moved telling log place (Take clock)) moves there.1
-all_moved_longer telling log more place (Keep clock want ∷ moves) there =
-    all_moved_longer telling log more place moves there.1
+pub all_moved_longer : {C : Type 0} (telling : Telling C) (log more : List C) (state : StreamStateOf)
+    (moves : List Move)
+    → AllThere telling log state moves
+    → all_moved telling (log ++ more) state moves ≡ all_moved telling log state moves
+all_moved_longer telling log more state [] there = refl
+all_moved_longer telling log more state (Take clock ∷ moves) there =
+    ap (λ got. all_moved telling (log ++ more) (taken_state telling state got) moves)
+    (got_longer log more state.done there.0)
+    ∙ all_moved_longer telling log more (moved telling log state (Take clock)) moves there.1
+all_moved_longer telling log more state (Keep clock want ∷ moves) there =
+    all_moved_longer telling log more state moves there.1
 
-pub items_longer : {C : Type 0} (telling : Telling C) (log more : List C) (place : Place) (moves : List Move)
-    → AllThere telling log place moves
-    → all_items telling (log ++ more) place moves ≡ all_items telling log place moves
-items_longer telling log more place [] there = refl
-items_longer telling log more place (Take clock ∷ moves) there =
-    ap (λ got. take_items telling place got clock ++ all_items telling (log ++ more) (taken_place telling place got)
-    moves) (got_longer log more place.done there.0)
-    ∙ ap (λ later. move_items telling log place (Take clock) ++ later)
-    (items_longer telling log more (moved telling log place (Take clock)) moves there.1)
-items_longer telling log more place (Keep clock want ∷ moves) there =
-    ap (λ later. keep_item place clock want ∷ later) (items_longer telling log more place moves there.1)
+pub items_longer : {C : Type 0} (telling : Telling C) (log more : List C) (state : StreamStateOf) (moves : List Move)
+    → AllThere telling log state moves
+    → all_items telling (log ++ more) state moves ≡ all_items telling log state moves
+items_longer telling log more state [] there = refl
+items_longer telling log more state (Take clock ∷ moves) there =
+    ap (λ got. take_items telling state got clock ++ all_items telling (log ++ more) (taken_state telling state got)
+    moves) (got_longer log more state.done there.0)
+    ∙ ap (λ later. move_items telling log state (Take clock) ++ later)
+    (items_longer telling log more (moved telling log state (Take clock)) moves there.1)
+items_longer telling log more state (Keep clock want ∷ moves) there =
+    ap (λ later. keep_item state clock want ∷ later) (items_longer telling log more state moves there.1)
 
-pub all_there_longer : {C : Type 0} (telling : Telling C) (log more : List C) (place : Place) (moves : List Move)
-    → AllThere telling log place moves
-    → AllThere telling (log ++ more) place moves
-all_there_longer telling log more place [] there = tt
-all_there_longer telling log more place (Take clock ∷ moves) there = (
+pub all_there_longer : {C : Type 0} (telling : Telling C) (log more : List C) (state : StreamStateOf)
+    (moves : List Move)
+    → AllThere telling log state moves
+    → AllThere telling (log ++ more) state moves
+all_there_longer telling log more state [] there = tt
+all_there_longer telling log more state (Take clock ∷ moves) there = (
   omega (arith, there.0, length-append log more),
-  subst (λ got. AllThere telling (log ++ more) (taken_place telling place got) moves)
-      (sym (got_longer log more place.done there.0))
-      (all_there_longer telling log more (moved telling log place (Take clock)) moves there.1),
+  subst (λ got. AllThere telling (log ++ more) (taken_state telling state got) moves)
+      (sym (got_longer log more state.done there.0))
+      (all_there_longer telling log more (moved telling log state (Take clock)) moves there.1),
 )
-all_there_longer telling log more place (Keep clock want ∷ moves) there =
-    (tt, all_there_longer telling log more place moves there.1)
+all_there_longer telling log more state (Keep clock want ∷ moves) there =
+    (tt, all_there_longer telling log more state moves there.1)
 
 pub grows : {C : Type 0} (telling : Telling C) → Grows telling
-grows telling log more start moves passed output place speaks = record {
+grows telling log more start moves passed output state speaks = record {
   bytes = speaks.bytes ∙ ap (λ items. flat_map spelled (Response ∷ items))
-      (sym (items_longer telling log more (first_place start) moves speaks.there));
-  at = speaks.at ∙ sym (all_moved_longer telling log more (first_place start) moves speaks.there);
-  there = all_there_longer telling log more (first_place start) moves speaks.there;
+      (sym (items_longer telling log more (first_state start) moves speaks.there));
+  at = speaks.at ∙ sym (all_moved_longer telling log more (first_state start) moves speaks.there);
+  there = all_there_longer telling log more (first_state start) moves speaks.there;
 }

@@ -6,8 +6,8 @@ use Rattle.shard_checker.specs.CheckedView.{CheckedOf}
 use Rattle.tables_log.specs.Commits.{CommitOf}
 use Rattle.copy_frames.specs.Contents.{copy_both_response}
 use Rattle.copy_both.specs.LinkLaws.{started_at}
-use Rattle.copy_both.specs.StreamLaws.{Start, Speaks, first_place}
-use Rattle.copy_both.specs.Streams.{Telling, Place, Move, Take, Keep, keep_bytes, place_after, take_bytes, stream}
+use Rattle.copy_both.specs.StreamLaws.{Start, Speaks, first_state}
+use Rattle.copy_both.specs.Streams.{Telling, StreamStateOf, Move, Take, Keep, keep_bytes, state_after, take_bytes, stream}
 use Rattle.copy_both.specs.Tellings.{telling_of}
 use Rattle.copy_both.specs.VoiceLaws.{AreAt, Follow, takes_in, first_of, VoiceStarts, VoiceTakes, VoiceKeeps, VoicePassesOn, VoiceIsDone, VoiceStops, RestPassesOn}
 use Rattle.copy_both.specs.Voices as voices
@@ -55,7 +55,7 @@ length-push commits commit = let grown = length-append commits (commit ∷ []) i
 pub voice_starts : VoiceStarts
 voice_starts old new slot position waits silent says = record {
   checked_is = says.checked;
-  place = first_place (started_at (voice_checked old) (slot, position));
+  state = first_state (started_at (voice_checked old) (slot, position));
   stage_is = says.stage_is;
   slot = refl;
   done = omega arith;
@@ -63,47 +63,47 @@ voice_starts old new slot position waits silent says = record {
   takes = refl;
   speaks = λ log are.
       let start : Start = started_at (voice_checked old) (slot, position) in
-      subst (λ (o : List ℕ). Speaks (telling_of (voice_checked old)) log start [] [] o (first_place start))
+      subst (λ (o : List ℕ). Speaks (telling_of (voice_checked old)) log start [] [] o (first_state start))
       (sym (says.output ∙ ap (λ (o : List ℕ). o ++ copy_both_response) silent))
       (starts (telling_of (voice_checked old)) log start);
 }
 
 pub voice_takes : VoiceTakes
 voice_takes old new told commit clock telling number says =
-    let place : Place = telling.place in
+    let state : StreamStateOf = telling.state in
     let telling_is : Telling CommitOf = telling_of told.checked in
-    let stage_is : voice_stage new ≡ voices.Started (place_after telling_is place commit) =
+    let stage_is : voice_stage new ≡ voices.Started (state_after telling_is state commit) =
     says.stage_is ∙ ap (λ (s : StageOf). entry_stage (voice_checked old) s commit) telling.stage_is
-    ∙ ap (λ (k : CheckedOf). voices.Started (place_after (telling_of k) place commit)) telling.checked_is in
-    let output_is : voice_output new ≡ voice_output old ++ take_bytes telling_is place commit clock =
+    ∙ ap (λ (k : CheckedOf). voices.Started (state_after (telling_of k) state commit)) telling.checked_is in
+    let output_is : voice_output new ≡ voice_output old ++ take_bytes telling_is state commit clock =
     says.output ∙ ap (λ (s : StageOf). voice_output old ++ entry_bytes (voice_checked old) s commit clock)
     telling.stage_is
-    ∙ ap (λ (k : CheckedOf). voice_output old ++ take_bytes (telling_of k) place commit clock) telling.checked_is in
+    ∙ ap (λ (k : CheckedOf). voice_output old ++ take_bytes (telling_of k) state commit clock) telling.checked_is in
     record {
       checked_is = says.checked ∙ telling.checked_is;
-      place = place_after telling_is place commit;
+      state = state_after telling_is state commit;
       stage_is = stage_is;
       slot = telling.slot;
       done = omega (arith, telling.done, length-push told.taken commit);
       follow = follow_on (first_of told) told.taken commit telling.follow number;
       takes = takes_more told.moves clock ∙ ap suc telling.takes ∙ sym (length-push told.taken commit);
       speaks = λ log are.
-          let found : slice_get log place.done ≡ Some commit = ap (slice_get log) telling.done
+          let found : slice_get log state.done ≡ Some commit = ap (slice_get log) telling.done
           ∙ last_one log (first_of told) told.taken commit are in
           subst (λ (o : List ℕ). Speaks telling_is log told.start (told.moves ++ Take clock ∷ []) told.passed o
-          (place_after telling_is place commit)) (sym output_is)
-          (takes telling_is log told.start told.moves told.passed (voice_output old) place commit clock
+          (state_after telling_is state commit)) (sym output_is)
+          (takes telling_is log told.start told.moves told.passed (voice_output old) state commit clock
           (telling.speaks log (first_ones log (first_of told) told.taken commit are)) found);
     }
 
 pub voice_keeps : VoiceKeeps
 voice_keeps old new told clock want telling says =
-    let place : Place = telling.place in
-    let output_is : voice_output new ≡ voice_output old ++ keep_bytes place clock want =
+    let state : StreamStateOf = telling.state in
+    let output_is : voice_output new ≡ voice_output old ++ keep_bytes state clock want =
     says.output ∙ ap (λ (s : StageOf). voice_output old ++ kept_bytes s clock want) telling.stage_is in
     record {
       checked_is = says.checked ∙ telling.checked_is;
-      place = place;
+      state = state;
       stage_is = says.stage_is ∙ telling.stage_is;
       slot = telling.slot;
       done = telling.done;
@@ -111,15 +111,15 @@ voice_keeps old new told clock want telling says =
       takes = takes_kept told.moves clock want ∙ telling.takes;
       speaks = λ log are.
           subst (λ (o : List ℕ). Speaks (telling_of told.checked) log told.start (told.moves ++ Keep clock want ∷ [])
-          told.passed o place) (sym output_is)
-          (keeps (telling_of told.checked) log told.start told.moves told.passed (voice_output old) place clock want
+          told.passed o state) (sym output_is)
+          (keeps (telling_of told.checked) log told.start told.moves told.passed (voice_output old) state clock want
           (telling.speaks log are));
     }
 
 pub voice_passes_on : VoicePassesOn
 voice_passes_on old new told count telling passed = record {
   checked_is = passed.checked ∙ telling.checked_is;
-  place = telling.place;
+  state = telling.state;
   stage_is = passed.stage_is ∙ telling.stage_is;
   slot = telling.slot;
   done = telling.done;
@@ -127,9 +127,9 @@ voice_passes_on old new told count telling passed = record {
   takes = telling.takes;
   speaks = λ log are.
       subst (λ (o : List ℕ). Speaks (telling_of told.checked) log told.start told.moves
-      (told.passed ++ take count (voice_output old)) o telling.place)
+      (told.passed ++ take count (voice_output old)) o telling.state)
       (sym passed.output)
-      (passes (telling_of told.checked) log told.start told.moves told.passed (voice_output old) telling.place count
+      (passes (telling_of told.checked) log told.start told.moves told.passed (voice_output old) telling.state count
       (telling.speaks log are));
 }
 

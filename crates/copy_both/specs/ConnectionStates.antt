@@ -25,5 +25,5 @@ heard_state phase.Lost started = IsOver
 -- that of the half that sends
 abbrev pub said_state : StageOf → StateOf
 said_state voices.NotStarted = Waits
-said_state (voices.Started place) = Streams place.slot
+said_state (voices.Started state) = Streams state.slot
 said_state voices.Closed = IsOver

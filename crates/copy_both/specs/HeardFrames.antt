@@ -15,9 +15,10 @@ use Rattle.copy_frames.specs.declared.frame.Frame.{Frame}
 use Rattle.copy_frames.specs.declared.status.Status.{Status}
 use Rattle.copy_both.specs.Ears.{ear_checked, ear_phase, ear_started, ear_held, hear_answer, HearLeaves}
 use Rattle.copy_both.specs.Events.{event_of, is_end}
-use Rattle.copy_both.specs.Hearing.{Refuses, begin_of, first_sent, offer_in}
+use Rattle.copy_both.specs.Hearing.{Refuses, begin_of, offer_in}
 use Rattle.copy_both.specs.Refusals.{RefusalOf, state_of}
 use Rattle.copy_both.specs.StartAnswers.{Stream, asked_of}
+use Rattle.copy_both.specs.Streams.{first_sent}
 use Rattle.copy_both.specs.Voices.{told_fault}
 use Rattle.copy_both.specs.declared.ear.Ear.{Ear}
 use Rattle.copy_both.specs.declared.heard.Heard.{Heard}

@@ -15,6 +15,7 @@ use Rattle.copy_both.specs.Events.{event_of}
 use Rattle.copy_both.specs.Refusals.{RefusalOf, state_of, error_response}
 use Rattle.copy_both.specs.StartAnswers.{StartAnswerOf, Stream, Refused, asked_of}
 use Rattle.copy_both.specs.StartOrder.{OfferOf, slot_name, book_refusal}
+pub use Rattle.copy_both.specs.Streams.{first_sent}
 use Rattle.copy_both.specs.declared.event.Event.{Event}
 use Rattle.copy_both.specs.declared.event.Event.TheVariants as event
 use Rattle.copy_both.specs.declared.heard.Heard.{Heard}
@@ -26,7 +27,7 @@ pub record Served : Type 0 where
   pub checked : CheckedOf
   pub commits : ℕ
 
--- what has to be answered: where the stream starts, if it does; how many statuses want a reply; and the kind of the
+-- what has to be answered: where the stream starts, if it does; how many statuses request a reply; and the kind of the
 -- frame that ended the connection
 pub record HeardOf : Type 0 where
   pub started : Option ℕ
@@ -78,10 +79,6 @@ begin_by served slots (Stream slot position) =
 
 unfoldable pub begin_of : Served → List Slot → ℕ → List ℕ → BeginOf
 begin_of served slots kind body = begin_by served slots (asked_of (offer_in served) kind body)
-
--- the sent position of a stream that has sent nothing is where it starts, or 64 if that is 0
-abbrev pub first_sent : ℕ → ℕ
-first_sent start = if start == 0 then 64 else start
 
 abbrev pub begun : BeginOf → HearingOf → HearingOf
 begun (Begins slot start) h = record h {

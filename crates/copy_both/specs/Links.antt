@@ -86,16 +86,16 @@ pub record LinkLoses (old new : Link) (before after : Book) : Type 0 where
 abbrev pub opening : StageOf → Option (ℕ × ℕ) → List ℕ
 opening voices.NotStarted None = []
 opening voices.NotStarted (Some started) = copy_both_response
-opening (voices.Started place) started = []
+opening (voices.Started state) started = []
 opening voices.Closed started = []
 
 abbrev pub begun_stage : CheckedOf → StageOf → Option (ℕ × ℕ) → StageOf
 begun_stage checked voices.NotStarted None = voices.NotStarted
 begun_stage checked voices.NotStarted (Some started) = first_stage checked started.0 started.1
-begun_stage checked (voices.Started place) started = voices.Started place
+begun_stage checked (voices.Started state) started = voices.Started state
 begun_stage checked voices.Closed started = voices.Closed
 
--- a keepalive that wants no status, for each status that wants a reply
+-- a keepalive that requests no status, for each status that requests a reply
 abbrev pub replies : StageOf → ℕ → ℕ → List (List ℕ)
 replies stage count clock = replicate count (kept_bytes stage clock false)
 
@@ -153,39 +153,39 @@ link_heard link book piece = ear_heard (link_ear link) book piece (link_sent lin
 
 -- ---- take: the next commit of the log, if there is one
 
-abbrev pub found_answer : CheckedOf → streams.Place → Option CommitOf → Result Taken LinkFault
-found_answer checked place None = Ok taken.Idle
-found_answer checked place (Some commit) =
-    Ok (taken_of commit.number (messages_for checked place.slot place.told commit))
+abbrev pub found_answer : CheckedOf → streams.StreamStateOf → Option CommitOf → Result Taken LinkFault
+found_answer checked state None = Ok taken.Idle
+found_answer checked state (Some commit) =
+    Ok (taken_of commit.number (messages_for checked state.slot state.relation_sent commit))
 
 abbrev pub next_answer : CheckedOf → StageOf → List CommitOf → Result Taken LinkFault
 next_answer checked voices.NotStarted log = Ok taken.NotStarted
-next_answer checked (voices.Started place) log = found_answer checked place (slice_get log place.done)
+next_answer checked (voices.Started state) log = found_answer checked state (slice_get log state.done)
 next_answer checked voices.Closed log = Err fault.Closed
 
 -- the stream runs, and the log has a commit that was not taken
 abbrev pub HasNext : StageOf → List CommitOf → Type 0
 HasNext voices.NotStarted log = ⊥
-HasNext (voices.Started place) log = IsSome (slice_get log place.done)
+HasNext (voices.Started state) log = IsSome (slice_get log state.done)
 HasNext voices.Closed log = ⊥
 
 abbrev pub next_bytes : CheckedOf → StageOf → List CommitOf → ℕ → List ℕ
 next_bytes checked voices.NotStarted log clock = []
-next_bytes checked (voices.Started place) log clock =
-    flat_map spelled (move_items (telling_of checked) log place (Take clock))
+next_bytes checked (voices.Started state) log clock =
+    flat_map spelled (move_items (telling_of checked) log state (Take clock))
 next_bytes checked voices.Closed log clock = []
 
 abbrev pub next_stage : CheckedOf → StageOf → List CommitOf → ℕ → StageOf
 next_stage checked voices.NotStarted log clock = voices.NotStarted
-next_stage checked (voices.Started place) log clock = voices.Started (moved (telling_of checked) log place (Take clock))
+next_stage checked (voices.Started state) log clock = voices.Started (moved (telling_of checked) log state (Take clock))
 next_stage checked voices.Closed log clock = voices.Closed
 
-abbrev pub FoundIsReadBack : CheckedOf → streams.Place → Option CommitOf → Type 0
-FoundIsReadBack checked place None = Unit {0}
-FoundIsReadBack checked place (Some commit) = AreReadBack checked place commit
+abbrev pub FoundIsReadBack : CheckedOf → streams.StreamStateOf → Option CommitOf → Type 0
+FoundIsReadBack checked state None = Unit {0}
+FoundIsReadBack checked state (Some commit) = AreReadBack checked state commit
 
 -- each message of the next commit of the log, if there is one, is decoded from its spelling
 abbrev pub NextIsReadBack : CheckedOf → StageOf → List CommitOf → Type 0
 NextIsReadBack checked voices.NotStarted log = Unit {0}
-NextIsReadBack checked (voices.Started place) log = FoundIsReadBack checked place (slice_get log place.done)
+NextIsReadBack checked (voices.Started state) log = FoundIsReadBack checked state (slice_get log state.done)
 NextIsReadBack checked voices.Closed log = Unit {0}

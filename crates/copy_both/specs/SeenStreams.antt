@@ -1,16 +1,17 @@
 -- What a connection sends, by the transactions and what the subscriber sees of them alone: CopyBothResponse, and then
 -- for each move the messages of the next transaction, each in an XLogData at the transaction's LSN, or a keepalive at
 -- the sent position: PostgreSQL 15, 55.4. Streaming Replication Protocol, 55.5.3. Logical Replication Protocol Message
--- Flow, and "Logical Replication", 31.3.3 UPDATE Transformations. Positions in the log are this project's own.
-use Rattle.std.specs.Prelude.{◌≡◌, ℕ, ◌+◌, ◌==◌, if◌then◌else◌, List, [], ◌∷◌, ◌++◌, length, map, slice_get, take, Option, Some, None}
+-- Flow, and "Logical Replication", 31.3.3 UPDATE Transformations.
+use Rattle.std.specs.Prelude.{◌≡◌, ℕ, ◌+◌, List, [], ◌∷◌, ◌++◌, length, map, slice_get, take, Option, Some, None}
 use Rattle.std.specs.List.{flat_map}
 use Rattle.table_changes.specs.Seen.{Seen, seen}
 use Rattle.table_changes.specs.Standing.{Covered}
 use Rattle.table_changes.specs.Tables.{no_rows}
 use Rattle.shard_checker.specs.CheckedView.{CheckedOf, setting_in}
+use Rattle.tables_log.specs.Lsn.{end_lsn_of, commits_before}
 use Rattle.tables_log.specs.StandsFor.{Transaction, after, AreAccepted, entries_from}
 use Rattle.pgoutput_msgs.specs.Transactions.{tables_of, transaction_told}
-use Rattle.copy_both.specs.Streams.{Item, Response, Carries, Alive, spelled, Move, Take, Keep, end_of, count_before, head_of, stream}
+use Rattle.copy_both.specs.Streams.{Item, Response, Carries, Alive, spelled, Move, Take, Keep, first_sent, head_of, stream}
 use Rattle.copy_both.specs.Tellings.{telling_of}
 
 -- where a connection is: how many transactions are done, which tables its changes named, and the sent position
@@ -21,7 +22,7 @@ pub record Reached : Type 0 where
 
 -- a connection that starts at this position
 abbrev pub reached_at : ℕ → Reached
-reached_at position = record { done = count_before position; named = []; sent = if position == 0 then 64 else position }
+reached_at position = record { done = commits_before position; named = []; sent = first_sent position }
 
 -- what the subscriber sees of the transaction that comes after this number of others
 abbrev pub seen_next : CheckedOf → List Transaction → ℕ → ℕ → Transaction → List Seen
@@ -43,7 +44,7 @@ reached_next checked transactions subscriber at None = at
 reached_next checked transactions subscriber at (Some transaction) = record {
   done = at.done + 1;
   named = at.named ++ flat_map tables_of (seen_next checked transactions subscriber at.done transaction);
-  sent = end_of (at.done + 1);
+  sent = end_lsn_of (at.done + 1);
 }
 
 -- a keepalive carries the sent position

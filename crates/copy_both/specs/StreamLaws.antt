@@ -1,17 +1,17 @@
 -- A stream grows move by move, and what was passed on and what waits are together the stream.
 use Rattle.std.specs.Prelude.{◌≡◌, ℕ, ◌<◌, Bool, List, [], ◌∷◌, ◌++◌, length, take, drop, slice_get, Some}
 use Rattle.copy_frames.specs.Contents.{copy_both_response}
-use Rattle.copy_both.specs.Streams.{Telling, Place, Move, Take, Keep, place_at, place_after, take_bytes, keep_bytes, moved, all_moved, stream}
+use Rattle.copy_both.specs.Streams.{Telling, StreamStateOf, Move, Take, Keep, state_at, state_after, take_bytes, keep_bytes, moved, all_moved, stream}
 
 -- each commit that is taken exists
-abbrev pub IsThere : {C : Type 0} → List C → Place → Move → Type 0
-IsThere log place (Take clock) = place.done < length log
-IsThere log place (Keep clock want) = Unit {0}
+abbrev pub IsThere : {C : Type 0} → List C → StreamStateOf → Move → Type 0
+IsThere log state (Take clock) = state.done < length log
+IsThere log state (Keep clock want) = Unit {0}
 
-abbrev pub AllThere : {C : Type 0} → Telling C → List C → Place → List Move → Type 0
-AllThere telling log place [] = Unit {0}
-AllThere telling log place (move ∷ moves) = IsThere log place move
-    × AllThere telling log (moved telling log place move) moves
+abbrev pub AllThere : {C : Type 0} → Telling C → List C → StreamStateOf → List Move → Type 0
+AllThere telling log state [] = Unit {0}
+AllThere telling log state (move ∷ moves) = IsThere log state move
+    × AllThere telling log (moved telling log state move) moves
 
 -- where a connection starts
 pub record Start : Type 0 where
@@ -19,41 +19,42 @@ pub record Start : Type 0 where
   pub tables : ℕ
   pub position : ℕ
 
-abbrev pub first_place : Start → Place
-first_place start = place_at start.slot start.tables start.position
+abbrev pub first_state : Start → StreamStateOf
+first_state start = state_at start.slot start.tables start.position
 
 -- what a connection passed on and what waits are its stream so far, and it is at the place where the moves lead
 pub record Speaks {C : Type 0} (telling : Telling C) (log : List C) (start : Start) (moves : List Move)
-    (passed output : List ℕ) (place : Place) : Type 0 where
+    (passed output : List ℕ) (state : StreamStateOf) : Type 0 where
   pub bytes : passed ++ output ≡ stream telling log start.slot start.tables start.position moves
-  pub at : place ≡ all_moved telling log (first_place start) moves
-  pub there : AllThere telling log (first_place start) moves
+  pub at : state ≡ all_moved telling log (first_state start) moves
+  pub there : AllThere telling log (first_state start) moves
 
 abbrev pub Starts : {C : Type 0} → Telling C → Type 0
 Starts {C = C} telling = (log : List C) (start : Start)
-    → Speaks telling log start [] [] copy_both_response (first_place start)
+    → Speaks telling log start [] [] copy_both_response (first_state start)
 
 abbrev pub Takes : {C : Type 0} → Telling C → Type 0
 Takes {C = C} telling =
-    (log : List C) (start : Start) (moves : List Move) (passed output : List ℕ) (place : Place) (commit : C)
+    (log : List C) (start : Start) (moves : List Move) (passed output : List ℕ) (state : StreamStateOf) (commit : C)
     (clock : ℕ)
-    → Speaks telling log start moves passed output place → slice_get log place.done ≡ Some commit
-    → Speaks telling log start (moves ++ Take clock ∷ []) passed (output ++ take_bytes telling place commit clock)
-    (place_after telling place commit)
+    → Speaks telling log start moves passed output state → slice_get log state.done ≡ Some commit
+    → Speaks telling log start (moves ++ Take clock ∷ []) passed (output ++ take_bytes telling state commit clock)
+    (state_after telling state commit)
 
 abbrev pub Keeps : {C : Type 0} → Telling C → Type 0
 Keeps {C = C} telling =
-    (log : List C) (start : Start) (moves : List Move) (passed output : List ℕ) (place : Place) (clock : ℕ)
+    (log : List C) (start : Start) (moves : List Move) (passed output : List ℕ) (state : StreamStateOf) (clock : ℕ)
     (want : Bool)
-    → Speaks telling log start moves passed output place
-    → Speaks telling log start (moves ++ Keep clock want ∷ []) passed (output ++ keep_bytes place clock want) place
+    → Speaks telling log start moves passed output state
+    → Speaks telling log start (moves ++ Keep clock want ∷ []) passed (output ++ keep_bytes state clock want) state
 
 abbrev pub Passes : {C : Type 0} → Telling C → Type 0
 Passes {C = C} telling =
-    (log : List C) (start : Start) (moves : List Move) (passed output : List ℕ) (place : Place) (n : ℕ)
-    → Speaks telling log start moves passed output place
-    → Speaks telling log start moves (passed ++ take n output) (drop n output) place
+    (log : List C) (start : Start) (moves : List Move) (passed output : List ℕ) (state : StreamStateOf) (n : ℕ)
+    → Speaks telling log start moves passed output state
+    → Speaks telling log start moves (passed ++ take n output) (drop n output) state
 
 abbrev pub Grows : {C : Type 0} → Telling C → Type 0
-Grows {C = C} telling = (log more : List C) (start : Start) (moves : List Move) (passed output : List ℕ) (place : Place)
-    → Speaks telling log start moves passed output place → Speaks telling (log ++ more) start moves passed output place
+Grows {C = C} telling = (log more : List C) (start : Start) (moves : List Move) (passed output : List ℕ)
+    (state : StreamStateOf)
+    → Speaks telling log start moves passed output state → Speaks telling (log ++ more) start moves passed output state

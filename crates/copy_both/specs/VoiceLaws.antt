@@ -3,10 +3,11 @@
 use Rattle.std.specs.Prelude.{◌≡◌, ℕ, suc, ◌+◌, Bool, List, [], ◌∷◌, ◌++◌, length, take, slice_get, Some}
 use Rattle.shard_checker.specs.CheckedView.{CheckedOf}
 use Rattle.tables_log.specs.Commits.{CommitOf}
+use Rattle.tables_log.specs.Lsn.{commits_before}
 use Rattle.copy_frames.specs.Contents.{copy_both_response}
 use Rattle.copy_both.specs.LinkLaws.{started_at}
 use Rattle.copy_both.specs.StreamLaws.{Start, Speaks}
-use Rattle.copy_both.specs.Streams.{Place, Move, Take, Keep, count_before, stream}
+use Rattle.copy_both.specs.Streams.{StreamStateOf, Move, Take, Keep, stream}
 use Rattle.copy_both.specs.Tellings.{telling_of}
 use Rattle.copy_both.specs.Voices as voices
 use Rattle.copy_both.specs.Voices.{Says, Closes, Passes, voice_checked, voice_stage, voice_output, first_stage, entry_bytes, entry_stage, kept_bytes, done_bytes}
@@ -41,19 +42,19 @@ pub record Told : Type 0 where
   pub passed : List ℕ
 
 abbrev pub first_of : Told → ℕ
-first_of told = count_before told.start.position
+first_of told = commits_before told.start.position
 
 -- it streams, and what it sent is the stream of the moves
 pub record IsTelling (voice : Voice) (told : Told) : Type 0 where
   pub checked_is : voice_checked voice ≡ told.checked
-  pub place : Place
-  pub stage_is : voice_stage voice ≡ voices.Started place
-  pub slot : place.slot ≡ told.start.slot
-  pub done : place.done ≡ first_of told + length told.taken
+  pub state : StreamStateOf
+  pub stage_is : voice_stage voice ≡ voices.Started state
+  pub slot : state.slot ≡ told.start.slot
+  pub done : state.done ≡ first_of told + length told.taken
   pub follow : Follow (first_of told) told.taken
   pub takes : takes_in told.moves ≡ length told.taken
   pub speaks : (log : List CommitOf) → AreAt log (first_of told) told.taken
-      → Speaks (telling_of told.checked) log told.start told.moves told.passed (voice_output voice) place
+      → Speaks (telling_of told.checked) log told.start told.moves told.passed (voice_output voice) state
 
 -- it is closed, and these bytes came after the stream
 pub record HasTold (voice : Voice) (told : Told) (last : List ℕ) : Type 0 where

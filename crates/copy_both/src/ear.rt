@@ -94,7 +94,7 @@ impl Ear {
         }
     }
 
-    /// Hears the next bytes, as `hear` does, and counts all replies that are wanted.
+    /// Hears the next bytes, as `hear` does, and counts all requested replies.
     pub(crate) fn listen(
         &mut self,
         piece: &[u8],

@@ -7,8 +7,8 @@ ghost use Rattle.copy_both.specs.Framing.{opening};
 use copy_frames::XLogData;
 use filter_tree::{Row, Table};
 use pgoutput_msgs::{
-    MessageSink, Msg, encode, encode_delete, encode_insert, encode_truncate, encode_update, oid_of,
-    put_byte, put_int32, put_int64, relation_of,
+    MessageSink, Msg, begin_message, commit_message, encode, encode_delete, encode_insert,
+    encode_truncate, encode_update, oid_of, put_byte, put_int32, put_int64, relation_of,
 };
 use replica_identity::OldPart;
 use std::alloc::{AllocError, Global};
@@ -110,12 +110,7 @@ impl Frames {
         ensures { OnOk result (AddsFrame self.old self.new (begin_of commit.now)) }
     {
         self.bytes.reserve(room_of(commit.changes().len()))?;
-        let message = Msg::Begin {
-            final_lsn: 64 * u64::from(commit.number()),
-            time: commit.time(),
-            xid: commit.number() + 2,
-        };
-        self.add(&message)?;
+        self.add(&begin_message(commit))?;
         Ok(())
     }
 
@@ -123,13 +118,8 @@ impl Frames {
     pub(crate) fn end(&mut self, commit: &Commit) -> Result<(), AllocError>
         ensures { OnOk result (AddsFrame self.old self.new (commit_of commit.now)) }
     {
-        let lsn = 64 * u64::from(commit.number());
-        let message = Msg::Commit {
-            lsn,
-            end_lsn: lsn + 64,
-            time: commit.time(),
-        };
-        self.add(&message)
+        self.add(&commit_message(commit))?;
+        Ok(())
     }
 }
 

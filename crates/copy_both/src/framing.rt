@@ -15,25 +15,27 @@ use std::alloc::{AllocError, Global};
 use tables_log::Commit;
 
 /// The frames of the messages that report a commit to the subscriber, each an XLogData with this head: those of
-/// `messages_of`. None if no change is for it. `told` says by a table's number whether its Relation was sent. The only
-/// error is out of memory.
+/// `messages_of`. None if no change is for it. `relation_sent` is, for each table by its number, whether its Relation
+/// was sent. The only error is out of memory.
 pub(crate) fn commit_frames(
     alloc: Global,
     checked: &Checked,
     slot: usize,
     commit: &Commit,
-    told: &mut [bool],
+    relation_sent: &mut [bool],
     head: XLogData,
 ) -> Result<Vec<u8>, AllocError>
     ensures frames { IfOk result (λ frames. frames.items
-        ≡ frames_with head (messages_for (checked_view checked.now) slot told.old commit.now)) }
-    ensures told { OnOk result (told.new ≡ told_after (checked_view checked.now) slot told.old commit.now) }
-    ensures texts { OnOk result (All HasTexts (messages_for (checked_view checked.now) slot told.old commit.now)) }
+        ≡ frames_with head (messages_for (checked_view checked.now) slot relation_sent.old commit.now)) }
+    ensures relation_sent { OnOk result
+        (relation_sent.new ≡ told_after (checked_view checked.now) slot relation_sent.old commit.now) }
+    ensures texts { OnOk result
+        (All HasTexts (messages_for (checked_view checked.now) slot relation_sent.old commit.now)) }
 {
     let mut frames = Frames::new(alloc, head);
     frames.begin(commit)?;
     let begun = frames.bytes.len();
-    tell_changes(alloc, checked, slot, commit, told, &mut frames)?;
+    tell_changes(alloc, checked, slot, commit, relation_sent, &mut frames)?;
     if frames.bytes.len() == begun {
         return Ok(Vec::new(alloc));
     }

@@ -2,7 +2,7 @@
 
 use crate::heard::Heard;
 
-/// What was heard in a piece so far, and the sent position. All replies that are wanted are counted.
+/// What was heard in a piece so far, and the sent position. All requested replies are counted.
 #[derive(Clone, Copy)]
 pub(crate) struct Hearing {
     pub(crate) started: Option<u64>,

@@ -70,10 +70,10 @@ impl Link {
     }
 
     /// Hears the next bytes that the client sends, in whatever pieces they come, up to a fault or an end, and sends the
-    /// answers, in this order: CopyBothResponse if the stream starts, a keepalive that wants no status for each status
-    /// that wants a reply, and CopyDone if the client ended the stream with it. A start that is refused is answered
-    /// with its ErrorResponse. After any other fault there is no answer, not even to what was heard before it in the
-    /// piece. `now` is the clock, in microseconds since 2000-01-01.
+    /// answers, in this order: CopyBothResponse if the stream starts, a keepalive that requests no status for each
+    /// status that requests a reply, and CopyDone if the client ended the stream with it. A start that is refused is
+    /// answered with its ErrorResponse. After any other fault there is no answer, not even to what was heard before it
+    /// in the piece. `now` is the clock, in microseconds since 2000-01-01.
     ///
     /// # Errors
     ///
@@ -141,7 +141,7 @@ impl Link {
         let next = match &self.voice.stage {
             Stage::NotStarted => return Ok(Taken::NotStarted),
             Stage::Closed => return Err(LinkFault::Closed),
-            Stage::Started(place) => entry_after(book, place.done),
+            Stage::Started(state) => entry_after(book, state.done),
         };
         let Some(commit) = next else {
             return Ok(Taken::Idle);
@@ -153,7 +153,7 @@ impl Link {
         taken
     }
 
-    /// Sends a keepalive with the sent position and this clock, in microseconds since 2000-01-01, which may want a
+    /// Sends a keepalive with the sent position and this clock, in microseconds since 2000-01-01, which may request a
     /// status. Returns false if the stream has not started: then nothing is sent.
     ///
     /// # Errors

@@ -16,12 +16,13 @@ use crate::hearing::Hearing;
 use crate::link_fault::LinkFault;
 use crate::sql_state::SqlState;
 use crate::start_order::{Offer, book_refusal};
+use crate::stream_state::first_sent;
 use bytes::BytesMut;
 use copy_frames::{Frame, Status};
 use shard_checker::Checked;
 use std::alloc::{AllocError, Global};
 use std::sync::Arc;
-use tables_log::{Book, StartError};
+use tables_log::{Book, Lsn, StartError};
 
 /// What was agreed with a client: the slot that streams and where in the log the stream starts, in bytes, or the
 /// response to a start that was refused.
@@ -75,7 +76,7 @@ impl Session {
         let (slot, start) = self.begin(frame, book)?;
         self.started = Some((slot, start));
         hearing.started = Some(start);
-        hearing.sent = if start == 0 { 64 } else { start };
+        hearing.sent = first_sent(start);
         Ok(())
     }
 
@@ -189,5 +190,5 @@ impl Session {
 fn end_of(book: &Book) -> u64
     ensures { result ≡ end_after (length (book_log book.now)) }
 {
-    64 * u64::from(book.log_len()) + 64
+    Lsn::end_of_commit(book.log_len()).to_u64()
 }

@@ -1,7 +1,7 @@
 //! The half of a connection's end that sends.
 
 use crate::link_fault::LinkFault;
-use crate::place::Place;
+use crate::stream_state::StreamState;
 use crate::taken::Taken;
 use bytes::BytesMut;
 use copy_frames::{Keepalive, append_copy_both_response, append_copy_done, append_keepalive};
@@ -14,7 +14,7 @@ use tables_log::Commit;
 #[derive(Drop)]
 pub(crate) enum Stage {
     NotStarted,
-    Started(Place),
+    Started(StreamState),
     Closed,
 }
 
@@ -90,9 +90,9 @@ impl Voice {
             Stage::Started(_) | Stage::Closed => return Err(LinkFault::Closed),
         }
         let tables = self.checked.catalog().tables.len();
-        let place = Place::new(self.alloc, slot, tables, position)?;
+        let state = StreamState::new(self.alloc, slot, tables, position)?;
         append_copy_both_response(&mut self.out)?;
-        self.stage = Stage::Started(place);
+        self.stage = Stage::Started(state);
         Ok(())
     }
 
@@ -142,8 +142,8 @@ impl Voice {
         match &mut self.stage {
             Stage::NotStarted => Ok(Taken::NotStarted),
             Stage::Closed => Err(LinkFault::Closed),
-            Stage::Started(place) => {
-                Ok(place.take(self.alloc, &self.checked, commit, now, &mut self.out)?)
+            Stage::Started(state) => {
+                Ok(state.take(self.alloc, &self.checked, commit, now, &mut self.out)?)
             }
         }
     }
@@ -158,12 +158,12 @@ impl Voice {
             (spec.entry_bytes (voice_checked self.old) (voice_stage self.old) commit.now clock)
             (spec.entry_stage (voice_checked self.old) (voice_stage self.old) commit.now) }
     {
-        if let Stage::Started(place) = &mut self.stage {
-            place.skip(commit.number());
+        if let Stage::Started(state) = &mut self.stage {
+            state.skip(commit.number());
         }
     }
 
-    /// Sends a keepalive with the sent position and this clock, in microseconds since 2000-01-01, which may want a
+    /// Sends a keepalive with the sent position and this clock, in microseconds since 2000-01-01, which may request a
     /// status. Returns false if the stream has not started: then nothing is sent.
     ///
     /// # Errors
@@ -194,7 +194,7 @@ impl Voice {
         let position = match &self.stage {
             Stage::NotStarted => return Ok(false),
             Stage::Closed => return Err(LinkFault::Closed),
-            Stage::Started(place) => place.sent,
+            Stage::Started(state) => state.sent.to_u64(),
         };
         let keepalive = Keepalive {
             position,
@@ -258,7 +258,7 @@ impl Voice {
     {
         match &self.stage {
             Stage::NotStarted | Stage::Closed => None,
-            Stage::Started(place) => Some(place.done + 1),
+            Stage::Started(state) => Some(state.done + 1),
         }
     }
 
@@ -269,7 +269,7 @@ impl Voice {
     {
         match &self.stage {
             Stage::NotStarted | Stage::Closed => None,
-            Stage::Started(place) => Some(place.sent),
+            Stage::Started(state) => Some(state.sent.to_u64()),
         }
     }
 

@@ -12,10 +12,10 @@ use Rattle.copy_both.proofs.framing.commit_frames.Goals as goal
 
 nothing_said : (c : goal.After-drop-frames-then-len-begun)
     → enclosed c.args.commit.now
-    (said_each (checked_view c.args.checked.now) c.args.slot c.args.told.now c.args.commit.now.changes) ≡ []
+    (said_each (checked_view c.args.checked.now) c.args.slot c.args.relation_sent.now c.args.commit.now.changes) ≡ []
 nothing_said c =
     none_framed c.args.commit.now c.begin.new.self c.tell_changes.new.sink
-    (said_each (checked_view c.args.checked.now) c.args.slot c.args.told.now c.args.commit.now.changes)
+    (said_each (checked_view c.args.checked.now) c.args.slot c.args.relation_sent.now c.args.commit.now.changes)
     c.in_ok-tell_changes.ensures.said
     (sym c.tell_changes.new.sink.bytes.ok.0 ∙ sym c.len.ensures ∙ c.if-len-begun.true ∙ c.len-begun.ensures
     ∙ c.begin.new.self.bytes.ok.0)
@@ -29,10 +29,10 @@ returns-then-len-begun-clause-texts c = subst (All HasTexts) (sym (nothing_said 
 all_said : (c : goal.In_ok-end)
     → AddsFrames c.new-frames.result c.end.new.self
     (enclosed c.args.commit.now
-    (said_each (checked_view c.args.checked.now) c.args.slot c.args.told.now c.args.commit.now.changes))
+    (said_each (checked_view c.args.checked.now) c.args.slot c.args.relation_sent.now c.args.commit.now.changes))
 all_said c =
     commit_framed c.args.commit.now c.new-frames.result c.begin.new.self c.tell_changes.new.sink c.end.new.self
-    (said_each (checked_view c.args.checked.now) c.args.slot c.args.told.now c.args.commit.now.changes)
+    (said_each (checked_view c.args.checked.now) c.args.slot c.args.relation_sent.now c.args.commit.now.changes)
     c.in_ok-begin.ensures c.in_ok-tell_changes.ensures.said
     (λ same. c.if-len-begun.false
     (c.len.ensures ∙ c.tell_changes.new.sink.bytes.ok.0 ∙ same ∙ sym c.begin.new.self.bytes.ok.0
@@ -43,7 +43,7 @@ pub returns-clause-frames : goal.returns-clause-frames
 returns-clause-frames c =
     let messages : List Msg =
     enclosed c.args.commit.now
-    (said_each (checked_view c.args.checked.now) c.args.slot c.args.told.now c.args.commit.now.changes) in
+    (said_each (checked_view c.args.checked.now) c.args.slot c.args.relation_sent.now c.args.commit.now.changes) in
     (all_said c).appended
     ∙ ap (λ (x : List ℕ). x ++ frames_with c.new-frames.result.head messages) c.new-frames.ensures.bytes
     ∙ ap (λ (head : XLogData). frames_with head messages) c.new-frames.ensures.head

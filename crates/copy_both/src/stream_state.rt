@@ -1,0 +1,109 @@
+//! How far a stream has come.
+
+ghost use Rattle.std.specs.Prelude.{◌≡◌, ◌<◌, ◌^◌};
+ghost use Rattle.copy_both.specs.Streams as spec;
+
+use crate::framing::{append_frames, commit_frames};
+use crate::taken::Taken;
+use bytes::BytesMut;
+use copy_frames::XLogData;
+use shard_checker::Checked;
+use std::alloc::{AllocError, Global};
+use tables_log::{Commit, Lsn};
+
+/// The sent position of a stream that starts at this position and has sent nothing: this one, or where the log begins
+/// if it is 0.
+pub fn first_sent(start: u64) -> u64
+    ensures { result ≡ spec.first_sent start }
+{
+    if start == 0 {
+        return Lsn::of_commit(1).to_u64();
+    }
+    start
+}
+
+/// How far a stream has come: its slot, the number of commits that are done, for each table whether its Relation was
+/// sent, and the sent position.
+#[derive(Drop)]
+pub(crate) struct StreamState {
+    pub(crate) slot: usize,
+    pub(crate) done: u64,
+    pub(crate) relation_sent: Vec<bool>,
+    pub(crate) sent: Lsn,
+    ghost within: { done < 2 ^ 60 },
+}
+
+impl StreamState {
+    ghost use Rattle.std.specs.Prelude.{◌≡◌, ◌+◌, ◌++◌, IfOk, OnOk, OnErr};
+    ghost use Rattle.shard_checker.specs.CheckedView.{checked_view};
+    ghost use Rattle.pgoutput_msgs.specs.Telling.{messages_for};
+    ghost use Rattle.copy_both.specs.Streams.{state_at, state_after, take_bytes};
+    ghost use Rattle.copy_both.specs.Tellings.{telling_of};
+    ghost use Rattle.copy_both.specs.Voices.{AreReadBack, state_past, state_view, taken_of};
+
+    /// A stream that starts at the position. No Relation of the `tables` tables was sent.
+    pub(crate) fn new(
+        alloc: Global,
+        slot: usize,
+        tables: usize,
+        position: u64,
+    ) -> Result<StreamState, AllocError>
+        ensures { IfOk result (λ state. state_view state ≡ state_at slot tables position) }
+    {
+        let relation_sent = vec![in alloc; false; tables]?;
+        Ok(StreamState {
+            slot,
+            done: Lsn::new(position).commits_before(),
+            relation_sent,
+            sent: Lsn::new(first_sent(position)),
+        })
+    }
+
+    /// Takes the next commit, whose frames are added to `out`. The only error is out of memory.
+    pub(crate) fn take(
+        &mut self,
+        alloc: Global,
+        checked: &Checked,
+        commit: &Commit,
+        now: u64,
+        out: &mut BytesMut,
+    ) -> Result<Taken, AllocError>
+        requires { commit.now.number ≡ self.old.done + 1 }
+        ensures taken { IfOk result (λ taken. taken ≡ taken_of commit.now.number
+            (messages_for (checked_view checked.now) self.old.slot self.old.relation_sent.items commit.now)) }
+        ensures state { OnOk result (state_view self.new
+            ≡ state_after (telling_of (checked_view checked.now)) (state_view self.old) commit.now) }
+        ensures said { OnOk result (out.new.items ≡ out.old.items
+            ++ take_bytes (telling_of (checked_view checked.now)) (state_view self.old) commit.now now) }
+        ensures read_back { OnOk result (AreReadBack (checked_view checked.now) (state_view self.old) commit.now) }
+        ensures err { OnErr result (out.new.items ≡ out.old.items) }
+    {
+        let number = commit.number();
+        let lsn = Lsn::of_commit(number).to_u64();
+        let head = XLogData {
+            start: lsn,
+            end: lsn,
+            clock: now,
+        };
+        let relation_sent = self.relation_sent.as_mut_slice();
+        let frames = commit_frames(alloc, checked, self.slot, commit, relation_sent, head)?;
+        let taken = if frames.is_empty() {
+            Taken::Skipped(number)
+        } else {
+            Taken::Sent(number)
+        };
+        append_frames(frames, out)?;
+        self.done += 1;
+        self.sent = Lsn::end_of_commit(number);
+        Ok(taken)
+    }
+
+    /// Passes the commit of the next number, of which nothing is sent.
+    pub(crate) fn skip(&mut self, number: u32)
+        requires { number ≡ self.old.done + 1 }
+        ensures { state_view self.new ≡ state_past (state_view self.old) number }
+    {
+        self.done += 1;
+        self.sent = Lsn::end_of_commit(number);
+    }
+}
