@@ -14,12 +14,15 @@ use Rattle.filter_tree.specs.declared.filter.Filter.{Filter}
 use Rattle.filter_tree.specs.declared.tri.Tri.{Tri}
 use Rattle.filter_tree.specs.declared.tri.Tri.TheVariants.{True, False, Null}
 use Rattle.filter_memo.specs.Bits.{Adds, Joins, IsNothing}
+use Rattle.filter_memo.specs.Intervals.{AreAlike, IsWithin}
 use Rattle.filter_memo.specs.Places.{IsPlace}
-use Rattle.filter_memo.specs.Telling.{part_at, has_number, told_at, Told, Tells, numbers_in, numbers_of, numbers_at, IsSettled, IsCell, AreCells, AreTold, Judges}
+use Rattle.filter_memo.specs.declared.interval.Interval.{Interval}
+use Rattle.filter_memo.specs.Telling.{part_at, has_number, told_at, Told, Tells, numbers_in, numbers_of, numbers_at, IsSettled, IsCell, IsInterval, AreCells, AreTold, Judges}
 use Rattle.filter_memo.specs.declared.place.Place.{Place}
 use Rattle.filter_memo.specs.declared.said.Said.{Said}
 use Rattle.filter_memo.specs.declared.scale.Scale.{Scale}
 use Rattle.filter_memo.specs.declared.telling.Cell.{Cell}
+use Rattle.filter_memo.specs.declared.telling.Cells.{Cells}
 
 -- ---- a row's values
 
@@ -98,8 +101,8 @@ cell_is cell scale place p q =
     ap (λ (n : ℕ). record { scale = n; place = cell.place; said = cell.said }) p
     ∙ ap (λ (at : Place). record { scale = scale; place = at; said = cell.said }) q
 
-module _ {A : _} (parts : List (Filter A)) (scales : List Scale) (cells : List (Option Cell))
-    (are : AreCells parts scales cells) (row : List Datum) where
+module _ {A : _} (parts : List (Filter A)) (scales : List Scale) (cells : Cells) (are : AreCells parts scales cells)
+    (row : List Datum) where
   -- a scale that is not there
   pub no_scale : (number : ℕ) (said : Said) → slice_get scales number ≡ None → IsNothing said
       → Judges parts scales cells (numbers_at scales number) row said
@@ -113,15 +116,15 @@ module _ {A : _} (parts : List (Filter A)) (scales : List Scale) (cells : List (
       (at : IsPlace scale.bounds.items (term_value scale.term row) place) where
     -- values that are kept
     pub kept_before : (index : ℕ) (said : Said)
-        → slice_get cells index ≡ Some (Some (record { scale = number; place = place; said = said }))
+        → slice_get cells.places.items index ≡ Some (Some (record { scale = number; place = place; said = said }))
         → Judges parts scales cells (numbers_at scales number) row said
     kept_before index said found =
-        let within : index < length cells =
-        slice_get_within cells index (Some (record { scale = number; place = place; said = said })) found in
-        let held : get_or cells index None ≡ Some (record { scale = number; place = place; said = said }) =
-        get_or_from_slice_get cells index (Some (record { scale = number; place = place; said = said })) None found in
+        let within : index < length cells.places.items =
+        slice_get_within cells.places.items index (Some (record { scale = number; place = place; said = said })) found in
+        let held : get_or cells.places.items index None ≡ Some (record { scale = number; place = place; said = said }) =
+        get_or_from_slice_get cells.places.items index (Some (record { scale = number; place = place; said = said })) None found in
         let cell : IsCell parts scales (Some (record { scale = number; place = place; said = said })) =
-        subst (IsCell parts scales) held (All-get_or (IsCell parts scales) cells index None within are.each) in
+        subst (IsCell parts scales) held (All-get_or (IsCell parts scales) cells.places.items index None within are.places) in
         record {
           kept = are;
           told = subst (λ (numbers : List ℕ). Told parts numbers row said) (sym (ap numbers_of is)) (cell scale row is at);
@@ -138,6 +141,7 @@ module _ {A : _} (parts : List (Filter A)) (scales : List Scale) (cells : List (
         (settled.same row later place said at
         (subst (λ (s : Scale). IsPlace s.bounds.items (term_value s.term later) place) same at_later) told)
 
+  module _ (number : ℕ) (scale : Scale) (is : slice_get scales number ≡ Some scale) where
     -- values that are not kept
     pub not_kept : (said : Said) → Told parts scale.numbers.items row said
         → Judges parts scales cells (numbers_at scales number) row said
@@ -147,11 +151,44 @@ module _ {A : _} (parts : List (Filter A)) (scales : List Scale) (cells : List (
     }
 
     -- values that are kept now
-    pub kept_now : (index : ℕ) (said : Said) (new : List (Option Cell)) → Told parts scale.numbers.items row said
-        → All (IsCell parts scales) new → Judges parts scales new (numbers_at scales number) row said
-    kept_now index said new told all = record {
-      kept = record { settled = are.settled; each = all };
+    pub kept_now : (said : Said) (new : Cells) → Told parts scale.numbers.items row said
+        → All (IsCell parts scales) new.places.items → All (IsInterval parts scales) new.intervals.items
+        → Judges parts scales new (numbers_at scales number) row said
+    kept_now said new told places intervals = record {
+      kept = record { settled = are.settled; places = places; intervals = intervals };
       told = subst (λ (numbers : List ℕ). Told parts numbers row said) (sym (ap numbers_of is)) told;
+    }
+
+    -- values of an interval that are kept
+    pub interval_before : (index : ℕ) (interval : Interval) → slice_get cells.intervals.items index ≡ Some interval
+        → interval.scale ≡ number → IsWithin (term_value scale.term row) interval.low interval.high
+        → Judges parts scales cells (numbers_at scales number) row interval.said
+    interval_before index interval found own within =
+        let here : index < length cells.intervals.items =
+        slice_get_within cells.intervals.items index interval found in
+        let held : IsInterval parts scales interval =
+        subst (IsInterval parts scales) (get_or_from_slice_get cells.intervals.items index interval interval found)
+        (All-get_or (IsInterval parts scales) cells.intervals.items index interval here are.intervals) in
+        record {
+          kept = are;
+          told = subst (λ (numbers : List ℕ). Told parts numbers row interval.said) (sym (ap numbers_of is))
+              (held.tells scale row (ap (slice_get scales) own ∙ is) within);
+        }
+
+    pub new_interval : (interval : Interval) → interval.scale ≡ number
+        → AreAlike scale.bounds.items interval.low interval.high
+        → IsWithin (term_value scale.term row) interval.low interval.high
+        → Told parts scale.numbers.items row interval.said → IsInterval parts scales interval
+    new_interval interval own alike within told = record {
+      tells = λ other later found within_later.
+          let held : slice_get scales number ≡ Some other = ap (slice_get scales) (sym own) ∙ found in
+          let same : other ≡ scale = cc in
+          let settled : IsSettled parts scale =
+          subst (IsSettled parts) (get_or_from_slice_get scales number scale scale is)
+          (All-get_or (IsSettled parts) scales number scale (slice_get_within scales number scale is) are.settled) in
+          subst (λ (s : Scale). Told parts s.numbers.items later interval.said) (sym same)
+          (settled.alike row later interval.low interval.high interval.said alike within
+          (subst (λ (s : Scale). IsWithin (term_value s.term later) interval.low interval.high) same within_later) told);
     }
 
 -- ---- all scales

@@ -5,3 +5,4 @@ pub mod Judging
 pub mod Memos
 pub mod Planning
 pub mod Sides
+pub mod WithinInterval

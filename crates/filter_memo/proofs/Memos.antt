@@ -8,20 +8,21 @@ use Rattle.std.proofs.lemmas.Option.{get_or_from_slice_get, slice_get_within}
 use Rattle.std.proofs.lemmas.Slice.Zip.{AllZip-left}
 use Rattle.std.specs.List.Sorted.{IsSorted}
 use Rattle.std.proofs.lemmas.List.Elements.{All-nil, All-cons, All-head, All-tail}
-use Rattle.filter_tree.specs.Datum.{Datum}
+use Rattle.filter_tree.specs.Datum.{Constant, Datum, Known}
 use Rattle.filter_tree.specs.Expr.{AtomOf, term_of, term_value, atom_meaning, said_of, Expr, Const, Atom, Not, And, Or, Is, meaning}
 use Rattle.filter_tree.specs.Logic.{not_of, is_of}
+use Rattle.filter_tree.specs.Order.{datum_cmp}
 use Rattle.filter_tree.specs.Same.{same_term}
 use Rattle.filter_tree.specs.declared.filter.Filter.{Filter}
 use Rattle.filter_tree.specs.declared.filter.Term.{Term}
 use Rattle.filter_tree.specs.declared.value.Value.{Value}
 use Rattle.filter_tree.proofs.SameLemmas.{same_term_is}
 use Rattle.filter_tree.proofs.Tests.{by_test, both_true}
-use Rattle.filter_memo.specs.Covering.{has_constants, covers}
+use Rattle.filter_memo.specs.Covering.{has, has_constants, covers}
 use Rattle.filter_memo.specs.Memos.{says, SayTheSame, Follows, IsKept, IsMemoOf, IsLocated, AreEmpty}
-use Rattle.filter_memo.specs.Places.{value_cmp, IsPlace}
+use Rattle.filter_memo.specs.Places.{value_cmp, kind_of, IsPlace}
 use Rattle.filter_memo.specs.Plans.{said_by, IsPlanOf, IsPlanFor, ArePlans}
-use Rattle.filter_memo.specs.Telling.{part_at, told_at, Tells, IsSettled, AreSettled, IsCell, AreCells, AreTold}
+use Rattle.filter_memo.specs.Telling.{part_at, told_at, Tells, IsSettled, AreSettled, IsCell, IsInterval, AreCells, AreNew, AreTold}
 use Rattle.filter_memo.specs.declared.memo.Kept.{Kept}
 use Rattle.filter_memo.specs.declared.memo.Memo.{Memo}
 use Rattle.filter_memo.specs.declared.place.Place.{Place}
@@ -30,12 +31,14 @@ use Rattle.filter_memo.specs.declared.said.Said.{Said}
 use Rattle.filter_memo.specs.declared.scale.Scale.{Scale}
 use Rattle.filter_memo.proofs.Alike.{atom_alike}
 use Rattle.filter_memo.proofs.Sides.{same_side}
+use Rattle.filter_memo.proofs.WithinInterval.{same_interval, no_number}
 
 -- ---- rows at the same place
 
-module _ {A : _} (term : Term) (bounds : List (Value A)) (sorted : IsSorted value_cmp bounds) (one other : List Datum)
-    (place : Place) (at_one : IsPlace bounds (term_value term one) place)
-    (at_other : IsPlace bounds (term_value term other) place) where
+module _ {A : _} (term : Term) (bounds : List (Value A)) (one other : List Datum)
+    (kind : kind_of (term_value term one) ≡ kind_of (term_value term other))
+    (side : (k : Constant) → has bounds k ≡ true
+    → datum_cmp (Known k) (term_value term one) ≡ datum_cmp (Known k) (term_value term other)) where
   -- the atom is of the term, and its constants are bounds
   atom_says : (atom : AtomOf) → same_term term (term_of atom) ≡ true → has_constants bounds atom ≡ true
       → atom_meaning atom one ≡ atom_meaning atom other
@@ -44,8 +47,7 @@ module _ {A : _} (term : Term) (bounds : List (Value A)) (sorted : IsSorted valu
       let v = term_value term one in
       let w = term_value term other in
       let said : said_of atom v ≡ said_of atom w =
-      atom_alike bounds v w (sym at_one.kind ∙ at_other.kind) (same_side bounds sorted v w place at_one at_other) atom
-      constants in
+      atom_alike bounds v w kind side atom constants in
       ap (λ t. said_of atom (term_value t one)) (sym is)
       ∙ (said ∙ ap (λ t. said_of atom (term_value t other)) is)
 
@@ -91,8 +93,16 @@ pub scale_settled : {B : _} (scale : Scale) (parts : List (Filter B)) → IsSort
 scale_settled scale parts sorted covered = record {
   same = λ one other place said at_one at_other told. record {
     each = λ number within. told.each number within
-        ∙ told_alike scale.term scale.bounds.items sorted one other place at_one at_other parts scale.numbers.items
-        covered number;
+        ∙ told_alike scale.term scale.bounds.items one other (sym at_one.kind ∙ at_other.kind)
+        (same_side scale.bounds.items sorted (term_value scale.term one) (term_value scale.term other) place at_one
+        at_other) parts scale.numbers.items covered number;
+  };
+  alike = λ one other low high said alike at_one at_other told. record {
+    each = λ number within. told.each number within
+        ∙ told_alike scale.term scale.bounds.items one other
+        (ap kind_of at_one.is ∙ sym (ap kind_of at_other.is))
+        (same_interval scale.bounds.items (term_value scale.term one) (term_value scale.term other) low high alike
+        at_one at_other) parts scale.numbers.items covered number;
   };
 }
 
@@ -118,13 +128,15 @@ filters_say parts one other said at_one at_other (filter ∷ filters) (plan ∷ 
 
 -- a memo that has no text yet
 pub fresh : (memo : Memo) (filters : List (Option Expr)) (text_of : List Datum → List ℕ)
-    → AreSettled memo.parts.items memo.scales.items → All (λ cell. cell ≡ None) memo.cells.items
+    → AreSettled memo.parts.items memo.scales.items → AreNew memo.cells
     → AreTold memo.scales.items (length memo.parts.items) → ArePlans memo.parts.items filters memo.plans.items
     → AreEmpty memo.slots.items → Follows filters text_of → IsMemoOf filters text_of memo
 fresh memo filters text_of settled empty told plans no_slot follows = record {
   cells = record {
     settled = settled;
-    each = λ k d within. subst (λ cell. IsCell memo.parts.items memo.scales.items cell) (sym (empty k d within)) tt;
+    places = λ k d within.
+        subst (λ cell. IsCell memo.parts.items memo.scales.items cell) (sym (empty.places k d within)) tt;
+    intervals = λ k d within. no_number memo.parts.items memo.scales.items _ (empty.intervals k d within);
   };
   told = λ used. told;
   plans = λ used. plans;
@@ -137,12 +149,15 @@ fresh memo filters text_of settled empty told plans no_slot follows = record {
 
 -- a memo that is not used
 pub unused : (memo : Memo) (filters : List (Option Expr)) (text_of : List Datum → List ℕ) → memo.is_used ≡ false
-    → memo.scales.items ≡ [] → memo.cells.items ≡ [] → memo.slots.items ≡ [] → IsMemoOf filters text_of memo
-unused memo filters text_of not_used no_scale no_cell no_slot = record {
+    → memo.scales.items ≡ [] → memo.cells.places.items ≡ [] → memo.cells.intervals.items ≡ []
+    → memo.slots.items ≡ [] → IsMemoOf filters text_of memo
+unused memo filters text_of not_used no_scale no_place no_interval no_slot = record {
   cells = record {
     settled = subst (λ scales. AreSettled memo.parts.items scales) (sym no_scale) (All-nil (IsSettled memo.parts.items));
-    each = subst (λ cells. All (IsCell memo.parts.items memo.scales.items) cells) (sym no_cell)
+    places = subst (λ cells. All (IsCell memo.parts.items memo.scales.items) cells) (sym no_place)
         (All-nil (IsCell memo.parts.items memo.scales.items));
+    intervals = subst (λ cells. All (IsInterval memo.parts.items memo.scales.items) cells) (sym no_interval)
+        (All-nil (IsInterval memo.parts.items memo.scales.items));
   };
   told = λ used. absurd (never used);
   plans = λ used. absurd (never used);
@@ -189,7 +204,7 @@ module _ (memo : Memo) (filters : List (Option Expr)) (text_of : List Datum → 
 pub other_cells : (old new : Memo) (filters : List (Option Expr)) (text_of : List Datum → List ℕ)
     → IsMemoOf filters text_of old → new.parts ≡ old.parts → new.plans ≡ old.plans → new.scales ≡ old.scales
     → new.slots ≡ old.slots → new.is_used ≡ old.is_used
-    → AreCells old.parts.items old.scales.items new.cells.items → IsMemoOf filters text_of new
+    → AreCells old.parts.items old.scales.items new.cells → IsMemoOf filters text_of new
 other_cells old new filters text_of is parts plans scales slots used cells = record {
   cells = rw (parts, scales) cells;
   told = λ own. rw (parts, scales) (is.told (sym used ∙ own));

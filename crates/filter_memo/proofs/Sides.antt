@@ -20,7 +20,7 @@ use Rattle.filter_memo.specs.declared.place.Place.{Place}
 use Rattle.filter_memo.proofs.Finding.{index_of}
 
 -- values that tie are the same
-tied : (v w : Datum) → datum_cmp v w ≡ Equal → v ≡ w
+pub tied : (v w : Datum) → datum_cmp v w ≡ Equal → v ≡ w
 tied v w e =
     let rows : row_cmp (v ∷ []) (w ∷ []) ≡ Equal = rw e refl in
     let same : (v ∷ []) ≡ (w ∷ []) = row_tie _ _ rows in

@@ -1,5 +1,6 @@
 pub mod Bits
 pub mod Covering
+pub mod Intervals
 pub mod Memos
 pub mod Places
 pub mod Plans

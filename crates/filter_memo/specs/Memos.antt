@@ -38,7 +38,7 @@ IsKept parts text_of (Some kept) =
 
 -- the memo is of these filters, and has this text of each row that it has a text of
 pub record IsMemoOf (filters : List (Option Expr)) (text_of : List Datum → List ℕ) (memo : Memo) : Type 0 where
-  pub cells : AreCells memo.parts.items memo.scales.items memo.cells.items
+  pub cells : AreCells memo.parts.items memo.scales.items memo.cells
   pub told : memo.is_used ≡ true → AreTold memo.scales.items (length memo.parts.items)
   pub plans : memo.is_used ≡ true → ArePlans memo.parts.items filters memo.plans.items
   pub text : memo.is_used ≡ true → IsText memo.parts.items text_of

@@ -1,5 +1,5 @@
 -- What numbered filters say of a row: row filters of PostgreSQL 15, "Logical Replication", 31.3 Row Filters.
-use Rattle.std.specs.Prelude.{◌≡◌, ◌<◌, ◌==◌, ℕ, Bool, true, false, if◌then◌else◌, List, [], length, Option, Some, None, slice_get, All}
+use Rattle.std.specs.Prelude.{◌≡◌, ◌<◌, ◌==◌, ℕ, ℤ, Bool, true, false, if◌then◌else◌, List, [], length, Option, Some, None, slice_get, All}
 use Rattle.std.specs.List.{flat_map, list_any}
 use Rattle.filter_tree.specs.Datum.{Datum}
 use Rattle.filter_tree.specs.Expr.{Expr, Const, meaning, term_value}
@@ -8,11 +8,14 @@ use Rattle.filter_tree.specs.declared.filter.Filter.{Filter}
 use Rattle.filter_tree.specs.declared.tri.Tri.{Tri}
 use Rattle.filter_tree.specs.declared.tri.Tri.TheVariants.{False}
 use Rattle.filter_memo.specs.Bits.{said_at}
+use Rattle.filter_memo.specs.Intervals.{AreAlike, IsWithin, HasNoNumber}
 use Rattle.filter_memo.specs.Places.{IsPlace}
+use Rattle.filter_memo.specs.declared.interval.Interval.{Interval}
 use Rattle.filter_memo.specs.declared.place.Place.{Place}
 use Rattle.filter_memo.specs.declared.said.Said.{Said}
 use Rattle.filter_memo.specs.declared.scale.Scale.{Scale}
 use Rattle.filter_memo.specs.declared.telling.Cell.{Cell}
+use Rattle.filter_memo.specs.declared.telling.Cells.{Cells}
 
 -- ---- filters by their numbers
 
@@ -56,11 +59,14 @@ numbers_at scales at = numbers_of (slice_get scales at)
 pub record AreTold (scales : List Scale) (count : ℕ) : Type 0 where
   pub each : (number : ℕ) → number < count → has_number (numbers_in scales) number ≡ true
 
--- the scale's filters say the same of rows at the same place
+-- the scale's filters say the same of rows at the same place, and of rows in an interval without constants
 pub record IsSettled {A : _} (parts : List (Filter A)) (scale : Scale) : Type 0 where
   pub same : (one other : List Datum) (place : Place) (said : Said)
       → IsPlace scale.bounds.items (term_value scale.term one) place
       → IsPlace scale.bounds.items (term_value scale.term other) place
+      → Told parts scale.numbers.items one said → Told parts scale.numbers.items other said
+  pub alike : (one other : List Datum) (low high : ℤ) (said : Said) → AreAlike scale.bounds.items low high
+      → IsWithin (term_value scale.term one) low high → IsWithin (term_value scale.term other) low high
       → Told parts scale.numbers.items one said → Told parts scale.numbers.items other said
 
 abbrev pub AreSettled : {A : _} → List (Filter A) → List Scale → Type 0
@@ -74,12 +80,24 @@ IsCell parts scales None = Unit {0}
 IsCell parts scales (Some cell) = (scale : Scale) (row : List Datum) → slice_get scales cell.scale ≡ Some scale
     → IsPlace scale.bounds.items (term_value scale.term row) cell.place → Told parts scale.numbers.items row cell.said
 
-pub record AreCells {A : _} (parts : List (Filter A)) (scales : List Scale) (cells : List (Option Cell)) : Type 0 where
+-- what is kept is what the scale's filters say of each row in the interval
+pub record IsInterval {A : _} (parts : List (Filter A)) (scales : List Scale) (interval : Interval) : Type 0 where
+  pub tells : (scale : Scale) (row : List Datum) → slice_get scales interval.scale ≡ Some scale
+      → IsWithin (term_value scale.term row) interval.low interval.high
+      → Told parts scale.numbers.items row interval.said
+
+pub record AreCells {A : _} (parts : List (Filter A)) (scales : List Scale) (cells : Cells) : Type 0 where
   pub settled : AreSettled parts scales
-  pub each : All (IsCell parts scales) cells
+  pub places : All (IsCell parts scales) cells.places.items
+  pub intervals : All (IsInterval parts scales) cells.intervals.items
+
+-- nothing is kept
+pub record AreNew (cells : Cells) : Type 0 where
+  pub places : All (λ cell. cell ≡ None) cells.places.items
+  pub intervals : All HasNoNumber cells.intervals.items
 
 -- The cells stay so, and the values are those of the row.
-pub record Judges {A : _} (parts : List (Filter A)) (scales : List Scale) (cells : List (Option Cell))
-    (numbers : List ℕ) (row : List Datum) (said : Said) : Type 0 where
+pub record Judges {A : _} (parts : List (Filter A)) (scales : List Scale) (cells : Cells) (numbers : List ℕ)
+    (row : List Datum) (said : Said) : Type 0 where
   pub kept : AreCells parts scales cells
   pub told : Told parts numbers row said

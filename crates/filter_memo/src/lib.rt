@@ -5,6 +5,8 @@
 
 mod bounds;
 mod covering;
+mod interval;
+mod interval_index;
 mod memo;
 mod place;
 mod plan;

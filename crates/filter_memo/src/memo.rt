@@ -9,8 +9,8 @@ ghost use Rattle.filter_memo.specs.Plans.{filters_view};
 use crate::plan::{Plan, parts_of, plans_of};
 use crate::said::Said;
 use crate::scale::Scale;
-use crate::scales::{are_told, cell_count, scales_of};
-use crate::telling::{Cell, empty_cells, look_all};
+use crate::scales::{are_told, cell_counts, scales_of};
+use crate::telling::{Cells, look_all};
 use filter_tree::{Filter, Row, Tri};
 use std::alloc::{AllocError, Global};
 
@@ -31,7 +31,7 @@ pub struct Memo {
     pub parts: Vec<Filter>,
     pub plans: Vec<Plan>,
     pub scales: Vec<Scale>,
-    pub cells: Vec<Option<Cell>>,
+    pub cells: Cells,
     pub slots: Vec<Option<Kept>>,
     pub is_used: bool,
 }
@@ -81,7 +81,10 @@ impl Memo {
             parts: Vec::new(alloc),
             plans: Vec::new(alloc),
             scales: Vec::new(alloc),
-            cells: Vec::new(alloc),
+            cells: Cells {
+                places: Vec::new(alloc),
+                intervals: Vec::new(alloc),
+            },
             slots: Vec::new(alloc),
             is_used: false,
         }
@@ -101,7 +104,8 @@ impl Memo {
         if !are_told(&scales, parts.len()) {
             return Ok(Memo::unused(alloc));
         }
-        let cells = empty_cells(alloc, cell_count(&scales))?;
+        let counts = cell_counts(&scales);
+        let cells = Cells::new(alloc, counts.places, counts.intervals)?;
         Ok(Memo {
             alloc,
             parts,

@@ -1,21 +1,25 @@
 //! Scales: a term of filters, and the constants that it is compared with.
 
-ghost use Rattle.std.specs.Prelude.{◌≡◌};
+ghost use Rattle.std.specs.Prelude.{◌≡◌, int_rem, IfSome};
+ghost use Rattle.filter_tree.specs.Datum.{Known, Number};
 ghost use Rattle.filter_tree.specs.Expr.{remainder_of, term_value};
 ghost use Rattle.filter_tree.specs.Values.{datum_view};
 ghost use Rattle.filter_memo.specs.Places.{IsPlace};
 
+use crate::interval_index::IntervalIndex;
 use crate::place::{Place, place_of};
 use filter_tree::{Row, Term, Value};
 
 /// A term, in ascending order the values that filters compare it with, and the numbers of these filters. Its cells
-/// begin at `base`.
+/// begin at `base`, and its intervals at `first_interval`.
 #[derive(Drop)]
 pub struct Scale {
     pub term: Term,
     pub bounds: Vec<Value>,
     pub numbers: Vec<usize>,
+    pub index: IntervalIndex,
     pub base: usize,
+    pub first_interval: usize,
 }
 
 /// How many cells a scale with so many bounds has.
@@ -48,6 +52,22 @@ pub fn place_in(scale: &Scale, row: &Row) -> Place
         Term::Mod(column, divisor) => match row.get(column) {
             None => place_of(bounds, &Value::Null),
             Some(value) => place_of_remainder(bounds, value, divisor),
+        },
+    }
+}
+
+/// The value of the scale's term in the row, if it is a number.
+pub fn number_in(scale: &Scale, row: &Row) -> Option<i64>
+    ensures { IfSome result (λ number. term_value scale.now.term row.now ≡ Known (Number number)) }
+{
+    match scale.term {
+        Term::Col(column) => match row.get(column) {
+            Some(Value::Int(number)) => Some(*number),
+            _ => None,
+        },
+        Term::Mod(column, divisor) => match row.get(column) {
+            Some(Value::Int(number)) if divisor != 0 => Some(number.wrapping_rem(divisor)),
+            _ => None,
         },
     }
 }

@@ -7,6 +7,7 @@ ghost use Rattle.filter_memo.specs.Telling.{AreSettled, AreTold, IsSettled, numb
 
 use crate::bounds::bounds_of;
 use crate::covering::covers;
+use crate::interval_index::IntervalIndex;
 use crate::scale::{Scale, width};
 use filter_tree::{Filter, Term, Value, same_term};
 use std::alloc::{AllocError, Global};
@@ -46,18 +47,34 @@ fn numbers_of(
     Ok(numbers)
 }
 
-/// The scale of a term, whose cells begin at `base`.
+/// How many cells scales have for places, and how many for intervals.
+#[derive(Clone, Copy, Debug, PartialEq, Eq)]
+pub struct Counts {
+    pub places: usize,
+    pub intervals: usize,
+}
+
+/// The scale of a term, whose cells for places begin at `base`, and those for intervals at `first_interval`.
 #[tactic(auto, using(crate::proofs::Memos::scale_settled))]
-fn scale_of(alloc: Global, term: Term, parts: &[Filter], base: usize) -> Result<Scale, AllocError>
+fn scale_of(
+    alloc: Global,
+    term: Term,
+    parts: &[Filter],
+    base: usize,
+    first_interval: usize,
+) -> Result<Scale, AllocError>
     ensures { IfOk result (IsSettled parts.now) }
 {
     let bounds = bounds_of(alloc, term, parts)?;
     let numbers = numbers_of(alloc, term, &bounds, parts)?;
+    let index = IntervalIndex::new(alloc, &bounds)?;
     Ok(Scale {
         term,
         bounds,
         numbers,
+        index,
         base,
+        first_interval,
     })
 }
 
@@ -85,10 +102,12 @@ pub fn scales_of(alloc: Global, parts: &[Filter]) -> Result<Vec<Scale>, AllocErr
 {
     let mut scales = Vec::new(alloc);
     let mut base: usize = 0;
+    let mut first_interval: usize = 0;
     for part in parts {
         if let Some(term) = new_term(&scales, part) {
-            let scale = scale_of(alloc, term, parts, base)?;
+            let scale = scale_of(alloc, term, parts, base, first_interval)?;
             base = base.saturating_add(width(scale.bounds.len()));
+            first_interval = first_interval.saturating_add(scale.index.len());
             scales.push(scale)?;
         }
     }
@@ -96,10 +115,16 @@ pub fn scales_of(alloc: Global, parts: &[Filter]) -> Result<Vec<Scale>, AllocErr
 }
 
 /// How many cells the scales have.
-pub fn cell_count(scales: &[Scale]) -> usize {
+pub fn cell_counts(scales: &[Scale]) -> Counts {
     match scales.last() {
-        None => 0,
-        Some(scale) => scale.base.saturating_add(width(scale.bounds.len())),
+        None => Counts {
+            places: 0,
+            intervals: 0,
+        },
+        Some(scale) => Counts {
+            places: scale.base.saturating_add(width(scale.bounds.len())),
+            intervals: scale.first_interval.saturating_add(scale.index.len()),
+        },
     }
 }
 

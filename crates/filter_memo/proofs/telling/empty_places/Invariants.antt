@@ -1,6 +1,6 @@
 use Rattle.std.proofs.Common.{◌≡◌, None}
 use Rattle.std.specs.Prelude.{All}
-use Rattle.filter_memo.proofs.telling.empty_cells.Given as goal
+use Rattle.filter_memo.proofs.telling.empty_places.Given as goal
 
 -- nothing is kept so far
 abbrev pub invariant-loop : goal.invariant-loop

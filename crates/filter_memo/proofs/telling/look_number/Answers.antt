@@ -1,0 +1,49 @@
+use Rattle.std.proofs.Common.{rules, ◌≡◌, ◌≤ℤ◌, ℕ, List, Some, sym, subst}
+use Rattle.std.specs.Prelude.{slice_get}
+use Rattle.std.proofs.lemmas.List.Elements.{All-set}
+use Rattle.filter_tree.specs.Expr.{term_value}
+use Rattle.filter_memo.specs.Intervals.{IsWithin}
+use Rattle.filter_memo.specs.Telling.{Told, IsInterval}
+use Rattle.filter_memo.specs.declared.interval.Interval.{Interval}
+use Rattle.filter_memo.specs.declared.said.Said.{Said}
+use Rattle.filter_memo.proofs.Judging.{interval_before, new_interval, kept_now}
+use Rattle.filter_memo.proofs.telling.look_number.Goals as goal
+
+pub returns-in-Some : goal.returns-in-Some
+returns-in-Some c = λ are.
+    let found : slice_get c.args.cells.now.intervals.items c.cell_of-index.result ≡ Some c.in-Some.found =
+    subst (λ (intervals : List Interval). slice_get intervals c.cell_of-index.result ≡ Some c.in-Some.found)
+    c.deref.ensures.value c.in-Some.ensures.found in
+    let from : c.in-Some.found.low ≤ℤ c.args.value = search rules in
+    let upto : c.args.value ≤ℤ c.in-Some.found.high = search rules in
+    interval_before c.args.parts.now c.args.scales.now c.args.cells.now are c.args.row.now c.args.number
+    c.args.scale.now c.requires.scale c.cell_of-index.result c.in-Some.found found c.in-Some.ensures.scale
+    (record {
+      number = c.args.value;
+      is = c.requires.value;
+      from = from;
+      upto = upto;
+    })
+
+pub returns-then-index-len : goal.returns-then-index-len
+returns-then-index-len c = λ are.
+    let told : Told c.args.parts.now c.args.scale.now.numbers.items c.args.row.now c.judge-said.result =
+    subst (λ (numbers : List ℕ). Told c.args.parts.now numbers c.args.row.now c.judge-said.result)
+    c.deref-2.ensures.value c.judge-said.ensures in
+    let from : c.in-Some-interval_of.interval.low ≤ℤ c.args.value = search rules in
+    let upto : c.args.value ≤ℤ c.in-Some-interval_of.interval.high = search rules in
+    let within : IsWithin (term_value c.args.scale.now.term c.args.row.now) c.in-Some-interval_of.interval.low
+    c.in-Some-interval_of.interval.high = record {
+      number = c.args.value;
+      is = c.requires.value;
+      from = from;
+      upto = upto;
+    } in
+    kept_now c.args.parts.now c.args.scales.now c.args.cells.now are c.args.row.now c.args.number c.args.scale.now
+    c.requires.scale c.judge-said.result _ told are.places
+    (All-set (IsInterval c.args.parts.now c.args.scales.now) c.args.cells.now.intervals.items _ _
+    (new_interval c.args.parts.now c.args.scales.now c.args.cells.now are c.args.row.now c.args.number c.args.scale.now
+    c.requires.scale c.in-Some-interval_of.interval c.in-Some-interval_of.ensures.scale
+    c.in-Some-interval_of.ensures.alike within
+    (subst (λ (said : Said). Told c.args.parts.now c.args.scale.now.numbers.items c.args.row.now said)
+    (sym c.in-Some-interval_of.ensures.said) told)) are.intervals)

@@ -1,0 +1,150 @@
+//! Which interval between constants a number is in. Nothing is proved of the answer: it is tested where it is used.
+
+use filter_tree::Value;
+use std::alloc::{AllocError, Global};
+
+/// The most buckets.
+const MAX_BUCKETS: usize = 1_024;
+
+/// How many buckets there are for each interval.
+const BUCKETS_PER_INTERVAL: usize = 4;
+
+/// Intervals that have all numbers together: each begins at a number of `lows` and ends before the next one. The numbers
+/// from `first` on are divided into buckets of equal width, a power of two. Of each bucket the first interval and the
+/// last one are known.
+#[derive(Drop)]
+pub struct IntervalIndex {
+    lows: Vec<i64>,
+    first: i64,
+    shift: u32,
+    buckets: Vec<(u16, u16)>,
+}
+
+/// Adds the beginning of an interval, unless one begins there.
+fn add_low(lows: &mut Vec<i64>, low: i64) -> Result<(), AllocError> {
+    if lows.last() != Some(&low) {
+        lows.push(low)?;
+    }
+    Ok(())
+}
+
+/// The beginnings of intervals, where each constant that is a number has one of its own.
+fn lows_of(alloc: Global, bounds: &[Value]) -> Result<Vec<i64>, AllocError> {
+    let mut lows = Vec::new(alloc);
+    lows.push(i64::MIN)?;
+    for bound in bounds {
+        if let Value::Int(number) = bound {
+            add_low(&mut lows, *number)?;
+            if let Some(next) = number.checked_add(1) {
+                add_low(&mut lows, next)?;
+            }
+        }
+    }
+    Ok(lows)
+}
+
+/// The interval that the number is in, where it is one from `first` to `last`.
+fn search(lows: &[i64], first: usize, last: usize, number: i64) -> usize {
+    let mut first = first;
+    let mut last = last;
+    while first < last {
+        let middle = last - (last - first) / 2;
+        match lows.get(middle) {
+            Some(low) if *low <= number => first = middle,
+            _ => last = middle - 1,
+        }
+    }
+    first
+}
+
+/// The power of two by which so many numbers are divided into fewer buckets than this.
+fn shift_of(numbers: u64, limit: u64) -> u32 {
+    for shift in 0..63u32 {
+        if numbers.wrapping_shr(shift) < limit {
+            return shift;
+        }
+    }
+    63
+}
+
+/// The number of an interval, as it is kept.
+fn short(interval: usize) -> u16 {
+    u16::try_from(interval).unwrap_or(u16::MAX)
+}
+
+/// So many buckets from this number on.
+fn buckets_of(
+    alloc: Global,
+    lows: &[i64],
+    first: i64,
+    shift: u32,
+    count: u64,
+) -> Result<Vec<(u16, u16)>, AllocError> {
+    let width = 1i64.wrapping_shl(shift);
+    let end = lows.len().saturating_sub(1);
+    let mut buckets = Vec::new(alloc);
+    let mut start = first;
+    for _ in 0..count {
+        let next = start.saturating_add(width);
+        let one = search(lows, 0, end, start);
+        let other = search(lows, one, end, next.saturating_sub(1));
+        buckets.push((short(one), short(other)))?;
+        start = next;
+    }
+    Ok(buckets)
+}
+
+impl IntervalIndex {
+    /// The index of the intervals between these constants, which are in order.
+    pub fn new(alloc: Global, bounds: &[Value]) -> Result<IntervalIndex, AllocError> {
+        let lows = lows_of(alloc, bounds)?;
+        let first = lows.get(1).copied().unwrap_or(i64::MAX);
+        let last = lows.last().copied().unwrap_or(i64::MAX);
+        let numbers = last.abs_diff(first);
+        let limit = lows
+            .len()
+            .saturating_mul(BUCKETS_PER_INTERVAL)
+            .min(MAX_BUCKETS);
+        let shift = shift_of(numbers, limit as u64);
+        let count = numbers.wrapping_shr(shift).saturating_add(1);
+        let buckets = buckets_of(alloc, &lows, first, shift, count)?;
+        Ok(IntervalIndex {
+            lows,
+            first,
+            shift,
+            buckets,
+        })
+    }
+
+    /// How many intervals there are.
+    pub fn len(&self) -> usize {
+        self.lows.len()
+    }
+
+    /// The interval that the number is in.
+    pub fn find(&self, number: i64) -> usize {
+        if number < self.first {
+            return 0;
+        }
+        let bucket = number.abs_diff(self.first).wrapping_shr(self.shift);
+        match self.buckets.get(bucket as usize) {
+            Some((first, last)) if first == last => usize::from(*first),
+            Some((first, last)) => search(
+                &self.lows,
+                usize::from(*first),
+                usize::from(*last),
+                number,
+            ),
+            None => self.lows.len().saturating_sub(1),
+        }
+    }
+
+    /// The first number and the last one of an interval.
+    pub fn ends(&self, interval: usize) -> Option<(i64, i64)> {
+        let low = *self.lows.get(interval)?;
+        match self.lows.get(interval.saturating_add(1)) {
+            None => Some((low, i64::MAX)),
+            Some(next) => Some((low, next.saturating_sub(1))),
+        }
+    }
+}
