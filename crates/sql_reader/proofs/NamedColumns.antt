@@ -1,12 +1,10 @@
 -- A filter that is read names columns that exist.
-use Rattle.std.proofs.Common.{◌≡◌, ℕ, zero, suc, ◌+◌, ◌<◌, ℤ, Bool, true, false, List, [], ◌∷◌, ◌++◌, length}
+use Rattle.std.proofs.Common.{ℕ, zero, suc, ◌<◌, Bool, true, false, List, length}
 use Rattle.std.specs.Prelude.{Option, Some, None, Ok, if◌then◌else◌}
 use Rattle.sql_tokens.specs.declared.kinds.Operator.TheVariants as o
 use Rattle.filter_tree.specs.declared.filter.Op.{Op}
 use Rattle.filter_tree.specs.declared.table.Column.{Column}
-use Rattle.filter_tree.specs.declared.table.ColType.TheVariants.{Text}
-use Rattle.filter_tree.specs.Datum.{Number, Truth}
-use Rattle.filter_tree.specs.Expr.{Distinct, Expr, And, Or}
+use Rattle.filter_tree.specs.Expr.{Expr, And, Or}
 use Rattle.filter_tree.specs.Lists.{NamesWithin}
 use Rattle.sql_reader.specs.declared.word.Keyword.TheVariants as k
 use Rattle.sql_reader.specs.declared.item.Item.{Item}
@@ -23,7 +21,7 @@ use Rattle.sql_reader.specs.Items.{Items}
 use Rattle.sql_reader.specs.Memberships.{among, between, distinct, among_part, between_part, distinct_part}
 use Rattle.sql_reader.specs.Names.{name}
 use Rattle.sql_reader.specs.Numbers.{placed_number}
-use Rattle.sql_reader.specs.Operands.{PartOf, part, wanted, negated, joined, dividend, remainder, comparison_by, compared_part, asking, tested as tested_part}
+use Rattle.sql_reader.specs.Operands.{PartOf, part, wanted, negated, joined, dividend, remainder, comparison_by, compared_part, tested as tested_part}
 use Rattle.sql_reader.specs.Reading.{Rule, Verdict, and_then, with_rest, is_ahead, item_ahead, place_ahead, next_is, expect, rest_of}
 use Rattle.sql_reader.specs.Repetitions.{link}
 use Rattle.sql_reader.specs.Written.{as_filter}

@@ -24,7 +24,6 @@ use Rattle.sql_reader.specs.declared.truth_test.TruthTest.{TruthTest}
 use Rattle.sql_reader.specs.Expressions.{found_from, find_column, known, known_column, column, divisor, term}
 use Rattle.sql_reader.specs.Items.{Items}
 use Rattle.sql_reader.specs.Memberships.{subject_of, beside, all_beside, bound, among, between, distinct, formed}
-use Rattle.sql_reader.specs.Names.{name}
 use Rattle.sql_reader.specs.Operands.{OperandOf, OfTerm, OfLiteral, OfFormula, PartOf, part, verdict_map, verdict_then, truth, true_or_clash, wanted, negated, joined, dividend, remainder, fits, fitting, compared, compared_part, asking, answered, negated_if, tested as tested_part}
 use Rattle.sql_reader.specs.Reading.{Fault, Verdict, with_rest}
 use Rattle.sql_reader.specs.Ascending.{ascending}

@@ -3,7 +3,7 @@ use Rattle.std.proofs.Common.{◌≡◌, ℕ, suc, ◌+◌, ◌-◌, ◌*◌, �
 use Rattle.std.specs.Prelude.{ℤ, pos, neg_ℤ, nat_lt, slice_index, codes, Contains}
 use Rattle.std.specs.Char.{is_ascii_digit}
 use Rattle.std.specs.List.{prefix_len}
-use Rattle.std.proofs.lemmas.Bool.{cases_Bool, lt-ltb}
+use Rattle.std.proofs.lemmas.Bool.{lt-ltb}
 use Rattle.std.proofs.lemmas.Bool.Decides.{nat_tests}
 use Rattle.std.proofs.lemmas.List.{drop_all, drop_more, drop-drop, take_more, take-append-drop, get_or-drop, get_or-take}
 use Rattle.std.proofs.lemmas.Slice.Eq.{starts_is}
@@ -11,13 +11,12 @@ use Rattle.std.proofs.lemmas.Bool.Decides.{Decides-eqb}
 use Rattle.std.specs.Cmp.Lexicographic.{pointwise}
 use Rattle.std.proofs.lemmas.List.Folds.{length-prefix_len}
 use Rattle.std.proofs.lemmas.List.Sums.{prefix_len_passes}
-use Rattle.filter_tree.specs.Datum.{Number, Truth, Bytes, Datum, Missing, Known}
+use Rattle.filter_tree.specs.Datum.{Truth, Datum, Missing, Known}
 use Rattle.filter_tree.specs.declared.value.Value.TheVariants as v
 use Rattle.sql_tokens.specs.declared.kinds.Operator.TheVariants.{Minus}
 use Rattle.sql_tokens.specs.declared.kinds.TokenKind.TheVariants as t
 use Rattle.sql_tokens.specs.Doubled.{doubled, in_quotes}
 use Rattle.sql_tokens.specs.Front.{front}
-use Rattle.sql_tokens.specs.Lexed.{at}
 use Rattle.sql_tokens.specs.Numbers as n
 use Rattle.sql_tokens.specs.Numbers.{number_from, number_of}
 use Rattle.sql_tokens.specs.Operators.{operator}
@@ -26,7 +25,6 @@ use Rattle.sql_tokens.proofs.Lexing.{at-token}
 use Rattle.sql_tokens.proofs.SpelledTokens.{EndsValue, lexeme, space_passes, minus_len}
 use Rattle.sql_reader.specs.declared.item.Item.TheVariants as i
 use Rattle.sql_reader.specs.declared.plain_row.Digits.{Digits}
-use Rattle.sql_reader.specs.declared.plain_row.PlacedValue.{PlacedValue}
 use Rattle.sql_reader.specs.Items.{Items, Then, seen, items, size}
 use Rattle.sql_reader.specs.Numbers as r
 use Rattle.sql_reader.specs.Numbers.{placed_number, signed_number}

@@ -1,10 +1,10 @@
 //! The limits on the filters of a table.
 
-ghost use Rattle.std.specs.Prelude.{◌≡◌, IfOk, OnOk, fold, length, nat_lt};
+ghost use Rattle.std.specs.Prelude.{◌≡◌, ◌+◌, IfOk, IsTrue, OnOk, fold, length, nat_lt};
 ghost use Rattle.filter_tree.specs.Shape.{atoms_view, expr_view};
 ghost use Rattle.sql_reader.specs.Limits.{nodes, all_nodes, distinct_count, exprs_view};
 ghost use Rattle.sql_reader.specs.Limits.{exceeded as exceeded_of};
-ghost use Rattle.sql_reader.specs.Counting.{atoms_backwards, gathered, left_after};
+ghost use Rattle.sql_reader.specs.Counting.{AreWithin, atoms_backwards, gathered, left_after};
 
 use crate::error::Limit;
 use filter_tree::{Atom, Filter, add_atom};
@@ -26,6 +26,9 @@ pub fn exceeded_limit<'a>(
 ) -> Result<Option<Limit>, AllocError>
     ensures { IfOk result (λ found. found ≡ exceeded_of (exprs_view filters.now)) }
 {
+    if are_few(filters) {
+        return Ok(None);
+    }
     if has_too_many_atoms(alloc, filters)? {
         return Ok(Some(Limit::Atoms));
     }
@@ -33,6 +36,29 @@ pub fn exceeded_limit<'a>(
         return Ok(Some(Limit::Nodes));
     }
     Ok(None)
+}
+
+/// Whether the filters are so small that they exceed no limit even if all their atoms differ: twice the atoms of a
+/// filter are at most its nodes and one more. No atoms are compared.
+#[tactic(auto, using(crate::proofs::CountingLemmas::few))]
+fn are_few(filters: &[&Filter]) -> bool
+    ensures { IsTrue result → AreWithin (exprs_view filters.now) }
+{
+    let mut left = 2 * MAX_ATOMS;
+    for filter in filters {
+        match room_after(*filter, left) {
+            Some(rest) => left = rest,
+            None => return false,
+        }
+    }
+    true
+}
+
+/// How many of `left` places remain after the nodes of the filter and one more; `None` if there are not enough.
+fn room_after(filter: &Filter, left: usize) -> Option<usize>
+    ensures { result ≡ left_after (nodes (expr_view filter.now) + 1) left }
+{
+    nodes_left(filter, left)?.checked_sub(1)
 }
 
 #[tactic(auto, using(std::proofs::lemmas::Grind::common_steps, crate::proofs::CountingLemmas::gathered_passes))]
