@@ -9,6 +9,7 @@ use Rattle.row_owners.specs.declared.owner_set.OwnerSet.{OwnerSet}
 use Rattle.shard_checker.specs.CheckedView.{CheckedOf, setting_in}
 use Rattle.table_changes.specs.Commands.{Command}
 use Rattle.table_changes.specs.CommandLists.{AreAlike}
+use Rattle.table_changes.specs.Tables.{no_rows}
 use Rattle.table_changes.proofs.CommandListLemmas.{are_alike}
 use Rattle.tables_log.specs.BookView.{book_checked, book_limit, book_log, book_rows, book_setting, book_slots}
 use Rattle.tables_log.specs.Committing.{IsNew, Commits, IsKept, ChangesSlots, RefusedBy}
@@ -16,17 +17,18 @@ use Rattle.tables_log.specs.Commits.{CommitOf}
 use Rattle.tables_log.specs.Logs.{entry_at}
 use Rattle.tables_log.specs.Routes.{gets_some}
 use Rattle.tables_log.specs.Slots.{end_after}
-use Rattle.tables_log.specs.StandsFor.{Transaction, StandsFor, after}
+use Rattle.tables_log.specs.StandsFor.{Transaction, AreAccepted, StandsFor, after}
 use Rattle.tables_log.specs.declared.book.Book.{Book}
 use Rattle.tables_log.specs.declared.error.CommitError.{CommitError}
 use Rattle.tables_log.specs.declared.error.CommitError.TheVariants as e
 use Rattle.tables_log.specs.declared.slots.Slot.{Slot}
 use Rattle.tables_log.proofs.StandLemmas.{new_stands, each_is_logged, commits_add_one, slots_keep_it}
-use Rattle.publisher_desk.specs.Answers.{IsMade, IsFound, IsRefused}
+use Rattle.publisher_desk.specs.Answers.{IsMade, IsFound, IsRefusedAfter}
 use Rattle.publisher_desk.specs.Held.{IsLogOf, AddsEntry, IsBookOf, IsHeldFor}
-use Rattle.publisher_desk.specs.Logged.{IsHistoryOf}
+use Rattle.publisher_desk.specs.Logged.{IsHistoryOf, Refuses}
 use Rattle.publisher_desk.specs.Receipts.{transactions_of}
-use Rattle.publisher_desk.specs.Sights.{view_of}
+use Rattle.publisher_desk.specs.Sights.{Sees, view_of}
+use Rattle.publisher_desk.specs.declared.sight.Sight.{Sight}
 use Rattle.publisher_desk.specs.declared.sight.View.{View}
 use Rattle.publisher_desk.specs.declared.wish.Wish.{Wish}
 
@@ -165,35 +167,45 @@ module _ (checked : CheckedOf) (limit : ℕ) (old : Book) (is : IsBookOf checked
             ∙ ap (λ (one : CheckedOf). after (setting_in one) is.transactions table 0 key) is.named;
       }
 
-  refused_in : (commands : List Command) (error : CommitError) → RefusedBy old commands error
-      → IsRefused (book_checked old) (book_limit old) commands error
-  refused_in commands e.EmptyTransaction refused = refused
-  refused_in commands e.TooManyCommands refused = refused
-  refused_in commands e.LogFull refused = record {
+  refused_in : (transactions : List Transaction) → StandsFor old transactions → (commands : List Command)
+      → (error : CommitError) → RefusedBy old commands error
+      → IsRefusedAfter (book_checked old) (book_limit old) transactions commands error
+  refused_in transactions stands commands e.EmptyTransaction refused = refused
+  refused_in transactions stands commands e.TooManyCommands refused = refused
+  refused_in transactions stands commands e.LogFull refused = record {
     sized = refused.transaction;
-    transactions = is.transactions;
-    accepted = is.stands.accepted;
-    full = sym (each_is_logged old is.transactions is.stands) ∙ refused.full;
+    full = sym (each_is_logged old transactions stands) ∙ refused.full;
   }
-  refused_in commands (e.At number fault) refused =
-      let alike : AreAlike (book_setting old) (book_rows old) (after (book_setting old) is.transactions) =
-      are_alike (book_setting old) (book_rows old) (after (book_setting old) is.transactions) is.stands.rows in
-      let count = each_is_logged old is.transactions is.stands in
+  refused_in transactions stands commands (e.At number fault) refused =
+      let alike : AreAlike (book_setting old) (book_rows old) (after (book_setting old) transactions) =
+      are_alike (book_setting old) (book_rows old) (after (book_setting old) transactions) stands.rows in
+      let count = each_is_logged old transactions stands in
       record {
         sized = refused.transaction;
-        transactions = is.transactions;
-        accepted = is.stands.accepted;
         room = omega (arith, refused.room, count);
         first = sym (alike.first 1 commands) ∙ refused.first;
       }
-  refused_in commands e.OutOfMemory refused = tt
+  refused_in transactions stands commands e.OutOfMemory refused = tt
 
-  pub is_refused : (commands : List Command) (error : CommitError) → RefusedBy old commands error
-      → IsRefused checked limit commands error
-  is_refused commands error refused =
-      subst (λ (n : ℕ). IsRefused checked n commands error) is.limited
-      (subst (λ (one : CheckedOf). IsRefused one (book_limit old) commands error) is.named
-      (refused_in commands error refused))
+  pub is_refused : (transactions : List Transaction) → StandsFor old transactions → (commands : List Command)
+      → (error : CommitError) → RefusedBy old commands error
+      → IsRefusedAfter checked limit transactions commands error
+  is_refused transactions stands commands error refused =
+      subst (λ (n : ℕ). IsRefusedAfter checked n transactions commands error) is.limited
+      (subst (λ (one : CheckedOf). IsRefusedAfter one (book_limit old) transactions commands error) is.named
+      (refused_in transactions stands commands error refused))
+
+  -- of the whole log, which the seat has seen
+  pub refuses : (history : View) (before after : Sight) (commands : List Command) (error : CommitError)
+      → IsHistoryOf old history → Sees history.all before after → RefusedBy old commands error
+      → Refuses checked limit commands before after error
+  refuses history before after commands error told sees refused = record {
+    log = history.all;
+    sees = sees;
+    accepted = subst (λ (one : CheckedOf). AreAccepted (setting_in one) no_rows (transactions_of history.all)) is.named
+        told.stands.accepted;
+    refused = is_refused (transactions_of history.all) told.stands commands error refused;
+  }
 
 -- for users of a lent book: whatever is said of its slots, they are those that it has
 pub slots_left : (old new : Book) (slots : List Slot) → ChangesSlots old new slots

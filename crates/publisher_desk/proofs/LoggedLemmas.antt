@@ -10,8 +10,9 @@ use Rattle.tables_log.specs.BookView.{book_checked, book_log, book_rows}
 use Rattle.tables_log.specs.Committing.{Commits}
 use Rattle.tables_log.specs.StandsFor.{Transaction, StandsFor, after}
 use Rattle.tables_log.specs.declared.book.Book.{Book}
+use Rattle.tables_log.specs.declared.error.CommitError.{CommitError}
 use Rattle.tables_log.proofs.StandLemmas.{each_is_logged, commits_add_one}
-use Rattle.publisher_desk.specs.Logged.{StandsIn, IsReadIn, IsNoted, AreNoted, own_numbers, RiseTo, IsSighted, AreLogged, IsHistoryOf, IsLogOfSeats, Records, Looks}
+use Rattle.publisher_desk.specs.Logged.{StandsIn, IsReadIn, IsNoted, AreNoted, own_numbers, RiseTo, IsSighted, AreLogged, IsHistoryOf, IsLogOfSeats, Records, Looks, Refuses, IsRefusedIn, IsRefused}
 use Rattle.publisher_desk.specs.Receipts.{ReceiptOf, transaction_of, transactions_of}
 use Rattle.publisher_desk.specs.Seats.{number_of, highest}
 use Rattle.publisher_desk.specs.Sights.{IsTold, Sees, StartsWith, sight, times, view_of}
@@ -187,6 +188,31 @@ module _ (setting : Setting) (notes roomy all : List Note) (old new : Sight) (sa
       (sym (pushed ∙ ap (λ (note : Reading). roomy ++ Looked note ∷ []) kept_is
       ∙ ap (λ (list : List Note). list ++ Looked reading ∷ []) same))
       (reading_sighted setting notes old new sighted reading looks)
+
+-- the notes of a seat are those of a log that it has seen
+pub notes_in : (setting : Setting) (notes told : List Note) (old new : Sight) (log : List ReceiptOf) → notes ≡ told
+    → IsSighted setting notes old → Sees log old new → AreNoted setting log told
+notes_in setting notes told old new log same sighted sees =
+    subst (AreNoted setting log) same (noted_begins setting log old.seen notes sees.begins sighted.noted)
+
+-- ---- refusals
+
+module _ (checked : CheckedOf) (limit : ℕ) (notes : List Note) (commands : List Command) (old new : Sight)
+    (error : CommitError) (sighted : IsSighted (setting_in checked) notes old)
+    (refuses : Refuses checked limit commands old new error) where
+  pub refusal_sighted : (roomy : List Note) → roomy ≡ notes → IsSighted (setting_in checked) roomy new
+  refusal_sighted roomy same =
+      subst (λ (list : List Note). IsSighted (setting_in checked) list new) (sym same)
+      (seen_sighted (setting_in checked) notes old new sighted refuses.log refuses.sees)
+
+  pub refusal_noted : (told : List Note) → notes ≡ told → IsRefused checked limit told commands error
+  refusal_noted told same known = subst (λ (list : List Note). IsRefusedIn checked limit list commands error) same
+      (record {
+        log = refuses.log;
+        accepted = refuses.accepted;
+        noted = noted_begins (setting_in checked) refuses.log old.seen notes refuses.sees.begins sighted.noted;
+        refused = refuses.refused;
+      })
 
 pub new_sighted : (setting : Setting) (notes : List Note) → notes ≡ [] → IsSighted setting notes (sight [] [])
 new_sighted setting notes none = record {

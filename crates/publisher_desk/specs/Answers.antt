@@ -32,26 +32,23 @@ IsRead checked reading = IsFound checked reading.table reading.key reading.numbe
 
 -- ---- refusals
 
--- there were as many transactions as the log takes
-pub record IsFull (checked : CheckedOf) (limit : ℕ) (commands : List Command) : Type 0 where
+-- the log takes no more than these transactions
+pub record IsFullAfter (limit : ℕ) (transactions : List Transaction) (commands : List Command) : Type 0 where
   pub sized : IsTransaction commands
-  pub transactions : List Transaction
-  pub accepted : AreAccepted (setting_in checked) no_rows transactions
   pub full : length transactions ≡ limit
 
--- after some transactions the command of this number, from 1, is the first that is refused, for this fault
-pub record IsFaulty (checked : CheckedOf) (limit : ℕ) (commands : List Command) (number : ℕ) (fault : CommandFault) :
-    Type 0 where
+-- after these transactions the command of this number, from 1, is the first that is refused, for this fault
+pub record IsFaultyAfter (checked : CheckedOf) (limit : ℕ) (transactions : List Transaction) (commands : List Command)
+    (number : ℕ) (fault : CommandFault) : Type 0 where
   pub sized : IsTransaction commands
-  pub transactions : List Transaction
-  pub accepted : AreAccepted (setting_in checked) no_rows transactions
   pub room : length transactions < limit
   pub first : first_fault (setting_in checked) (after (setting_in checked) transactions) 1 commands
       ≡ Some (number, fault)
 
-abbrev pub IsRefused : CheckedOf → ℕ → List Command → CommitError → Type 0
-IsRefused checked limit commands e.EmptyTransaction = commands ≡ []
-IsRefused checked limit commands e.TooManyCommands = 1000 < length commands
-IsRefused checked limit commands e.LogFull = IsFull checked limit commands
-IsRefused checked limit commands (e.At number fault) = IsFaulty checked limit commands number (fault_view fault)
-IsRefused checked limit commands e.OutOfMemory = Unit {0}
+abbrev pub IsRefusedAfter : CheckedOf → ℕ → List Transaction → List Command → CommitError → Type 0
+IsRefusedAfter checked limit transactions commands e.EmptyTransaction = commands ≡ []
+IsRefusedAfter checked limit transactions commands e.TooManyCommands = 1000 < length commands
+IsRefusedAfter checked limit transactions commands e.LogFull = IsFullAfter limit transactions commands
+IsRefusedAfter checked limit transactions commands (e.At number fault) =
+    IsFaultyAfter checked limit transactions commands number (fault_view fault)
+IsRefusedAfter checked limit transactions commands e.OutOfMemory = Unit {0}

@@ -4,7 +4,7 @@ use Rattle.std.specs.Prelude.{◌≡◌, ℕ, ◌-◌, ◌<◌, List, length, ma
 use Rattle.std.specs.Arc.{arc_value}
 use Rattle.replica_identity.specs.Plans.{PlanOf}
 use Rattle.row_owners.specs.Owners.{concerns}
-use Rattle.shard_checker.specs.CheckedView.{CheckedOf}
+use Rattle.shard_checker.specs.CheckedView.{CheckedOf, setting_in}
 use Rattle.tables_log.specs.BookView.{book_checked, book_log, book_slots}
 use Rattle.tables_log.specs.Commits.{CommitOf}
 use Rattle.tables_log.specs.Committing.{ChangesSlots}
@@ -14,6 +14,11 @@ use Rattle.tables_log.specs.Slots.{end_after}
 use Rattle.tables_log.specs.StandsFor.{Transaction, StandsFor}
 use Rattle.tables_log.specs.declared.book.Book.{Book}
 use Rattle.publisher_desk.specs.Held.{AreSentUpTo}
+use Rattle.publisher_desk.specs.Logged.{AreNoted}
+use Rattle.publisher_desk.specs.Receipts.{ReceiptOf, transactions_of}
+use Rattle.publisher_desk.specs.Sights.{Sees}
+use Rattle.publisher_desk.specs.declared.note.Note.{Note}
+use Rattle.publisher_desk.specs.declared.sight.Sight.{Sight}
 use Rattle.publisher_desk.specs.declared.step.Step.{Step}
 use Rattle.publisher_desk.specs.declared.step.Step.TheVariants.{Entry, Skip, Reply, Ended, Finished, OutOfMemory}
 use Rattle.publisher_desk.specs.declared.wish.Wish.{Wish}
@@ -32,6 +37,22 @@ pub record IsLent {U A : Type 0} (did : U → U → Book → Book → List Wish 
   pub slots : ChangesSlots old new (book_slots new)
   pub sent : AreSentUpTo (end_after (length (book_log old))) wishes
   pub does : did before after old new wishes left answer
+
+-- A user was lent a book of a log that has these notes.
+pub record IsLentTo {U A : Type 0} (did : U → U → Book → Book → List Wish → List Wish → A → Type 0)
+    (checked : CheckedOf) (notes : List Note) (before after : U) (answer : A) : Type 0 where
+  pub lent : IsLent did checked before after answer
+  pub log : List ReceiptOf
+  pub log_is : transactions_of log ≡ lent.transactions
+  pub noted : AreNoted (setting_in checked) log notes
+
+-- A user was lent a book of a log that the seat has then seen.
+pub record LendsTo {U A : Type 0} (did : U → U → Book → Book → List Wish → List Wish → A → Type 0)
+    (checked : CheckedOf) (before after : U) (answer : A) (old new : Sight) : Type 0 where
+  pub lent : IsLent did checked before after answer
+  pub log : List ReceiptOf
+  pub log_is : transactions_of log ≡ lent.transactions
+  pub sees : Sees log old new
 
 -- how many commits a step tells of or passes over
 abbrev pub commits_in : Step → ℕ

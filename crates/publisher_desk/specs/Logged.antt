@@ -1,10 +1,15 @@
 -- How a seat's receipts and readings stand to the log: PostgreSQL 15, 3.4. Transactions, and Chapter 7 Queries.
-use Rattle.std.specs.Prelude.{◌≡◌, ℕ, ◌+◌, ◌<◌, ◌≤◌, All, List, [], ◌∷◌, ◌++◌, length, true, Option}
+use Rattle.std.specs.Prelude.{◌≡◌, ◌≢◌, ℕ, ◌+◌, ◌<◌, ◌≤◌, All, List, [], ◌∷◌, ◌++◌, length, true, Option}
 use Rattle.filter_tree.specs.Datum.{Datum}
 use Rattle.shard_checker.specs.CheckedView.{CheckedOf, setting_in}
+use Rattle.table_changes.specs.Commands.{Command}
 use Rattle.table_changes.specs.Setting.{Setting}
-use Rattle.tables_log.specs.StandsFor.{StandsFor, after}
+use Rattle.table_changes.specs.Tables.{no_rows}
+use Rattle.tables_log.specs.StandsFor.{AreAccepted, StandsFor, after}
 use Rattle.tables_log.specs.declared.book.Book.{Book}
+use Rattle.tables_log.specs.declared.error.CommitError.{CommitError}
+use Rattle.tables_log.specs.declared.error.CommitError.TheVariants.{OutOfMemory}
+use Rattle.publisher_desk.specs.Answers.{IsRefusedAfter}
 use Rattle.publisher_desk.specs.Receipts.{ReceiptOf, transactions_of}
 use Rattle.publisher_desk.specs.Sights.{AddsTo, AreSeen, Sees, drawn_in, times, view_of}
 use Rattle.publisher_desk.specs.declared.note.Note.{Note}
@@ -99,3 +104,26 @@ pub record Looks (setting : Setting) (table : ℕ) (key : List Datum) (number : 
   pub sees : Sees log old new
   pub number_is : number ≡ length log
   pub answer_is : answer ≡ after setting (transactions_of log) table 0 key
+
+-- The seat has seen the whole log, after which the commands are refused.
+pub record Refuses (checked : CheckedOf) (limit : ℕ) (commands : List Command) (old new : Sight) (error : CommitError) :
+    Type 0 where
+  pub log : List ReceiptOf
+  pub sees : Sees log old new
+  pub accepted : AreAccepted (setting_in checked) no_rows (transactions_of log)
+  pub refused : IsRefusedAfter checked limit (transactions_of log) commands error
+
+-- ---- refusals
+
+-- The commands are refused after the transactions of a log, each of which was accepted after those before it, and of
+-- which these notes are.
+pub record IsRefusedIn (checked : CheckedOf) (limit : ℕ) (notes : List Note) (commands : List Command)
+    (error : CommitError) : Type 0 where
+  pub log : List ReceiptOf
+  pub accepted : AreAccepted (setting_in checked) no_rows (transactions_of log)
+  pub noted : AreNoted (setting_in checked) log notes
+  pub refused : IsRefusedAfter checked limit (transactions_of log) commands error
+
+-- unless memory is refused, which any commands may meet
+abbrev pub IsRefused : CheckedOf → ℕ → List Note → List Command → CommitError → Type 0
+IsRefused checked limit notes commands error = error ≢ OutOfMemory → IsRefusedIn checked limit notes commands error

@@ -142,10 +142,10 @@ impl<P: Publishing> Desk<P> {
     ghost use Rattle.tables_log.specs.Logs.{entry_at};
     ghost use Rattle.tables_log.specs.Routes.{gets_some};
     ghost use Rattle.publisher_desk.specs.Counting.{IsCounted};
-    ghost use Rattle.publisher_desk.specs.Answers.{IsFound, IsMade, IsRefused};
+    ghost use Rattle.publisher_desk.specs.Answers.{IsFound, IsMade};
     ghost use Rattle.publisher_desk.specs.Held.{AddsEntry, IsBookOf};
-    ghost use Rattle.publisher_desk.specs.Lending.{IsLent, IsStepOf, IsNext};
-    ghost use Rattle.publisher_desk.specs.Logged.{IsLogOfSeats, Looks, Records};
+    ghost use Rattle.publisher_desk.specs.Lending.{IsLent, LendsTo, IsStepOf, IsNext};
+    ghost use Rattle.publisher_desk.specs.Logged.{IsLogOfSeats, Looks, Records, Refuses};
     ghost use Rattle.publisher_desk.specs.Receipts.{receipt_of};
     ghost use Rattle.publisher_desk.specs.Refusals.{HasFault};
     ghost use Rattle.publisher_desk.specs.Sights.{sight_of, view_of};
@@ -182,8 +182,8 @@ impl<P: Publishing> Desk<P> {
         })
     }
 
-    /// Makes the commands one commit, counts it in the ledger, and gives the receipt, which the seat's token then has seen in
-    /// the history. With an error nothing changes.
+    /// Makes the commands one commit, counts it in the ledger, and returns the receipt. After an error the log is as
+    /// before. In either case the seat's token has then seen the whole history.
     pub(crate) fn commit(
         &mut self,
         mark: &mut Share<P>,
@@ -201,9 +201,9 @@ impl<P: Publishing> Desk<P> {
         ensures above { IfOk result (λ receipt. mark.old.amount < receipt.number) }
         ensures seen { IfOk result (λ receipt. Records receipt (sight_of token.old) (sight_of token.new)) }
         ensures fault { IfErr result (HasFault (setting_in P.checked) (map command_view commands.items)) }
-        ensures refused { IfErr result (IsRefused P.checked P.limit (map command_view commands.items)) }
+        ensures refused { IfErr result (
+            Refuses P.checked P.limit (map command_view commands.items) (sight_of token.old) (sight_of token.new)) }
         ensures err { OnErr result (self.new ≡ self.old) }
-        ensures unseen { OnErr result (token.new ≡ token.old) }
         ensures counted { OnOk result (mark.new.amount ≡ mark.old.amount + 1) }
         ensures uncounted { OnErr result (mark.new.amount ≡ mark.old.amount) }
         ensures parts { mark.new.parts ≡ mark.old.parts }
@@ -220,7 +220,10 @@ impl<P: Publishing> Desk<P> {
                 self.history.record(token, &receipt);
                 Ok(receipt)
             }
-            Err(error) => Err(error),
+            Err(error) => {
+                self.history.look(token);
+                Err(error)
+            }
         }
     }
 
@@ -337,6 +340,20 @@ impl<P: Publishing> Desk<P> {
         ensures lent { IsLent U.did P.checked user.old user.new result }
     {
         user.use_slots(&mut self.book, self.wishes.as_mut_slice())
+    }
+
+    /// Lends the book as `lend` does. The seat's token has then seen the whole history.
+    pub(crate) fn lend_to<U: SlotUse>(
+        &mut self,
+        token: &mut Option<Token<P>>,
+        user: &mut U,
+    ) -> U::Answer
+        ensures log { self.new ≡ self.old }
+        ensures lent { LendsTo U.did P.checked user.old user.new result (sight_of token.old) (sight_of token.new) }
+    {
+        let answer = user.use_slots(&mut self.book, self.wishes.as_mut_slice());
+        self.history.look(token);
+        answer
     }
 
     /// No further commit comes.

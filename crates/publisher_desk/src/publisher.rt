@@ -51,12 +51,12 @@ impl<P: Publishing> Publisher<P> {
     ghost use Rattle.std.specs.Arc.{arc_value};
     ghost use Rattle.shard_checker.specs.CheckedView.{checked_view, setting_in};
     ghost use Rattle.table_changes.specs.Commands.{command_view};
-    ghost use Rattle.publisher_desk.specs.Answers.{IsMade, IsRead, IsRefused};
+    ghost use Rattle.publisher_desk.specs.Answers.{IsMade, IsRead};
     ghost use Rattle.tables_log.specs.BookView.{book_log};
     ghost use Rattle.publisher_desk.specs.Counting.{IsCounted};
     ghost use Rattle.publisher_desk.specs.Held.{IsBookOf};
-    ghost use Rattle.publisher_desk.specs.Lending.{IsLent, IsNext};
-    ghost use Rattle.publisher_desk.specs.Logged.{IsLogOfSeats};
+    ghost use Rattle.publisher_desk.specs.Lending.{IsLent, IsLentTo, IsNext};
+    ghost use Rattle.publisher_desk.specs.Logged.{IsLogOfSeats, IsRefused};
     ghost use Rattle.publisher_desk.specs.Receipts.{receipt_of};
     ghost use Rattle.publisher_desk.specs.Refusals.{HasFault, HasReadFault};
     ghost use Rattle.publisher_desk.specs.Seats.{AreUpTo, receipts};
@@ -99,7 +99,8 @@ impl<P: Publishing> Publisher<P> {
     }
 
     /// Makes the commands one transaction, and logs it with this time, in microseconds since 2000-01-01. The answer is
-    /// its number, from 1, and the seat has a receipt of it. With an error nothing changes, and the list is dropped.
+    /// its number, from 1, and the seat has a receipt of it. With an error nothing changes, and the list is dropped. It is
+    /// an error of a log that has all of the seat's commits.
     ///
     /// # Errors
     ///
@@ -118,7 +119,7 @@ impl<P: Publishing> Publisher<P> {
         ensures made { IfOk result (IsMade P.checked P.limit (map command_view commands.items) time) }
         ensures above { IfOk result (λ number. receipts seat.old < number) }
         ensures fault { IfErr result (HasFault (setting_in P.checked) (map command_view commands.items)) }
-        ensures refused { IfErr result (IsRefused P.checked P.limit (map command_view commands.items)) }
+        ensures refused { IfErr result (IsRefused P.checked P.limit seat.old (map command_view commands.items)) }
         ensures err { OnErr result (seat.new ≡ seat.old) }
     {
         let Seat {
@@ -241,6 +242,31 @@ impl<P: Publishing> Publisher<P> {
     {
         let mut desk = self.desk.lock(rt);
         let answer = desk.lend(user);
+        let wanted = desk.wanted();
+        drop(desk);
+        self.moved.wake(wanted);
+        answer
+    }
+
+    /// Lends the book under the lock, as `lend` does. Its log has all commits of the seat, and is no shorter than any that
+    /// the seat has read.
+    pub fn lend_to<U: SlotUse, R: Wait>(
+        &self,
+        rt: &R,
+        seat: &mut Seat<P>,
+        user: &mut U,
+    ) -> U::Answer
+        ensures lent { IsLentTo U.did P.checked seat.old user.old user.new result }
+        ensures same { seat.new ≡ seat.old }
+    {
+        let Seat {
+            notes: _,
+            high: _,
+            mark: _,
+            token,
+        } = seat;
+        let mut desk = self.desk.lock(rt);
+        let answer = desk.lend_to(token, user);
         let wanted = desk.wanted();
         drop(desk);
         self.moved.wake(wanted);

@@ -28,6 +28,30 @@ impl SlotUse for Count {
     }
 }
 
+/// Looks up to which position the client of a slot was sent the log.
+#[derive(Drop)]
+struct SentTo {
+    slot: usize,
+}
+
+impl SlotUse for SentTo {
+    type Answer = u64;
+
+    ghost did = { λ _ _ _ _ _ _ _. Unit {0} };
+
+    fn use_slots(&mut self, _book: &mut Book, wishes: &mut [Wish]) -> u64 {
+        match wishes.get(self.slot) {
+            Some(wish) => wish.sent,
+            None => 0,
+        }
+    }
+}
+
+/// Up to which position the client of the slot was sent the log.
+fn sent_to<P: Publishing, R: Wait>(rt: &R, publisher: &Publisher<P>, slot: usize) -> u64 {
+    publisher.lend(rt, &mut SentTo { slot })
+}
+
 /// A code for a step: the number of its commit, 2,000 and the number of commits that it passes over, or 1,000 and more
 /// for the others.
 fn code(step: Step) -> u32 {
@@ -113,13 +137,14 @@ fn commit_halves<P: Publishing, R: Wait>(
 }
 
 /// The steps of the first subscriber's sender, at the first commit and at the last, and of the second's, which passes
-/// over the first 64 commits, and over the six after them.
+/// over the first 64 commits, and over the six after them; and up to where each client was sent the log after the first
+/// of these steps.
 fn halves<P: Publishing, R: Wait>(
     rt: &R,
     alloc: Global,
     opening: Opening,
     checked: Arc<Checked, Global>,
-) -> Result<((u32, u32, u32), (u32, u32, u32)), Fail>
+) -> Result<((u32, u32, u32), (u32, u32, u32), (u64, u64)), Fail>
     requires name { opening.name ≡ P.name }
     requires parts { opening.parts ≡ P.parts }
     requires seats { opening.parts ≡ 1000 }
@@ -133,12 +158,14 @@ fn halves<P: Publishing, R: Wait>(
     };
     commit_halves(rt, alloc, &publisher, &mut seat)?;
     let first = code(publisher.next_step(rt, 0, 1));
+    let one = sent_to(rt, &publisher, 0);
     let last = code(publisher.next_step(rt, 0, 71));
     let later = code_now(publisher.step_now(rt, 0, 72));
     let many = code(publisher.next_step(rt, 1, 1));
+    let other = sent_to(rt, &publisher, 1);
     let few = code(publisher.next_step(rt, 1, 65));
     let own = code(publisher.next_step(rt, 1, 71));
-    Ok(((first, last, later), (many, few, own)))
+    Ok(((first, last, later), (many, few, own), (one, other)))
 }
 
 #[test]
@@ -146,6 +173,7 @@ fn a_sender_passes_over_what_others_get(rt: HostRuntime) -> Result<(), Fail> {
     let alloc = rt.alloc();
     let checked = accepted(alloc, HALVES, &["s 0 s 1 e 0 o 0 n 1 s 1 o 1 e 0 n 1 n 0"])?;
     let told = halves::<Brand, _>(&rt, alloc, Opening::new(alloc)?, checked)?;
-    same(&rt, told, ((1, 2_001, 0), (2_064, 2_006, 71)));
+    let wanted = ((1, 2_001, 0), (2_064, 2_006, 71), (128, 64 * 64 + 64));
+    same(&rt, told, wanted);
     Ok(())
 }

@@ -2,10 +2,11 @@ use Rattle.std.proofs.Common.{List, map, sym, ◌∙◌, ap, subst, arith}
 use Rattle.shard_checker.specs.CheckedView.{setting_in}
 use Rattle.table_changes.specs.Commands.{command_view}
 use Rattle.table_changes.specs.declared.command.Command.{Command}
-use Rattle.publisher_desk.specs.Answers.{IsRefused}
+use Rattle.publisher_desk.specs.Logged.{Refuses}
 use Rattle.publisher_desk.specs.Receipts.{ReceiptOf}
 use Rattle.publisher_desk.specs.Refusals.{HasFault}
-use Rattle.publisher_desk.proofs.HeldLemmas.{commit_held, adds_as, made_as, is_refused}
+use Rattle.publisher_desk.specs.Sights.{sight_of}
+use Rattle.publisher_desk.proofs.HeldLemmas.{commit_held, adds_as, made_as, refuses}
 use Rattle.publisher_desk.proofs.LoggedLemmas.{history_adds, history_long}
 use Rattle.publisher_desk.proofs.RefusalLemmas.{has_fault}
 use Rattle.publisher_desk.proofs.desk.Desk.commit.Goals as goal
@@ -59,7 +60,9 @@ returns-in-Err-clause-fault g c =
 
 pub returns-in-Err-clause-refused : goal.returns-in-Err-clause-refused
 returns-in-Err-clause-refused g c =
-    subst (λ (list : List Command). IsRefused g.P.Publishing.checked g.P.Publishing.limit (map command_view list)
-    c.in-Err.error) c.as_slice.ensures.value
-    (is_refused g.P.Publishing.checked g.P.Publishing.limit c.self.inside.book c.self.invariant.is
-    (map command_view c.as_slice.result.now) c.in-Err.error c.in-Err.ensures.refused)
+    subst (λ (list : List Command). Refuses g.P.Publishing.checked g.P.Publishing.limit (map command_view list)
+    (sight_of c.args.token.now) (sight_of c.look.new.token) c.in-Err.error) c.as_slice.ensures.value
+    (refuses g.P.Publishing.checked g.P.Publishing.limit c.self.inside.book c.self.invariant.is
+    c.self.inside.history (sight_of c.args.token.now) (sight_of c.look.new.token)
+    (map command_view c.as_slice.result.now) c.in-Err.error c.self.invariant.told c.look.ensures.seen
+    c.in-Err.ensures.refused)

@@ -2,8 +2,8 @@ use Rattle.std.proofs.Common.{ap, arith, sym}
 use Rattle.shard_checker.specs.CheckedView.{setting_in}
 use Rattle.publisher_desk.specs.Receipts.{ReceiptOf}
 use Rattle.publisher_desk.specs.Sights.{sight_of}
-use Rattle.publisher_desk.proofs.LoggedLemmas.{receipt_noted}
-use Rattle.publisher_desk.proofs.SeatLemmas.{receipt_pushed}
+use Rattle.publisher_desk.proofs.LoggedLemmas.{receipt_noted, refusal_sighted}
+use Rattle.publisher_desk.proofs.SeatLemmas.{receipt_pushed, seat_stays}
 use Rattle.publisher_desk.proofs.publisher.Publisher.commit.Goals as goal
 
 pub invariant_of-seat-2 : goal.invariant_of-seat-2
@@ -17,4 +17,15 @@ invariant_of-seat-2 g c = (
   receipt_noted (setting_in g.P.Publishing.checked) c.seat.inside.notes.items c.reserve.new.self.items
       c.push_reserved.new.self.items (sight_of c.seat.inside.token) (sight_of c.commit.new.token)
       c.reserve.ensures.items c.seat.invariant.1 c.in-Ok.receipt c.push_reserved.ensures.items c.in-Ok.ensures.seen,
+)
+
+-- the seat has seen more of the log, and has no note of it
+pub invariant_of-seat-in-Err : goal.invariant_of-seat-in-Err
+invariant_of-seat-in-Err g c = (
+  seat_stays c.seat.inside.notes.items c.reserve.new.self.items c.seat.inside.high
+      c.seat.inside.mark.parts c.commit.new.mark.parts c.seat.inside.mark.amount c.commit.new.mark.amount
+      c.reserve.ensures.items c.in-Err.ensures.parts c.in-Err.ensures.uncounted c.seat.invariant.0,
+  refusal_sighted g.P.Publishing.checked g.P.Publishing.limit c.seat.inside.notes.items _
+      (sight_of c.seat.inside.token) (sight_of c.commit.new.token) c.in-Err.error c.seat.invariant.1
+      c.in-Err.ensures.refused c.reserve.new.self.items c.reserve.ensures.items,
 )

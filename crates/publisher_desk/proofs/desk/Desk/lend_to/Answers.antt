@@ -1,0 +1,28 @@
+use Rattle.std.proofs.Common.{List, length, refl, subst, sym}
+use Rattle.tables_log.specs.BookView.{book_log}
+use Rattle.tables_log.specs.Slots.{end_after}
+use Rattle.publisher_desk.specs.Held.{AreSentUpTo}
+use Rattle.publisher_desk.specs.Receipts.{transactions_of}
+use Rattle.publisher_desk.specs.declared.wish.Wish.{Wish}
+use Rattle.publisher_desk.proofs.desk.Desk.lend_to.Goals as goal
+
+-- what was lent is what the lock holds
+pub returns-clause-lent : goal.returns-clause-lent
+returns-clause-lent g c = record {
+  lent = record {
+    old = c.self.inside.book;
+    new = c.use_slots-answer.new.book;
+    wishes = c.as_mut_slice.result.now;
+    left = c.use_slots-answer.new.wishes;
+    named = c.self.invariant.is.named;
+    transactions = transactions_of c.self.inside.history.all;
+    stands = c.self.invariant.told.stands;
+    slots = c.use_slots-answer.ensures.slots;
+    sent = subst (λ (wishes : List Wish). AreSentUpTo (end_after (length (book_log c.self.inside.book))) wishes)
+        (sym c.as_mut_slice.ensures.value) c.self.invariant.sent;
+    does = c.use_slots-answer.ensures.did;
+  };
+  log = c.self.inside.history.all;
+  log_is = refl;
+  sees = c.look.ensures.seen;
+}
