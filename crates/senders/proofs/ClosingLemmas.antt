@@ -20,15 +20,16 @@ use Rattle.tables_log.specs.declared.slots.Slot.{Slot}
 use Rattle.tables_log.proofs.StandLemmas.{slots_keep_it}
 use Rattle.publisher_desk.specs.Counting.{total_receipts, IsCounted}
 use Rattle.publisher_desk.specs.Held.{IsBookOf}
-use Rattle.publisher_desk.specs.Receipts.{ReceiptOf}
+use Rattle.publisher_desk.specs.Receipts.{ReceiptOf, transactions_of}
 use Rattle.publisher_desk.specs.Seats.{receipts, AreTimed, IsForward}
 use Rattle.publisher_desk.specs.declared.note.Note.{Note}
 use Rattle.publisher_desk.specs.declared.note.Note.TheVariants.{Committed, Looked}
 use Rattle.publisher_desk.specs.declared.note.Reading.{Reading}
 use Rattle.senders.specs.CloseCauses.{IsMissing, IsRepeated, IsNotLogged, IsToldBy, HasWrongReading, HasOtherTaken, IsCause, IsHeldBack, RefusedClose}
 use Rattle.senders.specs.Closing.{IsClosed}
-use Rattle.senders.specs.Gathering.{receipts_in, all_receipts, all_readings, numbers_of, RiseTo, IsRising}
-use Rattle.senders.specs.Histories.{transactions_of, AreInOrder, IsRight}
+use Rattle.publisher_desk.specs.Logged.{RiseTo}
+use Rattle.senders.specs.Gathering.{receipts_in, all_receipts, all_readings, numbers_of, IsRising}
+use Rattle.senders.specs.Histories.{AreInOrder, IsRight}
 use Rattle.senders.specs.Replays.{Replays, IsAsLong, IsUnlikeIn}
 use Rattle.senders.specs.TakenCommits.{IsTaken}
 use Rattle.senders.specs.declared.close_error.CloseError.{CloseError}

@@ -23,12 +23,11 @@ use Rattle.copy_both.specs.Streams.{Move, count_before, stream}
 use Rattle.copy_both.specs.Tellings.{telling_of}
 use Rattle.copy_both.specs.VoiceLaws.{AreAt}
 use Rattle.senders.specs.declared.end.End.{End}
-use Rattle.publisher_desk.specs.Receipts.{ReceiptOf}
+use Rattle.publisher_desk.specs.Receipts.{ReceiptOf, transaction_of, transactions_of}
 use Rattle.publisher_desk.specs.Seats.{AreTimed, HasTime}
 use Rattle.publisher_desk.specs.declared.note.Note.{Note}
 use Rattle.publisher_desk.specs.declared.note.Note.TheVariants.{Committed, Looked}
 use Rattle.senders.specs.Gathering.{all_receipts, receipts_in}
-use Rattle.senders.specs.Histories.{transaction_of, transactions_of}
 use Rattle.senders.specs.TakenCommits.{IsTaken}
 use Rattle.stream_laws.specs.Cutting.{whole_in}
 use Rattle.stream_laws.specs.Following.{Follows, IsPublished, IsSentItem, items_from, log_of}

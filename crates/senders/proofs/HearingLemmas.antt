@@ -18,8 +18,8 @@ use Rattle.senders.specs.Hearing.{HearsPiece, IsExplained, IsSentFrom, StaysStar
 use Rattle.senders.specs.Listening.{EndsOf, HeardPiece, HearsLast, HearsMore, HearsNext, next_by, next_by_end, piece_of}
 use Rattle.senders.specs.declared.failed.Failed.{Failed}
 use Rattle.senders.specs.Pieces.{Pulls, PullsNothing, PullsPiece}
-use Rattle.senders.specs.declared.ending.Ending.{Ending}
-use Rattle.senders.specs.declared.ending.Ending.TheVariants as ending
+use Rattle.senders.specs.declared.listener_end.ListenerEnd.{ListenerEnd}
+use Rattle.senders.specs.declared.listener_end.ListenerEnd.TheVariants as listener_end
 use Rattle.senders.specs.declared.listener.Listener.{Listener}
 use Rattle.senders.specs.declared.next.Next.{Next}
 use Rattle.senders.specs.declared.next.Next.TheVariants as next
@@ -147,7 +147,7 @@ stays_same old new same started is = ap ear_started same ∙ is
 
 pub read_fails : (checked : CheckedOf) (left now_left : Option (List ℕ)) (failed ended : Bool) (old new : Listener)
     → PullsNothing left now_left failed old new
-    → HearsLast checked left now_left failed ended old new ending.ReadFault
+    → HearsLast checked left now_left failed ended old new listener_end.SourceFailed
 read_fails checked left now_left failed ended old new pulls = record {
   more = [];
   read = pulls.read;
@@ -161,7 +161,7 @@ read_fails checked left now_left failed ended old new pulls = record {
 
 pub read_ends : (checked : CheckedOf) (left now_left : Option (List ℕ)) (failed ended : Bool) (old new : Listener)
     → PullsNothing left now_left ended old new
-    → HearsLast checked left now_left failed ended old new ending.NoMore
+    → HearsLast checked left now_left failed ended old new listener_end.SourceEnded
 read_ends checked left now_left failed ended old new pulls = record {
   more = [];
   read = pulls.read;
@@ -205,7 +205,7 @@ module _ (checked : CheckedOf) (left middle_left last_left : Option (List ℕ)) 
     room = then.room ∙ first.room;
   }
 
-  pub hears_last : (failed ended : Bool) (why : Ending)
+  pub hears_last : (failed ended : Bool) (why : ListenerEnd)
       → HearsLast checked middle_left last_left failed ended middle new why
       → HearsLast checked left last_left failed ended old new why
   hears_last failed ended why then = record {
@@ -235,6 +235,6 @@ module _ (checked : CheckedOf) (left middle_left last_left : Option (List ℕ)) 
       hears_more checked left middle_left last_left old middle new first
       (subst (HearsNext checked middle_left last_left failed ended middle new) is hears)
 
-  pub last_after : (why : Ending) → result ≡ next.Ends why → HearsLast checked left last_left failed ended old new why
+  pub last_after : (why : ListenerEnd) → result ≡ next.Ends why → HearsLast checked left last_left failed ended old new why
   last_after why is = hears_last checked left middle_left last_left old middle new first failed ended why
       (subst (HearsNext checked middle_left last_left failed ended middle new) is hears)

@@ -19,9 +19,8 @@ use Rattle.tables_log.specs.Commits.{CommitOf, commit_of}
 use Rattle.tables_log.specs.StandsFor.{Transaction, IsAccepted, AreAccepted, after, entries_from, left_by}
 use Rattle.tables_log.specs.declared.book.Book.{Book}
 use Rattle.tables_log.proofs.StandLemmas.{each_is_logged}
-use Rattle.publisher_desk.specs.Logged.{StandsIn, IsReadIn, AreNoted, own_numbers, drawn_by, IsLogOfSeats}
-use Rattle.publisher_desk.specs.Logged as desk
-use Rattle.publisher_desk.specs.Receipts.{ReceiptOf}
+use Rattle.publisher_desk.specs.Logged.{StandsIn, IsReadIn, AreNoted, own_numbers, drawn_by, IsLogOfSeats, RiseTo}
+use Rattle.publisher_desk.specs.Receipts.{ReceiptOf, transaction_of, transactions_of}
 use Rattle.publisher_desk.specs.Sights.{times}
 use Rattle.publisher_desk.specs.declared.note.Note.{Note}
 use Rattle.publisher_desk.specs.declared.note.Note.TheVariants.{Committed, Looked}
@@ -29,8 +28,8 @@ use Rattle.publisher_desk.specs.declared.note.Reading.{Reading}
 use Rattle.publisher_desk.proofs.KeptLemmas.{times_append}
 use Rattle.publisher_desk.proofs.LoggedLemmas.{length_transactions, transactions_append}
 use Rattle.senders.specs.CloseCauses.{IsUnlike, IsRefusedThere, IsOtherThere, IsMissing, IsFalling, IsRepeated, IsNotLogged, HasWrongReading, IsCause, CanCome}
-use Rattle.senders.specs.Gathering.{receipts_in, readings_in, all_receipts, all_readings, numbers_of, RiseTo, IsRising}
-use Rattle.senders.specs.Histories.{transaction_of, transactions_of, AreInOrder, IsRight}
+use Rattle.senders.specs.Gathering.{receipts_in, readings_in, all_receipts, all_readings, numbers_of, IsRising}
+use Rattle.senders.specs.Histories.{AreInOrder, IsRight}
 use Rattle.senders.specs.declared.served.Served.{Served}
 use Rattle.senders.specs.declared.close_error.CloseError.{CloseError}
 use Rattle.senders.specs.declared.close_error.CloseError.TheVariants as f
@@ -61,10 +60,6 @@ numbers_append : (receipts more : List ReceiptOf) → numbers_of (receipts ++ mo
 numbers_append [] more = refl
 numbers_append (receipt ∷ receipts) more =
     ap (λ (list : List ℕ). receipt.number ∷ list) (numbers_append receipts more)
-
-rises : (high low : ℕ) (numbers : List ℕ) → desk.RiseTo high low numbers → RiseTo high low numbers
-rises high low [] rise = tt
-rises high low (number ∷ numbers) rise = (rise.0, rise.1, rises high number numbers rise.2)
 
 abbrev same_once : ℕ → ℕ → ℕ
 same_once number n = cond (eqb number n) 1 0
@@ -260,7 +255,7 @@ module _ (checked : CheckedOf) (book : Book) (seats : List (List Note)) (named :
       let notes : List Note = get_or seats place other in
       subst (λ (n : ℕ). IsRising n notes) (sym long)
       (subst (λ (list : List ℕ). RiseTo (length logged.log) 0 list) (numbers_are notes)
-      (rises (length logged.log) 0 (own_numbers notes) (logged.rising place other low)))
+      (logged.rising place other low))
 
   apart : (sorted : List ReceiptOf) → IsPermutation (all_receipts seats) sorted
       → IsNonDecreasingBy (λ (receipt : ReceiptOf). receipt.number) sorted

@@ -1,7 +1,7 @@
 -- Numbers that rise.
 use Rattle.std.proofs.Common.{◌≡◌, ℕ, ◌+◌, ◌≤◌, List, [], ◌∷◌, length, refl, ◌∙◌, ap, arith}
 use Rattle.std.specs.List.{range_with_len}
-use Rattle.senders.specs.Gathering.{RiseTo}
+use Rattle.publisher_desk.specs.Logged.{RiseTo}
 
 -- What is to be shown holds just where the numbers that are left rise.
 pub record Leaves (whole : Type 0) (high low : ℕ) (numbers : List ℕ) : Type 0 where

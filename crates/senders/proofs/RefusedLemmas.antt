@@ -15,8 +15,8 @@ use Rattle.senders.specs.declared.served.Served.{Served}
 use Rattle.senders.specs.Listening.{EndsAt, EndsFor}
 use Rattle.senders.specs.Refusing.{AnswersAs, cause_by}
 use Rattle.senders.specs.Serving.{IsAnswer, IsCause, IsServed, IsServedFor, IsWritten, commits_of, started_of}
-use Rattle.senders.specs.declared.ending.Ending.{Ending}
-use Rattle.senders.specs.declared.ending.Ending.TheVariants as ending
+use Rattle.senders.specs.declared.listener_end.ListenerEnd.{ListenerEnd}
+use Rattle.senders.specs.declared.listener_end.ListenerEnd.TheVariants as listener_end
 use Rattle.senders.specs.declared.listener.Listener.{Listener}
 use Rattle.senders.proofs.ServingLemmas.{heard_cause}
 
@@ -28,8 +28,8 @@ record Answered (before after : Option (List ℕ)) (failed : Bool) (why : End) :
 
 module _ (checked : CheckedOf) (bytes : List ℕ) (source_failed source_ended : Bool) (before after : Option (List ℕ))
     (failed : Bool) (response : List ℕ) where
-  by_fault : (f : LinkFault) → EndsFor checked bytes None response source_failed source_ended (ending.Fault f)
-      → AnswersAs (ending.Fault f) before after failed response
+  by_fault : (f : LinkFault) → EndsFor checked bytes None response source_failed source_ended (listener_end.Fault f)
+      → AnswersAs (listener_end.Fault f) before after failed response
       → Answered before after failed (end.Link f)
   by_fault (fault.BadStart state) ends answers =
       let is = ends.answered in
@@ -52,12 +52,12 @@ module _ (checked : CheckedOf) (bytes : List ℕ) (source_failed source_ended : 
   by_fault fault.Closed ends answers = record { written = []; put = answers; answer = refl }
   by_fault fault.OutOfMemory ends answers = record { written = []; put = answers; answer = refl }
 
-  answered : (why : Ending) → EndsFor checked bytes None response source_failed source_ended why
+  answered : (why : ListenerEnd) → EndsFor checked bytes None response source_failed source_ended why
       → AnswersAs why before after failed response → Answered before after failed (cause_by why)
-  answered ending.ReadFault ends answers = record { written = []; put = answers; answer = refl }
-  answered ending.NoMore ends answers = record { written = []; put = answers; answer = refl }
-  answered (ending.Frame kind) ends answers = record { written = []; put = answers; answer = refl }
-  answered (ending.Fault f) ends answers = by_fault f ends answers
+  answered listener_end.SourceFailed ends answers = record { written = []; put = answers; answer = refl }
+  answered listener_end.SourceEnded ends answers = record { written = []; put = answers; answer = refl }
+  answered (listener_end.Frame kind) ends answers = record { written = []; put = answers; answer = refl }
+  answered (listener_end.Fault f) ends answers = by_fault f ends answers
 
 module _ (checked : CheckedOf) (bytes : List ℕ) (source_failed source_ended : Bool) (before after : Option (List ℕ))
     (failed : Bool) (served : Served) (no_slot : served.slot ≡ None)
@@ -80,7 +80,7 @@ module _ (checked : CheckedOf) (bytes : List ℕ) (source_failed source_ended : 
 
 -- the connection ended before a stream was started
 pub served_refused : (checked : CheckedOf) (left now_left : Option (List ℕ)) (source_failed source_ended : Bool)
-    (before after : Option (List ℕ)) (failed : Bool) (old new : Listener) (served : Served) (why : Ending)
+    (before after : Option (List ℕ)) (failed : Bool) (old new : Listener) (served : Served) (why : ListenerEnd)
     → HasHeard checked [] old.ear → EndsAt checked left now_left source_failed source_ended old new None why
     → AnswersAs why before after failed (ear_refusal new.ear)
     → served.slot ≡ None → served.start ≡ None → served.taken.items ≡ [] → served.end ≡ cause_by why

@@ -22,10 +22,10 @@ use Rattle.tables_log.specs.declared.error.CommitError.{CommitError}
 use Rattle.tables_log.specs.declared.error.CommitError.TheVariants as e
 use Rattle.tables_log.proofs.PlaceLemmas.{get_last, number_is}
 use Rattle.tables_log.proofs.StandLemmas.{commits_add_one}
-use Rattle.publisher_desk.specs.Receipts.{ReceiptOf}
+use Rattle.publisher_desk.specs.Receipts.{ReceiptOf, transaction_of, transactions_of}
 use Rattle.publisher_desk.specs.declared.note.Reading.{Reading}
 use Rattle.senders.specs.CloseCauses.{IsUnlike, IsRefusedThere, IsOtherThere}
-use Rattle.senders.specs.Histories.{transaction_of, transactions_of, IsRight}
+use Rattle.senders.specs.Histories.{IsRight}
 use Rattle.senders.specs.Replays.{IsAgain, IsNotAgain, IsRefusedNow, IsOtherNow, IsMissingFor, Replays, IsAsLong, IsUnlikeIn}
 use Rattle.senders.specs.declared.close_error.CloseError.{CloseError}
 use Rattle.senders.specs.declared.close_error.CloseError.TheVariants as f

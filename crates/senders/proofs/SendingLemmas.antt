@@ -15,8 +15,8 @@ use Rattle.copy_both.proofs.VoiceStreams.{voice_keeps, voice_stops, voice_takes}
 use Rattle.stream_laws.specs.LayoutRoom.{IsClocked}
 use Rattle.senders.specs.Flushing.{Flushes}
 use Rattle.senders.specs.Sending.{Breaks, Follows, GoesOn, IsQuiet, Spells, StopsAs, TakesUp, TellsAs, TellsOn}
-use Rattle.senders.specs.declared.stop.Stop.{Stop}
-use Rattle.senders.specs.declared.stop.Stop.TheVariants as stop
+use Rattle.senders.specs.declared.sender_end.SenderEnd.{SenderEnd}
+use Rattle.senders.specs.declared.sender_end.SenderEnd.TheVariants as sender_end
 use Rattle.senders.proofs.FlushingLemmas.{tells_flushed}
 
 -- ---- a voice that tells spells its stream
@@ -57,8 +57,8 @@ module _ (before after : Option (List ℕ)) (told : Told) where
       → TellsOn before after (taken ++ commit ∷ []) new told
   takes_up taken old new commit number clock timed on next is says =
       let tells = on.tells in
-      let counted : Some (tells.place.done + 1) ≡ Some number = sym (ap next_of tells.stage_is) ∙ next in
-      let count : tells.place.done + 1 ≡ number = cc in
+      let counted : Some (tells.state.done + 1) ≡ Some number = sym (ap next_of tells.stage_is) ∙ next in
+      let count : tells.state.done + 1 ≡ number = cc in
       let done = tells.done in
       let place : commit.number ≡ suc (first_of on.now + length on.now.taken) = omega arith in
       let after_it = voice_takes old new on.now commit clock tells place says in
@@ -175,7 +175,7 @@ goes_on before after told taken voice on none = record {
   quiet = record { tells = on.tells; none = none };
 }
 
-pub not_fault : (s : Stop) → (s ≡ stop.Told) ⊎ ((s ≡ stop.Finished) ⊎ (s ≡ stop.OutOfMemory)) → s ≡ stop.WriteFault
+pub not_fault : (s : SenderEnd) → (s ≡ sender_end.ConnectionEnded) ⊎ ((s ≡ sender_end.Finished) ⊎ (s ≡ sender_end.OutOfMemory)) → s ≡ sender_end.WriteFault
     → ⊥
 not_fault s (inl told) fault = cc
 not_fault s (inr (inl finished)) fault = cc
@@ -183,25 +183,25 @@ not_fault s (inr (inr starved)) fault = cc
 
 module _ (before after last : Option (List ℕ)) (told : Told) (taken : List CommitOf) (old new : Voice)
     (flushes : Flushes after last old new) where
-  pub writes_all : (s : Stop) → (s ≡ stop.WriteFault → ⊥) → TellsAs s before after taken old told
+  pub writes_all : (s : SenderEnd) → (s ≡ sender_end.WriteFault → ⊥) → TellsAs s before after taken old told
       → voice_output new ≡ [] → StopsAs s before last taken new told
-  writes_all stop.Told not tells none =
+  writes_all sender_end.ConnectionEnded not tells none =
       goes_on before last told taken new (tells_written before after told last taken old new tells flushes) none
-  writes_all stop.Finished not tells none =
+  writes_all sender_end.Finished not tells none =
       goes_on before last told taken new (tells_written before after told last taken old new tells flushes) none
-  writes_all stop.WriteFault not tells none = absurd (not refl)
-  writes_all stop.OutOfMemory not tells none = record {
+  writes_all sender_end.WriteFault not tells none = absurd (not refl)
+  writes_all sender_end.OutOfMemory not tells none = record {
     breaks = breaks_written before after told last taken old new tells flushes;
     none = none;
   }
 
-  pub writes_part : (s : Stop) → TellsAs s before after taken old told → Breaks before last taken new told
-  writes_part stop.Told tells =
+  pub writes_part : (s : SenderEnd) → TellsAs s before after taken old told → Breaks before last taken new told
+  writes_part sender_end.ConnectionEnded tells =
       breaks before last told taken new (tells_written before after told last taken old new tells flushes)
-  writes_part stop.Finished tells =
+  writes_part sender_end.Finished tells =
       breaks before last told taken new (tells_written before after told last taken old new tells flushes)
-  writes_part stop.WriteFault tells = breaks_written before after told last taken old new tells flushes
-  writes_part stop.OutOfMemory tells = breaks_written before after told last taken old new tells flushes
+  writes_part sender_end.WriteFault tells = breaks_written before after told last taken old new tells flushes
+  writes_part sender_end.OutOfMemory tells = breaks_written before after told last taken old new tells flushes
 
 -- ---- a turn of the sender
 

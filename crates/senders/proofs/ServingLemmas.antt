@@ -21,8 +21,8 @@ use Rattle.senders.specs.Serving.{IsCause, IsEnded, IsLast, IsLeft, IsServed, Is
 use Rattle.senders.specs.Serving as serving
 use Rattle.senders.specs.Speaking.{IsSaid}
 use Rattle.senders.specs.Speaking as speaking
-use Rattle.senders.specs.declared.ending.Ending.{Ending}
-use Rattle.senders.specs.declared.ending.Ending.TheVariants as ending
+use Rattle.senders.specs.declared.listener_end.ListenerEnd.{ListenerEnd}
+use Rattle.senders.specs.declared.listener_end.ListenerEnd.TheVariants as listener_end
 use Rattle.senders.specs.declared.listener.Listener.{Listener}
 use Rattle.senders.proofs.HearingLemmas.{has_asked}
 
@@ -33,35 +33,35 @@ memory_cause : (checked : CheckedOf) (bytes : List ℕ) (slot start : ℕ)
 memory_cause checked bytes slot start = record { sent = first_sent start; commits = 0; from = omega arith; has = tt }
 
 pub heard_cause : (checked : CheckedOf) (bytes : List ℕ) (started : Option (ℕ × ℕ)) (response : List ℕ)
-    (source_failed source_ended sink_failed : Bool) (why : Ending)
+    (source_failed source_ended sink_failed : Bool) (why : ListenerEnd)
     → EndsFor checked bytes started response source_failed source_ended why
     → IsCause checked bytes started source_failed source_ended sink_failed (cause_by why)
-heard_cause checked bytes started response source_failed source_ended sink_failed ending.ReadFault ends = ends
-heard_cause checked bytes started response source_failed source_ended sink_failed ending.NoMore ends = inl ends
-heard_cause checked bytes started response source_failed source_ended sink_failed (ending.Frame kind) ends =
+heard_cause checked bytes started response source_failed source_ended sink_failed listener_end.SourceFailed ends = ends
+heard_cause checked bytes started response source_failed source_ended sink_failed listener_end.SourceEnded ends = inl ends
+heard_cause checked bytes started response source_failed source_ended sink_failed (listener_end.Frame kind) ends =
     inr (record { kind = kind; has = ends })
-heard_cause checked bytes started response source_failed source_ended sink_failed (ending.Fault fault) ends = ends.holds
+heard_cause checked bytes started response source_failed source_ended sink_failed (listener_end.Fault fault) ends = ends.holds
 
 -- ---- a stream
 
 -- what the bytes say of it, and of why its listener ended
 record Knows (checked : CheckedOf) (bytes : List ℕ) (slot start : ℕ) (source_failed source_ended : Bool)
-    (why : Option Ending) : Type 0 where
+    (why : Option ListenerEnd) : Type 0 where
   asks : AsksFor checked (frames_in bytes) slot start
   response : List ℕ
-  ends : (ending : Ending) → why ≡ Some ending
+  ends : (ending : ListenerEnd) → why ≡ Some ending
       → EndsFor checked bytes (Some (slot, start)) response source_failed source_ended ending
 
 is_last : (checked : CheckedOf) (bytes : List ℕ) (slot start : ℕ) (source_failed source_ended : Bool)
-    (why : Option Ending) (last : List ℕ)
+    (why : Option ListenerEnd) (last : List ℕ)
     → Knows checked bytes slot start source_failed source_ended why → IsSaid why last → IsLast (frames_in bytes) last
 is_last checked bytes slot start source_failed source_ended why last knows (speaking.Nothing none) =
     serving.Nothing none
 is_last checked bytes slot start source_failed source_ended why last knows (speaking.Done done is) =
-    serving.Done done (knows.ends (ending.Frame 99) is)
+    serving.Done done (knows.ends (listener_end.Frame 99) is)
 
 module _ (checked : CheckedOf) (bytes : List ℕ) (slot start : ℕ) (source_failed source_ended : Bool)
-    (before after : Option (List ℕ)) (sink_failed : Bool) (why : Option Ending) (served : Served)
+    (before after : Option (List ℕ)) (sink_failed : Bool) (why : Option ListenerEnd) (served : Served)
     (knows : Knows checked bytes slot start source_failed source_ended why) where
   stream_cause : (is : End) → IsEndOf why sink_failed is
       → IsCause checked bytes (Some (slot, start)) source_failed source_ended sink_failed is
@@ -86,17 +86,17 @@ module _ (checked : CheckedOf) (bytes : List ℕ) (slot start : ℕ) (source_fai
   left_by_kind written kind false is has answered =
       serving.Otherwise kind has (λ same. let yes : (kind == 99) ≡ true = ap (λ (k : ℕ). k == 99) same in cc)
 
-  left_by_ending : (written : List ℕ) (why_ended : Ending) → why ≡ Some why_ended → cause_by why_ended ≡ end.Client
-      → (why ≡ Some (ending.Frame 99) → IsTail copy_done written) → IsLeft source_ended (frames_in bytes) written
-  left_by_ending written ending.ReadFault some client answered = cc
-  left_by_ending written ending.NoMore some client answered = serving.NoMore (knows.ends ending.NoMore some)
-  left_by_ending written (ending.Frame kind) some client answered =
-      left_by_kind written kind (kind == 99) refl (knows.ends (ending.Frame kind) some)
-      (λ same. answered (some ∙ ap (λ (k : ℕ). Some (ending.Frame k)) same))
-  left_by_ending written (ending.Fault fault) some client answered = cc
+  left_by_ending : (written : List ℕ) (why_ended : ListenerEnd) → why ≡ Some why_ended → cause_by why_ended ≡ end.Client
+      → (why ≡ Some (listener_end.Frame 99) → IsTail copy_done written) → IsLeft source_ended (frames_in bytes) written
+  left_by_ending written listener_end.SourceFailed some client answered = cc
+  left_by_ending written listener_end.SourceEnded some client answered = serving.NoMore (knows.ends listener_end.SourceEnded some)
+  left_by_ending written (listener_end.Frame kind) some client answered =
+      left_by_kind written kind (kind == 99) refl (knows.ends (listener_end.Frame kind) some)
+      (λ same. answered (some ∙ ap (λ (k : ℕ). Some (listener_end.Frame k)) same))
+  left_by_ending written (listener_end.Fault fault) some client answered = cc
 
   left_by : (written : List ℕ) (is : End) → is ≡ end.Client
-      → (why ≡ Some (ending.Frame 99) → IsTail copy_done written) → IsEndOf why sink_failed is
+      → (why ≡ Some (listener_end.Frame 99) → IsTail copy_done written) → IsEndOf why sink_failed is
       → IsLeft source_ended (frames_in bytes) written
   left_by written is client answered (Writing same failed) = cc
   left_by written is client answered (Memory same) = cc
@@ -145,7 +145,7 @@ asks_for : (checked : CheckedOf) (bytes : List ℕ) (started : Option (ℕ × �
 asks_for checked bytes started slot start asks is = subst (AsksIfStarted checked (frames_in bytes)) is asks
 
 knows_end : (checked : CheckedOf) (bytes : List ℕ) (old new : Ear) (slot start : ℕ)
-    (source_failed source_ended : Bool) (why : Ending) → EndsOf checked bytes old new source_failed source_ended why
+    (source_failed source_ended : Bool) (why : ListenerEnd) → EndsOf checked bytes old new source_failed source_ended why
     → ear_started new ≡ Some (slot, start) → Knows checked bytes slot start source_failed source_ended (Some why)
 knows_end checked bytes old new slot start source_failed source_ended why ends is = record {
   asks = asks_for checked bytes (ear_started new) slot start ends.asks is;
@@ -171,7 +171,7 @@ knows_on checked bytes ear slot start source_failed source_ended has is = record
 module _ (checked : CheckedOf) (left now_left : Option (List ℕ)) (source_failed source_ended : Bool)
     (before after : Option (List ℕ)) (sink_failed : Bool) (old new : Listener)
     (fresh : HasHeard checked [] old.ear) (served : Served) where
-  pub served_ended : (started : ℕ × ℕ) (why : Ending)
+  pub served_ended : (started : ℕ × ℕ) (why : ListenerEnd)
       → EndsAt checked left now_left source_failed source_ended old new (Some started) why
       → Streams checked started.0 started.1 before after sink_failed (Some why) served
       → IsServed checked left now_left source_failed source_ended before after sink_failed served
@@ -187,7 +187,7 @@ module _ (checked : CheckedOf) (left now_left : Option (List ℕ)) (source_faile
   -- it was heard on by this listener
   module _ (middle_left : Option (List ℕ)) (middle : Listener) (started : ℕ × ℕ)
       (on : StartsOn checked left middle_left old middle started) where
-    by_listener : (why : Option Ending)
+    by_listener : (why : Option ListenerEnd)
         → HearsAll checked middle_left now_left source_failed source_ended middle new why
         → Streams checked started.0 started.1 before after sink_failed why served
         → IsServed checked left now_left source_failed source_ended before after sink_failed served

@@ -24,10 +24,10 @@ skips_one : (old new : Voice) (commit : CommitOf) → IfSome (next_of (voice_sta
     → Skips old new commit → TakesUp (commit ∷ []) old new
 skips_one old new commit next skips before after taken told on =
     let tells = on.tells in
-    let runs : next_of (voice_stage old) ≡ Some (tells.place.done + 1) = ap next_of tells.stage_is in
-    let numbered : commit.number ≡ tells.place.done + 1 =
+    let runs : next_of (voice_stage old) ≡ Some (tells.state.done + 1) = ap next_of tells.stage_is in
+    let numbered : commit.number ≡ tells.state.done + 1 =
     subst (λ (number : Option ℕ). IfSome number (λ next. commit.number ≡ next)) runs next in
-    takes_up before after told taken old new commit (tells.place.done + 1) 0 (omega arith) on runs numbered (skips 0)
+    takes_up before after told taken old new commit (tells.state.done + 1) 0 (omega arith) on runs numbered (skips 0)
 
 pub takes_none : (voice : Voice) → TakesUp [] voice voice
 takes_none voice before after taken told on =
@@ -72,7 +72,7 @@ quiet_rest old new commit commits are skips =
 
 -- ---- commits are skipped, one by one
 
--- so many of them were skipped, and the others are to be
+-- this number of them were skipped, and the others are to be
 pub record SkipsSome {X : Type 0} (view : X → CommitOf) (commits : List X) (count : ℕ) (old new : Voice) : Type 0 where
   pub taken : TakesUp (map view (take count commits)) old new
   pub left : AreQuietFor (voice_checked new) (voice_stage new) (map view (drop count commits))
@@ -132,14 +132,14 @@ pub next_are_quiet : (before after : Option (List ℕ)) (taken commits : List Co
     → AreQuietFor (voice_checked voice) (voice_stage voice) commits
 next_are_quiet before after taken commits voice checked slot start number passed on next are =
     let tells = on.tells in
-    let counted : Some (tells.place.done + 1) ≡ Some number = sym (ap next_of tells.stage_is) ∙ next in
-    let count : tells.place.done + 1 ≡ number = cc in
-    let done : number - 1 ≡ tells.place.done = omega (arith, count) in
-    let slot_is : tells.place.slot ≡ slot = tells.slot ∙ ap (λ (start : Start). start.slot) on.follows.start_is in
+    let counted : Some (tells.state.done + 1) ≡ Some number = sym (ap next_of tells.stage_is) ∙ next in
+    let count : tells.state.done + 1 ≡ number = cc in
+    let done : number - 1 ≡ tells.state.done = omega (arith, count) in
+    let slot_is : tells.state.slot ≡ slot = tells.slot ∙ ap (λ (start : Start). start.slot) on.follows.start_is in
     subst (λ (one : CheckedOf). AreQuietFor one (voice_stage voice) commits)
     (sym (tells.checked_is ∙ on.follows.checked_is))
     (subst (λ (stage : StageOf). AreQuietFor checked stage commits) (sym tells.stage_is)
-    (subst (λ (place : ℕ). ArePassed checked.plan place tells.place.done commits) (sym slot_is)
+    (subst (λ (place : ℕ). ArePassed checked.plan place tells.state.done commits) (sym slot_is)
     (subst (λ (count : ℕ). ArePassed checked.plan slot count commits) done are)))
 
 -- ---- commits that were appended to those that were taken

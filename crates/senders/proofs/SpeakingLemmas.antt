@@ -11,26 +11,26 @@ use Rattle.copy_both.specs.declared.voice.Voice.{Voice}
 use Rattle.senders.specs.Flushing.{Flushes}
 use Rattle.senders.specs.Sending.{StopsAs}
 use Rattle.senders.specs.Speaking.{Answers, Closes, Done, IsClosing, IsQuietAt, IsResting, Nothing, Refused, SaysLast}
-use Rattle.senders.specs.declared.ending.Ending.{Ending}
-use Rattle.senders.specs.declared.ending.Ending.TheVariants as ending
-use Rattle.senders.specs.declared.stop.Stop.{Stop}
-use Rattle.senders.specs.declared.stop.Stop.TheVariants as stop
+use Rattle.senders.specs.declared.listener_end.ListenerEnd.{ListenerEnd}
+use Rattle.senders.specs.declared.listener_end.ListenerEnd.TheVariants as listener_end
+use Rattle.senders.specs.declared.sender_end.SenderEnd.{SenderEnd}
+use Rattle.senders.specs.declared.sender_end.SenderEnd.TheVariants as sender_end
 
 -- the sender did not fail
-abbrev pub IsQuietStop : Stop → Type 0
-IsQuietStop s = (s ≡ stop.Told) ⊎ (s ≡ stop.Finished)
+abbrev pub IsQuietStop : SenderEnd → Type 0
+IsQuietStop s = (s ≡ sender_end.ConnectionEnded) ⊎ (s ≡ sender_end.Finished)
 
-pub says_so : (s now : Stop) (why : Option Ending) (before after : Option (List ℕ)) (was_failed failed : Bool)
+pub says_so : (s now : SenderEnd) (why : Option ListenerEnd) (before after : Option (List ℕ)) (was_failed failed : Bool)
     → IsQuietStop s → Closes s now why before after failed → SaysLast s now why before after was_failed failed
-says_so stop.Told now why before after was_failed failed quiet closes = closes
-says_so stop.Finished now why before after was_failed failed quiet closes = closes
-says_so stop.WriteFault now why before after was_failed failed (inl is) closes = cc
-says_so stop.WriteFault now why before after was_failed failed (inr is) closes = cc
-says_so stop.OutOfMemory now why before after was_failed failed (inl is) closes = cc
-says_so stop.OutOfMemory now why before after was_failed failed (inr is) closes = cc
+says_so sender_end.ConnectionEnded now why before after was_failed failed quiet closes = closes
+says_so sender_end.Finished now why before after was_failed failed quiet closes = closes
+says_so sender_end.WriteFault now why before after was_failed failed (inl is) closes = cc
+says_so sender_end.WriteFault now why before after was_failed failed (inr is) closes = cc
+says_so sender_end.OutOfMemory now why before after was_failed failed (inl is) closes = cc
+says_so sender_end.OutOfMemory now why before after was_failed failed (inr is) closes = cc
 
 -- nothing was said
-says_empty : (s now : Stop) (why : Option Ending) (known : Option (List ℕ)) (failed : Bool) → IsQuietStop s
+says_empty : (s now : SenderEnd) (why : Option ListenerEnd) (known : Option (List ℕ)) (failed : Bool) → IsQuietStop s
     → IsClosing s now why [] → SaysLast s now why known known failed failed
 says_empty s now why known failed quiet closing =
     says_so s now why known known failed failed quiet
@@ -46,22 +46,22 @@ says_empty s now why known failed quiet closing =
       all = λ sound. refl;
     })
 
-pub says_none : (s : Stop) (why : Option Ending) (known : Option (List ℕ)) (failed : Bool) → IsQuietStop s
-    → (why ≡ Some (ending.Frame 99) → ⊥) → SaysLast s s why known known failed failed
+pub says_none : (s : SenderEnd) (why : Option ListenerEnd) (known : Option (List ℕ)) (failed : Bool) → IsQuietStop s
+    → (why ≡ Some (listener_end.Frame 99) → ⊥) → SaysLast s s why known known failed failed
 says_none s why known failed quiet not =
     says_empty s s why known failed quiet (Answers refl (λ done. absurd (not done)))
 
-pub says_refused : (s : Stop) (why : Option Ending) (known : Option (List ℕ)) (failed : Bool) → IsQuietStop s
-    → SaysLast s stop.OutOfMemory why known known failed failed
-says_refused s why known failed quiet = says_empty s stop.OutOfMemory why known failed quiet (Refused refl)
+pub says_refused : (s : SenderEnd) (why : Option ListenerEnd) (known : Option (List ℕ)) (failed : Bool) → IsQuietStop s
+    → SaysLast s sender_end.OutOfMemory why known known failed failed
+says_refused s why known failed quiet = says_empty s sender_end.OutOfMemory why known failed quiet (Refused refl)
 
-resting_at : (s : Stop) (voice : Voice) → IsQuietStop s → IsQuietAt s voice → IsResting voice
-resting_at stop.Told voice quiet rests = rests
-resting_at stop.Finished voice quiet rests = rests
-resting_at stop.WriteFault voice (inl is) rests = cc
-resting_at stop.WriteFault voice (inr is) rests = cc
-resting_at stop.OutOfMemory voice (inl is) rests = cc
-resting_at stop.OutOfMemory voice (inr is) rests = cc
+resting_at : (s : SenderEnd) (voice : Voice) → IsQuietStop s → IsQuietAt s voice → IsResting voice
+resting_at sender_end.ConnectionEnded voice quiet rests = rests
+resting_at sender_end.Finished voice quiet rests = rests
+resting_at sender_end.WriteFault voice (inl is) rests = cc
+resting_at sender_end.WriteFault voice (inr is) rests = cc
+resting_at sender_end.OutOfMemory voice (inl is) rests = cc
+resting_at sender_end.OutOfMemory voice (inr is) rests = cc
 
 none_left : {E : Type 0} (result : Result (Unit {0}) E) (rest : List ℕ) (was_failed failed : Bool)
     → OnOk result (rest ≡ [])
@@ -69,9 +69,9 @@ none_left : {E : Type 0} (result : Result (Unit {0}) E) (rest : List ℕ) (was_f
 none_left (Ok done) rest was_failed failed all says sound = all
 none_left (Err error) rest was_failed failed all says sound = cc
 
-pub says_done : {E : Type 0} (s : Stop) (why : Option Ending) (before after : Option (List ℕ))
+pub says_done : {E : Type 0} (s : SenderEnd) (why : Option ListenerEnd) (before after : Option (List ℕ))
     (was_failed failed : Bool) (old done new : Voice) (result : Result (Unit {0}) E) → IsQuietStop s → IsQuietAt s old
-    → why ≡ Some (ending.Frame 99) → Says old done (done_bytes (voice_stage old)) voices.Closed
+    → why ≡ Some (listener_end.Frame 99) → Says old done (done_bytes (voice_stage old)) voices.Closed
     → Flushes before after done new → OnOk result (voice_output new ≡ [])
     → MatchResult result (λ done. failed ≡ was_failed) (λ error. failed ≡ true)
     → SaysLast s s why before after was_failed failed
@@ -92,11 +92,11 @@ says_done s why before after was_failed failed old done new result quiet at is s
     })
 
 -- a sender that did not fail has written all, and its stream goes on
-pub rests : (s : Stop) (before after : Option (List ℕ)) (taken : List CommitOf) (voice : Voice) (told : Told)
+pub rests : (s : SenderEnd) (before after : Option (List ℕ)) (taken : List CommitOf) (voice : Voice) (told : Told)
     → StopsAs s before after taken voice told → IsQuietAt s voice
-rests stop.Told before after taken voice told goes =
-    record { none = goes.quiet.none; place = goes.quiet.tells.place; stage_is = goes.quiet.tells.stage_is }
-rests stop.Finished before after taken voice told goes =
-    record { none = goes.quiet.none; place = goes.quiet.tells.place; stage_is = goes.quiet.tells.stage_is }
-rests stop.WriteFault before after taken voice told breaks = tt
-rests stop.OutOfMemory before after taken voice told starves = tt
+rests sender_end.ConnectionEnded before after taken voice told goes =
+    record { none = goes.quiet.none; state = goes.quiet.tells.state; stage_is = goes.quiet.tells.stage_is }
+rests sender_end.Finished before after taken voice told goes =
+    record { none = goes.quiet.none; state = goes.quiet.tells.state; stage_is = goes.quiet.tells.stage_is }
+rests sender_end.WriteFault before after taken voice told breaks = tt
+rests sender_end.OutOfMemory before after taken voice told starves = tt

@@ -26,11 +26,11 @@ use Rattle.senders.specs.Running.{Concludes, IsEndOf, IsWithout, Memory, Writing
 use Rattle.senders.specs.Sending.{Breaks, Follows, GoesOn, Spells, StopsAs, started_telling}
 use Rattle.senders.specs.Serving.{commits_of}
 use Rattle.senders.specs.Speaking.{Answers, Closes, FailsToOpen, IsClosing, Nothing, Opens, Refused, SaysLast, SaysNothing, WritesPart}
-use Rattle.senders.specs.declared.ending.Ending.{Ending}
-use Rattle.senders.specs.declared.ending.Ending.TheVariants as ending
+use Rattle.senders.specs.declared.listener_end.ListenerEnd.{ListenerEnd}
+use Rattle.senders.specs.declared.listener_end.ListenerEnd.TheVariants as listener_end
 use Rattle.senders.specs.declared.running.Sent.{Sent}
-use Rattle.senders.specs.declared.stop.Stop.{Stop}
-use Rattle.senders.specs.declared.stop.Stop.TheVariants as stop
+use Rattle.senders.specs.declared.sender_end.SenderEnd.{SenderEnd}
+use Rattle.senders.specs.declared.sender_end.SenderEnd.TheVariants as sender_end
 use Rattle.senders.proofs.SendingLemmas.{spells}
 
 -- What was passed on and what waits are together the stream of these commits.
@@ -42,10 +42,10 @@ pub record Wrote (checked : CheckedOf) (slot start : ℕ) (taken : List CommitOf
   pub bytes : (log : List CommitOf) → AreAt log (count_before start) taken
       → passed ++ output ≡ stream (telling_of checked) log slot (length checked.catalog.tables) start moves
 
--- CopyDone was said where the client said it, unless memory was refused, which is told then
-answered_by : (was now : Stop) (why : Option Ending) (last : List ℕ) (is : End)
-    → (now ≡ stop.OutOfMemory → is ≡ end.Client → ⊥) → IsClosing was now why last → is ≡ end.Client
-    → why ≡ Some (ending.Frame 99) → last ≡ copy_done
+-- CopyDone was said where the client said it, unless memory was refused, which is then reported
+answered_by : (was now : SenderEnd) (why : Option ListenerEnd) (last : List ℕ) (is : End)
+    → (now ≡ sender_end.OutOfMemory → is ≡ end.Client → ⊥) → IsClosing was now why last → is ≡ end.Client
+    → why ≡ Some (listener_end.Frame 99) → last ≡ copy_done
 answered_by was now why last is refused (Refused same) client done = absurd (refused same client)
 answered_by was now why last is refused (Answers same answers) client done = answers done
 
@@ -79,11 +79,11 @@ module _ (checked : CheckedOf) (slot start : ℕ) where
       }
 
   module _ (before opened sent last : Option (List ℕ)) (put : Appends before opened copy_both_response)
-      (taken : List CommitOf) (voice : Voice) (why : Option Ending) (was_failed failed : Bool)
+      (taken : List CommitOf) (voice : Voice) (why : Option ListenerEnd) (was_failed failed : Bool)
       (served : Served) (slot_is : served.slot ≡ Some slot) (start_is : served.start ≡ Some start)
       (taken_is : commits_of served ≡ taken) (ends : IsEndOf why failed served.end) where
-    after_all : (was now : Stop) → GoesOn opened sent taken voice (started_telling checked slot start copy_both_response)
-        → Closes was now why sent last failed → (now ≡ stop.OutOfMemory → served.end ≡ end.Client → ⊥)
+    after_all : (was now : SenderEnd) → GoesOn opened sent taken voice (started_telling checked slot start copy_both_response)
+        → Closes was now why sent last failed → (now ≡ sender_end.OutOfMemory → served.end ≡ end.Client → ⊥)
         → Streams checked slot start before last failed why served
     after_all was now goes closes refused =
         let front : List ℕ = copy_both_response ++ goes.bytes in
@@ -119,7 +119,7 @@ module _ (checked : CheckedOf) (slot start : ℕ) where
           ends = ends;
         }
 
-    after_part : (was now : Stop) → Breaks opened sent taken voice (started_telling checked slot start copy_both_response)
+    after_part : (was now : SenderEnd) → Breaks opened sent taken voice (started_telling checked slot start copy_both_response)
         → SaysNothing was now sent last was_failed failed
         → (failed ≡ false → voice_output voice ≡ []) → (served.end ≡ end.Finished → ⊥)
         → (failed ≡ false → served.end ≡ end.Client → ⊥)
@@ -153,55 +153,55 @@ module _ (checked : CheckedOf) (slot start : ℕ) where
 
 -- ---- the causes that streams have
 
-heard_unfinished : (why : Ending) → cause_by why ≡ end.Finished → ⊥
-heard_unfinished ending.ReadFault is = cc
-heard_unfinished ending.NoMore is = cc
-heard_unfinished (ending.Frame kind) is = cc
-heard_unfinished (ending.Fault fault) is = cc
+heard_unfinished : (why : ListenerEnd) → cause_by why ≡ end.Finished → ⊥
+heard_unfinished listener_end.SourceFailed is = cc
+heard_unfinished listener_end.SourceEnded is = cc
+heard_unfinished (listener_end.Frame kind) is = cc
+heard_unfinished (listener_end.Fault fault) is = cc
 
-stop_unfinished : (s : Stop) → (s ≡ stop.Finished → ⊥) → end_by s ≡ end.Finished → ⊥
-stop_unfinished stop.Told not is = cc
-stop_unfinished stop.Finished not is = not refl
-stop_unfinished stop.WriteFault not is = cc
-stop_unfinished stop.OutOfMemory not is = cc
+stop_unfinished : (s : SenderEnd) → (s ≡ sender_end.Finished → ⊥) → end_by s ≡ end.Finished → ⊥
+stop_unfinished sender_end.ConnectionEnded not is = cc
+stop_unfinished sender_end.Finished not is = not refl
+stop_unfinished sender_end.WriteFault not is = cc
+stop_unfinished sender_end.OutOfMemory not is = cc
 
-by_unfinished : (s : Stop) (is_first : Bool) (why : Ending) → (s ≡ stop.Finished → ⊥)
+by_unfinished : (s : SenderEnd) (is_first : Bool) (why : ListenerEnd) → (s ≡ sender_end.Finished → ⊥)
     → chosen_by s is_first why ≡ end.Finished → ⊥
 by_unfinished s true why not is = stop_unfinished s not is
 by_unfinished s false why not is = heard_unfinished why is
 
-unfinished : (s : Stop) (is_first : Bool) (why : Option Ending) → (s ≡ stop.Finished → ⊥)
+unfinished : (s : SenderEnd) (is_first : Bool) (why : Option ListenerEnd) → (s ≡ sender_end.Finished → ⊥)
     → chosen s is_first why ≡ end.Finished → ⊥
 unfinished s is_first None not is = stop_unfinished s not is
 unfinished s is_first (Some why) not is = by_unfinished s (is_refused s || goes_first is_first why) why not is
 
-refused_end : (s : Stop) (is_first : Bool) (why : Option Ending) → s ≡ stop.OutOfMemory
+refused_end : (s : SenderEnd) (is_first : Bool) (why : Option ListenerEnd) → s ≡ sender_end.OutOfMemory
     → chosen s is_first why ≡ end.Client → ⊥
-refused_end stop.OutOfMemory is_first None is client = cc
-refused_end stop.OutOfMemory is_first (Some why) is client = cc
-refused_end stop.Told is_first why is client = cc
-refused_end stop.Finished is_first why is client = cc
-refused_end stop.WriteFault is_first why is client = cc
+refused_end sender_end.OutOfMemory is_first None is client = cc
+refused_end sender_end.OutOfMemory is_first (Some why) is client = cc
+refused_end sender_end.ConnectionEnded is_first why is client = cc
+refused_end sender_end.Finished is_first why is client = cc
+refused_end sender_end.WriteFault is_first why is client = cc
 
-not_fault : (was now : Stop) (why : Option Ending) (last : List ℕ) → (was ≡ stop.WriteFault → ⊥)
-    → IsClosing was now why last → now ≡ stop.WriteFault → ⊥
+not_fault : (was now : SenderEnd) (why : Option ListenerEnd) (last : List ℕ) → (was ≡ sender_end.WriteFault → ⊥)
+    → IsClosing was now why last → now ≡ sender_end.WriteFault → ⊥
 not_fault was now why last not (Refused same) is = cc
 not_fault was now why last not (Answers same answers) is = not (sym same ∙ is)
 
-stop_ends : (s : Stop) (why : Option Ending) (failed : Bool) (is : End) → (s ≡ stop.WriteFault → failed ≡ true)
+stop_ends : (s : SenderEnd) (why : Option ListenerEnd) (failed : Bool) (is : End) → (s ≡ sender_end.WriteFault → failed ≡ true)
     → is ≡ end_by s → IsEndOf why failed is
-stop_ends stop.Told why failed is fails same = Memory same
-stop_ends stop.Finished why failed is fails same = Whole same
-stop_ends stop.WriteFault why failed is fails same = Writing same (fails refl)
-stop_ends stop.OutOfMemory why failed is fails same = Memory same
+stop_ends sender_end.ConnectionEnded why failed is fails same = Memory same
+stop_ends sender_end.Finished why failed is fails same = Whole same
+stop_ends sender_end.WriteFault why failed is fails same = Writing same (fails refl)
+stop_ends sender_end.OutOfMemory why failed is fails same = Memory same
 
-both_end : (s : Stop) (is_first : Bool) (why : Ending) (failed : Bool) (is : End)
-    → (s ≡ stop.WriteFault → failed ≡ true) → is ≡ chosen_by s is_first why → IsEndOf (Some why) failed is
+both_end : (s : SenderEnd) (is_first : Bool) (why : ListenerEnd) (failed : Bool) (is : End)
+    → (s ≡ sender_end.WriteFault → failed ≡ true) → is ≡ chosen_by s is_first why → IsEndOf (Some why) failed is
 both_end s true why failed is fails same = stop_ends s (Some why) failed is fails same
 both_end s false why failed is fails same = Heard why refl same
 
-ends_by : (s : Stop) (is_first : Bool) (why : Option Ending) (failed : Bool) (is : End)
-    → (s ≡ stop.WriteFault → failed ≡ true) → is ≡ chosen s is_first why → IsEndOf why failed is
+ends_by : (s : SenderEnd) (is_first : Bool) (why : Option ListenerEnd) (failed : Bool) (is : End)
+    → (s ≡ sender_end.WriteFault → failed ≡ true) → is ≡ chosen s is_first why → IsEndOf why failed is
 ends_by s is_first None failed is fails same = stop_ends s None failed is fails same
 ends_by s is_first (Some why) failed is fails same =
     both_end s (is_refused s || goes_first is_first why) why failed is fails same
@@ -209,49 +209,49 @@ ends_by s is_first (Some why) failed is fails same =
 -- ---- all of a stream
 
 module _ (checked : CheckedOf) (slot start : ℕ) (before opened sent last : Option (List ℕ)) (voice : Voice)
-    (why : Option Ending) (was_failed failed : Bool) (served : Served) where
-  by_stop : (s now : Stop) (is_first : Bool) (taken : List CommitOf) → Appends before opened copy_both_response
+    (why : Option ListenerEnd) (was_failed failed : Bool) (served : Served) where
+  by_stop : (s now : SenderEnd) (is_first : Bool) (taken : List CommitOf) → Appends before opened copy_both_response
       → StopsAs s opened sent taken voice (started_telling checked slot start copy_both_response)
-      → (s ≡ stop.WriteFault → was_failed ≡ true) → served.slot ≡ Some slot → served.start ≡ Some start
+      → (s ≡ sender_end.WriteFault → was_failed ≡ true) → served.slot ≡ Some slot → served.start ≡ Some start
       → commits_of served ≡ taken → served.end ≡ chosen now is_first why
       → SaysLast s now why sent last was_failed failed
       → Streams checked slot start before last failed why served
-  by_stop stop.Told now is_first taken put stops fails slot_is start_is taken_is end_is says =
+  by_stop sender_end.ConnectionEnded now is_first taken put stops fails slot_is start_is taken_is end_is says =
       after_all checked slot start before opened sent last put taken voice why was_failed failed served slot_is
       start_is taken_is
       (ends_by now is_first why failed served.end
-      (λ same. absurd (not_fault stop.Told now why says.last (λ no. cc) says.closing same)) end_is)
-      stop.Told now stops says (λ same client. refused_end now is_first why same (sym end_is ∙ client))
-  by_stop stop.Finished now is_first taken put stops fails slot_is start_is taken_is end_is says =
+      (λ same. absurd (not_fault sender_end.ConnectionEnded now why says.last (λ no. cc) says.closing same)) end_is)
+      sender_end.ConnectionEnded now stops says (λ same client. refused_end now is_first why same (sym end_is ∙ client))
+  by_stop sender_end.Finished now is_first taken put stops fails slot_is start_is taken_is end_is says =
       after_all checked slot start before opened sent last put taken voice why was_failed failed served slot_is
       start_is taken_is
       (ends_by now is_first why failed served.end
-      (λ same. absurd (not_fault stop.Finished now why says.last (λ no. cc) says.closing same)) end_is)
-      stop.Finished now stops says (λ same client. refused_end now is_first why same (sym end_is ∙ client))
-  by_stop stop.WriteFault now is_first taken put stops fails slot_is start_is taken_is end_is says =
+      (λ same. absurd (not_fault sender_end.Finished now why says.last (λ no. cc) says.closing same)) end_is)
+      sender_end.Finished now stops says (λ same client. refused_end now is_first why same (sym end_is ∙ client))
+  by_stop sender_end.WriteFault now is_first taken put stops fails slot_is start_is taken_is end_is says =
       let failing : failed ≡ true = says.same ∙ fails refl in
-      let is : served.end ≡ chosen stop.WriteFault is_first why =
-      end_is ∙ ap (λ (s : Stop). chosen s is_first why) says.now_is in
+      let is : served.end ≡ chosen sender_end.WriteFault is_first why =
+      end_is ∙ ap (λ (s : SenderEnd). chosen s is_first why) says.now_is in
       after_part checked slot start before opened sent last put taken voice why was_failed failed served slot_is
       start_is taken_is
-      (ends_by stop.WriteFault is_first why failed served.end (λ same. failing) is) stop.WriteFault now stops says
+      (ends_by sender_end.WriteFault is_first why failed served.end (λ same. failing) is) sender_end.WriteFault now stops says
       (λ sound. cc)
-      (λ finished. unfinished stop.WriteFault is_first why (λ no. cc) (sym is ∙ finished)) (λ sound client. cc)
-  by_stop stop.OutOfMemory now is_first taken put stops fails slot_is start_is taken_is end_is says =
-      let is : served.end ≡ chosen stop.OutOfMemory is_first why =
-      end_is ∙ ap (λ (s : Stop). chosen s is_first why) says.now_is in
+      (λ finished. unfinished sender_end.WriteFault is_first why (λ no. cc) (sym is ∙ finished)) (λ sound client. cc)
+  by_stop sender_end.OutOfMemory now is_first taken put stops fails slot_is start_is taken_is end_is says =
+      let is : served.end ≡ chosen sender_end.OutOfMemory is_first why =
+      end_is ∙ ap (λ (s : SenderEnd). chosen s is_first why) says.now_is in
       after_part checked slot start before opened sent last put taken voice why was_failed failed served slot_is
       start_is taken_is
-      (ends_by stop.OutOfMemory is_first why failed served.end (λ no. cc) is) stop.OutOfMemory now stops.breaks says
+      (ends_by sender_end.OutOfMemory is_first why failed served.end (λ no. cc) is) sender_end.OutOfMemory now stops.breaks says
       (λ sound. stops.none)
-      (λ finished. unfinished stop.OutOfMemory is_first why (λ no. cc) (sym is ∙ finished))
-      (λ sound client. refused_end stop.OutOfMemory is_first why refl (sym is ∙ client))
+      (λ finished. unfinished sender_end.OutOfMemory is_first why (λ no. cc) (sym is ∙ finished))
+      (λ sound client. refused_end sender_end.OutOfMemory is_first why refl (sym is ∙ client))
 
 pub streams_to_its_end : (checked : CheckedOf) (slot start : ℕ) (before opened sent last : Option (List ℕ))
-    (voice old_voice : Voice) (why : Option Ending) (was_failed failed : Bool) (served : Served) (did : Sent)
+    (voice old_voice : Voice) (why : Option ListenerEnd) (was_failed failed : Bool) (served : Served) (did : Sent)
     → Opens checked slot start before opened old_voice
     → StopsAs did.stop opened sent (map (λ commit. arc_value commit) did.taken.items) voice
-    (started_telling checked slot start copy_both_response) → (did.stop ≡ stop.WriteFault → was_failed ≡ true)
+    (started_telling checked slot start copy_both_response) → (did.stop ≡ sender_end.WriteFault → was_failed ≡ true)
     → Concludes slot start did why sent last was_failed failed served
     → Streams checked slot start before last failed why served
 streams_to_its_end checked slot start before opened sent last voice old_voice why was_failed failed served did opens
@@ -264,7 +264,7 @@ streams_to_its_end checked slot start before opened sent last voice old_voice wh
 
 -- ---- no commit was taken up
 
-module _ (checked : CheckedOf) (slot start : ℕ) (before last : Option (List ℕ)) (failed : Bool) (why : Option Ending)
+module _ (checked : CheckedOf) (slot start : ℕ) (before last : Option (List ℕ)) (failed : Bool) (why : Option ListenerEnd)
     (served : Served) where
   without : (written rest : List ℕ) → Appends before last written → written ++ rest ≡ copy_both_response
       → served.slot ≡ Some slot → served.start ≡ Some start → served.taken.items ≡ []
@@ -305,23 +305,23 @@ module _ (checked : CheckedOf) (slot start : ℕ) (before last : Option (List �
       without [] copy_both_response put refl is.slot_is is.start_is is.none
       (λ sound memory. absurd (memory is.end_is)) (λ finished. cc) (λ sound client. cc) (Memory is.end_is)
 
-  pub streams_not : (s : Stop) → FailsToOpen before last failed s → IsWithout slot start (end_by s) served
+  pub streams_not : (s : SenderEnd) → FailsToOpen before last failed s → IsWithout slot start (end_by s) served
       → Streams checked slot start before last failed why served
-  streams_not stop.Told fails is = absurd fails
-  streams_not stop.Finished fails is = absurd fails
-  streams_not stop.WriteFault fails is =
+  streams_not sender_end.ConnectionEnded fails is = absurd fails
+  streams_not sender_end.Finished fails is = absurd fails
+  streams_not sender_end.WriteFault fails is =
       not_opened end.WriteFault fails is (λ finished. cc) (Writing is.end_is fails.fails)
-  streams_not stop.OutOfMemory fails is = starved fails is
+  streams_not sender_end.OutOfMemory fails is = starved fails is
 
   -- the client had ended it
-  pub streams_ended : (s : Stop) (ending : Ending) → why ≡ Some ending → FailsToOpen before last failed s
+  pub streams_ended : (s : SenderEnd) (ending : ListenerEnd) → why ≡ Some ending → FailsToOpen before last failed s
       → IsWithout slot start (unopened_by s ending) served
       → Streams checked slot start before last failed why served
-  streams_ended stop.Told ending some fails is = absurd fails
-  streams_ended stop.Finished ending some fails is = absurd fails
-  streams_ended stop.WriteFault ending some fails is =
+  streams_ended sender_end.ConnectionEnded ending some fails is = absurd fails
+  streams_ended sender_end.Finished ending some fails is = absurd fails
+  streams_ended sender_end.WriteFault ending some fails is =
       not_opened (cause_by ending) fails is (heard_unfinished ending) (Heard ending some is.end_is)
-  streams_ended stop.OutOfMemory ending some fails is = starved fails is
+  streams_ended sender_end.OutOfMemory ending some fails is = starved fails is
 
   -- no thread could be started
   pub streams_no_further : Appends before last copy_both_response

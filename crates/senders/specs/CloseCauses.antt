@@ -1,4 +1,4 @@
--- Why a publisher can't be closed: PostgreSQL 15, 3.4. Transactions, and 55.4. Streaming Replication Protocol.
+-- Why a publisher cannot be closed: PostgreSQL 15, 3.4. Transactions, and 55.4. Streaming Replication Protocol.
 use Rattle.std.specs.Prelude.{◌≡◌, ◌≢◌, ℕ, ◌+◌, ◌<◌, List, All, length, slice_get, take, Some}
 use Rattle.std.specs.List.Sorted.{IsPermutation, IsNonDecreasingBy}
 use Rattle.senders.specs.declared.served.Served.{Served}
@@ -12,10 +12,11 @@ use Rattle.tables_log.specs.StandsFor.{IsAccepted, AreAccepted, entries_from, af
 use Rattle.tables_log.specs.declared.book.Book.{Book}
 use Rattle.publisher_desk.specs.Counting.{IsCounted}
 use Rattle.publisher_desk.specs.Held.{IsBookOf}
-use Rattle.publisher_desk.specs.Receipts.{ReceiptOf}
+use Rattle.publisher_desk.specs.Receipts.{ReceiptOf, transaction_of, transactions_of}
 use Rattle.publisher_desk.specs.declared.note.Note.{Note}
-use Rattle.senders.specs.Gathering.{all_receipts, all_readings, numbers_of, RiseTo, IsRising}
-use Rattle.senders.specs.Histories.{transaction_of, transactions_of, AreInOrder, IsRight}
+use Rattle.publisher_desk.specs.Logged.{RiseTo}
+use Rattle.senders.specs.Gathering.{all_receipts, all_readings, numbers_of, IsRising}
+use Rattle.senders.specs.Histories.{AreInOrder, IsRight}
 use Rattle.senders.specs.TakenCommits.{IsTaken}
 use Rattle.senders.specs.declared.close_error.CloseError.{CloseError}
 use Rattle.senders.specs.declared.close_error.CloseError.TheVariants.{CountDiffers, ReceiptMissing, ReadingWrong, TakenDiffers, OutOfMemory}
@@ -88,7 +89,7 @@ IsCause book seats served ReadingWrong = HasWrongReading book seats
 IsCause book seats served TakenDiffers = HasOtherTaken book seats served
 IsCause book seats served OutOfMemory = Unit {0}
 
--- Of so many seats in all, `left` were never handed out. Receipts are too few only if not all others are handed in.
+-- Of all seats, `left` were never handed out. Receipts are too few only if not all others are passed in.
 abbrev pub IsHeldBack : ℕ → ℕ → List (List Note) → CloseError → Type 0
 IsHeldBack all left seats CountDiffers = left + length seats < all
 IsHeldBack all left seats ReceiptMissing = Unit {0}
@@ -96,8 +97,8 @@ IsHeldBack all left seats ReadingWrong = Unit {0}
 IsHeldBack all left seats TakenDiffers = Unit {0}
 IsHeldBack all left seats OutOfMemory = Unit {0}
 
--- A receipt is never missing, and no reading is wrong: the publisher's history ties them to its log, and a seat of another
--- publisher cannot be handed in.
+-- A receipt is never missing, and no reading is wrong: the publisher's history ties them to its log, and a seat of
+-- another publisher cannot be passed in.
 abbrev pub CanCome : CloseError → Type 0
 CanCome CountDiffers = Unit {0}
 CanCome ReceiptMissing = ⊥
@@ -105,9 +106,9 @@ CanCome ReadingWrong = ⊥
 CanCome TakenDiffers = Unit {0}
 CanCome OutOfMemory = Unit {0}
 
--- The publisher's book is of the checked catalog, takes so many commits and is of some list of transactions. It has no
--- fewer commits than the seats have receipts, and exactly as many if no seat is held back. It is the cause of the
--- refusal.
+-- The publisher's book is of the checked catalog, takes this number of commits and is of some list of transactions.
+-- It has no fewer commits than the seats have receipts, and exactly as many if no seat is held back. It is the cause
+-- of the refusal.
 pub record RefusedClose (checked : CheckedOf) (limit all left : ℕ) (seats : List (List Note)) (served : List Served)
     (error : CloseError) : Type 0 where
   pub book : Book

@@ -6,17 +6,17 @@ use Rattle.shard_checker.specs.CheckedView.{CheckedOf, setting_in}
 use Rattle.tables_log.specs.BookView.{book_checked, book_limit, book_log}
 use Rattle.tables_log.specs.StandsFor.{Transaction, StandsFor}
 use Rattle.tables_log.specs.declared.book.Book.{Book}
-use Rattle.publisher_desk.specs.Receipts.{ReceiptOf}
+use Rattle.publisher_desk.specs.Receipts.{ReceiptOf, transactions_of}
 use Rattle.publisher_desk.specs.Seats.{AreTimed, IsForward}
 use Rattle.publisher_desk.specs.declared.note.Note.{Note}
 use Rattle.senders.specs.Gathering.{all_readings}
-use Rattle.senders.specs.Histories.{transactions_of, AreInOrder, IsRight}
+use Rattle.senders.specs.Histories.{AreInOrder, IsRight}
 use Rattle.senders.specs.TakenCommits.{IsTaken}
 
--- The book is of the checked catalog, takes so many commits, and stands for the transactions of the receipts in the
--- order of their numbers, of which its log has an entry each. Each reading is right by these transactions, and is of
--- no fewer commits than an earlier note of its seat knows of. Times have 64 bits. Each connection took the commits of
--- the book's log.
+-- The book is of the checked catalog, takes this number of commits, and is that of the transactions of the receipts
+-- in the order of their numbers; its log has an entry for each. Each reading is right by these transactions, and is
+-- of no fewer commits than an earlier note of its seat knows of. Times have 64 bits. Each connection took the commits
+-- of the book's log.
 pub record IsClosed (checked : CheckedOf) (limit : ℕ) (seats : List (List Note)) (served : List Served) (book : Book)
     : Type 0 where
   pub named : book_checked book ≡ checked

@@ -1,6 +1,6 @@
--- That a connection that was served told its client of a log: what was written are the first bytes of the stream of
--- its commits, and a subscriber that is fed them has its shard: PostgreSQL 15, 55.4. Streaming Replication Protocol,
--- and "Logical Replication", 31.3 Row Filters.
+-- That a connection that was served sent its client a log: what was written is a prefix of the stream of its commits,
+-- and a subscriber that is fed it has its shard: PostgreSQL 15, 55.4. Streaming Replication Protocol, and "Logical
+-- Replication", 31.3 Row Filters.
 use Rattle.std.specs.Prelude.{◌≡◌, ◌≢◌, ◌≤◌, ℕ, Bool, List, [], ◌++◌, All, Contains, Some, length, None}
 use Rattle.shard_checker.specs.CheckedView.{CheckedOf, checked_view, setting_in}
 use Rattle.shard_checker.specs.declared.checked.Checked.{Checked}
@@ -34,8 +34,8 @@ pub data IsLastPart (frames : List Frame) (bytes : List ℕ) : Type 0 where
   NoBytes : bytes ≡ [] → IsLastPart frames bytes
   OfDone : (rest : List ℕ) → bytes ++ rest ≡ copy_done → HasEnd frames 99 → IsLastPart frames bytes
 
--- What was written, but for a CopyDone at the end, are the first bytes of the stream over the log of these
--- transactions, which starts at this position and takes these commits.
+-- What was written, without a CopyDone at the end, is a prefix of the stream over the log of these transactions,
+-- which starts at this position and takes these commits.
 pub record IsFirstPart (checked : CheckedOf) (transactions : List Transaction) (frames : List Frame) (slot start : ℕ)
     (taken : List CommitOf) (written : List ℕ) (why : End) : Type 0 where
   pub moves : List Move
@@ -60,8 +60,8 @@ ServedAreFirstParts = (checked : CheckedOf) (book : Book) (transactions : List T
     → AreAt (book_log book) (count_before start) taken
     → IsFirstPart checked transactions frames slot start taken written why
 
--- A subscriber that has its shard, opens a connection at its own position, and is fed any first bytes of such a
--- stream, in whatever pieces, has its shard of the tables after the commits that its position counts.
+-- A subscriber that has its shard, opens a connection at its own position, and is fed any prefix of such a stream, in
+-- any pieces, has its shard of the tables as of the commits that its position counts.
 abbrev pub ClientsFollow : Type 0
 ClientsFollow = (checked : Checked) (transactions : List Transaction)
     → AreAccepted (setting_in (checked_view checked)) no_rows transactions → All IsTimedTransaction transactions
@@ -73,8 +73,8 @@ ClientsFollow = (checked : Checked) (transactions : List Transaction)
     → Follows (checked_view checked) transactions slot
     (position_in (checked_view checked) transactions slot start moves bytes) (sub_machine new)
 
--- Where a piece stops it, memory was refused, and it follows still, after all that is whole in the bytes before the
--- piece, and some of what is whole with it.
+-- If a piece stops it, memory was refused, and it still follows, after everything that is whole in the bytes before
+-- the piece, and some of what is whole with it.
 abbrev pub ClientsStop : Type 0
 ClientsStop = (checked : Checked) (transactions : List Transaction)
     → AreAccepted (setting_in (checked_view checked)) no_rows transactions → All IsTimedTransaction transactions
@@ -103,8 +103,8 @@ ClosedAreTold = (checked : CheckedOf) (limit : ℕ) (seats : List (List Note)) (
     (closed : IsClosed checked limit seats served book)
     → AreTold checked closed.transactions
 
--- So what was written to each connection, but for a CopyDone at the end, are the first bytes of the stream over the
--- log of these transactions.
+-- So what was written to each connection, without a CopyDone at the end, is a prefix of the stream over the log of
+-- these transactions.
 abbrev pub ClosedTellTheLog : Type 0
 ClosedTellTheLog = (checked : CheckedOf) (limit : ℕ) (seats : List (List Note)) (served : List Served) (book : Book)
     (closed : IsClosed checked limit seats served book)
@@ -112,8 +112,8 @@ ClosedTellTheLog = (checked : CheckedOf) (limit : ℕ) (seats : List (List Note)
     → (written : List ℕ) (failed : Bool) → IsStream checked frames slot start (commits_of one) written failed one.end
     → IsFirstPart checked closed.transactions frames slot start (commits_of one) written one.end
 
--- And a subscriber that has its shard, opened this connection at its own position, and was fed any first bytes of
--- what was written has its shard of the tables after the commits of these transactions that its position counts.
+-- And a subscriber that has its shard, opened this connection at its own position, and was fed any prefix of what was
+-- written has its shard of the tables as of the commits of these transactions that its position counts.
 abbrev pub ClosedAreFollowed : Type 0
 ClosedAreFollowed = (checked : Checked) (limit : ℕ) (seats : List (List Note)) (served : List Served) (book : Book)
     (closed : IsClosed (checked_view checked) limit seats served book)

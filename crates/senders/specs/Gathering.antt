@@ -1,6 +1,7 @@
 -- The receipts and the readings of all seats, and the numbers of receipts: PostgreSQL 15, 3.4. Transactions.
-use Rattle.std.specs.Prelude.{ℕ, ◌<◌, ◌≤◌, List, [], ◌∷◌, map}
+use Rattle.std.specs.Prelude.{ℕ, List, [], ◌∷◌, map}
 use Rattle.std.specs.List.{flat_map}
+use Rattle.publisher_desk.specs.Logged.{RiseTo}
 use Rattle.publisher_desk.specs.Receipts.{ReceiptOf}
 use Rattle.publisher_desk.specs.declared.note.Note.{Note}
 use Rattle.publisher_desk.specs.declared.note.Note.TheVariants.{Committed, Looked}
@@ -28,11 +29,6 @@ all_readings seats = flat_map readings_in seats
 abbrev pub numbers_of : List ReceiptOf → List ℕ
 numbers_of receipts = map (λ (receipt : ReceiptOf). receipt.number) receipts
 
--- Each number is greater than the one before, and the first than `low`. None is above `high`.
-abbrev pub RiseTo : ℕ → ℕ → List ℕ → Type 0
-RiseTo high low [] = Unit {0}
-RiseTo high low (number ∷ numbers) = (low < number) × (number ≤ high) × RiseTo high number numbers
-
--- The numbers of a seat's receipts rise, from 1 at least to `high` at most.
+-- The numbers of a seat's receipts increase, and are from 1 to `high`.
 abbrev pub IsRising : ℕ → List Note → Type 0
 IsRising high notes = RiseTo high 0 (numbers_of (receipts_in notes))

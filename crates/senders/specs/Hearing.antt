@@ -16,8 +16,8 @@ abbrev pub IsSentFrom : Option (ℕ × ℕ) → ℕ → Type 0
 IsSentFrom None sent = Unit {0}
 IsSentFrom (Some started) sent = first_sent started.1 ≤ sent
 
--- the sent position that statuses are held against: that up to which the slot's client was sent the log, by what its
--- sender was given, and the first position of the stream at least
+-- the sent position that statuses are compared with: that up to which the slot's client was sent the log, by what its
+-- sender was given, or the first position of the stream if that is greater
 abbrev pub sent_after : ℕ → Option Wish → ℕ
 sent_after first None = first
 sent_after first (Some wish) = max first wish.sent
@@ -26,7 +26,7 @@ abbrev pub sent_by : Option (ℕ × ℕ) → List Wish → ℕ
 sent_by None wishes = 0
 sent_by (Some started) wishes = sent_after (first_sent started.1) (slice_get wishes started.0)
 
--- The bytes have this fault, where the log has some number of commits, and some position from the start on was sent.
+-- The bytes have this fault, if the log has some number of commits, and some position from the start on was sent.
 pub record HoldsFault (checked : CheckedOf) (bytes : List ℕ) (started : Option (ℕ × ℕ)) (fault : LinkFault) : Type 0
   where
     pub sent : ℕ

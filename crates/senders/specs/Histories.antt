@@ -1,6 +1,6 @@
--- The one list of transactions that the receipts of all seats tell of, and what was read of it: PostgreSQL 15, 3.4.
+-- The one list of transactions that the receipts of all seats report, and what was read of it: PostgreSQL 15, 3.4.
 -- Transactions, and Chapter 7 Queries.
-use Rattle.std.specs.Prelude.{◌≡◌, ◌≤◌, List, All, length, map, take}
+use Rattle.std.specs.Prelude.{◌≡◌, ◌≤◌, List, All, length, take}
 use Rattle.std.specs.List.{range_with_len}
 use Rattle.std.specs.List.Sorted.{IsPermutation}
 use Rattle.table_changes.specs.Setting.{Setting}
@@ -10,20 +10,14 @@ use Rattle.publisher_desk.specs.declared.note.Note.{Note}
 use Rattle.publisher_desk.specs.declared.note.Reading.{Reading}
 use Rattle.senders.specs.Gathering.{all_receipts, numbers_of, IsRising}
 
-abbrev pub transaction_of : ReceiptOf → Transaction
-transaction_of receipt = record { commands = receipt.commands; time = receipt.time }
-
-abbrev pub transactions_of : List ReceiptOf → List Transaction
-transactions_of receipts = map transaction_of receipts
-
 -- These are the receipts of all seats in the order of their numbers, which are 1 to the number of receipts, each
--- once. In each seat's order they rise.
+-- once. In each seat's order they increase.
 pub record AreInOrder (seats : List (List Note)) (order : List ReceiptOf) : Type 0 where
   pub all : IsPermutation (all_receipts seats) order
   pub numbered : numbers_of order ≡ range_with_len 1 (length order)
   pub rising : All (IsRising (length order)) seats
 
--- The answer is the row of the key after so many of the transactions, which are as many at least.
+-- The answer is the row of the key after this number of the transactions, of which there are at least as many.
 pub record IsRight (setting : Setting) (transactions : List Transaction) (reading : Reading) : Type 0 where
   pub within : reading.number ≤ length transactions
   pub answer_is : reading.answer ≡ after setting (take reading.number transactions) reading.table 0 reading.key

@@ -7,7 +7,7 @@ pub mod Following
 pub mod Gathering
 pub mod Hearing
 pub mod Histories
-pub mod Leaving
+pub mod Releasing
 pub mod Listening
 pub mod Pieces
 pub mod Refusing

@@ -12,10 +12,10 @@ use Rattle.copy_both.specs.declared.heard.Heard.{Heard}
 use Rattle.copy_both.specs.declared.link_fault.LinkFault.{LinkFault}
 use Rattle.publisher_desk.specs.declared.wish.Wish.{Wish}
 use Rattle.senders.specs.Hearing.{Faults, StaysStarted, sent_by}
-use Rattle.senders.specs.declared.begun.Begun.{Begun}
-use Rattle.senders.specs.declared.begun.Begun.TheVariants as begun
-use Rattle.senders.specs.declared.ending.Ending.{Ending}
-use Rattle.senders.specs.declared.ending.Ending.TheVariants as ending
+use Rattle.senders.specs.declared.stream_start.StreamStart.{StreamStart}
+use Rattle.senders.specs.declared.stream_start.StreamStart.TheVariants as stream_start
+use Rattle.senders.specs.declared.listener_end.ListenerEnd.{ListenerEnd}
+use Rattle.senders.specs.declared.listener_end.ListenerEnd.TheVariants as listener_end
 use Rattle.senders.specs.declared.listener.Listened.{Listened}
 use Rattle.senders.specs.declared.listener.Listener.{Listener}
 use Rattle.senders.specs.declared.next.Next.{Next}
@@ -52,13 +52,13 @@ pub record HearsMore (checked : CheckedOf) (before after : Option (List ℕ)) (o
   pub room : length new.piece.items ≡ length old.piece.items
 
 -- Why it ended, by the bytes, by the response that it has to a refused start, and by what the source says of itself.
-abbrev pub EndsFor : CheckedOf → List ℕ → Option (ℕ × ℕ) → List ℕ → Bool → Bool → Ending → Type 0
-EndsFor checked bytes started response failed ended ending.ReadFault = failed ≡ true
-EndsFor checked bytes started response failed ended ending.NoMore = ended ≡ true
-EndsFor checked bytes started response failed ended (ending.Frame kind) = HasEnd (frames_in bytes) kind
-EndsFor checked bytes started response failed ended (ending.Fault fault) = Faults checked bytes started response fault
+abbrev pub EndsFor : CheckedOf → List ℕ → Option (ℕ × ℕ) → List ℕ → Bool → Bool → ListenerEnd → Type 0
+EndsFor checked bytes started response failed ended listener_end.SourceFailed = failed ≡ true
+EndsFor checked bytes started response failed ended listener_end.SourceEnded = ended ≡ true
+EndsFor checked bytes started response failed ended (listener_end.Frame kind) = HasEnd (frames_in bytes) kind
+EndsFor checked bytes started response failed ended (listener_end.Fault fault) = Faults checked bytes started response fault
 
-pub record EndsOf (checked : CheckedOf) (bytes : List ℕ) (old new : Ear) (failed ended : Bool) (why : Ending) : Type 0
+pub record EndsOf (checked : CheckedOf) (bytes : List ℕ) (old new : Ear) (failed ended : Bool) (why : ListenerEnd) : Type 0
   where
     pub asks : AsksIfStarted checked (frames_in bytes) (ear_started new)
     pub ends : EndsFor checked bytes (ear_started new) (ear_refusal new) failed ended why
@@ -66,7 +66,7 @@ pub record EndsOf (checked : CheckedOf) (bytes : List ℕ) (old new : Ear) (fail
 
 -- More bytes were read and heard, and the listener ended.
 pub record HearsLast (checked : CheckedOf) (before after : Option (List ℕ)) (failed ended : Bool) (old new : Listener)
-    (why : Ending) : Type 0 where
+    (why : ListenerEnd) : Type 0 where
   pub more : List ℕ
   pub read : Consumes before after more
   pub ends : (bytes : List ℕ) → HasHeard checked bytes old.ear
@@ -75,10 +75,10 @@ pub record HearsLast (checked : CheckedOf) (before after : Option (List ℕ)) (f
 -- what comes of a piece
 abbrev pub next_by_end : Bool → Option ℕ → Next
 next_by_end was_over None = next.GoesOn was_over
-next_by_end was_over (Some kind) = next.Ends (ending.Frame kind)
+next_by_end was_over (Some kind) = next.Ends (listener_end.Frame kind)
 
 abbrev pub next_by : Bool → Result Heard LinkFault → Next
-next_by was_over (Err fault) = next.Ends (ending.Fault fault)
+next_by was_over (Err fault) = next.Ends (listener_end.Fault fault)
 next_by was_over (Ok heard) = next_by_end was_over heard.ended
 
 abbrev pub next_after : Listened → Next
@@ -92,7 +92,7 @@ HearsNext checked before after failed ended old new (next.Ends why) =
 
 -- All reads: it ends, or its sender had ended.
 abbrev pub HearsAll : CheckedOf → Option (List ℕ) → Option (List ℕ) → Bool → Bool → Listener → Listener
-    → Option Ending → Type 0
+    → Option ListenerEnd → Type 0
 HearsAll checked before after failed ended old new None = HearsMore checked before after old new
 HearsAll checked before after failed ended old new (Some why) = HearsLast checked before after failed ended old new why
 
@@ -106,14 +106,14 @@ pub record StartsOn (checked : CheckedOf) (before after : Option (List ℕ)) (ol
 
 -- The connection ended, with a stream or without.
 pub record EndsAt (checked : CheckedOf) (before after : Option (List ℕ)) (failed ended : Bool) (old new : Listener)
-    (started : Option (ℕ × ℕ)) (why : Ending) : Type 0 where
+    (started : Option (ℕ × ℕ)) (why : ListenerEnd) : Type 0 where
   pub hears : HearsLast checked before after failed ended old new why
   pub started_is : ear_started new.ear ≡ started
 
-abbrev pub BeginsAs : CheckedOf → Option (List ℕ) → Option (List ℕ) → Bool → Bool → Listener → Listener → Begun → Type 0
-BeginsAs checked before after failed ended old new (begun.Started started) =
+abbrev pub BeginsAs : CheckedOf → Option (List ℕ) → Option (List ℕ) → Bool → Bool → Listener → Listener → StreamStart → Type 0
+BeginsAs checked before after failed ended old new (stream_start.Started started) =
     StartsOn checked before after old new started
-BeginsAs checked before after failed ended old new (begun.Ended started why) =
+BeginsAs checked before after failed ended old new (stream_start.Ended started why) =
     EndsAt checked before after failed ended old new (Some started) why
-BeginsAs checked before after failed ended old new (begun.Refused why) =
+BeginsAs checked before after failed ended old new (stream_start.Refused why) =
     EndsAt checked before after failed ended old new None why

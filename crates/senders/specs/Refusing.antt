@@ -5,8 +5,8 @@ use Rattle.std.specs.Io.KnownBytes.{Appends}
 use Rattle.copy_both.specs.declared.link_fault.LinkFault.TheVariants as fault
 use Rattle.senders.specs.declared.end.End.{End}
 use Rattle.senders.specs.declared.end.End.TheVariants as end
-use Rattle.senders.specs.declared.ending.Ending.{Ending}
-use Rattle.senders.specs.declared.ending.Ending.TheVariants as ending
+use Rattle.senders.specs.declared.listener_end.ListenerEnd.{ListenerEnd}
+use Rattle.senders.specs.declared.listener_end.ListenerEnd.TheVariants as listener_end
 
 -- The first of these bytes were written, all but where the sink failed.
 pub record WritesFirst (before after : Option (List ℕ)) (failed : Bool) (bytes : List ℕ) : Type 0 where
@@ -17,12 +17,12 @@ pub record WritesFirst (before after : Option (List ℕ)) (failed : Bool) (bytes
   pub all : failed ≡ false → rest ≡ []
 
 -- the response to a start that was refused, and else nothing
-abbrev pub AnswersAs : Ending → Option (List ℕ) → Option (List ℕ) → Bool → List ℕ → Type 0
-AnswersAs (ending.Fault (fault.BadStart state)) before after failed response = WritesFirst before after failed response
+abbrev pub AnswersAs : ListenerEnd → Option (List ℕ) → Option (List ℕ) → Bool → List ℕ → Type 0
+AnswersAs (listener_end.Fault (fault.BadStart state)) before after failed response = WritesFirst before after failed response
 AnswersAs other before after failed response = Appends before after []
 
-abbrev pub cause_by : Ending → End
-cause_by ending.ReadFault = end.ReadFault
-cause_by ending.NoMore = end.Client
-cause_by (ending.Frame kind) = end.Client
-cause_by (ending.Fault fault) = end.Link fault
+abbrev pub cause_by : ListenerEnd → End
+cause_by listener_end.SourceFailed = end.ReadFault
+cause_by listener_end.SourceEnded = end.Client
+cause_by (listener_end.Frame kind) = end.Client
+cause_by (listener_end.Fault fault) = end.Link fault

@@ -7,9 +7,8 @@ use Rattle.tables_log.specs.StandsFor.{StandsFor}
 use Rattle.tables_log.specs.declared.book.Book.{Book}
 use Rattle.tables_log.specs.declared.error.CommitError.{CommitError}
 use Rattle.tables_log.specs.declared.error.CommitError.TheVariants as e
-use Rattle.publisher_desk.specs.Receipts.{ReceiptOf}
+use Rattle.publisher_desk.specs.Receipts.{ReceiptOf, transactions_of}
 use Rattle.senders.specs.CloseCauses.{IsUnlike}
-use Rattle.senders.specs.Histories.{transactions_of}
 use Rattle.senders.specs.declared.close_error.CloseError.{CloseError}
 use Rattle.senders.specs.declared.close_error.CloseError.TheVariants.{CountDiffers, ReceiptMissing, ReadingWrong, TakenDiffers, OutOfMemory}
 
@@ -28,7 +27,7 @@ pub data IsNotAgain (book old : Book) (receipt : ReceiptOf) : Type 0 where
   IsOtherNow : (new : Book) (number : ℕ) → Commits old new receipt.commands receipt.time number
       → entry_at (book_log book) number ≢ entry_at (book_log new) number → IsNotAgain book old receipt
 
--- the fault of a receipt is `ReceiptMissing`, for a reason, or want of memory
+-- the fault of a receipt is `ReceiptMissing`, for a reason, or out of memory
 abbrev pub IsMissingFor : Type 0 → CloseError → Type 0
 IsMissingFor reason CountDiffers = ⊥
 IsMissingFor reason ReceiptMissing = reason
@@ -51,6 +50,6 @@ pub record IsAsLong (book : Book) (order : List ReceiptOf) : Type 0 where
   pub count : length order ≡ length (book_log book)
   pub room : length (book_log book) ≤ book_limit book
 
--- one of the receipts is refused, or isn't what the first book's log has
+-- one of the receipts is refused, or is not what the first book's log has
 abbrev pub IsUnlikeIn : Book → List ReceiptOf → CloseError → Type 0
 IsUnlikeIn book order = IsMissingFor (IsUnlike (book_setting book) (book_log book) order)

@@ -12,10 +12,10 @@ use Rattle.copy_both.specs.Voices as voices
 use Rattle.copy_both.specs.Voices.{StageOf, voice_output}
 use Rattle.copy_both.specs.declared.voice.Voice.{Voice}
 use Rattle.stream_laws.specs.LayoutRoom.{IsClocked}
-use Rattle.senders.specs.declared.stop.Stop.{Stop}
-use Rattle.senders.specs.declared.stop.Stop.TheVariants as stop
+use Rattle.senders.specs.declared.sender_end.SenderEnd.{SenderEnd}
+use Rattle.senders.specs.declared.sender_end.SenderEnd.TheVariants as sender_end
 
--- what was told of the stream of this slot that starts here, directly after these bytes were passed on
+-- what was reported of the stream of this slot that starts here, directly after these bytes were passed on
 abbrev pub started_telling : CheckedOf → ℕ → ℕ → List ℕ → Told
 started_telling checked slot start passed =
     record { checked = checked; start = started_at checked (slot, start); taken = []; moves = []; passed = passed }
@@ -29,19 +29,19 @@ pub record Spells (told : Told) (output last : List ℕ) : Type 0 where
       ≡ stream (telling_of told.checked) log told.start.slot told.start.tables told.start.position told.moves
       ++ last
 
--- A voice tells on, and nothing waits.
+-- A voice goes on, and nothing waits.
 pub record IsQuiet (voice : Voice) (told : Told) : Type 0 where
   pub tells : IsTelling voice told
   pub none : voice_output voice ≡ []
 
--- It tells of the same stream, took these commits more, and passed these bytes on.
+-- It is of the same stream, took these further commits, and passed these bytes on.
 pub record Follows (old new : Told) (taken : List CommitOf) (bytes : List ℕ) : Type 0 where
   pub checked_is : new.checked ≡ old.checked
   pub start_is : new.start ≡ old.start
   pub taken_is : new.taken ≡ old.taken ++ taken
   pub passed_is : new.passed ≡ old.passed ++ bytes
 
--- The voice goes on with what it told, and these bytes were written; others may wait.
+-- The voice goes on with its stream, and these bytes were written; others may wait.
 pub record TellsOn (before after : Option (List ℕ)) (taken : List CommitOf) (voice : Voice) (told : Told) : Type 0 where
   pub now : Told
   pub bytes : List ℕ
@@ -50,7 +50,7 @@ pub record TellsOn (before after : Option (List ℕ)) (taken : List CommitOf) (v
   pub clocks : All IsClocked now.moves
   pub tells : IsTelling voice now
 
--- Whatever it told and took before, it has taken these commits up too, and has written nothing more.
+-- Whatever it reported and took before, it has taken these commits too, and has written nothing more.
 abbrev pub TakesUp : List CommitOf → Voice → Voice → Type 0
 TakesUp commits old new = (before after : Option (List ℕ)) (taken : List CommitOf) (told : Told)
     → TellsOn before after taken old told → TellsOn before after (taken ++ commits) new told
@@ -61,7 +61,7 @@ AreQuietFor checked voices.NotStarted commits = Unit {0}
 AreQuietFor checked (voices.Started place) commits = ArePassed checked.plan place.slot place.done commits
 AreQuietFor checked voices.Closed commits = Unit {0}
 
--- The voice goes on with what it told, and these bytes were written, which are all.
+-- The voice goes on with its stream, and these bytes were written, which are all.
 pub record GoesOn (before after : Option (List ℕ)) (taken : List CommitOf) (voice : Voice) (told : Told) : Type 0 where
   pub now : Told
   pub bytes : List ℕ
@@ -84,16 +84,16 @@ pub record Starves (before after : Option (List ℕ)) (taken : List CommitOf) (v
   pub breaks : Breaks before after taken voice told
   pub none : voice_output voice ≡ []
 
--- what is told when a sender stops, of which bytes may wait
-abbrev pub TellsAs : Stop → Option (List ℕ) → Option (List ℕ) → List CommitOf → Voice → Told → Type 0
-TellsAs stop.Told before after taken voice told = TellsOn before after taken voice told
-TellsAs stop.Finished before after taken voice told = TellsOn before after taken voice told
-TellsAs stop.WriteFault before after taken voice told = Breaks before after taken voice told
-TellsAs stop.OutOfMemory before after taken voice told = Breaks before after taken voice told
+-- what was reported when a sender stops, of which bytes may wait
+abbrev pub TellsAs : SenderEnd → Option (List ℕ) → Option (List ℕ) → List CommitOf → Voice → Told → Type 0
+TellsAs sender_end.ConnectionEnded before after taken voice told = TellsOn before after taken voice told
+TellsAs sender_end.Finished before after taken voice told = TellsOn before after taken voice told
+TellsAs sender_end.WriteFault before after taken voice told = Breaks before after taken voice told
+TellsAs sender_end.OutOfMemory before after taken voice told = Breaks before after taken voice told
 
 -- and what is written then
-abbrev pub StopsAs : Stop → Option (List ℕ) → Option (List ℕ) → List CommitOf → Voice → Told → Type 0
-StopsAs stop.Told before after taken voice told = GoesOn before after taken voice told
-StopsAs stop.Finished before after taken voice told = GoesOn before after taken voice told
-StopsAs stop.WriteFault before after taken voice told = Breaks before after taken voice told
-StopsAs stop.OutOfMemory before after taken voice told = Starves before after taken voice told
+abbrev pub StopsAs : SenderEnd → Option (List ℕ) → Option (List ℕ) → List CommitOf → Voice → Told → Type 0
+StopsAs sender_end.ConnectionEnded before after taken voice told = GoesOn before after taken voice told
+StopsAs sender_end.Finished before after taken voice told = GoesOn before after taken voice told
+StopsAs sender_end.WriteFault before after taken voice told = Breaks before after taken voice told
+StopsAs sender_end.OutOfMemory before after taken voice told = Starves before after taken voice told

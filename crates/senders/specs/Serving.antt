@@ -68,7 +68,7 @@ pub record IsUnstarted (taken : List CommitOf) (written : List ℕ) (failed : Bo
   pub none : taken ≡ []
   pub answer : IsAnswer written failed why
 
--- a slot is told together with a start
+-- a slot is reported together with a start
 abbrev pub IsWritten : CheckedOf → List Frame → Option ℕ → Option ℕ → List CommitOf → List ℕ → Bool → End → Type 0
 IsWritten checked frames (Some slot) (Some start) taken written failed why =
     IsStream checked frames slot start taken written failed why
@@ -78,7 +78,7 @@ IsWritten checked frames None (Some start) taken written failed why = ⊥
 
 -- ---- why it ended
 
--- what was started, if both are told
+-- what was started, if both are reported
 abbrev pub started_of : Option ℕ → Option ℕ → Option (ℕ × ℕ)
 started_of (Some slot) (Some start) = Some (slot, start)
 started_of (Some slot) None = None

@@ -25,8 +25,8 @@ use std::alloc::Global;
 use std::sync::Arc;
 use tables_log::Book;
 
-/// The receipts of all seats in the order of their numbers, which are 1 to that of the log's last commit. Errors are
-/// `CountDiffers`, `ReceiptMissing` and want of memory.
+/// The receipts of all seats in the order of their numbers, which are 1 to that of the log's last commit. The errors
+/// are `CountDiffers`, `ReceiptMissing` and out of memory.
 fn order_receipts<'a, P: Publishing>(
     alloc: Global,
     book: &Book,
@@ -53,7 +53,7 @@ fn order_receipts<'a, P: Publishing>(
     Ok(receipts)
 }
 
-/// Confirms each slot of the fresh book as far as it is in the first one.
+/// Confirms each slot of the fresh book as far as it is confirmed in the first one.
 fn keep_confirmed(fresh: &mut Book, book: &Book, slots: usize)
     requires { length (book_log book.now) ≡ length (book_log fresh.old) }
     ensures { ChangesSlots fresh.old fresh.new (book_slots fresh.new) }
@@ -103,22 +103,23 @@ fn counted_book<P: Publishing>(
     publisher.into_counted(rest, seats.as_mut_slice())
 }
 
-/// Closes a publisher whose sessions and connections are over. `rest` are the seats that were never handed out, `seats`
-/// those of the sessions, and `served` the results of the connections. The receipts of all seats are made again on a book without commits, in the order of their numbers: their commands have to be
-/// accepted, and each entry has to be that of the publisher's log. Each reading has to be the row of its key after as
-/// many commits as it tells, and the commits that each connection took those of the log from its start on, up to the
-/// log's end where it was finished. The book that is handed back is the one on which the receipts were made again. Its
-/// slots are free, and confirmed as far as the publisher's.
+/// Closes a publisher whose sessions and connections are over. `rest` are the seats that were never handed out,
+/// `seats` those of the sessions, and `served` the results of the connections. The receipts of all seats are made
+/// again on a book without commits, in the order of their numbers: their commands have to be accepted, and each entry
+/// has to be that of the publisher's log. Each reading has to be the row of its key after the number of commits that
+/// it says. The commits that each connection took have to be those of the log from its start on, up to the log's end
+/// if it was finished. The book that is returned is the one on which the receipts were made again. Its slots are
+/// free, and confirmed as far as the publisher's.
 ///
-/// It takes time for the commands, as `Book::commit` does, for the receipts and the readings, each times the logarithm
-/// of their number, for a look at the row of each reading, and for the commits that were taken.
+/// The time it takes is that of the commands, as in `Book::commit`, of the receipts and the readings, each times the
+/// logarithm of their number, of a look at the row of each reading, and of the commits that were taken.
 ///
 /// # Errors
 ///
-/// The first of `CountDiffers`, `ReceiptMissing`, `ReadingWrong` and `TakenDiffers`, or `OutOfMemory` in place of any
-/// of them where an allocation was refused. `CountDiffers` comes only if a seat is held back. `ReceiptMissing` and
-/// `ReadingWrong` never come, since the publisher's history says that the notes of its seats are right. With an error all
-/// that was handed in is dropped.
+/// The first of `CountDiffers`, `ReceiptMissing`, `ReadingWrong` and `TakenDiffers`, or `OutOfMemory` instead of any
+/// of them if an allocation was refused. `CountDiffers` is returned only if a seat is held back. `ReceiptMissing` and
+/// `ReadingWrong` are never returned, since the publisher's history says that the notes of its seats are right. If
+/// there is an error, everything that was passed in is dropped.
 ///
 /// PostgreSQL 15, 3.4. Transactions, and 55.4. Streaming Replication Protocol.
 pub fn close<P: Publishing>(

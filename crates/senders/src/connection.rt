@@ -1,4 +1,4 @@
-//! Connections that are served at once.
+//! Connections that are served side by side.
 
 ghost use Rattle.std.specs.Prelude.{◌<◌, ℕ, IsSomeAnd, length, slice_index_or};
 ghost use Rattle.senders.specs.Serving.{IsServed};
@@ -14,7 +14,7 @@ use std::thread;
 use std::thread::Threads;
 use std::time::Clock;
 
-/// A connection: what it is read from and written to, and what came of it, once it was served.
+/// A connection: what it is read from and written to, and its result when it has been served.
 #[derive(Debug, Drop)]
 pub struct Conn<S, W> {
     pub reader: S,
@@ -22,7 +22,7 @@ pub struct Conn<S, W> {
     pub served: Option<Served>,
 }
 
-/// Serves a connection, and keeps what came of it there.
+/// Serves a connection, and stores the result in it.
 fn serve_one<
     P: Publishing + Sync,
     S: Source + Send + Drop,
@@ -44,7 +44,7 @@ fn serve_one<
     connection.served = Some(served);
 }
 
-/// Serves connections side by side, each as `serve`, until all have ended, and keeps in each what came of it.
+/// Serves connections side by side, each as `serve` does, until all have ended, and stores the result in each.
 ///
 /// PostgreSQL 15, 55.4. Streaming Replication Protocol.
 pub fn run_all<

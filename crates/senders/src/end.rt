@@ -1,9 +1,9 @@
-//! Why connections end.
+//! Why a connection ended.
 
 use copy_both::LinkFault;
 
-/// Why a connection ended: the first cause that was noted. Of two that come at about the same time, as where a sink fails
-/// and the client leaves, it may be either.
+/// Why a connection ended: the first cause that was noted. If two come at about the same time, for example if a sink
+/// fails and the client leaves, it may be either.
 ///
 /// PostgreSQL 15, 55.4. Streaming Replication Protocol.
 #[derive(Clone, Copy, Debug, PartialEq, Eq)]
@@ -12,10 +12,11 @@ pub enum End {
     ReadFault,
     /// What it is written to failed.
     WriteFault,
-    /// Its client sent what no client may send there, its start was refused, or memory was, or a thread for it.
+    /// Its client sent what no client may send there, its start was refused, or memory or a thread for it was
+    /// refused.
     Link(LinkFault),
     /// Its client ended it, or there was nothing more to read.
     Client,
-    /// The publisher was finished, and all commits were taken up.
+    /// The publisher was finished, and all commits were taken.
     Finished,
 }

@@ -1,4 +1,4 @@
-//! What a voice says, as it is written.
+//! How the output of a voice is written.
 
 ghost use Rattle.std.specs.Prelude.{◌≡◌, [], MatchResult, OnOk, true};
 ghost use Rattle.copy_both.specs.Voices.{voice_output};
@@ -8,11 +8,11 @@ use crate::failed::Failed;
 use crate::sink::Sink;
 use copy_both::Voice;
 
-/// Writes all that waits, in as many pushes as the sink takes.
+/// Writes everything that waits, in as many pushes as the sink needs.
 ///
 /// # Errors
 ///
-/// `Failed` where the sink fails: what it did not take waits still.
+/// `Failed` if the sink fails; what it did not take still waits.
 pub(crate) fn flush<W: Sink>(voice: &mut Voice, writer: &mut W) -> Result<(), Failed>
     ensures flushes { Flushes (W.taken writer.old) (W.taken writer.new) voice.old voice.new }
     ensures all { OnOk result (voice_output voice.new ≡ []) }

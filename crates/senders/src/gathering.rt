@@ -33,7 +33,7 @@ fn add_readings<'a>(readings: &mut Vec<&'a Reading>, notes: &'a [Note]) -> Resul
     Ok(())
 }
 
-/// The receipts of all seats, seat by seat. The only error is want of memory.
+/// The receipts of all seats, seat by seat. The only error is out of memory.
 pub(crate) fn receipts_of<P: Publishing>(
     alloc: Global,
     seats: &[Seat<P>],
@@ -47,7 +47,7 @@ pub(crate) fn receipts_of<P: Publishing>(
     Ok(receipts)
 }
 
-/// The readings of all seats, seat by seat. The only error is want of memory.
+/// The readings of all seats, seat by seat. The only error is out of memory.
 pub(crate) fn readings_of<P: Publishing>(
     alloc: Global,
     seats: &[Seat<P>],

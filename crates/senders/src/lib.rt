@@ -1,24 +1,22 @@
-//! Connections of a publisher that are served by threads: to each, one thread sends and another listens. Also what a
-//! connection is read from and written to, and what came of it; and the closing comparison, by which one list of
-//! transactions explains what all sessions were answered, and what all connections took. Sessions are in a crate below,
-//! which is handed on.
+//! Connections of a publisher that threads serve: for each, one thread sends and another listens. Also what a
+//! connection is read from and written to, and its result; and the closing comparison, by which one list of
+//! transactions explains what all sessions were answered and what all connections took. The crate of the sessions,
+//! `publisher_desk`, is re-exported.
 #![tactic(auto)]
 
-mod begun;
 mod clock;
 mod close_error;
 mod closed;
 mod closing;
 mod connection;
 mod end;
-mod ending;
 mod failed;
 mod flushing;
 mod gate;
 mod gathering;
 mod laws;
-mod leaving;
 mod listener;
+mod listener_end;
 mod listening;
 mod next;
 mod numbering;
@@ -26,13 +24,15 @@ mod readings;
 mod refusing;
 mod replaying;
 mod running;
+mod sender_end;
 mod sending;
 mod served;
 mod serving;
 mod sink;
+mod slot_tasks;
 mod source;
 mod speaking;
-mod stop;
+mod stream_start;
 mod taken;
 
 pub use close_error::CloseError;

@@ -13,11 +13,11 @@ use std::alloc::{AllocError, Global};
 use std::sync::Arc;
 use tables_log::Book;
 
-/// How many bytes are read at most at a time.
+/// The greatest number of bytes that are read at a time.
 const PIECE: usize = 16_384;
 
-/// An ear, and the piece that it is to hear next: so many of the first bytes. The slot that the ear started is given back
-/// by `lose`, and a listener can't be let go otherwise.
+/// An ear, and the piece that it hears next: the first `filled` bytes. The slot that the ear started is released by
+/// `lose`, and a listener cannot be dropped otherwise.
 pub struct Listener {
     ear: Ear,
     piece: Vec<u8>,
@@ -25,22 +25,22 @@ pub struct Listener {
     ghost within: { filled ≤ length piece.items },
 }
 
-/// What came of a piece: what was heard, and whether the connection had ended before.
+/// The result of a piece: what was heard, and whether the connection had ended before.
 #[derive(Clone, Copy, Debug, PartialEq, Eq)]
 pub struct Listened {
     pub heard: Result<Heard, LinkFault>,
     pub was_over: bool,
 }
 
-/// Where the first position of a stream is that starts here: after the first 64 bytes at least.
+/// The first position of a stream that starts here, which is at least 64.
 fn first_position(start: u64) -> u64
     ensures { result ≡ first_sent start }
 {
     if start == 0 { 64 } else { start }
 }
 
-/// The sent position that statuses are held against: that up to which the slot's client was sent the log, but not before
-/// the start of the stream.
+/// The sent position that statuses are compared with: that up to which the slot's client was sent the log, or the
+/// stream's first position if that is greater.
 fn sent_position(started: Option<(usize, u64)>, wishes: &[Wish]) -> u64
     ensures { result ≡ sent_by started wishes.now }
 {
@@ -54,7 +54,7 @@ fn sent_position(started: Option<(usize, u64)>, wishes: &[Wish]) -> u64
     }
 }
 
-/// What is wanted of a connection after a piece was heard, which started its stream or not, and ended it or not.
+/// The state of a connection after a piece was heard, which may have started its stream, and may have ended it.
 fn wish_after(old: Wish, begins: bool, heard: &Result<Heard, LinkFault>) -> Wish
     ensures { result.sent ≤ old.sent }
 {
@@ -86,7 +86,7 @@ impl Listener {
     ghost use Rattle.copy_both.specs.Ears.{ear_phase, ear_refusal, ear_started, slots_after_loss};
     ghost use Rattle.senders.specs.Pieces.{Pulls};
 
-    /// A listener that has heard nothing. The only error is want of memory.
+    /// A listener that has heard nothing. The only error is out of memory.
     pub(crate) fn new(alloc: Global, checked: &Arc<Checked, Global>) -> Result<Listener, AllocError>
         ensures heard { IfOk result (λ made. HasHeard (checked_view (arc_value checked.now)) [] made.ear) }
         ensures started { IfOk result (λ made. ear_started made.ear ≡ None) }
@@ -101,7 +101,7 @@ impl Listener {
         })
     }
 
-    /// Reads the next piece. None where the source has no more bytes.
+    /// Reads the next piece. Returns whether the source had any more bytes.
     pub(crate) fn pull<S: Source>(&mut self, reader: &mut S) -> Result<bool, Failed>
         requires { 0 < length self.old.piece.items }
         ensures { Pulls (S.left reader.old) (S.left reader.new) (S.has_failed reader.new) (S.has_ended reader.new)
@@ -119,14 +119,14 @@ impl Listener {
         self.ear.started()
     }
 
-    /// The response to a start that was refused; else nothing.
+    /// The response to a start that was refused; otherwise empty.
     pub(crate) fn refusal(&self) -> &[u8]
         ensures { result.now ≡ ear_refusal self.now.ear }
     {
         self.ear.refusal()
     }
 
-    /// Gives the slot back that was started, if one was.
+    /// Releases the slot that was started, if there is one.
     pub(crate) fn lose(self, book: &mut Book)
         ensures { ChangesSlots book.old book.new
             (slots_after_loss (ear_phase self.ear) (ear_started self.ear) (book_slots book.old)) }

@@ -1,14 +1,14 @@
-//! What is read of connections, and heard.
+//! How connections are read and heard.
 
 ghost use Rattle.std.specs.Prelude.{◌≡◌, ◌<◌, length};
 ghost use Rattle.senders.specs.Hearing.{HearsPiece};
 ghost use Rattle.senders.specs.Listening.{BeginsAs, HearsAll, HearsNext, next_after, piece_of};
 
-use crate::begun::Begun;
-use crate::ending::Ending;
 use crate::listener::{Listened, Listener};
+use crate::listener_end::ListenerEnd;
 use crate::next::Next;
 use crate::source::Source;
+use crate::stream_start::StreamStart;
 use publisher_desk::{Publisher, Publishing};
 use std::sync::Wait;
 
@@ -24,14 +24,14 @@ fn hear_piece<P: Publishing, R: Wait>(
     publisher.lend(rt, listener)
 }
 
-/// What comes of a piece.
+/// What follows from a piece.
 fn next_of(listened: &Listened) -> Next
     ensures { result ≡ next_after listened.now }
 {
     match listened.heard {
-        Err(fault) => Next::Ends(Ending::Fault(fault)),
+        Err(fault) => Next::Ends(ListenerEnd::Fault(fault)),
         Ok(heard) => match heard.ended {
-            Some(kind) => Next::Ends(Ending::Frame(kind)),
+            Some(kind) => Next::Ends(ListenerEnd::Frame(kind)),
             None => Next::GoesOn(listened.was_over),
         },
     }
@@ -49,8 +49,8 @@ fn hear_next<P: Publishing, S: Source, R: Wait>(
         (S.has_ended reader.new) listener.old listener.new result }
 {
     match listener.pull(reader) {
-        Err(_) => return Next::Ends(Ending::ReadFault),
-        Ok(false) => return Next::Ends(Ending::NoMore),
+        Err(_) => return Next::Ends(ListenerEnd::SourceFailed),
+        Ok(false) => return Next::Ends(ListenerEnd::SourceEnded),
         Ok(true) => {}
     }
     let listened = hear_piece(rt, publisher, listener);
@@ -63,7 +63,7 @@ pub(crate) fn begin<P: Publishing, S: Source, R: Wait>(
     publisher: &Publisher<P>,
     listener: &mut Listener,
     reader: &mut S,
-) -> Begun
+) -> StreamStart
     requires { 0 < length listener.old.piece.items }
     ensures { BeginsAs P.checked (S.left reader.old) (S.left reader.new) (S.has_failed reader.new)
         (S.has_ended reader.new) listener.old listener.new result }
@@ -71,22 +71,22 @@ pub(crate) fn begin<P: Publishing, S: Source, R: Wait>(
     for _ in rt.forever() {
         let next = hear_next(rt, publisher, listener, reader);
         match (listener.started(), next) {
-            (Some(started), Next::GoesOn(_)) => return Begun::Started(started),
-            (Some(started), Next::Ends(why)) => return Begun::Ended(started, why),
-            (None, Next::Ends(why)) => return Begun::Refused(why),
+            (Some(started), Next::GoesOn(_)) => return StreamStart::Started(started),
+            (Some(started), Next::Ends(why)) => return StreamStart::Ended(started, why),
+            (None, Next::Ends(why)) => return StreamStart::Refused(why),
             (None, Next::GoesOn(_)) => {}
         }
     }
     unreachable!()
 }
 
-/// Hears a connection to its end, and answers why it ended; none where its sender had ended it.
+/// Hears a connection to its end, and returns why it ended; `None` if its sender had ended it.
 pub(crate) fn listen<P: Publishing, S: Source, R: Wait>(
     rt: &R,
     publisher: &Publisher<P>,
     listener: &mut Listener,
     reader: &mut S,
-) -> Option<Ending>
+) -> Option<ListenerEnd>
     requires { 0 < length listener.old.piece.items }
     ensures { HearsAll P.checked (S.left reader.old) (S.left reader.new) (S.has_failed reader.new)
         (S.has_ended reader.new) listener.old listener.new result }

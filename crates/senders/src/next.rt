@@ -1,10 +1,11 @@
-//! What comes of a read.
+//! What follows from a read.
 
-use crate::ending::Ending;
+use crate::listener_end::ListenerEnd;
 
-/// What comes of a read: the listener goes on, where the sender of the connection had ended it before, or not; or it ends.
+/// What follows from a read: the listener goes on, with whether the sender had ended the connection before; or it
+/// ends.
 #[derive(Clone, Copy, Debug, PartialEq, Eq)]
 pub enum Next {
     GoesOn(bool),
-    Ends(Ending),
+    Ends(ListenerEnd),
 }

@@ -1,12 +1,13 @@
-//! Whether the numbers of receipts rise.
+//! Whether the numbers of receipts increase.
 
 ghost use Rattle.std.specs.Prelude.{◌≡◌, All, IsTrue, MatchBool, map};
 ghost use Rattle.publisher_desk.specs.Seats.{AreTimed, IsForward};
-ghost use Rattle.senders.specs.Gathering.{numbers_of, RiseTo, IsRising};
+ghost use Rattle.publisher_desk.specs.Logged.{RiseTo};
+ghost use Rattle.senders.specs.Gathering.{numbers_of, IsRising};
 
 use publisher_desk::{Note, Publishing, Receipt, Seat};
 
-/// Whether the numbers rise, from 1 at least to `high` at most.
+/// Whether the numbers increase, and are from 1 to `high`.
 pub(crate) fn rise(receipts: &[&Receipt], high: u32) -> bool
     ensures { MatchBool result (RiseTo high 0 (numbers_of (map (λ receipt. receipt.now) receipts.now)))
         (¬ RiseTo high 0 (numbers_of (map (λ receipt. receipt.now) receipts.now))) }
@@ -39,7 +40,8 @@ fn is_rising(notes: &[Note], high: u32) -> bool
     true
 }
 
-/// Whether they do in each seat's order. In each seat, rows were read of no fewer commits than earlier notes know of.
+/// Whether they do in each seat's order. In each seat, rows were read after no fewer commits than earlier notes know
+/// of.
 pub(crate) fn are_rising<P: Publishing>(seats: &[Seat<P>], high: u32) -> bool
     ensures rising { MatchBool result (All (IsRising high) seats.now) (¬ All (IsRising high) seats.now) }
     ensures forward { IsTrue result → All IsForward seats.now }

@@ -5,12 +5,12 @@ ghost use Rattle.copy_both.specs.Ears.{ear_refusal};
 ghost use Rattle.senders.specs.Refusing.{AnswersAs, WritesFirst, cause_by};
 
 use crate::end::End;
-use crate::ending::Ending;
 use crate::listener::Listener;
+use crate::listener_end::ListenerEnd;
 use crate::sink::Sink;
 use copy_both::LinkFault;
 
-/// Writes the first bytes that the sink takes: all, if it does not fail.
+/// Writes the bytes until the sink fails: all of them if it does not.
 fn write_all<W: Sink>(bytes: &[u8], writer: &mut W)
     ensures { WritesFirst (W.taken writer.old) (W.taken writer.new) (W.has_failed writer.new) bytes.now }
 {
@@ -23,23 +23,23 @@ fn write_all<W: Sink>(bytes: &[u8], writer: &mut W)
     }
 }
 
-/// Why a connection ended that its listener ended.
-pub(crate) fn cause_of(why: Ending) -> End
+/// Why a connection ended, if its listener ended it.
+pub(crate) fn cause_of(why: ListenerEnd) -> End
     ensures { result ≡ cause_by why }
 {
     match why {
-        Ending::ReadFault => End::ReadFault,
-        Ending::NoMore | Ending::Frame(_) => End::Client,
-        Ending::Fault(fault) => End::Link(fault),
+        ListenerEnd::SourceFailed => End::ReadFault,
+        ListenerEnd::SourceEnded | ListenerEnd::Frame(_) => End::Client,
+        ListenerEnd::Fault(fault) => End::Link(fault),
     }
 }
 
 /// Writes the response to a start that was refused, if that is why it ended.
-pub(crate) fn answer<W: Sink>(listener: &Listener, why: Ending, writer: &mut W)
+pub(crate) fn answer<W: Sink>(listener: &Listener, why: ListenerEnd, writer: &mut W)
     ensures { AnswersAs why (W.taken writer.old) (W.taken writer.new) (W.has_failed writer.new)
         (ear_refusal listener.now.ear) }
 {
-    if let Ending::Fault(LinkFault::BadStart(_)) = why {
+    if let ListenerEnd::Fault(LinkFault::BadStart(_)) = why {
         write_all(listener.refusal(), writer);
     }
 }

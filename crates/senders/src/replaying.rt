@@ -6,7 +6,8 @@ ghost use Rattle.std.specs.List.Sorted.{IsNonDecreasingBy};
 ghost use Rattle.tables_log.specs.BookView.{book_log, book_setting};
 ghost use Rattle.tables_log.specs.Logs.{entry_at};
 ghost use Rattle.tables_log.specs.declared.error.CommitError.TheVariants as e;
-ghost use Rattle.senders.specs.Histories.{IsRight, transactions_of};
+ghost use Rattle.publisher_desk.specs.Receipts.{transactions_of};
+ghost use Rattle.senders.specs.Histories.{IsRight};
 ghost use Rattle.senders.specs.Replays.{IsAgain, IsNotAgain, IsMissingFor, Replays, IsAsLong, IsUnlikeIn};
 
 use crate::close_error::CloseError;
@@ -57,8 +58,7 @@ fn is_memory(error: &CommitError) -> bool
     }
 }
 
-/// Makes the receipt's commands the next commit of the fresh book, and compares the log's entry with that of the first
-/// book.
+/// Commits the receipt's commands to the fresh book, and compares the log's entry with that of the first book.
 fn make_again(fresh: &mut Book, book: &Book, receipt: &Receipt) -> Result<(), CloseError>
     ensures ok { OnOk result (IsAgain book.now fresh.old fresh.new receipt.now) }
     ensures err { IfErr result (IsMissingFor (IsNotAgain book.now fresh.old receipt.now)) }
@@ -79,7 +79,7 @@ fn make_again(fresh: &mut Book, book: &Book, receipt: &Receipt) -> Result<(), Cl
     }
 }
 
-/// Makes receipts again until the fresh book has so many commits.
+/// Makes receipts again until the fresh book has this number of commits.
 fn advance(
     fresh: &mut Book,
     book: &Book,
@@ -100,8 +100,8 @@ fn advance(
     Ok(())
 }
 
-/// Makes receipts again until the fresh book has as many commits as the reading knows of, and tells whether it is
-/// right. Where there are fewer receipts the reading is wrong.
+/// Makes receipts again until the fresh book has as many commits as the reading knows of, and returns whether it is
+/// right. If there are fewer receipts, the reading is wrong.
 fn read_again(
     fresh: &mut Book,
     book: &Book,
@@ -128,7 +128,8 @@ fn read_again(
     Ok(is_right_now(fresh, reading))
 }
 
-/// Makes all receipts again, and tells whether all readings are right. The readings are in the order of their numbers.
+/// Makes all receipts again, and returns whether all readings are right. The readings are in the order of their
+/// numbers.
 pub(crate) fn replay(
     fresh: &mut Book,
     book: &Book,

@@ -1,21 +1,21 @@
-//! Connections whose stream has started: one thread sends, and one listens.
+//! Connections whose stream has started: one thread sends, and another listens.
 
 ghost use Rattle.std.specs.Prelude.{◌≡◌, ◌<◌, length, map, true};
 ghost use Rattle.std.specs.Arc.{arc_value};
 ghost use Rattle.copy_frames.specs.Contents.{copy_both_response};
 ghost use Rattle.senders.specs.Listening.{HearsAll};
 ghost use Rattle.senders.specs.Sending.{IsQuiet, StopsAs, started_telling};
-ghost use Rattle.senders.specs.declared.stop.Stop.TheVariants.{WriteFault};
+ghost use Rattle.senders.specs.declared.sender_end.SenderEnd.TheVariants.{WriteFault};
 
-use crate::ending::Ending;
 use crate::gate::Gate;
-use crate::leaving::leave;
 use crate::listener::Listener;
+use crate::listener_end::ListenerEnd;
 use crate::listening::listen;
+use crate::sender_end::SenderEnd;
 use crate::sending::send_all;
 use crate::sink::Sink;
+use crate::slot_tasks::end_connection;
 use crate::source::Source;
-use crate::stop::Stop;
 use copy_both::Voice;
 use publisher_desk::{Publisher, Publishing};
 use std::alloc::Global;
@@ -24,15 +24,15 @@ use std::thread::{Threads, join_mut};
 use std::time::Clock;
 use tables_log::Commit;
 
-/// What a sender did: which commits it took up, why it stopped, and whether it was the one that ended the connection.
+/// The result of a sender: which commits it took, why it stopped, and whether it was the first to end the connection.
 #[derive(Drop)]
 pub struct Sent {
     pub taken: Vec<Arc<Commit, Global>>,
-    pub stop: Stop,
+    pub stop: SenderEnd,
     pub is_first: bool,
 }
 
-/// Sends, and ends the connection where sending failed.
+/// Sends, and ends the connection if sending failed.
 pub(crate) fn send<P: Publishing, W: Sink, G: Gate, R: Wait + Clock>(
     rt: &R,
     publisher: &Publisher<P>,
@@ -49,9 +49,9 @@ pub(crate) fn send<P: Publishing, W: Sink, G: Gate, R: Wait + Clock>(
 {
     let (taken, stop) = send_all(rt, publisher, started, voice, writer, gate);
     let is_first = match stop {
-        Stop::Told => false,
-        Stop::Finished => true,
-        Stop::WriteFault | Stop::OutOfMemory => leave(rt, publisher, started.0),
+        SenderEnd::ConnectionEnded => false,
+        SenderEnd::Finished => true,
+        SenderEnd::WriteFault | SenderEnd::OutOfMemory => end_connection(rt, publisher, started.0),
     };
     Sent {
         taken,
@@ -60,21 +60,21 @@ pub(crate) fn send<P: Publishing, W: Sink, G: Gate, R: Wait + Clock>(
     }
 }
 
-/// Listens, and ends the connection where its client did.
+/// Listens, and ends the connection if the listener has a cause.
 fn hear<P: Publishing, S: Source, R: Wait>(
     rt: &R,
     publisher: &Publisher<P>,
     slot: usize,
     listener: &mut Listener,
     reader: &mut S,
-) -> Option<Ending>
+) -> Option<ListenerEnd>
     requires { 0 < length listener.old.piece.items }
     ensures { HearsAll P.checked (S.left reader.old) (S.left reader.new) (S.has_failed reader.new)
         (S.has_ended reader.new) listener.old listener.new result }
 {
     let why = listen(rt, publisher, listener, reader);
     if why.is_some() {
-        leave(rt, publisher, slot);
+        end_connection(rt, publisher, slot);
     }
     why
 }
@@ -90,8 +90,8 @@ pub(crate) fn starts_threads<R: Threads>(rt: &R) -> bool {
     }
 }
 
-/// Sends and listens side by side, to the end of the connection. Where no other thread can be had, it is sent to first,
-/// and heard once its sender has stopped.
+/// Sends and listens side by side, to the end of the connection. If no other thread can be started, it is heard when
+/// its sender has stopped.
 pub(crate) fn run_both<
     P: Publishing + Sync,
     S: Source + Send,
@@ -107,7 +107,7 @@ pub(crate) fn run_both<
     reader: &mut S,
     writer: &mut W,
     gate: &G,
-) -> (Sent, Option<Ending>)
+) -> (Sent, Option<ListenerEnd>)
     requires quiet { IsQuiet voice.old (started_telling P.checked started.0 started.1 copy_both_response) }
     requires room { 0 < length listener.old.piece.items }
     ensures sent { StopsAs result.0.stop (W.taken writer.old) (W.taken writer.new)
@@ -120,7 +120,7 @@ pub(crate) fn run_both<
     let (slot, start) = started;
     let (why, sent) = join_mut(
         rt,
-        &mut || -> Option<Ending>
+        &mut || -> Option<ListenerEnd>
             requires { 0 < length listener.now.piece.items }
             ensures { HearsAll P.checked (S.left reader.entry.now) (S.left reader.exit.now)
                 (S.has_failed reader.exit.now) (S.has_ended reader.exit.now) listener.entry.now listener.exit.now result }

@@ -1,4 +1,4 @@
-//! What is sent on connections.
+//! What is sent on a connection.
 
 ghost use Rattle.std.specs.Prelude.{◌≡◌, ◌++◌, [], map, true, IfOk, OnOk, OnErr, MatchResult};
 ghost use Rattle.std.specs.Arc.{arc_value};
@@ -7,14 +7,14 @@ ghost use Rattle.copy_frames.specs.Contents.{copy_both_response};
 ghost use Rattle.publisher_desk.specs.Lending.{IsNext};
 ghost use Rattle.senders.specs.Flushing.{Flushes};
 ghost use Rattle.senders.specs.Sending.{AreQuietFor, IsQuiet, StopsAs, TakesUp, TellsAs, started_telling};
-ghost use Rattle.senders.specs.declared.stop.Stop.TheVariants.{WriteFault};
+ghost use Rattle.senders.specs.declared.sender_end.SenderEnd.TheVariants.{WriteFault};
 
 use crate::clock::clock;
 use crate::failed::Failed;
 use crate::flushing::flush;
 use crate::gate::Gate;
+use crate::sender_end::SenderEnd;
 use crate::sink::Sink;
-use crate::stop::Stop;
 use copy_both::{Taken, Voice};
 use publisher_desk::{Publisher, Publishing, Step};
 use std::alloc::{AllocError, Global};
@@ -22,15 +22,15 @@ use std::sync::{Arc, Wait};
 use std::time::Clock;
 use tables_log::Commit;
 
-/// How many bytes wait at most before they are written though more could be taken up.
+/// If this number of bytes wait, they are written before a further commit is taken.
 const BATCH: usize = 65_536;
 
-/// What the sender of the slot does next, where it has told of all commits before this number. What waits is written
-/// before, unless it is less than `BATCH`, is not due, and there is something to do now.
+/// What the sender of the slot does next, after it has reported all commits before this number. What waits is written
+/// first, unless it is less than `BATCH`, is not due, and there is something to do now.
 ///
 /// # Errors
 ///
-/// `Failed` where the sink fails.
+/// `Failed` if the sink fails.
 fn await_step<P: Publishing, W: Sink, R: Wait>(
     rt: &R,
     publisher: &Publisher<P>,
@@ -55,7 +55,7 @@ fn await_step<P: Publishing, W: Sink, R: Wait>(
     Ok(publisher.next_step(rt, slot, number))
 }
 
-/// Takes these commits up, of which the subscriber gets nothing.
+/// Takes these commits, of which the subscriber gets nothing.
 fn skip_all(voice: &mut Voice, commits: &[Arc<Commit, Global>])
     requires { AreQuietFor (voice_checked voice.old) (voice_stage voice.old) (map (λ commit. arc_value commit) commits.now) }
     ensures { TakesUp (map (λ commit. arc_value commit) commits.now) voice.old voice.new }
@@ -65,8 +65,8 @@ fn skip_all(voice: &mut Voice, commits: &[Arc<Commit, Global>])
     }
 }
 
-/// Takes these commits up, of which the subscriber gets nothing, and keeps them with those that were taken up before.
-/// The only error is want of memory; then nothing changes.
+/// Takes these commits, of which the subscriber gets nothing, and keeps them with those that were taken before. The
+/// only error is out of memory; then nothing changes.
 fn pass_over(
     voice: &mut Voice,
     taken: &mut Vec<Arc<Commit, Global>>,
@@ -86,7 +86,7 @@ fn pass_over(
     Ok(())
 }
 
-/// Tells what `send_all` sends, of which bytes may wait at the end.
+/// Sends as `send_all` does, except that bytes may wait at the end.
 fn tell_all<P: Publishing, W: Sink, G: Gate, R: Wait + Clock>(
     rt: &R,
     publisher: &Publisher<P>,
@@ -94,7 +94,7 @@ fn tell_all<P: Publishing, W: Sink, G: Gate, R: Wait + Clock>(
     voice: &mut Voice,
     writer: &mut W,
     gate: &G,
-) -> (Vec<Arc<Commit, Global>>, Stop)
+) -> (Vec<Arc<Commit, Global>>, SenderEnd)
     requires { IsQuiet voice.old (started_telling P.checked started.0 started.1 copy_both_response) }
     ensures tells { TellsAs result.1 (W.taken writer.old) (W.taken writer.new)
         (map (λ commit. arc_value commit) result.0.items) voice.new
@@ -105,20 +105,20 @@ fn tell_all<P: Publishing, W: Sink, G: Gate, R: Wait + Clock>(
     let mut skips = 0u32;
     for _ in rt.forever() {
         let Some(number) = voice.next() else {
-            return (taken, Stop::Told);
+            return (taken, SenderEnd::ConnectionEnded);
         };
         if taken.reserve(1).is_err() {
-            return (taken, Stop::OutOfMemory);
+            return (taken, SenderEnd::OutOfMemory);
         }
-        // (commits for other subscribers may come all the time, and what waits is not held back by them)
+        // (commits for other subscribers may come all the time, and must not hold back what waits)
         let is_due = skips > 1;
         let Ok(step) = await_step(rt, publisher, started.0, number, is_due, voice, writer) else {
-            return (taken, Stop::WriteFault);
+            return (taken, SenderEnd::WriteFault);
         };
         match step {
             Step::Entry(commit) => {
                 let Ok(told) = voice.take_entry(&commit, clock(rt)) else {
-                    return (taken, Stop::OutOfMemory);
+                    return (taken, SenderEnd::OutOfMemory);
                 };
                 taken.push_reserved(commit);
                 skips = 0;
@@ -128,29 +128,29 @@ fn tell_all<P: Publishing, W: Sink, G: Gate, R: Wait + Clock>(
             }
             Step::Skip(commits) => {
                 let Ok(()) = pass_over(voice, &mut taken, commits) else {
-                    return (taken, Stop::OutOfMemory);
+                    return (taken, SenderEnd::OutOfMemory);
                 };
                 skips = skips.saturating_add(1);
             }
             Step::Reply => {
                 if voice.keepalive(clock(rt), false).is_err() {
-                    return (taken, Stop::OutOfMemory);
+                    return (taken, SenderEnd::OutOfMemory);
                 }
             }
-            Step::Ended => return (taken, Stop::Told),
-            Step::Finished => return (taken, Stop::Finished),
-            Step::OutOfMemory => return (taken, Stop::OutOfMemory),
+            Step::Ended => return (taken, SenderEnd::ConnectionEnded),
+            Step::Finished => return (taken, SenderEnd::Finished),
+            Step::OutOfMemory => return (taken, SenderEnd::OutOfMemory),
         }
     }
     unreachable!()
 }
 
-/// Sends on a connection whose stream has started, and of which CopyBothResponse was written: each commit from the
-/// start on as it comes, and replies, until the connection ends or all commits of a finished publisher are taken up.
-/// A commit is got under the lock, and without it is encoded and passes the gate. Commits of which the subscriber gets
-/// nothing are got several at a time, and nothing is encoded of them. What several commits appended is written at once:
-/// when there is nothing to do now, when 64 KiB or more wait, after several skips in a row, and at the end. It answers which commits were taken up,
-/// and why it stopped.
+/// Sends on a connection whose stream has started and whose CopyBothResponse was written: each commit from the start
+/// on as it comes, and replies, until the connection ends or all commits of a finished publisher are taken. A commit
+/// is taken from the log under the lock, and is encoded and passes the gate without it. Commits of which the
+/// subscriber gets nothing are taken several at a time, and nothing of them is encoded. What several commits appended
+/// is written at once: when there is nothing to do now, when 64 KiB or more wait, after two skips in a row, and at
+/// the end. Returns which commits were taken, and why it stopped.
 ///
 /// PostgreSQL 15, 55.4. Streaming Replication Protocol.
 pub(crate) fn send_all<P: Publishing, W: Sink, G: Gate, R: Wait + Clock>(
@@ -160,7 +160,7 @@ pub(crate) fn send_all<P: Publishing, W: Sink, G: Gate, R: Wait + Clock>(
     voice: &mut Voice,
     writer: &mut W,
     gate: &G,
-) -> (Vec<Arc<Commit, Global>>, Stop)
+) -> (Vec<Arc<Commit, Global>>, SenderEnd)
     requires { IsQuiet voice.old (started_telling P.checked started.0 started.1 copy_both_response) }
     ensures sent { StopsAs result.1 (W.taken writer.old) (W.taken writer.new)
         (map (λ commit. arc_value commit) result.0.items) voice.new
@@ -169,11 +169,11 @@ pub(crate) fn send_all<P: Publishing, W: Sink, G: Gate, R: Wait + Clock>(
 {
     let (taken, stop) = tell_all(rt, publisher, started, voice, writer, gate);
     match stop {
-        Stop::WriteFault => return (taken, stop),
-        Stop::Told | Stop::Finished | Stop::OutOfMemory => {}
+        SenderEnd::WriteFault => return (taken, stop),
+        SenderEnd::ConnectionEnded | SenderEnd::Finished | SenderEnd::OutOfMemory => {}
     }
     if flush(voice, writer).is_err() {
-        return (taken, Stop::WriteFault);
+        return (taken, SenderEnd::WriteFault);
     }
     (taken, stop)
 }

@@ -8,20 +8,20 @@ ghost use Rattle.senders.specs.Running.{Concludes, IsWithout, RunsOn, Streams};
 ghost use Rattle.senders.specs.Speaking.{IsQuietAt};
 ghost use Rattle.senders.specs.Serving.{IsServed};
 
-use crate::begun::Begun;
 use crate::end::End;
-use crate::ending::Ending;
 use crate::gate::Gate;
-use crate::leaving::lose;
 use crate::listener::Listener;
+use crate::listener_end::ListenerEnd;
 use crate::listening::begin;
 use crate::refusing::{answer, cause_of};
 use crate::running::{Sent, run_both, send, starts_threads};
+use crate::sender_end::SenderEnd;
 use crate::served::Served;
 use crate::sink::Sink;
+use crate::slot_tasks::release_slot;
 use crate::source::Source;
 use crate::speaking::{open, say_last};
-use crate::stop::Stop;
+use crate::stream_start::StreamStart;
 use copy_both::{LinkFault, Voice};
 use publisher_desk::{Publisher, Publishing};
 use std::alloc::Global;
@@ -29,42 +29,45 @@ use std::sync::Wait;
 use std::thread::Threads;
 use std::time::Clock;
 
-/// Why a connection ended that its sender ended.
-fn end_of(stop: Stop) -> End
+/// Why a connection ended, if its sender ended it.
+fn end_of(stop: SenderEnd) -> End
     ensures { result ≡ end_by stop }
 {
     match stop {
-        Stop::Finished => End::Finished,
-        Stop::WriteFault => End::WriteFault,
-        // (nobody but its listener tells a sender of an end, and then the listener has a cause)
-        Stop::OutOfMemory | Stop::Told => End::Link(LinkFault::OutOfMemory),
+        SenderEnd::Finished => End::Finished,
+        SenderEnd::WriteFault => End::WriteFault,
+        // (only a listener ends a sender's connection, and then the listener has a cause)
+        SenderEnd::OutOfMemory | SenderEnd::ConnectionEnded => End::Link(LinkFault::OutOfMemory),
     }
 }
 
-/// Whether the sender's cause of an end goes before the listener's: it came first, and the listener was refused no
-/// memory, by which what its client confirms may be lost.
-fn goes_first(is_first: bool, why: Ending) -> bool
+/// Whether the sender's cause of an end goes before the listener's: it came first, and the listener was not refused
+/// memory, since then something that its client confirmed may be lost.
+fn goes_first(is_first: bool, why: ListenerEnd) -> bool
     ensures { result ≡ spec.goes_first is_first why }
 {
     match why {
-        Ending::Fault(LinkFault::OutOfMemory) => false,
-        Ending::ReadFault | Ending::NoMore | Ending::Frame(_) | Ending::Fault(_) => is_first,
+        ListenerEnd::Fault(LinkFault::OutOfMemory) => false,
+        ListenerEnd::SourceFailed
+        | ListenerEnd::SourceEnded
+        | ListenerEnd::Frame(_)
+        | ListenerEnd::Fault(_) => is_first,
     }
 }
 
 /// Whether the sender was refused memory.
-fn is_refused(stop: Stop) -> bool
+fn is_refused(stop: SenderEnd) -> bool
     ensures { result ≡ spec.is_refused stop }
 {
     match stop {
-        Stop::Told | Stop::Finished | Stop::WriteFault => false,
-        Stop::OutOfMemory => true,
+        SenderEnd::ConnectionEnded | SenderEnd::Finished | SenderEnd::WriteFault => false,
+        SenderEnd::OutOfMemory => true,
     }
 }
 
-/// The cause of an end that is told: the sender's where it was refused memory or goes before the listener's, or where the
-/// listener has none; else the listener's.
-fn told_cause(stop: Stop, is_first: bool, why: Option<Ending>) -> End
+/// The cause of an end that is reported: the sender's if it was refused memory, if its cause goes before the
+/// listener's, or if the listener has none; otherwise the listener's.
+fn reported_cause(stop: SenderEnd, is_first: bool, why: Option<ListenerEnd>) -> End
     ensures { result ≡ chosen stop is_first why }
 {
     match why {
@@ -79,7 +82,7 @@ fn told_cause(stop: Stop, is_first: bool, why: Option<Ending>) -> End
     }
 }
 
-/// What came of a connection on which no stream was started.
+/// The result of a connection on which no stream was started.
 fn unstarted(alloc: Global, end: End) -> Served
     ensures slot { result.slot ≡ None }
     ensures start { result.start ≡ None }
@@ -94,7 +97,7 @@ fn unstarted(alloc: Global, end: End) -> Served
     }
 }
 
-/// What came of a connection for which no commit was taken up.
+/// The result of a connection for which no commit was taken.
 fn without_commits(alloc: Global, started: (usize, u64), end: End) -> Served
     ensures { IsWithout started.0 started.1 end result }
 {
@@ -106,23 +109,24 @@ fn without_commits(alloc: Global, started: (usize, u64), end: End) -> Served
     }
 }
 
-/// Why a connection ended whose client had ended it before CopyBothResponse could not be written.
-fn unopened_end(stop: Stop, why: Ending) -> End
+/// Why a connection ended whose client ended it in the piece that started it, if CopyBothResponse could not be
+/// written.
+fn unopened_end(stop: SenderEnd, why: ListenerEnd) -> End
     ensures { result ≡ unopened_by stop why }
 {
     match stop {
-        Stop::WriteFault => cause_of(why),
-        Stop::Told | Stop::Finished | Stop::OutOfMemory => end_of(stop),
+        SenderEnd::WriteFault => cause_of(why),
+        SenderEnd::ConnectionEnded | SenderEnd::Finished | SenderEnd::OutOfMemory => end_of(stop),
     }
 }
 
-/// What came of a connection whose sender stopped, and whose listener ended for this reason, if it did. The last is said
-/// to its client.
+/// The result of a connection whose sender stopped, and whose listener ended for this reason, if it did. If its
+/// client sent CopyDone, it is answered.
 fn conclude<W: Sink>(
     started: (usize, u64),
     voice: &mut Voice,
     sent: Sent,
-    why: Option<Ending>,
+    why: Option<ListenerEnd>,
     writer: &mut W,
 ) -> Served
     requires { IsQuietAt sent.stop voice.old }
@@ -130,7 +134,7 @@ fn conclude<W: Sink>(
         (W.has_failed writer.old) (W.has_failed writer.new) result }
 {
     let stop = say_last(voice, sent.stop, why, writer);
-    let end = told_cause(stop, sent.is_first, why);
+    let end = reported_cause(stop, sent.is_first, why);
     Served {
         slot: Some(started.0),
         start: Some(started.1),
@@ -144,7 +148,7 @@ fn serve_ended<P: Publishing, W: Sink, G: Gate, R: Wait + Clock>(
     rt: &R,
     publisher: &Publisher<P>,
     started: (usize, u64),
-    why: Ending,
+    why: ListenerEnd,
     writer: &mut W,
     gate: &G,
 ) -> Served
@@ -188,7 +192,11 @@ fn serve_started<
         Err(stop) => return without_commits(publisher.allocator(), started, end_of(stop)),
     };
     if !starts_threads(rt) {
-        return without_commits(publisher.allocator(), started, end_of(Stop::OutOfMemory));
+        return without_commits(
+            publisher.allocator(),
+            started,
+            end_of(SenderEnd::OutOfMemory),
+        );
     }
     let (sent, why) = run_both(
         rt, publisher, started, &mut voice, listener, reader, writer, gate,
@@ -196,12 +204,12 @@ fn serve_started<
     conclude(started, &mut voice, sent, why, writer)
 }
 
-/// Serves one connection to its end, and tells what came of it. Its client asks for the stream of a slot by a Query;
-/// then one thread sends it each commit from there on, as it is made, and another hears what it confirms. It ends where
-/// what it is read from or written to fails, where its client ends it or sends what it may not, or once the publisher is
-/// finished and all commits are taken up; then it has given its slot back.
+/// Serves one connection to its end, and returns its result. Its client requests the stream of a slot by a Query.
+/// Then one thread sends it each commit from there on, as it is made, and another hears what it confirms. The
+/// connection ends if what it is read from or written to fails, if its client ends it or sends what it may not, or
+/// when the publisher is finished and all commits are taken. Then it has released its slot.
 ///
-/// Where the sender has taken up all, the connection is heard until it has no more bytes, and where the sender failed,
+/// If the sender has taken all commits, the connection is heard until it has no more bytes, and if the sender failed,
 /// until it has given one more piece. Until then it has its slot.
 ///
 /// PostgreSQL 15, 55.4. Streaming Replication Protocol.
@@ -220,12 +228,12 @@ pub fn serve<
         return unstarted(alloc, End::Link(LinkFault::OutOfMemory));
     };
     let served = match begin(rt, publisher, &mut listener, reader) {
-        Begun::Refused(why) => {
+        StreamStart::Refused(why) => {
             answer(&listener, why, writer);
             unstarted(alloc, cause_of(why))
         }
-        Begun::Ended(started, why) => serve_ended(rt, publisher, started, why, writer, gate),
-        Begun::Started(started) => serve_started(
+        StreamStart::Ended(started, why) => serve_ended(rt, publisher, started, why, writer, gate),
+        StreamStart::Started(started) => serve_started(
             rt,
             publisher,
             started,
@@ -235,6 +243,6 @@ pub fn serve<
             gate,
         ),
     };
-    lose(rt, publisher, listener);
+    release_slot(rt, publisher, listener);
     served
 }

@@ -3,7 +3,7 @@
 use crate::failed::Failed;
 use std::io::{ErrorKind, Write};
 
-/// What a connection is written to. `taken` is the bytes that it took, where they are known.
+/// What a connection is written to. `taken` is the bytes that it took, if they are known.
 pub trait Sink {
     ghost use Rattle.std.specs.Prelude.{◌≡◌, ◌<◌, ◌≤◌, ℕ, Bool, true, List, Option, None, length, take, IfOk, MatchResult};
     ghost use Rattle.std.specs.Io.KnownBytes.{Appends, Keeps};
@@ -12,7 +12,7 @@ pub trait Sink {
 
     ghost has_failed: { Self → Bool };
 
-    /// Takes a first part of the bytes, and answers how many these are: one at least.
+    /// Takes the first of the bytes, at least one, and returns how many it took.
     ///
     /// # Errors
     ///
@@ -31,7 +31,7 @@ pub trait Sink {
         ensures { result ≡ has_failed self.now };
 }
 
-/// A writer as a sink. A write that takes none of the bytes is a failure; one that is interrupted is made again.
+/// A writer as a sink. A write that takes none of the bytes is a failure; one that is interrupted is repeated.
 #[derive(Debug, Drop)]
 pub struct ToWrite<W> {
     writer: W,

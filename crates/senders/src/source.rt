@@ -3,7 +3,7 @@
 use crate::failed::Failed;
 use std::io::{ErrorKind, Read};
 
-/// What a connection is read from. `left` is the bytes that it will give, where they are known.
+/// What a connection is read from. `left` is the bytes that it will give, if they are known.
 pub trait Source {
     ghost use Rattle.std.specs.Prelude.{◌≡◌, ◌<◌, ◌≤◌, ℕ, Bool, true, List, Option, None, length, IfOk, MatchResult};
     ghost use Rattle.std.specs.Io.KnownBytes.{IsAtEnd, Keeps};
@@ -15,8 +15,8 @@ pub trait Source {
 
     ghost has_ended: { Self → Bool };
 
-    /// Fills a first part of `piece`, and answers how many bytes that are: none only where no byte is left, or where the
-    /// piece has no room.
+    /// Fills the first bytes of `piece`, and returns how many. It fills none only if no byte is left, or if the piece
+    /// has no room.
     ///
     /// # Errors
     ///
@@ -37,12 +37,12 @@ pub trait Source {
     fn failed(&self) -> bool
         ensures { result ≡ has_failed self.now };
 
-    /// Whether a pull gave no byte though there was room for one.
+    /// Whether a pull gave no byte although there was room for one.
     fn ended(&self) -> bool
         ensures { result ≡ has_ended self.now };
 }
 
-/// A reader as a source. A read that is interrupted is made again.
+/// A reader as a source. A read that is interrupted is repeated.
 #[derive(Debug, Drop)]
 pub struct FromRead<R> {
     reader: R,

@@ -23,7 +23,7 @@ fn commits_before(served: &Served) -> u64
     }
 }
 
-/// Whether this is the log's commit after so many.
+/// Whether this is the log's commit after this number of commits.
 fn is_next(book: &Book, count: u64, commit: &Commit) -> bool
     ensures { MatchBool result (slice_get (book_log book.now) count ≡ Some commit.now)
         (slice_get (book_log book.now) count ≢ Some commit.now) }
@@ -37,7 +37,7 @@ fn is_next(book: &Book, count: u64, commit: &Commit) -> bool
     }
 }
 
-/// Whether the log has these commits after so many.
+/// Whether the log has these commits after this number of commits.
 fn are_next(book: &Book, count: u64, commits: &[Arc<Commit, Global>]) -> bool
     requires { count ≤ 2 ^ 58 }
     ensures { MatchBool result (AreAt (book_log book.now) count (map (λ commit. arc_value commit) commits.now))
@@ -51,7 +51,7 @@ fn are_next(book: &Book, count: u64, commits: &[Arc<Commit, Global>]) -> bool
     true
 }
 
-/// Whether the connection took the log's commits from its start on, up to the log's end where it was finished.
+/// Whether the connection took the log's commits from its start on, up to the log's end if it was finished.
 fn is_taken(book: &Book, served: &Served) -> bool
     ensures { MatchBool result (IsTaken (book_log book.now) served.now) (¬ IsTaken (book_log book.now) served.now) }
 {

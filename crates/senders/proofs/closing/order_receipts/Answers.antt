@@ -1,7 +1,8 @@
 use Rattle.std.proofs.Common.{List, Bor, map, refl, ◌∙◌, subst, arith}
 use Rattle.std.proofs.lemmas.List.{length-map}
 use Rattle.publisher_desk.specs.Receipts.{ReceiptOf}
-use Rattle.senders.specs.Gathering.{numbers_of, RiseTo}
+use Rattle.publisher_desk.specs.Logged.{RiseTo}
+use Rattle.senders.specs.Gathering.{numbers_of}
 use Rattle.senders.proofs.ClosingLemmas.{in_order, count_cause, repeated_cause}
 use Rattle.senders.proofs.closing.order_receipts.Goals as goal
 

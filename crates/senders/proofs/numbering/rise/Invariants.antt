@@ -1,6 +1,7 @@
 use Rattle.std.proofs.Common.{Bor, drop, map}
 use Rattle.publisher_desk.specs.Receipts.{ReceiptOf}
-use Rattle.senders.specs.Gathering.{numbers_of, RiseTo}
+use Rattle.publisher_desk.specs.Logged.{RiseTo}
+use Rattle.senders.specs.Gathering.{numbers_of}
 use Rattle.senders.proofs.NumberLemmas.{Leaves}
 use Rattle.senders.proofs.numbering.rise.Given as goal
 

@@ -1,10 +1,10 @@
 use Rattle.std.proofs.Common.{Bor, map, arith}
 use Rattle.std.proofs.lemmas.Bool.{MatchBool-at_true, MatchBool-at_false}
 use Rattle.std.proofs.lemmas.List.{length-map}
-use Rattle.publisher_desk.specs.Receipts.{ReceiptOf}
+use Rattle.publisher_desk.specs.Receipts.{ReceiptOf, transactions_of}
 use Rattle.publisher_desk.specs.declared.note.Reading.{Reading}
 use Rattle.tables_log.specs.BookView.{book_setting}
-use Rattle.senders.specs.Histories.{IsRight, transactions_of}
+use Rattle.senders.specs.Histories.{IsRight}
 use Rattle.senders.proofs.ReplayLemmas.{readings_rise, so_same, right_more, wrong_more, right_at_end}
 use Rattle.senders.proofs.replaying.replay.Goals as goal
 use Rattle.senders.proofs.replaying.replay.Goals.{then-not-branch, else-not-branch}

@@ -1,8 +1,8 @@
 use Rattle.std.proofs.Common.{◌<◌, ◌≤◌, All, Bor, MatchBool, get_or, length, map, take}
-use Rattle.publisher_desk.specs.Receipts.{ReceiptOf}
+use Rattle.publisher_desk.specs.Receipts.{ReceiptOf, transactions_of}
 use Rattle.publisher_desk.specs.declared.note.Reading.{Reading}
 use Rattle.tables_log.specs.BookView.{book_log, book_setting}
-use Rattle.senders.specs.Histories.{IsRight, transactions_of}
+use Rattle.senders.specs.Histories.{IsRight}
 use Rattle.senders.specs.Replays.{Replays}
 use Rattle.senders.proofs.replaying.replay.Given as goal
 

@@ -33,6 +33,6 @@ returns g c =
           (started_telling g.P.Publishing.checked c.args.started.0 c.args.started.1 copy_both_response)
           (map (λ commit. arc_value commit) c.tell_all-taken.result.0.items) c.tell_all-taken.new.voice
           c.flush.new.voice c.flush.ensures.flushes c.tell_all-taken.result.1
-          (not_fault c.tell_all-taken.result.1 c.in-Told.is) c.tell_all-taken.ensures.tells none;
-      failed = λ is. absurd (not_fault c.tell_all-taken.result.1 c.in-Told.is is);
+          (not_fault c.tell_all-taken.result.1 c.in-ConnectionEnded.is) c.tell_all-taken.ensures.tells none;
+      failed = λ is. absurd (not_fault c.tell_all-taken.result.1 c.in-ConnectionEnded.is is);
     }

@@ -7,6 +7,6 @@ returns g c = record {
   start_is = refl;
   taken_is = refl;
   stop = c.say_last-stop.result;
-  end_is = c.told_cause-end.ensures;
+  end_is = c.reported_cause-end.ensures;
   says = c.say_last-stop.ensures;
 }

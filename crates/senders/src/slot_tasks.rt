@@ -1,17 +1,17 @@
-//! How connections end and give their slots back.
+//! How connections end and release their slots.
 
 use crate::listener::Listener;
 use publisher_desk::{Publisher, Publishing, SlotUse, Wish};
 use std::sync::Wait;
 use tables_log::Book;
 
-/// Ends the connection of a slot: its sender is told so. It answers whether it had not ended before.
+/// Ends the connection of a slot, which its sender then sees. Its answer is whether it had not ended before.
 #[derive(Drop)]
-struct Leaving {
+struct EndConnection {
     slot: usize,
 }
 
-impl SlotUse for Leaving {
+impl SlotUse for EndConnection {
     type Answer = bool;
 
     ghost did = { λ before after old new wishes left answer. Unit {0} };
@@ -29,13 +29,13 @@ impl SlotUse for Leaving {
     }
 }
 
-/// Gives the slot back that a listener started, if it did.
-struct Losing {
+/// Releases the slot that a listener started, if it started one.
+struct ReleaseSlot {
     listener: Option<Listener>,
 }
 
-impl SlotUse for Losing {
-    ghost use Rattle.senders.specs.Leaving.{GivesBack};
+impl SlotUse for ReleaseSlot {
+    ghost use Rattle.senders.specs.Releasing.{GivesBack};
 
     type Answer = ();
 
@@ -48,18 +48,26 @@ impl SlotUse for Losing {
     }
 }
 
-/// Ends the connection of a slot, and answers whether it had not ended before.
-pub(crate) fn leave<P: Publishing, R: Wait>(rt: &R, publisher: &Publisher<P>, slot: usize) -> bool {
-    publisher.lend(rt, &mut Leaving { slot })
+/// Ends the connection of a slot, and returns whether it had not ended before.
+pub(crate) fn end_connection<P: Publishing, R: Wait>(
+    rt: &R,
+    publisher: &Publisher<P>,
+    slot: usize,
+) -> bool {
+    publisher.lend(rt, &mut EndConnection { slot })
 }
 
-/// Gives the slot back that the listener started, if it did.
-pub(crate) fn lose<P: Publishing, R: Wait>(rt: &R, publisher: &Publisher<P>, listener: Listener) {
-    let mut losing = Losing {
+/// Releases the slot that the listener started, if it started one.
+pub(crate) fn release_slot<P: Publishing, R: Wait>(
+    rt: &R,
+    publisher: &Publisher<P>,
+    listener: Listener,
+) {
+    let mut task = ReleaseSlot {
         listener: Some(listener),
     };
-    publisher.lend(rt, &mut losing);
-    let Losing { listener: left } = losing;
+    publisher.lend(rt, &mut task);
+    let ReleaseSlot { listener: left } = task;
     match left {
         None => {}
         Some(_) => unreachable!(),

@@ -1,4 +1,4 @@
--- How a slot is given back: PostgreSQL 15, "Logical Replication", 31.2.1 Replication Slot Management.
+-- How a slot is released: PostgreSQL 15, "Logical Replication", 31.2.1 Replication Slot Management.
 use Rattle.std.specs.Prelude.{◌≡◌, Option, Some, None}
 use Rattle.tables_log.specs.BookView.{book_slots}
 use Rattle.tables_log.specs.Committing.{ChangesSlots, IsKept}
