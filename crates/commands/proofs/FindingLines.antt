@@ -62,7 +62,7 @@ table_stopped catalog plan number made old new failure own accepted counter stop
 -- ---- all tables
 
 module _ (catalog : CatalogOf Expr) where
-  -- the lines of the first tables, so many, are written
+  -- the lines of this many tables are written
   pub record IsSoFar (number : ℕ) (all : Bool) (old new : Option (List ℕ)) : Type 0 where
     pub lines : List (List ℕ)
     pub are : AreLines catalog number all lines

@@ -122,7 +122,7 @@ later_next text byte rest other now = record {
       ∙ onto_parts-twice now.front (whole_line (byte ∷ rest)) (cut_of (after_line (byte ∷ rest)));
 }
 
--- where the next line is no separator
+-- if the next line is no separator
 pub later_after_line : (text rest : List ℕ) → 0 < length rest → is_separator (first_line rest) ≡ false
     → IsCutLater text rest → IsCutLater text (after_line rest)
 later_after_line text [] some other now = absurd (omega arith)

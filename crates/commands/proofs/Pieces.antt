@@ -5,7 +5,7 @@ use Rattle.std.specs.Io.KnownBytes.{Consumes, IsAtEnd, Keeps}
 use Rattle.std.proofs.KnownBytes.{Consumes-nil, Consumes-kept, Consumes-trans, Consumes-whole}
 use Rattle.commands.specs.Inputs.{IsInput, IsNoInput, IsUnread}
 
--- these bytes have been read, so many reads have been made, and each that can't have failed gave one at least
+-- these bytes have been read by this many reads, each of which returned at least one byte or may have failed
 pub record IsReadSoFar (may_fail : Bool) (bytes : List ℕ) (reads : ℕ) (old new : Option (List ℕ)) : Type 0 where
   pub consumed : Consumes old new bytes
   pub short : length bytes ≤ 16777216
@@ -64,7 +64,7 @@ module _ (may_fail : Bool) (old : Option (List ℕ)) where
       (Consumes-trans old new newer bytes (take count piece) before.consumed more))
       long)
 
--- so many reads were made that one of them failed
+-- after this many reads, one of them failed
 pub read_too_often : (may_fail : Bool) (bytes : List ℕ) (reads : ℕ) (old new : Option (List ℕ))
     → IsReadSoFar may_fail bytes reads old new → 16777217 ≤ reads → IsUnread may_fail old
 read_too_often true bytes reads old new before many = inl refl

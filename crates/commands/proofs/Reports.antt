@@ -1,4 +1,4 @@
--- The number of a status, and what is written where a failure is reported.
+-- The number of a status, and what is written when a failure is reported.
 use Rattle.std.proofs.Common.{◌≡◌, ℕ, inl, List, Option, refl, sym, subst}
 use denote.Enum.Declared.{tag_of}
 use Rattle.commands.specs.Failures.{failure_lines, number_of, status_of_failure}

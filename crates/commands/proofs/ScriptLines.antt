@@ -42,7 +42,7 @@ module _ (before after : World) (now : ℕ) (step : StepOf) (text : List ℕ) (o
   step_stopped (Ok given) stops = tt
   step_stopped (Err failure) stops = stopped failure stops
 
--- for want of memory nothing is written
+-- if memory runs out, nothing is written
 pub step_unmade : {T : Type 0} (before after : World) (now : ℕ) (step : StepOf) (known : Option (List ℕ))
     (result : Result T Failure) → IsErrAnd result (λ failure. failure ≡ f.OutOfMemory)
     → IfErr result (StopsStep before after now step known known)
@@ -63,7 +63,7 @@ pub none_left : (items : List Line) (count : ℕ) → length items ≤ count →
 none_left items count all = at_drop_all (map line_view) items count all
 
 module _ (checked : CheckedOf) (most : ℕ) where
-  -- so many steps are made and their lines are written, and these are left
+  -- this many steps are executed and their lines are written, and these are left
   pub record IsSoFar (steps left : List LineOf) (count : ℕ) (code : World) (old new : Option (List ℕ)) : Type 0 where
     pub first : List LineOf
     pub lines : List (List ℕ)

@@ -1,4 +1,4 @@
--- A status tells that a writer has failed.
+-- A status says that a writer has failed.
 use Rattle.std.proofs.Common.{◌≡◌, Bool, true, false, if◌then◌else◌, sym, subst}
 use Rattle.commands.specs.Output.{SaysFault}
 use Rattle.commands.specs.declared.failure.Status.{Status}

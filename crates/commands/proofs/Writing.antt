@@ -1,4 +1,4 @@
--- Texts are written one after the other, and the first bytes of a text where the writer fails.
+-- Texts are written one after another, and a prefix of a text if the writer fails.
 use Rattle.std.proofs.Common.{◌≡◌, ℕ, inl, inr, List, [], ◌∷◌, ◌++◌, Option, refl, sym, ap, subst, ◌∙◌, append_assoc, append-nil, ◌-◌, length, take, drop, take-append-drop}
 use Rattle.std.proofs.lemmas.List.{take_rest}
 use Rattle.std.proofs.lemmas.List.Concat.{flat_map-append}

@@ -6,7 +6,7 @@ use Rattle.sql_reader.specs.Written.{as_filter}
 use Rattle.sql_reader.specs.declared.error.ReadError.{ReadError}
 use Rattle.commands.specs.Parts.{Cut, two_parts}
 
--- the input has two parts, and the first is no catalog, for the fault that the error tells
+-- the input has two parts, and the first is no catalog, for the fault that is the error
 pub record IsBadCatalog (input : List ℕ) (error : ReadError) : Type 0 where
   pub cut : Cut
   pub parts : two_parts input ≡ Some cut

@@ -1,5 +1,5 @@
--- Why there is no verdict on a sharding by the texts of its certificates: the first line that is no certificate, or
--- want of memory. The format is this project's own.
+-- Why there is no verdict on a sharding by the texts of its certificates: the first line that is no certificate, or out
+-- of memory. The format is this program's own.
 use Rattle.std.specs.Prelude.{◌≡◌, ℕ, List, Some, Result, Ok, Err}
 use Rattle.shard_checker.specs.Texts.{text_fault}
 use Rattle.shard_checker.specs.declared.error.CheckError.{CheckError}
@@ -10,7 +10,7 @@ use Rattle.commands.specs.declared.failure.Failure.{Failure}
 use Rattle.commands.specs.declared.failure.Failure.TheVariants as f
 use Rattle.commands.specs.declared.failure.InputFault.TheVariants as i
 
--- what the check's error is to the program: a refusal is an answer
+-- the failure for an error of the check; a refusal is an answer
 abbrev pub refusal_in_check : CheckError → Result CheckError Failure
 refusal_in_check c.OutOfMemory = Err f.OutOfMemory
 refusal_in_check refusal = Ok refusal
@@ -19,7 +19,7 @@ abbrev pub refusal_in : TextError → Result CheckError Failure
 refusal_in (t.Text line error) = Err (f.Input (i.Certificate line error))
 refusal_in (t.Check error) = refusal_in_check error
 
--- the check stops for the first line that is no certificate, or for want of memory
+-- the check stops at the first line that is no certificate, or because memory ran out
 abbrev pub IsOfLines : List (List ℕ) → Failure → Type 0
 IsOfLines lines (f.Input (i.Certificate number error)) = text_fault 1 lines ≡ Some (t.Text number error)
 IsOfLines lines f.OutOfMemory = Unit {0}

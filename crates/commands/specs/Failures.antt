@@ -39,14 +39,13 @@ fault_line (i.Table word) = codes "table " ++ word.now
 fault_line (i.Certificate line error) = counted (codes "certificate") line ++ 32 ∷ error_name error
 fault_line (i.Script error) = counted (codes "script") error.place ++ 32 ∷ kind_name error.kind
 
--- For a command line that asks nothing there is a line, and then the text that says why. Where the writer failed
--- nothing more is written.
+-- A usage error has a line, and then the text that says why. If the writer failed, nothing more is written.
 abbrev pub failure_lines : Failure → List (List ℕ)
 failure_lines (f.CommandLine text) = codes "command line" ∷ string_bytes text ∷ []
 failure_lines (f.Input fault) = fault_line fault ∷ []
 failure_lines f.Output = []
 failure_lines f.OutOfMemory = codes "out of memory" ∷ []
 
--- the failure for an error of read_catalog: the fault that it tells, or want of memory if it tells none
+-- the failure for an error of read_catalog: the catalog's fault, or out of memory
 abbrev pub failure_of_read : ReadError → Failure
 failure_of_read error = if is_none (told error) then f.OutOfMemory else f.Input (i.Catalog error)

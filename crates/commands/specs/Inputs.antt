@@ -1,4 +1,4 @@
--- An input of the program: its reader, how many reads of it are left, and its text; why reading it may stop.
+-- An input of the program: its reader, how many reads of it are left, its text, and why reading it may stop.
 use Rattle.std.specs.Prelude.{◌≡◌, ◌<◌, ◌⊎◌, ℕ, Bool, true, List, IsUtf8, length, Option, IfSome}
 use Rattle.commands.specs.declared.failure.Failure.{Failure}
 use Rattle.commands.specs.declared.failure.Failure.TheVariants as f
@@ -11,7 +11,7 @@ reader_of input = input.reader
 abbrev pub reads_of : {R : Type 0} → Input R → ℕ
 reads_of input = input.reads_left
 
--- the input, where the reader's bytes are known
+-- the input, if the reader's bytes are known
 abbrev pub IsInput : Option (List ℕ) → List ℕ → Type 0
 IsInput known input = IfSome known (λ bytes. input ≡ bytes)
 
@@ -19,7 +19,7 @@ IsInput known input = IfSome known (λ bytes. input ≡ bytes)
 abbrev pub IsNoInput : List ℕ → Type 0
 IsNoInput bytes = (16777216 < length bytes) ⊎ (IsUtf8 bytes → ⊥)
 
--- the input can't be read: its reader is one that may fail, or its bytes, where they are known, are no input
+-- the input cannot be read: its reader is one that may fail, or its bytes, if they are known, are no input
 abbrev pub IsUnread : Bool → Option (List ℕ) → Type 0
 IsUnread may_fail known = (may_fail ≡ true) ⊎ IfSome known IsNoInput
 

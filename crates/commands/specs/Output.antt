@@ -1,6 +1,6 @@
--- What is written to a writer: lines, each with its newline, and where the writer fails the first bytes of them. How
--- an answer is written line by line, where its writing may stop, and how a result tells that the writer has failed. The
--- format is this program's own.
+-- What is written to a writer: lines, each with its newline, or a prefix of their bytes if the writer fails. How an
+-- answer is written line by line, where this may stop, and how a result says whether the writer has failed. The format
+-- is this program's own.
 use Rattle.std.specs.Prelude.{◌≡◌, ℕ, ◌⊎◌, Bool, true, List, [], ◌∷◌, ◌++◌, Option, Result, Ok, Err}
 use Rattle.std.specs.Io.KnownBytes.{Appends}
 use Rattle.std.specs.List.{flat_map}
@@ -25,8 +25,8 @@ pub record WritesFirst (text : List ℕ) (old new : Option (List ℕ)) : Type 0 
   pub is : text ≡ written ++ rest
   pub appends : Appends old new written
 
--- The writing of a text stops: for want of memory before its first byte, or because the writer fails, after some of
--- its first bytes.
+-- The writing of a text stops: before its first byte, because memory ran out, or after some of its first bytes, because
+-- the writer failed.
 abbrev pub StopsText : List ℕ → Option (List ℕ) → Option (List ℕ) → Failure → Type 0
 StopsText text old new f.Output = WritesFirst text old new
 StopsText text old new f.OutOfMemory = new ≡ old
@@ -35,7 +35,7 @@ StopsText text old new (f.Input fault) = ⊥
 
 -- ---- whether the writer fails, which a writer may say of itself before and after
 
--- with the status of a failed write it has failed, and with another one that is as it was
+-- with the status of a failed write, the writer has failed; with another one, this is unchanged
 abbrev pub SaysFault : Bool → Bool → Status → Type 0
 SaysFault old new s.Output = new ≡ true
 SaysFault old new status = new ≡ old
@@ -81,7 +81,7 @@ module _ (IsWhole : List (List ℕ) → Status → Type 0) (IsBegun : List (List
   Writes old new (Err (f.CommandLine why)) = ⊥
   Writes old new (Err (f.Input fault)) = ⊥
 
-  -- or nothing is written, for a fault of the input that is there
+  -- or nothing is written, and the input has this fault
   abbrev pub Ends : (InputFault → Type 0) → Option (List ℕ) → Option (List ℕ) → Result Status Failure → Type 0
   Ends IsThere old new (Ok status) = WritesWhole old new status
   Ends IsThere old new (Err f.OutOfMemory) = WritesBegun old new

@@ -1,5 +1,5 @@
 -- The parts of an input and the lines of a part, in the program's own format: a newline ends a line, and a last line
--- without one counts if it is not empty. A line that is exactly `%%` is between two parts.
+-- that has none counts if it is not empty. Parts are divided by lines that are exactly `%%`.
 use Rattle.std.specs.Prelude.{ℕ, ◌==◌, Bool, true, ◌&&◌, if◌then◌else◌, List, [], ◌∷◌, Option, Some, None, is_none, codes}
 use Rattle.std.specs.Option.{option_map}
 use Rattle.std.specs.List.{before_first, after_first}

@@ -1,5 +1,5 @@
 -- The line of a refused sharding: `refused`, the refusal's name and its arguments, a space before each. Publications,
--- tables, columns and subscribers are named as their catalog names them. The format is this project's own.
+-- tables, columns and subscribers have the names of their catalog. The format is this program's own.
 use Rattle.std.specs.Prelude.{ℕ, List, [], ◌∷◌, ◌++◌, codes}
 use Rattle.std.specs.Fmt.{decimal}
 use Rattle.filter_tree.specs.Expr.{Expr}

@@ -1,4 +1,4 @@
--- How the program reports why it ends without an answer, and with which status.
+-- How the program reports a failure, and with which status.
 use Rattle.std.specs.Prelude.{◌≡◌, ◌⊎◌, ℕ, List, Option}
 use Rattle.std.specs.Io.KnownBytes.{Appends}
 use Rattle.commands.specs.Failures.{failure_lines, status_of_failure}
@@ -8,7 +8,7 @@ use Rattle.commands.specs.declared.failure.Failure.TheVariants as f
 use Rattle.commands.specs.declared.failure.Status.{Status}
 use Rattle.commands.specs.declared.failure.Status.TheVariants.{Output}
 
--- a text is written, and the status is this; or the first bytes of it are, where the writer fails
+-- a text is written, and the status is this; or a prefix of it, if the writer fails
 abbrev pub IsWritten : List ℕ → Status → Option (List ℕ) → Option (List ℕ) → Status → Type 0
 IsWritten text told old new status =
     ((status ≡ told) × Appends old new text) ⊎ ((status ≡ Output) × WritesFirst text old new)
@@ -16,7 +16,7 @@ IsWritten text told old new status =
 abbrev pub Reports : Failure → Option (List ℕ) → Option (List ℕ) → Status → Type 0
 Reports failure old new status = IsWritten (text_of (failure_lines failure)) (status_of_failure failure) old new status
 
--- A failure is reported, or want of memory in its place. Where the writer failed before, nothing more is written.
+-- A failure is reported, or out of memory in its place. If the writer failed before, nothing more is written.
 abbrev pub IsReport : Failure → Option (List ℕ) → Option (List ℕ) → Status → Type 0
 IsReport (f.CommandLine why) old new status =
     Reports (f.CommandLine why) old new status ⊎ Reports f.OutOfMemory old new status

@@ -1,4 +1,4 @@
--- The verdict on a sharding by the texts of its certificates, and its line. The format is this project's own.
+-- The verdict on a sharding by the texts of its certificates, and its line. The format is this program's own.
 use Rattle.std.specs.Prelude.{◌≡◌, ℕ, List, [], ◌∷◌, Option, Some, None, codes}
 use Rattle.filter_tree.specs.Expr.{Expr}
 use Rattle.pub_catalog.specs.Catalogs.{CatalogOf}
@@ -19,7 +19,7 @@ abbrev pub checked_by : CatalogOf Expr → CheckedOf
 checked_by catalog = record { catalog = catalog; plan = plan_of catalog }
 
 -- this is the first reason to refuse the sharding of a catalog with these certificates, by the catalog's own plan;
--- none where there is no reason
+-- none if there is no reason
 abbrev pub IsFirstRefusal : CatalogOf Expr → List Tree → Option CheckError → Type 0
 IsFirstRefusal catalog trees refusal = (test : Test) → IsEmptiness test
     → sharding_refusal test catalog (plan_of catalog) trees ≡ refusal

@@ -1,4 +1,4 @@
-//! `check`: whether a sharding is sound, by the certificates of its tables.
+//! `check`: whether the certificates of its tables show that a sharding is sound.
 
 ghost use Rattle.std.specs.Prelude.{◌≡◌, ◌++◌, IfErr, IfOk, OnOk, codes};
 ghost use Rattle.std.specs.Io.KnownBytes.{Appends};
@@ -23,7 +23,7 @@ use pub_reader::read_catalog;
 use shard_checker::CheckError;
 use std::alloc::{AllocError, Global};
 
-/// What is written before the verdict: the text of the catalog if it is to be shown, and else nothing.
+/// What is written before the verdict: the text of the catalog if it is to be shown, and otherwise nothing.
 fn shown_text(alloc: Global, shows: bool, catalog: &Catalog) -> Result<String, AllocError>
     ensures { IfOk result (λ text. string_bytes text ≡ text_if shows (catalog_text (catalog_view catalog.now))) }
 {
@@ -34,7 +34,7 @@ fn shown_text(alloc: Global, shows: bool, catalog: &Catalog) -> Result<String, A
     }
 }
 
-/// Writes a text and the line `accepted` after it.
+/// Writes a text, and then the line `accepted`.
 fn write_accepted<'a, W: Writer>(mut text: String, writer: &mut W) -> Result<Status, Failure<'a>>
     ensures status { IfOk result (λ status. status ≡ Done) }
     ensures written { OnOk result (Appends (W.contents writer.old) (W.contents writer.new)
@@ -48,7 +48,7 @@ fn write_accepted<'a, W: Writer>(mut text: String, writer: &mut W) -> Result<Sta
     Ok(Status::Done)
 }
 
-/// Writes a text and the line of a refusal after it, by the names of its catalog.
+/// Writes a text, and then the line of a refusal, with the names of its catalog.
 fn write_refusal<'a, W: Writer>(
     alloc: Global,
     mut text: String,
@@ -69,9 +69,9 @@ fn write_refusal<'a, W: Writer>(
     Ok(Status::Refused)
 }
 
-/// Answers an input: a catalog, a line `%%`, and the texts of the certificates of its tables, one a line in the order
-/// of the tables. With `shows` the text of the catalog comes before the verdict. The check takes the catalog, so that
-/// for the names in a refusal its text is read once more.
+/// Answers an input: a catalog, a line `%%`, and the texts of the certificates of its tables, one per line, in the
+/// order of the tables. With `shows`, the text of the catalog precedes the verdict. The check takes the catalog, so its
+/// text is read once more for the names in a refusal.
 pub fn check_input<'a, W: Writer>(
     alloc: Global,
     shows: bool,

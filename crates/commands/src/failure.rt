@@ -6,15 +6,15 @@ use std::alloc::{AllocError, AllocFailed};
 use std::error::Error;
 use std::fmt;
 
-/// How the program ended. As a number it is the exit status.
+/// How the program ends. As a number, it is the exit status.
 #[derive(Clone, Copy, Debug, PartialEq, Eq)]
 pub enum Status {
-    /// What was asked is answered, and the answer is no refusal.
+    /// The request was answered, and the answer is no refusal.
     Done = 0,
-    /// The answer is a refusal: some row is not read or does not fit its table, the sharding is refused, or for some
-    /// table no certificate was found.
+    /// The answer is a refusal: a row cannot be read or does not fit its table, the sharding is refused, or no
+    /// certificate was found for some table.
     Refused = 1,
-    /// The words of the command line ask nothing.
+    /// A usage error.
     CommandLine = 2,
     /// The input has a fault.
     Input = 3,
@@ -23,20 +23,20 @@ pub enum Status {
     OutOfMemory = 5,
 }
 
-/// What is wrong with an input. Its text is the line that is printed.
+/// What is wrong with an input. Displayed, it is the line that is printed.
 #[derive(Debug, Drop)]
 pub enum InputFault<'a> {
     /// The reader failed, or what it gave is too long or not UTF-8.
     Unread,
-    /// The input does not have the parts that the subcommand takes.
+    /// The input does not have the number of parts that the subcommand takes.
     Parts,
-    /// The part that has to be a catalog is none.
+    /// The catalog has this fault.
     Catalog(ReadError),
-    /// There is no table of this name, which is shown as it was given.
+    /// There is no table of this name, which is printed as it was given.
     Table(&'a str),
-    /// The line of this number, from 1, of the certificates is none.
+    /// The line of certificates of this number, from 1, is not a certificate, for this reason.
     Certificate { line: usize, error: CertError },
-    /// The part that has to be a script is none.
+    /// The script has this fault.
     Script(ReadError),
 }
 
@@ -73,7 +73,7 @@ impl Error for InputFault<'_> {}
 /// Why the program ends without an answer.
 #[derive(Debug, Drop)]
 pub enum Failure<'a> {
-    /// The words of the command line ask nothing, as this text says.
+    /// A usage error; the text says which.
     CommandLine(String),
     Input(InputFault<'a>),
     /// The writer failed.

@@ -1,4 +1,4 @@
-//! What the program reads.
+//! The input of the program.
 
 ghost use Rattle.std.specs.Prelude.{◌≤◌};
 
@@ -22,7 +22,7 @@ impl<R: Read> Input<R> {
     ghost use Rattle.std.specs.Prelude.{◌≡◌};
     ghost use Rattle.commands.specs.Inputs.{reader_of, reads_of};
 
-    /// The input that the reader gives.
+    /// The input that this reader gives.
     pub fn new(reader: R) -> Input<R>
         ensures reader { reader_of result ≡ reader }
         ensures reads { reads_of result ≡ 16777217 }

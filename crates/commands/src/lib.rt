@@ -1,7 +1,6 @@
-//! What the subcommands of `pgshard` answer, and by which lines, over any writer: `eval`, `show`, `check`, `make` and
-//! `simulate`.
-//! Also what these share with each other and with `serve`: the input and its parts, the verdict on a sharding by the
-//! lines of its certificates, names and lines of output, and why and with which status the program ends.
+//! The answers of the subcommands `eval`, `show`, `check`, `make` and `simulate` of `pgshard`, over any writer. Also
+//! what these share with `serve` and `publish`: the input and its parts, the verdict on a sharding, names and lines of
+//! output, and failures with their exit statuses.
 #![tactic(auto)]
 
 mod check;

@@ -1,4 +1,4 @@
-//! `make`: a certificate for each table of a catalog, or a row that shows that there is none.
+//! `make`: for each table of a catalog, a certificate, or a row that shows that there is none.
 
 ghost use Rattle.std.specs.Prelude.{◌≡◌, IfErr, IfOk};
 ghost use Rattle.pub_catalog.specs.CatalogView.{catalog_view};
@@ -20,7 +20,7 @@ use pub_reader::read_catalog;
 use replica_identity::{Plan, plan};
 use std::alloc::Global;
 
-/// Writes the line of the table of this number, and tells whether it is a certificate. The certificate is in an arena
+/// Writes the line of the table of this number, and returns whether it is a certificate. The certificate is in an arena
 /// of its own.
 #[tactic(auto, using(crate::proofs::FindingLines::table_written, crate::proofs::FindingLines::table_stopped))]
 fn write_table<'a, W: Writer>(

@@ -1,5 +1,5 @@
-//! The names of a catalog's publications, tables, columns and subscribers, by their numbers, and the words of a line.
-//! What the catalog lacks has the empty name.
+//! The names of a catalog's publications, tables, columns and subscribers, by their numbers from 0, and the words of a
+//! line. If the catalog has nothing of a number, its name is empty.
 
 ghost use Rattle.std.specs.Prelude.{◌≡◌, ◌++◌, ◌∷◌, [], OnOk, Some, map, slice_get};
 ghost use Rattle.std.specs.String.{string_bytes};
@@ -20,7 +20,7 @@ pub fn publication_name(publications: &[Publication], number: usize) -> &str
     }
 }
 
-/// The name of the subscriber of this number, which is its subscription's.
+/// The name of the subscriber of this number, which is that of its subscription.
 pub fn subscriber_name(subscriptions: &[Subscription], number: usize) -> &str
     ensures { result.now ≡ spec.subscriber_name subscriptions.now number }
 {

@@ -12,7 +12,7 @@ use crate::writer::Writer;
 ///
 /// # Errors
 ///
-/// `Output` where the writer fails. The first bytes of the text may be written then, and nothing else.
+/// `Output` if the writer fails. A prefix of the text may have been written, and nothing else.
 pub fn write_text<'a, W: Writer>(text: &str, writer: &mut W) -> Result<(), Failure<'a>>
     ensures written { OnOk result (Appends (W.contents writer.old) (W.contents writer.new) text.now) }
     ensures stopped { IfErr result (StopsText text.now (W.contents writer.old) (W.contents writer.new)) }
@@ -24,12 +24,12 @@ pub fn write_text<'a, W: Writer>(text: &str, writer: &mut W) -> Result<(), Failu
     }
 }
 
-/// Writes a line, and its newline with it.
+/// Writes a line with its newline.
 ///
 /// # Errors
 ///
-/// `OutOfMemory` where nothing is written; `Output` where the writer fails. The first bytes of the line may be written
-/// then, and nothing else.
+/// `OutOfMemory`, and nothing is written; `Output` if the writer fails. A prefix of the line may have been written, and
+/// nothing else.
 pub fn write_line<'a, W: Writer>(line: &mut String, writer: &mut W) -> Result<(), Failure<'a>>
     ensures written { OnOk result (Appends (W.contents writer.old) (W.contents writer.new)
         (ended (string_bytes line.old))) }

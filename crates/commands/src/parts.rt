@@ -1,4 +1,4 @@
-//! The parts of an input, with lines between them that are exactly `%%`, and the lines of a part.
+//! The parts of an input, which are divided by lines that are exactly `%%`, and the lines of a part.
 
 ghost use Rattle.std.specs.Prelude.{◌≡◌, ◌≤◌, ◌==◌, length};
 ghost use Rattle.std.specs.List.{list_any, position_or_len};
@@ -13,7 +13,7 @@ pub fn first_line(text: &str) -> (&str, &str)
     text.split_once('\n').unwrap_or((text, ""))
 }
 
-/// The lines of a text, without their newlines. A last line without a newline counts if it is not empty.
+/// The lines of a text, without their newlines. A last line that has no newline counts if it is not empty.
 #[derive(Drop)]
 pub struct Lines<'a> {
     rest: &'a str,
@@ -51,7 +51,7 @@ impl<'a> Iterator for Lines<'a> {
     }
 }
 
-/// Whether a text has a byte of the line `%%`, which is searched for faster than the line. Most rows have none.
+/// Whether a text has a percent sign. Searching for this is faster than for a line `%%`, and most rows have none.
 fn has_percent(text: &str) -> bool
     ensures { result ≡ list_any (λ byte. byte == 37) text.now }
 {

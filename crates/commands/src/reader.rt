@@ -1,11 +1,11 @@
-//! What an input is read from.
+//! The source of an input.
 
 ghost use Rattle.std.specs.Prelude.{Some};
 
 use std::io;
 use std::io::Read;
 
-/// A reader of which it is known whether its reads may fail (`may_fail`), as those of bytes in memory do not.
+/// A reader whose type says whether reads may fail (`may_fail`). Those of bytes in memory do not.
 pub trait Reader: Read {
     ghost use Rattle.std.specs.Prelude.{◌≡◌, Bool, true, length, OnErr};
     ghost use Rattle.std.specs.Io.{ReadsAtMost};
@@ -13,7 +13,7 @@ pub trait Reader: Read {
 
     ghost may_fail: { Bool };
 
-    /// Reads the next bytes, as `read` does. It fails only if reads of this type may fail.
+    /// Reads the next bytes, as `read` does. Fails only if reads of this type may fail.
     fn read_piece(&mut self, piece: &mut [u8]) -> io::Result<usize>
         ensures bound { ReadsAtMost result piece.new }
         ensures bytes { ReadConsumes (Self.remaining self.old) (Self.remaining self.new) result piece.new }

@@ -10,14 +10,14 @@ use crate::reader::Reader;
 use std::alloc::Global;
 use std::io::ErrorKind;
 
-/// The most bytes that one read takes.
+/// The most bytes that one read returns.
 const PIECE: usize = 65_536;
 
-/// Reads the bytes of an input to their end, by at most 16,777,217 reads.
+/// The bytes of an input, to its end, by at most 16,777,217 reads.
 ///
 /// # Errors
 ///
-/// `Input(Unread)` where a read fails, or there are more than 16,777,216 bytes; `OutOfMemory`.
+/// `Input(Unread)` if a read fails, or there are more than 16,777,216 bytes; `OutOfMemory`.
 #[tactic(auto, using(crate::proofs::Pieces::read_nothing, crate::proofs::Pieces::read_more, crate::proofs::Pieces::read_again, crate::proofs::Pieces::read_all, crate::proofs::Pieces::read_too_much, crate::proofs::Pieces::read_too_often))]
 fn read_bytes<'a, R: Reader>(alloc: Global, reader: &mut R) -> Result<Vec<u8>, Failure<'a>>
     ensures bytes { IfOk result (λ bytes. IsInput (R.remaining reader.old) bytes.items) }
@@ -45,11 +45,11 @@ fn read_bytes<'a, R: Reader>(alloc: Global, reader: &mut R) -> Result<Vec<u8>, F
     Err(Failure::Input(InputFault::Unread))
 }
 
-/// Reads an input to its end.
+/// The text of an input, to its end.
 ///
 /// # Errors
 ///
-/// `Input(Unread)` where a read fails, or the text is not UTF-8 or has more than 16,777,216 bytes; `OutOfMemory`.
+/// `Input(Unread)` if a read fails, or the input is not UTF-8 or has more than 16,777,216 bytes; `OutOfMemory`.
 #[tactic(auto, using(crate::proofs::Pieces::read_no_text))]
 pub fn read_input<'a, R: Reader + Drop>(alloc: Global, input: R) -> Result<String, Failure<'a>>
     ensures bytes { IfOk result (λ text. IsInput (R.remaining input) (string_bytes text)) }

@@ -1,4 +1,4 @@
-//! The words of a refused sharding.
+//! The line of a refused sharding.
 
 ghost use Rattle.std.specs.Prelude.{◌≡◌, ◌++◌, [], IfOk, OnOk};
 ghost use Rattle.std.specs.String.{string_bytes};
@@ -127,7 +127,7 @@ fn push_arguments(line: &mut String, catalog: &Catalog, error: CheckError) -> Re
     }
 }
 
-/// Writes a refusal on an empty line: `refused`, its name, and its arguments as the catalog names them.
+/// Writes a refusal on an empty line: `refused`, its name, and its arguments with the catalog's names.
 fn push_refusal(line: &mut String, catalog: &Catalog, error: CheckError) -> Result<(), AllocError>
     requires { string_bytes line.old ≡ [] }
     ensures { OnOk result (string_bytes line.new ≡ spec.refused_line (catalog_view catalog.now) error) }
@@ -137,7 +137,7 @@ fn push_refusal(line: &mut String, catalog: &Catalog, error: CheckError) -> Resu
     push_arguments(line, catalog, error)
 }
 
-/// The line of a refusal, as the catalog names what it names.
+/// The line of a refusal, with the catalog's names.
 pub fn refusal_text(
     alloc: Global,
     catalog: &Catalog,

@@ -1,4 +1,4 @@
-//! How the program reports why it ends without an answer.
+//! How the program reports a failure.
 
 ghost use Rattle.std.specs.Prelude.{◌≡◌, ◌≢◌, Bool, IfOk};
 ghost use Rattle.std.specs.String.{string_bytes};
@@ -11,7 +11,7 @@ use crate::failure::{Failure, Status};
 use crate::writer::Writer;
 use std::alloc::{AllocError, Global};
 
-/// The lines of a failure; none where the writer failed.
+/// The lines of a failure; none if the writer failed.
 fn failure_text(alloc: Global, failure: &Failure<'_>) -> Result<String, AllocError>
     ensures { IfOk result (λ text. string_bytes text ≡ text_of (failure_lines failure.now)) }
 {
@@ -25,7 +25,7 @@ fn failure_text(alloc: Global, failure: &Failure<'_>) -> Result<String, AllocErr
     Ok(text)
 }
 
-/// Writes a text, and tells this status, or that the writer failed.
+/// Writes a text, and returns this status, or `Output` if the writer fails.
 fn write_report<W: Writer>(text: &str, status: Status, writer: &mut W) -> Status
     ensures written { IsWritten text.now status (W.contents writer.old) (W.contents writer.new) result }
     ensures failed { status ≢ Output → SaysFault (W.has_failed writer.old) (W.has_failed writer.new) result }
@@ -36,8 +36,8 @@ fn write_report<W: Writer>(text: &str, status: Status, writer: &mut W) -> Status
     }
 }
 
-/// Writes the lines of a failure, and tells the status of the program. Where the writer failed, nothing more is
-/// written. Where memory runs out for the lines, that is reported.
+/// Writes the lines of a failure, and returns the status of the program. If the writer failed, nothing more is written.
+/// If memory runs out for the lines, that is reported instead.
 pub fn report<W: Writer>(alloc: Global, failure: Failure<'_>, writer: &mut W) -> Status
     ensures written { IsReport failure.entry (W.contents writer.old) (W.contents writer.new) result }
     ensures failed { (before : Bool) → SaysFault before (W.has_failed writer.old) (status_of_failure failure.entry)

@@ -1,4 +1,4 @@
-//! `simulate`: what becomes of the rows of a sharding, step by step.
+//! `simulate`: what the steps of a script lead to.
 
 ghost use Rattle.std.specs.Prelude.{◌≡◌, ◌≤◌, IfErr, IfOk, Ok, OnOk, length, map};
 ghost use Rattle.std.specs.String.{string_bytes};
@@ -34,14 +34,14 @@ use shard_world::{Event, PeerEvent, World};
 use std::alloc::{AllocError, Global};
 use std::sync::Arc;
 
-/// What a step of a script asks of the world.
+/// The action of the world that a step of a script requests.
 enum StepAction {
     Event(Event),
     Pump(usize),
     View,
 }
 
-/// What a step asks, at a time.
+/// The action that a step requests, at a time.
 fn action_at(step: Step, time: u64) -> StepAction
     ensures { action_view result ≡ action_of time (step_view step) }
 {
@@ -60,7 +60,7 @@ fn action_at(step: Step, time: u64) -> StepAction
     StepAction::Event(Event::On { subscriber, event })
 }
 
-/// Makes a step, and gives the lines of what is answered or shown.
+/// Executes a step, and returns the lines of its answer.
 fn step_text(
     alloc: Global,
     catalog: &Catalog,
@@ -78,7 +78,7 @@ fn step_text(
     }
 }
 
-/// Makes a step, and writes its lines.
+/// Executes a step, and writes the lines of its answer.
 fn write_step<'a, W: Writer>(
     alloc: Global,
     catalog: &Catalog,
@@ -98,8 +98,8 @@ fn write_step<'a, W: Writer>(
     write_text(text.as_str(), writer)
 }
 
-/// Makes the steps of a script, and writes the lines of each: the first at the time 1, each of the others one
-/// microsecond later.
+/// Executes the steps of a script, and writes the lines of each answer: the first step at the time 1, and each further
+/// one a microsecond later.
 fn write_steps<'a, W: Writer>(
     alloc: Global,
     checked: Checked,
@@ -124,7 +124,7 @@ fn write_steps<'a, W: Writer>(
     Ok(Status::Done)
 }
 
-/// Reads the steps of a script.
+/// The steps of a script.
 #[tactic(auto, using(crate::proofs::ScriptLengths::script_is_short))]
 pub fn read_steps<'a>(
     alloc: Global,
@@ -145,7 +145,7 @@ pub fn read_steps<'a>(
     }
 }
 
-/// The verdict on a sharding by the texts of its certificates, one a line.
+/// The verdict on a sharding by the texts of its certificates, one per line.
 fn verdict_by<'a>(
     alloc: Global,
     catalog: Catalog,
@@ -160,7 +160,7 @@ fn verdict_by<'a>(
 }
 
 /// The verdict on the sharding of the first part by the certificates of the second, and the steps of the third. A fault
-/// of the catalog goes before one of a certificate, and that before one of the script.
+/// of the catalog precedes one of a certificate, and this one of the script.
 fn read_parts<'a>(
     alloc: Global,
     text: &str,
@@ -179,9 +179,9 @@ fn read_parts<'a>(
     Ok((verdict, lines))
 }
 
-/// Answers an input: a catalog, the texts of the certificates of its tables, one a line, and a script, with lines `%%`
-/// between them. The log takes at most so many commits. The check takes the catalog, so that for the names in a refusal
-/// its text is read once more.
+/// Answers an input: a catalog, the texts of the certificates of its tables, one per line, and a script, with lines
+/// `%%` between them. The log takes at most `limit` commits. The check takes the catalog, so its text is read once more
+/// for the names in a refusal.
 pub fn simulate_input<'a, W: Writer>(
     alloc: Global,
     limit: u32,

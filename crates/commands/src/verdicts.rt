@@ -37,7 +37,7 @@ pub fn lines_of(alloc: Global, text: &str) -> Result<Vec<&str>, AllocError>
     Ok(lines)
 }
 
-/// The refusal that the error of a check is.
+/// The refusal that is the error of a check.
 fn refusal_in<'a>(error: TextError) -> Result<CheckError, Failure<'a>>
     ensures { result ≡ certificates.refusal_in error }
 {
@@ -51,7 +51,7 @@ fn refusal_in<'a>(error: TextError) -> Result<CheckError, Failure<'a>>
     }
 }
 
-/// A sharding that is accepted by the texts of certificates, or the first reason to refuse it.
+/// The sharding, if the texts of certificates show that it is sound, or the first reason to refuse it.
 pub fn verdict_of<'a>(
     alloc: Global,
     catalog: Catalog,
@@ -76,7 +76,7 @@ pub fn verdict_of<'a>(
     }
 }
 
-/// Writes the line of a refusal, by the names of its catalog.
+/// Writes the line of a refusal, with the names of its catalog.
 pub fn write_refused<'a, W: Writer>(
     alloc: Global,
     catalog: &Catalog,

@@ -1,4 +1,4 @@
-//! What the program writes to.
+//! The output of the program.
 
 ghost use Rattle.std.specs.Prelude.{◌≡◌, false, MatchResult};
 ghost use Rattle.std.specs.Io.KnownBytes.{Appends};
@@ -10,8 +10,8 @@ use std::io::{ErrorKind, Write};
 #[derive(Clone, Copy, Debug, Drop, PartialEq, Eq)]
 pub struct WriteFault;
 
-/// What the program writes to. `contents` are the bytes that it holds, if they are known, and `has_failed` says whether a
-/// write or a flush has failed.
+/// An output. `contents` are the bytes that it holds, if they are known, and `has_failed` says whether a write or a
+/// flush has failed.
 pub trait Writer {
     ghost use Rattle.std.specs.Prelude.{◌≡◌, ℕ, Bool, true, List, Option, None, MatchResult};
     ghost use Rattle.std.specs.Io.KnownBytes.{Appends, Keeps};
@@ -32,15 +32,15 @@ pub trait Writer {
         ensures failed { MatchResult result (λ _. has_failed self.new ≡ has_failed self.old)
             (λ _. has_failed self.new ≡ true) };
 
-    /// Passes on what was written.
+    /// Flushes what was written.
     fn flush(&mut self) -> Result<(), WriteFault>
         ensures bytes { Keeps (contents self.old) (contents self.new) }
         ensures failed { MatchResult result (λ _. has_failed self.new ≡ has_failed self.old)
             (λ _. has_failed self.new ≡ true) };
 }
 
-/// A writer, and whether a write or a flush of it has failed. A write that takes no byte is a failure; one that is
-/// interrupted is repeated.
+/// A writer, and whether a write or a flush of it has failed. A write that takes no byte is a failure; an interrupted
+/// one is repeated.
 #[derive(Debug, Drop)]
 pub struct Printer<W> {
     writer: W,
@@ -60,7 +60,7 @@ impl<W: Write> Printer<W> {
     }
 }
 
-/// Writes a text. If that fails, a prefix of it may have been written.
+/// Writes a text. If this fails, a prefix of it may have been written.
 fn try_write<W: Write>(text: &str, writer: &mut W) -> Result<(), WriteFault>
     ensures { MatchResult result (λ _. Appends (W.contents writer.old) (W.contents writer.new) text.now)
         (λ _. WritesFirst text.now (W.contents writer.old) (W.contents writer.new)) }

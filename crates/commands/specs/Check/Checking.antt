@@ -1,6 +1,6 @@
 -- What `check` answers: the first part of its input is a catalog, and the second has the texts of the certificates of
--- its tables, one a line in the order of the tables. With `--show` the catalog is written before the verdict on it. The
--- format is this project's own.
+-- its tables, one per line, in the order of the tables. With `--show`, the catalog is written before the verdict on it.
+-- The format is this program's own.
 use Rattle.std.specs.Prelude.{◌≡◌, ℕ, Bool, List, [], ◌++◌, Option, Some, None, Result, Ok}
 use Rattle.catalog_text.specs.CatalogText.{catalog_text}
 use Rattle.catalog_text.specs.FilterText.{text_if}

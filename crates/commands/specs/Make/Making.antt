@@ -1,5 +1,5 @@
--- What `make` answers: its input is a catalog, and for each of its tables, in their order, a line is written: a
--- certificate of the table, or a row that shows that it is not sharded well, or that neither was found.
+-- What `make` answers: its input is a catalog, and a line is written for each of its tables, in order: a certificate of
+-- the table, a row that shows that it is not split well, or that neither was found.
 use Rattle.std.specs.Prelude.{◌≡◌, ◌≢◌, ◌⊎◌, ℕ, ◌+◌, Bool, true, false, ◌&&◌, if◌then◌else◌, List, [], ◌∷◌, ◌++◌, length, Option, None, is_none, Result, Ok, codes}
 use Rattle.std.specs.Io.KnownBytes.{Appends}
 use Rattle.std.specs.List.{join_by}
@@ -36,7 +36,7 @@ pub data Finding : Type 0 where
   Unknown : Finding
   TooLarge : Finding
 
--- what the maker's answer says of a table; where memory ran out it says nothing
+-- what the maker's answer says of a table; nothing if memory ran out
 abbrev pub finding_view : Made → Finding
 finding_view (m.Cert cert) = Cert (tree_view cert)
 finding_view (m.Counter row owners) = Counter row owners.items
@@ -58,7 +58,7 @@ is_certificate _ = false
 
 -- ---- its line
 
--- the names of subscribers with commas between, or `none`
+-- the names of subscribers, separated by commas, or `none`
 abbrev pub owners_text : List Subscription → List ℕ → List ℕ
 owners_text subscriptions [] = codes "none"
 owners_text subscriptions (owner ∷ owners) = join_by (subscriber_name subscriptions) (codes ",") (owner ∷ owners)
@@ -76,7 +76,7 @@ line_for catalog number TooLarge = codes "too large" ++ spaced (table_name catal
 -- ---- what is answered
 
 module _ (catalog : CatalogOf Expr) where
-  -- a line for each of the first tables, so many, and whether each of the lines is a certificate
+  -- a line for each of the first `n` tables, and whether each of the lines is a certificate
   pub data AreLines : ℕ → Bool → List (List ℕ) → Type 0 where
     NoTable : AreLines 0 true []
     OneMore : (number : ℕ) (all : Bool) (lines : List (List ℕ)) (finding : Finding) → AreLines number all lines
@@ -86,7 +86,7 @@ module _ (catalog : CatalogOf Expr) where
 abbrev pub status_for : Bool → Status
 status_for all = if all then Done else Refused
 
--- the lines are those of the first tables of the catalog, by which the status goes, and so many tables are left
+-- the lines are those of the first tables of the catalog, which determine the status, and this many tables are left
 pub record AreFirstLines (catalog : CatalogOf Expr) (left : ℕ) (lines : List (List ℕ)) (status : Status) : Type 0 where
   pub number : ℕ
   pub all : Bool
@@ -141,7 +141,7 @@ pub record WritesTable (catalog : CatalogOf Expr) (number : ℕ) (old new : Opti
     pub is : certified ≡ is_certificate finding
     pub appends : Appends old new (ended (line_for catalog number finding))
 
--- or by the line's first bytes, where writing it stops
+-- or by a prefix of the line, if writing it stops
 pub record StopsTable (catalog : CatalogOf Expr) (number : ℕ) (old new : Option (List ℕ)) (failure : Failure) : Type 0
   where
     pub finding : Finding

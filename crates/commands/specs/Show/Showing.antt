@@ -20,7 +20,7 @@ pub record IsShowing (input : List ℕ) (lines : List (List ℕ)) (status : Stat
   pub text : text_of lines ≡ catalog_text catalog
   pub done : status ≡ Done
 
--- the catalog is written, as far as memory and the writer go, or the input has a fault, as that of `make` may have, and
+-- the catalog is written, as far as memory and the writer go; or the input has a fault, one of those of `make`, and
 -- nothing is written
 abbrev pub EndsShowing : List ℕ → Option (List ℕ) → Option (List ℕ) → Result Status Failure → Type 0
 EndsShowing input old new result = Ends (IsShowing input) (λ lines. lines ≡ []) (IsFault input) old new result

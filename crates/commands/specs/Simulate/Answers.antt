@@ -1,5 +1,5 @@
--- The line of what is answered of a step of a script, in the program's own format. Positions in the log are written
--- as in PostgreSQL 15, "pg_lsn Type", 8.20.
+-- The line of the answer to a step of a script, in the program's own format. Positions in the log are written as in
+-- PostgreSQL 15, "pg_lsn Type", 8.20.
 use Rattle.std.specs.Prelude.{ℕ, ◌/◌, ◌%◌, ◌^◌, true, List, ◌∷◌, ◌++◌, codes}
 use Rattle.std.specs.Fmt.{digits}
 use Rattle.shard_world.specs.declared.answer.Answer.{Answer}

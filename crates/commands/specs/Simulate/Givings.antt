@@ -1,5 +1,5 @@
 -- What the three parts of an input of `simulate` give: the verdict of the code on the sharding of its catalog, and the
--- steps of its script; and why they give none. The format is this project's own.
+-- steps of its script; or why they give none. The format is this program's own.
 use Rattle.std.specs.Prelude.{◌≡◌, ◌≤◌, ℕ, List, length, map, Some, None, Result, Ok, Err}
 use Rattle.filter_tree.specs.Expr.{Expr}
 use Rattle.pub_catalog.specs.Catalogs.{CatalogOf}
@@ -30,7 +30,7 @@ pub record Accepts (catalog : CatalogOf Expr) (trees : List Tree) (checked : Che
   pub unrefused : IsFirstRefusal catalog trees None
   pub kept : checked_view checked ≡ checked_by catalog
 
--- this is the first reason to refuse it, and what it says of what it names is so
+-- this is the first reason to refuse it, and what it says is true
 pub record Refuses (catalog : CatalogOf Expr) (trees : List Tree) (error : CheckError) : Type 0 where
   pub refusal : IsFirstRefusal catalog trees (Some error)
   pub wrong : ShardingIsWrong catalog (plan_of catalog) trees error

@@ -1,6 +1,6 @@
 -- What `simulate` answers: the first part of its input is a catalog, the second has the texts of the certificates of
--- its tables, one a line, and the third is a script, whose steps are made where the sharding is sound. The format is
--- this project's own.
+-- its tables, one per line, and the third is a script, whose steps are executed if the sharding is sound. The format is
+-- this program's own.
 use Rattle.std.specs.Prelude.{◌≡◌, ◌⊎◌, ℕ, false, List, [], ◌∷◌, Option, Some, None, is_none, Ok, Result}
 use Rattle.filter_tree.specs.Expr.{Expr}
 use Rattle.pub_catalog.specs.Catalogs.{CatalogOf}
@@ -28,7 +28,7 @@ use Rattle.commands.specs.declared.failure.Status.TheVariants.{Done, Refused}
 -- ---- what is answered
 
 -- there is no reason to refuse the sharding, it is sound, and the lines are those of the first steps, with a log of
--- at most so many commits
+-- at most `limit` commits
 pub record AreMade (limit : ℕ) (catalog : CatalogOf Expr) (trees : List Tree) (steps left : List LineOf)
     (lines : List (List ℕ)) : Type 0 where
   pub sound : IsSound catalog
@@ -62,7 +62,7 @@ pub record IsBegunSimulation (limit : ℕ) (input : List ℕ) (lines : List (Lis
 
 -- ---- why there is no answer: faults of the catalog go before those of certificates, and these before the script's
 
--- the input has three parts, and the first is no catalog, for the fault that the error tells
+-- the input has three parts, and the first is no catalog, for the fault that is the error
 pub record IsBadCatalog (input : List ℕ) (error : ReadError) : Type 0 where
   pub cut : CutTwice
   pub parts : three_parts input ≡ Some cut
@@ -77,13 +77,13 @@ pub record IsBadCertificate (input : List ℕ) (number : ℕ) (error : CertError
   pub reads : catalog_by as_filter cut.first ≡ Ok catalog
   pub first : text_fault 1 (lines_of cut.second) ≡ Some (Text number error)
 
--- the error tells the fault of a text that is no script
+-- the error is the fault of a text that is no script
 pub record TellsScript (outcome : Verdict (List LineOf)) (error : ReadError) : Type 0 where
   pub tells : Tells error outcome
   pub known : is_none (told error) ≡ false
 
 -- the first is a catalog, each line of the second is a certificate, and the third is no script of its tables, for the
--- fault that the error tells
+-- fault that is the error
 pub record IsBadScript (input : List ℕ) (error : ReadError) : Type 0 where
   pub cut : CutTwice
   pub catalog : CatalogOf Expr
@@ -102,7 +102,7 @@ IsFault input (i.Script error) = IsBadScript input error
 
 -- ---- reading the script
 
--- it stops for the fault of the text, or for want of memory
+-- it stops for the fault of the text, or because memory ran out
 abbrev pub IsOfScript : Verdict (List LineOf) → Failure → Type 0
 IsOfScript outcome (f.Input (i.Script error)) = TellsScript outcome error
 IsOfScript outcome f.OutOfMemory = Unit {0}

@@ -1,5 +1,5 @@
--- What a step of a script asks of the world of a publisher and its subscribers: an event, where a commit is made at
--- the step's own clock; a pump of a subscriber; or a view. The steps are this project's own.
+-- What a step of a script does to the world of a publisher and its subscribers: an event, where a commit has the step's
+-- own clock; a pump of a subscriber; or a view. The steps are this program's own.
 use Rattle.std.specs.Prelude.{ℕ}
 use Rattle.pub_reader.specs.Steps.{StepOf}
 use Rattle.pub_reader.specs.Steps as s

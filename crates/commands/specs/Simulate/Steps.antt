@@ -1,10 +1,10 @@
--- What the steps of a script do in the world of a publisher and its subscribers, and the lines that tell of each. The
--- clock of a step, in microseconds since 2000-01-01, is its number from 1. The steps are this project's own.
+-- What the steps of a script do in the world of a publisher and its subscribers, and the lines of each. The clock of a
+-- step, in microseconds since 2000-01-01, is its number from 1. The steps are this program's own.
 use Rattle.std.specs.Prelude.{◌≡◌, ◌<◌, ℕ, ◌+◌, ◌⊎◌, List, [], ◌∷◌, ◌++◌, All, length, map, Some}
 use Rattle.pub_reader.specs.Scripts.{LineOf}
 use Rattle.pub_reader.specs.Steps.{StepOf}
 use Rattle.shard_checker.specs.CheckedView.{CheckedOf}
-use Rattle.copy_both.specs.Streams.{end_of}
+use Rattle.tables_log.specs.Lsn.{end_lsn_of}
 use Rattle.shard_world.specs.Pumping.{EndsWalk, GoesOn, on_clock, pump_events}
 use Rattle.shard_world.specs.ViewMeaning.{ShowsWorld}
 use Rattle.shard_world.specs.World as w
@@ -28,8 +28,8 @@ module _ (checked : CheckedOf) (most : ℕ) where
     pub steps : w.Steps checked most world now event answer next
     pub are : lines ≡ answer_line answer ∷ []
 
-  -- All that a pump makes happen happens, by a connection that stays, and the line tells where the subscriber is
-  -- then: at the end of the log.
+  -- All that a pump causes happens, by a connection that stays, and the line shows where the subscriber is then: at the
+  -- end of the log.
   pub record IsPumped (now subscriber : ℕ) (world : w.World) (lines : List (List ℕ)) (next : w.World) : Type 0 where
     pub takes : ℕ
     pub answers : List Answer
@@ -37,10 +37,10 @@ module _ (checked : CheckedOf) (most : ℕ) where
     pub go_on : All GoesOn answers
     pub runs : Runs checked most (map (on_clock now subscriber) (pump_events takes)) answers world next
     pub position_is : subscriber < length checked.plan → position ≡ w.position_of checked next subscriber
-    pub at_end : subscriber < length checked.plan → position ≡ end_of (length world.transactions)
+    pub at_end : subscriber < length checked.plan → position ≡ end_lsn_of (length world.transactions)
     pub are : lines ≡ answer_line (At position) ∷ []
 
-  -- The first of it happens, up to an answer after which there is no connection, and the line is that answer's. Where
+  -- The beginning of it happens, up to an answer after which there is no connection, and the line is that answer's. If
   -- there was a connection, memory was refused.
   pub record IsPumpEnded (now subscriber : ℕ) (world : w.World) (lines : List (List ℕ)) (next : w.World) : Type 0 where
     pub takes : ℕ

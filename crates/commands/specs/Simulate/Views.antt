@@ -1,4 +1,4 @@
--- The lines that show what is in the publisher and in each subscriber, in the program's own format: names as the
+-- The lines that show the contents of the publisher and of each subscriber, in the program's own format: names as the
 -- catalog has them, and rows as constants (PostgreSQL 15, "SQL Syntax", 4.1.2).
 use Rattle.std.specs.Prelude.{ℕ, ◌+◌, List, [], ◌∷◌, ◌++◌, map, codes}
 use Rattle.std.specs.Fmt.{decimal}
@@ -23,7 +23,7 @@ publisher_rows view = map (λ rows. rows.items) view.rows.items
 abbrev pub row_line : List ℕ → List Table → ℕ → List Datum → List ℕ
 row_line before tables number row = before ++ table_name tables number ++ 32 ∷ row_text row
 
--- a line for each row of each table, where the first table has this number
+-- a line for each row of each table, of which the first has this number
 abbrev pub rows_lines : List ℕ → List Table → ℕ → List (List (List Datum)) → List (List ℕ)
 rows_lines before tables number [] = []
 rows_lines before tables number (rows ∷ later) =
@@ -31,7 +31,7 @@ rows_lines before tables number (rows ∷ later) =
 
 -- ---- subscribers
 
--- its name, its position, how many commits that counts, and up to where its slot is confirmed
+-- its name, its position, how many commits that counts, and its slot's confirmed position
 abbrev pub subscriber_line : List ℕ → SubscriberView → List ℕ
 subscriber_line name shown =
     name ++ 32 ∷ position_text shown.position ++ 32 ∷ decimal shown.applied ++ codes " confirmed "
@@ -41,7 +41,7 @@ subscriber_line name shown =
 abbrev pub named_lines : List ℕ → List Table → SubscriberView → List (List ℕ)
 named_lines name tables shown = subscriber_line name shown ∷ rows_lines (name ++ 32 ∷ []) tables 0 (shown_rows shown)
 
--- those of each subscriber, where the first one has this number
+-- those of each subscriber, of which the first has this number
 abbrev pub subscribers_lines : CatalogOf Expr → ℕ → List SubscriberView → List (List ℕ)
 subscribers_lines catalog number [] = []
 subscribers_lines catalog number (shown ∷ later) =

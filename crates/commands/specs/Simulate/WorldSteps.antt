@@ -47,7 +47,7 @@ pub record WritesFirstOfStep (before after : World) (now : ℕ) (step : StepOf) 
     pub makes : MakesOn before after now step text
     pub first : WritesFirst text old new
 
--- a step stops: for want of memory before its first byte, or because the writer fails
+-- a step stops: before the first byte, because memory ran out, or because the writer failed
 abbrev pub StopsStep : World → World → ℕ → StepOf → Option (List ℕ) → Option (List ℕ) → Failure → Type 0
 StopsStep before after now step old new f.Output = WritesFirstOfStep before after now step old new
 StopsStep before after now step old new f.OutOfMemory = new ≡ old

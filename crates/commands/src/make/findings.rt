@@ -1,4 +1,4 @@
-//! The line of a table, once a certificate was looked for.
+//! The line of a table after the search for its certificate.
 
 ghost use Rattle.std.specs.Prelude.{◌≡◌, ◌++◌, ◌∷◌, [], IfOk, OnOk, codes};
 ghost use Rattle.std.specs.String.{string_bytes};
@@ -15,7 +15,7 @@ use split_cert::write;
 use sql_reader::write_row;
 use std::alloc::{AllocError, Global};
 
-/// Writes a space and the names of subscribers, with commas between, or `none`.
+/// Writes a space, and the names of subscribers, separated by commas, or `none`.
 fn push_owners(
     line: &mut String,
     subscriptions: &[Subscription],
@@ -37,7 +37,7 @@ fn push_owners(
     }
 }
 
-/// The line of a row that shows that the table of this number is not sharded well.
+/// The line of a row that shows that the table of this number is not split well.
 fn counter_line(
     alloc: Global,
     catalog: &Catalog,
@@ -56,7 +56,7 @@ fn counter_line(
     Ok(line)
 }
 
-/// The line that says these words of the table of this number.
+/// The line of the table of this number with these words.
 fn undecided_line(
     alloc: Global,
     catalog: &Catalog,
@@ -71,7 +71,7 @@ fn undecided_line(
     Ok(line)
 }
 
-/// The line that says what was found of the table of this number.
+/// The line of what was found for the table of this number.
 pub fn finding_line(
     alloc: Global,
     catalog: &Catalog,

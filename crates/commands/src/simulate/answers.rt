@@ -25,7 +25,7 @@ pub fn push_position(line: &mut String, position: u64) -> Result<(), AllocError>
     write!(line, "{high:X}/{low:X}")
 }
 
-/// Writes why a row doesn't fit its table, and the number of the column, from 0, that has the fault.
+/// Writes why a row does not fit its table, and the number of the column with the fault, from 0.
 fn push_row_fault(line: &mut String, fault: RowFault) -> Result<(), AllocError>
     ensures { OnOk result (string_bytes line.new ≡ string_bytes line.old ++ fault_words fault) }
 {
@@ -70,7 +70,7 @@ fn push_commit_error(line: &mut String, error: CommitError) -> Result<(), AllocE
     }
 }
 
-/// Writes what is answered of a step.
+/// Writes the answer to a step.
 fn push_answer(line: &mut String, answer: Answer) -> Result<(), AllocError>
     ensures { OnOk result (string_bytes line.new ≡ string_bytes line.old ++ spec.answer_line answer) }
 {
@@ -101,7 +101,7 @@ fn push_answer(line: &mut String, answer: Answer) -> Result<(), AllocError>
     }
 }
 
-/// The line of what is answered of a step.
+/// The line of the answer to a step.
 pub fn answer_text(alloc: Global, answer: Answer) -> Result<String, AllocError>
     ensures { IfOk result (λ text. string_bytes text ≡ text_of (spec.answer_line answer ∷ [])) }
 {

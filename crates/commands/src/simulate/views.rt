@@ -1,4 +1,4 @@
-//! The lines that show what is in the publisher and in each subscriber.
+//! The lines that show the contents of the publisher and of each subscriber.
 
 ghost use Rattle.std.specs.Prelude.{◌≡◌, ◌++◌, IfOk, OnOk, map};
 ghost use Rattle.std.specs.String.{string_bytes};
@@ -14,7 +14,7 @@ use shard_world::{SubscriberView, View};
 use sql_reader::write_row;
 use std::alloc::{AllocError, Global};
 
-/// Writes the line of a row of the table of this number, with these bytes before it.
+/// Writes the line of a row of the table of this number, after this prefix.
 fn push_row(
     text: &mut String,
     alloc: Global,
@@ -52,7 +52,7 @@ fn push_rows(
     Ok(())
 }
 
-/// Writes a line for each row of each table, with these bytes before it.
+/// Writes a line for each row of each table, after this prefix.
 pub fn push_tables(
     text: &mut String,
     alloc: Global,
@@ -69,7 +69,7 @@ pub fn push_tables(
     Ok(())
 }
 
-/// Writes a subscriber's name, its position, how many commits that counts and up to where its slot is confirmed.
+/// Writes a subscriber's name, its position, how many commits that counts, and its slot's confirmed position.
 fn push_place(text: &mut String, name: &str, shown: &SubscriberView) -> Result<(), AllocError>
     ensures { OnOk result (string_bytes text.new ≡ string_bytes text.old
         ++ ended (spec.subscriber_line name.now shown.now)) }
@@ -117,7 +117,7 @@ fn push_subscribers(
     Ok(())
 }
 
-/// The lines that show the publisher and each subscriber: the log's length, the publisher's rows, and each subscriber.
+/// The lines of VIEW: the log's length, the publisher's rows, and each subscriber.
 pub fn view_text(alloc: Global, catalog: &Catalog, view: &View) -> Result<String, AllocError>
     ensures { IfOk result (λ text. string_bytes text ≡ text_of (spec.view_lines (catalog_view catalog.now) view.now)) }
 {

@@ -8,6 +8,6 @@ returns-in-Ok-clause-written g c =
     (g.W.Writer.contents c.args.writer.now) (g.W.Writer.contents c.write_report.new.writer)
     c.in_default.not-Output (c.as_str.ensures.value ∙ c.in-Ok.ensures) c.status.ensures c.write_report.ensures.written
 
--- nothing more is written where the writer failed
+-- nothing more is written if the writer failed
 pub returns-in-Output-clause-written : goal.returns-in-Output-clause-written
 returns-in-Output-clause-written g c = is_silent c.args.failure (g.W.Writer.contents c.args.writer.now) c.in-Output.is
