@@ -1,4 +1,4 @@
--- What was asked is answered, or can't be.
+-- A request is answered, or cannot be.
 use Rattle.std.proofs.Common.{◌≡◌, ℕ, inl, inr, true, false, Bool, List, Option, refl, sym, subst}
 use Rattle.std.specs.Prelude.{IfErr, IfOk, IsErrAnd, OnOk, Result, Ok, Err}
 use Rattle.std.specs.Io.KnownBytes.{Appends}
@@ -6,7 +6,7 @@ use Rattle.cli.proofs.Exits as exits
 use Rattle.cli.proofs.RequestLemmas.{can_serve, somebody_serves}
 use Rattle.cli.specs.CommandLine.{AsksHelp, IsOfWords, IsRequest}
 use Rattle.cli.specs.Courses.{IsToServe, IsUnserved}
-use Rattle.cli.specs.Requests.{AnswersReader, CanServe, IsAsked, IsAnswer, IsBegun, IsFault, EndsRequest, may_fail_for}
+use Rattle.cli.specs.Requests.{AnswersReader, CanServe, IsAsked, IsAnswer, IsBegun, IsFault, EndsRequest}
 use Rattle.cli.specs.Runs.{asking, IsEnding}
 use Rattle.cli.specs.declared.requests.Request.{Request}
 use Rattle.cli.specs.declared.requests.Request.TheVariants.{Eval, Show, Check, Make, Simulate, Serve, Publish}
@@ -33,9 +33,9 @@ is_read (Publish feed) input there = there
 module _ (serves : Bool) (words : List (List ℕ)) (may_fail : Bool) (known : Option (List ℕ)) where
   answered : (request : Request) (input : List ℕ) (old new : Option (List ℕ)) (result : Result Status Failure)
       → IsAsked serves words known request input
-      → EndsRequest request input old new result → IsEnding serves words may_fail known old new result
+      → EndsRequest may_fail request input old new result → IsEnding serves words may_fail known old new result
   answered request input old new result asked ends =
-      exits.answered (asking serves words may_fail known) (IsAnswer request input) (IsBegun request input)
+      exits.answered (asking serves words may_fail known) (IsAnswer may_fail request input) (IsBegun request input)
       (IsFault request input)
       (λ lines status whole. record { request = request; input = input; asked = asked; answer = whole })
       (λ lines begun. record { request = request; input = input; asked = asked; begun = begun })
@@ -46,7 +46,7 @@ module _ (serves : Bool) (words : List (List ℕ)) (may_fail : Bool) (known : Op
 
   module _ (request : Request) (asks : IsRequest words request) (can : CanServe serves request) where
     unread_told : (old new : Option (List ℕ)) (failure : Failure)
-        → IsOfReading (may_fail_for request may_fail) known failure → new ≡ old
+        → IsOfReading may_fail known failure → new ≡ old
         → IsEnding serves words may_fail known old new (Err failure)
     unread_told old new (f.Input i.Unread) is same =
         (record { request = request; asks = asks; can = can; unread = is }, same)
@@ -60,7 +60,7 @@ module _ (serves : Bool) (words : List (List ℕ)) (may_fail : Bool) (known : Op
     unread_told old new (f.Input (i.Script error)) is same = absurd is
 
     unread_ends : (old new : Option (List ℕ)) (result : Result Status Failure)
-        → IsErrAnd result (IsOfReading (may_fail_for request may_fail) known) → new ≡ old
+        → IsErrAnd result (IsOfReading may_fail known) → new ≡ old
         → IsEnding serves words may_fail known old new result
     unread_ends old new (Ok status) is same = absurd is
     unread_ends old new (Err failure) is same = unread_told old new failure is same
@@ -85,7 +85,7 @@ module _ (serves : Bool) (words : List (List ℕ)) (may_fail : Bool) (known : Op
   help_ends text old new (Err failure) asks same appends stops =
       exits.help_stopped (asking serves words may_fail known) text old new failure asks stops
 
-  -- the words ask nothing
+  -- the arguments are a usage error
   pub words_end : (old : Option (List ℕ)) (failure : Failure) → IsOfWords words failure
       → IsEnding serves words may_fail known old old (Err failure)
   words_end old (f.CommandLine why) is = (inl is, refl)
@@ -132,7 +132,7 @@ unserved_says f.OutOfMemory old new told same = same
 unserved_says (f.Input fault) old new told same = absurd told
 unserved_says f.Output old new told same = absurd told
 
--- the words ask nothing, and nothing is written
+-- the arguments are a usage error, and nothing is written
 pub words_say : (words : List (List ℕ)) (failure : Failure) (old : Bool) → IsOfWords words failure
     → SaysFault old old (status_of_failure failure)
 words_say words (f.CommandLine why) old is = refl
@@ -155,17 +155,6 @@ reading_says may_fail known failure old (Ok told) is same = absurd same
 reading_says may_fail known failure old (Err failed) is same =
     subst (λ (told : Failure). SaysFault old old (status_of_failure told)) (sym same)
     (reading_told may_fail known failure old is)
-
--- of what is not to serve it is known whether reads may fail
-pub may_fail_same : (request : Request) (may_fail : Bool) → CanServe false request
-    → may_fail ≡ may_fail_for request may_fail
-may_fail_same (Eval table wanted) may_fail can = refl
-may_fail_same Show may_fail can = refl
-may_fail_same (Check shows) may_fail can = refl
-may_fail_same Make may_fail can = refl
-may_fail_same (Simulate limit) may_fail can = refl
-may_fail_same (Serve service) may_fail can = refl
-may_fail_same (Publish feed) may_fail can = absurd (let clash : false ≡ true = can in cc)
 
 -- reading the input stops, of what a `?` gives
 pub reading_returned : (may_fail : Bool) (known : Option (List ℕ)) (failure : Failure) (result : Result Status Failure)

@@ -1,5 +1,5 @@
 -- Callers, one after another, whose lines are answered.
-use Rattle.std.proofs.Common.{◌≡◌, ℕ, List, [], ◌∷◌, ◌++◌, Option, Some, None, append_assoc, append-nil, refl, sym, ap, subst, ◌∙◌}
+use Rattle.std.proofs.Common.{◌≡◌, ℕ, Bool, List, [], ◌∷◌, ◌++◌, Option, Some, None, append_assoc, append-nil, refl, sym, ap, subst, ◌∙◌}
 use Rattle.std.specs.Prelude.{IfErr, OnOk, Result, Ok, Err}
 use Rattle.std.proofs.KnownBytes.{Appends-nil, Consumes-nil}
 use Rattle.std.proofs.lemmas.List.Elements.{All-nil}
@@ -20,15 +20,17 @@ module _ (checked : CheckedOf) (limit : ℕ) where
       → HasHeard checked limit had next
   one_more had has next far talked = record {
     notes = far.notes ++ talked.notes;
-    heard = NextCaller talked.lines talked.answers far.notes talked.notes far.heard talked.answered;
+    heard = NextCaller talked.lines talked.answers far.notes talked.notes far.heard
+        (subst (λ (notes : List Note). AreAnswered checked limit notes talked.lines talked.answers talked.notes) far.kept
+        talked.answered);
     kept = talked.kept ∙ ap (λ (notes : List Note). notes ++ talked.notes) far.kept
         ∙ append_assoc had far.notes talked.notes;
   }
 
   -- what a caller was answered, of which the last may be cut short
-  pub talked : (before after old new : Option (List ℕ)) (had has : List Note)
-      → HasAnswered checked limit None before after old new had has → HasTalked checked limit had has
-  talked before after old new had has answered = record {
+  pub talked : (may_fail : Bool) (before after old new : Option (List ℕ)) (had has : List Note)
+      → HasAnswered checked limit None may_fail before after old new had has → HasTalked checked limit had has
+  talked may_fail before after old new had has answered = record {
     lines = answered.conversation.lines;
     answers = answered.answers;
     notes = answered.own;
@@ -47,11 +49,11 @@ module _ (checked : CheckedOf) (limit : ℕ) where
   }
 
   -- the reader is left as it is, and nothing is written
-  pub by_callers : (callers : Option ℕ) (port : ℕ) → callers ≡ Some port → (before old : Option (List ℕ))
+  pub by_callers : (may_fail : Bool) (callers : Option ℕ) (port : ℕ) → callers ≡ Some port → (before old : Option (List ℕ))
       (had has : List Note) → HasHeard checked limit had has
-      → HasAnswered checked limit callers before before old old had has
-  by_callers callers port is before old had has heard =
-      subst (λ (c : Option ℕ). HasAnswered checked limit c before before old old had has) (sym is) (record {
+      → HasAnswered checked limit callers may_fail before before old old had has
+  by_callers may_fail callers port is before old had has heard =
+      subst (λ (c : Option ℕ). HasAnswered checked limit c may_fail before before old old had has) (sym is) (record {
         answers = [];
         own = [];
         notes = heard.notes;
@@ -62,16 +64,18 @@ module _ (checked : CheckedOf) (limit : ℕ) where
           plain = All-nil IsPlain;
           answered = Nothing;
         };
+        last = tt;
         notes_are = (refl, heard.heard);
         written = Appends-nil old;
         kept = heard.kept;
       })
 
-  pub answered_by : {A : Type 0} (callers : Option ℕ) (port : ℕ) → callers ≡ Some port → (before old : Option (List ℕ))
+  pub answered_by : {A : Type 0} (may_fail : Bool) (callers : Option ℕ) (port : ℕ) → callers ≡ Some port → (before old : Option (List ℕ))
       (had has : List Note) (result : Result A Failure) → OnOk result (HasHeard checked limit had has)
-      → OnOk result (HasAnswered checked limit callers before before old old had has)
-  answered_by callers port is before old had has (Ok told) heard = by_callers callers port is before old had has heard
-  answered_by callers port is before old had has (Err failure) heard = tt
+      → OnOk result (HasAnswered checked limit callers may_fail before before old old had has)
+  answered_by may_fail callers port is before old had has (Ok told) heard =
+      by_callers may_fail callers port is before old had has heard
+  answered_by may_fail callers port is before old had has (Err failure) heard = tt
 
   pub cut_off_by : {A : Type 0} (callers : Option ℕ) (before old : Option (List ℕ)) (had has : List Note)
       (result : Result A Failure) → IfErr result (λ failure. failure ≡ f.OutOfMemory)
@@ -79,4 +83,4 @@ module _ (checked : CheckedOf) (limit : ℕ) where
   cut_off_by callers before old had has (Ok told) is = tt
   cut_off_by callers before old had has (Err failure) is =
       subst (IsCutOff checked limit callers before before old old had has) (sym is)
-      (unbegun checked limit callers before old)
+      (unbegun checked limit had callers before old)

@@ -2,9 +2,7 @@
 use Rattle.std.proofs.Common.{◌≡◌, ◌⊎◌, inl, inr, ℕ, Bool, true, false, if◌then◌else◌, List, [], ◌∷◌, ◌++◌, All, Option, Some, None, IfSome, ◌==◌, ap₂, append_assoc, append-nil, refl, sym, ap, subst, ◌∙◌, codes}
 use Rattle.std.specs.Prelude.{IfErr, IfOk, IsErrAnd, OnOk, Result, Ok, Err, is_none}
 use Rattle.std.proofs.KnownBytes.{Consumes-trans, Consumes-whole}
-use Rattle.std.specs.Io.Buffered.{reader_buffer, reader_capacity, reader_inner, reader_remaining}
-use Rattle.std.specs.Io.KnownBytes.{Appends, Consumes, IsAtEnd, prepend_known}
-use Rattle.std.specs.declared.io.buffered.BufReader.{BufReader}
+use Rattle.std.specs.Io.KnownBytes.{Appends, Consumes, IsAtEnd}
 use Rattle.filter_tree.specs.Expr.{Expr}
 use Rattle.pub_catalog.specs.Catalogs.{CatalogOf}
 use Rattle.pub_reader.specs.Statements.{catalog_by}
@@ -31,11 +29,11 @@ use Rattle.commands.specs.declared.failure.Failure.TheVariants as f
 use Rattle.commands.specs.declared.failure.InputFault.TheVariants as i
 use Rattle.commands.specs.declared.failure.Status.{Status}
 use Rattle.commands.specs.declared.failure.Status.TheVariants.{Refused}
-use Rattle.cli.proofs.LineLemmas.{at_end_of_all, ended_lines-text, lines_of-text, no_first_part, no_second_part, parts_there}
-use Rattle.cli.specs.Lines.{LacksPart, LineParts, ReadsPart, StopsPart, ended_lines, parts_of}
-use Rattle.cli.specs.Published.{EndsPublishing, HasClosed, HasSaid, HasToldFirst, IsBegun, IsHead, IsPublished, IsTalk, Serves}
+use Rattle.cli.proofs.LineLemmas.{at_end_of_all, ended_lines-line, ended_lines-plain, ended_lines-text, lines_of-text, no_first_part, no_second_part, parts_there, quit_plain, whole_unread}
+use Rattle.cli.specs.Lines.{AreLast, Ends, Fails, Quits, LacksPart, LineParts, ReadsPart, StopsPart, ended_lines, parts_of}
+use Rattle.cli.specs.Published.{AfterQuit, AreUnanswered, AreUnansweredFor, EndsPublishing, MayFail, NoneLeft, HasClosed, HasSaid, HasToldFirst, IsBegun, IsHead, IsPublished, IsTalk, Serves}
 use Rattle.cli.specs.Requests.{AnswersReader}
-use Rattle.cli.specs.Talks.{Conversation}
+use Rattle.cli.specs.Talks.{AreLastFor, Conversation}
 use Rattle.cli.specs.declared.requests.Feed.{Feed}
 use Rattle.cli.specs.declared.requests.Request.TheVariants.{Publish}
 
@@ -53,36 +51,33 @@ is_all None left bytes consumes ends = tt
 is_all (Some all) left bytes consumes ends =
     Consumes-whole (Some all) left bytes (λ (xs : List ℕ). bytes ≡ xs) consumes ends refl
 
--- ---- a reader of which nothing was read
-
-prepend-nil : (known : Option (List ℕ)) → prepend_known [] known ≡ known
-prepend-nil None = refl
-prepend-nil (Some bytes) = refl
-
-pub unread_reader : {T A : Type 0} (remaining : T → Option (List ℕ)) (reader : BufReader T A) (inner : T)
-    → reader_capacity reader ≡ 8192 → reader_buffer reader ≡ [] → reader_inner reader ≡ inner
-    → reader_remaining remaining reader ≡ remaining inner
-unread_reader remaining reader inner room none is =
-    ap (λ (n : ℕ). if n == 0 then None else prepend_known (reader_buffer reader) (remaining (reader_inner reader))) room
-    ∙ ap₂ prepend_known none (ap remaining is) ∙ prepend-nil (remaining inner)
+-- nothing follows where nothing is left
+starts_all : (known left later : Option (List ℕ)) (head bytes : List ℕ) → Consumes known left head
+    → (consumes : Consumes known later (head ++ bytes)) → IfSome left (λ all. IsAtEnd later)
+    → (starts known later (head ++ bytes) consumes).0 ≡ []
+unfolding starts
+starts_all None left later head bytes first consumes ends = refl
+starts_all (Some all) None later head bytes first consumes ends = absurd first
+starts_all (Some all) (Some mid) None head bytes first consumes ends = absurd consumes
+starts_all (Some all) (Some mid) (Some rest) head bytes first consumes ends = ends
 
 -- ---- reading stops
 
-module _ (feed : Feed) (known old : Option (List ℕ)) where
-  unread : (failure : Failure) → IsOfReading true known failure → AnswersReader (Publish feed) true known old old (Err failure)
+module _ (may_fail : Bool) (feed : Feed) (known old : Option (List ℕ)) where
+  unread : (failure : Failure) → IsOfReading may_fail known failure → AnswersReader (Publish feed) may_fail known old old (Err failure)
   unread failure is = inr (is, refl)
 
   lacking : (input : List ℕ) → IsInput known input → parts_of (ended_lines input) ≡ None
-      → AnswersReader (Publish feed) true known old old (Err (f.Input i.Parts))
+      → AnswersReader (Publish feed) may_fail known old old (Err (f.Input i.Parts))
   lacking input given none = inl (record { input = input; given = given; ends = (none, refl) })
 
-  first_stops : (left : Option (List ℕ)) (failure : Failure) → StopsPart known left failure
-      → AnswersReader (Publish feed) true known old old (Err failure)
+  first_stops : (left : Option (List ℕ)) (failure : Failure) → StopsPart may_fail known left failure
+      → AnswersReader (Publish feed) may_fail known old old (Err failure)
   first_stops left (f.Input i.Parts) lacks =
       lacking (text_of lacks.lines ++ lacks.last)
       (is_all known left (text_of lacks.lines ++ lacks.last) lacks.consumed lacks.at_end)
       (no_first_part lacks.lines lacks.last lacks.plain lacks.last_plain lacks.whole)
-  first_stops left (f.Input i.Unread) stops = unread (f.Input i.Unread) (inl refl)
+  first_stops left (f.Input i.Unread) stops = unread (f.Input i.Unread) stops
   first_stops left f.OutOfMemory stops = unread f.OutOfMemory tt
   first_stops left (f.CommandLine why) stops = absurd stops
   first_stops left f.Output stops = absurd stops
@@ -92,7 +87,7 @@ module _ (feed : Feed) (known old : Option (List ℕ)) where
   first_stops left (f.Input (i.Script error)) stops = absurd stops
 
   second_stops : (mid left : Option (List ℕ)) (text : List ℕ) (failure : Failure) → ReadsPart known mid text
-      → StopsPart mid left failure → AnswersReader (Publish feed) true known old old (Err failure)
+      → StopsPart may_fail mid left failure → AnswersReader (Publish feed) may_fail known old old (Err failure)
   second_stops mid left text (f.Input i.Parts) first lacks =
       let head = text_of (first.lines ++ codes "%%" ∷ []) in
       let tail = text_of lacks.lines ++ lacks.last in
@@ -101,7 +96,8 @@ module _ (feed : Feed) (known old : Option (List ℕ)) where
       (at_end_of_all known mid left head first.consumed lacks.at_end))
       (no_second_part first.lines lacks.lines lacks.last first.plain first.whole lacks.plain lacks.last_plain
       lacks.whole)
-  second_stops mid left text (f.Input i.Unread) first stops = unread (f.Input i.Unread) (inl refl)
+  second_stops mid left text (f.Input i.Unread) first stops =
+      unread (f.Input i.Unread) (whole_unread may_fail known mid text first stops)
   second_stops mid left text f.OutOfMemory first stops = unread f.OutOfMemory tt
   second_stops mid left text (f.CommandLine why) first stops = absurd stops
   second_stops mid left text f.Output first stops = absurd stops
@@ -112,24 +108,24 @@ module _ (feed : Feed) (known old : Option (List ℕ)) where
 
   -- the same of what a `?` gives
   returned : (failure : Failure) (result : Result Status Failure)
-      → AnswersReader (Publish feed) true known old old (Err failure) → IsErrAnd result (λ failed. failed ≡ failure)
-      → AnswersReader (Publish feed) true known old old result
+      → AnswersReader (Publish feed) may_fail known old old (Err failure) → IsErrAnd result (λ failed. failed ≡ failure)
+      → AnswersReader (Publish feed) may_fail known old old result
   returned failure (Ok told) answers is = absurd is
   returned failure (Err failed) answers is =
-      subst (λ (f : Failure). AnswersReader (Publish feed) true known old old (Err f)) (sym is) answers
+      subst (λ (f : Failure). AnswersReader (Publish feed) may_fail known old old (Err f)) (sym is) answers
 
   pub memory_returned : (result : Result Status Failure) → IsErrAnd result (λ failed. failed ≡ f.OutOfMemory)
-      → AnswersReader (Publish feed) true known old old result
+      → AnswersReader (Publish feed) may_fail known old old result
   memory_returned result is = returned f.OutOfMemory result (unread f.OutOfMemory tt) is
 
   pub first_returned : (left : Option (List ℕ)) (failure : Failure) (result : Result Status Failure)
-      → StopsPart known left failure → IsErrAnd result (λ failed. failed ≡ failure)
-      → AnswersReader (Publish feed) true known old old result
+      → StopsPart may_fail known left failure → IsErrAnd result (λ failed. failed ≡ failure)
+      → AnswersReader (Publish feed) may_fail known old old result
   first_returned left failure result stops is = returned failure result (first_stops left failure stops) is
 
   pub second_returned : (mid left : Option (List ℕ)) (text : List ℕ) (failure : Failure) (result : Result Status Failure)
-      → ReadsPart known mid text → StopsPart mid left failure → IsErrAnd result (λ failed. failed ≡ failure)
-      → AnswersReader (Publish feed) true known old old result
+      → ReadsPart known mid text → StopsPart may_fail mid left failure → IsErrAnd result (λ failed. failed ≡ failure)
+      → AnswersReader (Publish feed) may_fail known old old result
   second_returned mid left text failure result first stops is =
       returned failure result (second_stops mid left text failure first stops) is
 
@@ -177,7 +173,7 @@ module _ (feed : Feed) (known old : Option (List ℕ)) where
 
     module _ (error : ReadError) (tells : TellsFault error (catalog_by as_filter text)) where
       catalog_told : (is_memory : Bool) → is_none (told error) ≡ is_memory
-          → AnswersReader (Publish feed) true known old old
+          → AnswersReader (Publish feed) may_fail known old old
           (Err (if is_memory then f.OutOfMemory else f.Input (i.Catalog error)))
       catalog_told true e = unread f.OutOfMemory tt
       catalog_told false e = inl (record {
@@ -196,7 +192,7 @@ module _ (feed : Feed) (known old : Option (List ℕ)) where
 
       pub catalog_returned : (result : Result Status Failure)
           → IsErrAnd result (λ failed. failed ≡ failure_of_read error)
-          → AnswersReader (Publish feed) true known old old result
+          → AnswersReader (Publish feed) may_fail known old old result
       catalog_returned result is = returned (failure_of_read error) result (catalog_told (is_none (told error)) refl) is
 
     -- ---- it is one
@@ -206,7 +202,7 @@ module _ (feed : Feed) (known old : Option (List ℕ)) where
       reads_lines = subst (λ (t : List ℕ). catalog_by as_filter t ≡ Ok catalog) first.is reads
 
       certificate_told : (failure : Failure) → IsOfLines (lines_of certificates) failure
-          → AnswersReader (Publish feed) true known old old (Err failure)
+          → AnswersReader (Publish feed) may_fail known old old (Err failure)
       certificate_told (f.Input (i.Certificate number error)) is = inl (record {
         input = input_with given.0;
         given = given.1;
@@ -232,7 +228,7 @@ module _ (feed : Feed) (known old : Option (List ℕ)) where
 
       pub certificate_returned : (failure : Failure) (result : Result Status Failure)
           → IsOfLines (lines_of certificates) failure → IsErrAnd result (λ failed. failed ≡ failure)
-          → AnswersReader (Publish feed) true known old old result
+          → AnswersReader (Publish feed) may_fail known old old result
       certificate_returned failure result is same = returned failure result (certificate_told failure is) same
 
       module _ (faultless : text_fault 1 (lines_of certificates) ≡ None) where
@@ -248,7 +244,7 @@ module _ (feed : Feed) (known old : Option (List ℕ)) where
         refusal_line : (error : CheckError) → IsFirstRefusal catalog (trees_in (lines_of certificates)) (Some error)
             → ShardingIsWrong catalog (plan_of catalog) (trees_in (lines_of certificates)) error
             → (status : Status) → status ≡ Refused
-            → IsPublished feed (input_with given.0) (refused_line catalog error ∷ []) status
+            → IsPublished may_fail feed (input_with given.0) (refused_line catalog error ∷ []) status
         refusal_line error refusal wrong status is = record {
           catalog = catalog;
           parts = parts_with given.0;
@@ -272,7 +268,7 @@ module _ (feed : Feed) (known old : Option (List ℕ)) where
             → IfOk result (λ s. s ≡ Refused)
             → OnOk result (Appends old new (ended (refused_line catalog error)))
             → IfErr result (StopsText (ended (refused_line catalog error)) old new)
-            → EndsPublishing feed (input_with given.0) old new result
+            → EndsPublishing may_fail feed (input_with given.0) old new result
         refused_ends error new (Ok told) refusal wrong same appends stops = record {
           lines = refused_line catalog error ∷ [];
           whole = refusal_line error refusal wrong told same;
@@ -294,7 +290,7 @@ module _ (feed : Feed) (known old : Option (List ℕ)) where
             → IfOk result (λ s. s ≡ Refused)
             → OnOk result (Appends old new (ended (refused_line catalog error)))
             → IfErr result (StopsText (ended (refused_line catalog error)) old new)
-            → AnswersReader (Publish feed) true known old new result
+            → AnswersReader (Publish feed) may_fail known old new result
         sharding_refused error new result refusal wrong same appends stops = inl (record {
           input = input_with given.0;
           given = given.1;
@@ -310,14 +306,14 @@ module _ (feed : Feed) (known old : Option (List ℕ)) where
           unrefused_lines = subst (λ (lines : List (List ℕ)). IsFirstRefusal catalog (trees_in lines) None)
               certificates_are unrefused
 
-          abbrev tail_of : (answers : List (List ℕ)) (notes : _) → Conversation (checked_by catalog) feed.limit left later answers notes
+          abbrev tail_of : (answers : List (List ℕ)) (notes : _) → Conversation (checked_by catalog) feed.limit [] left later answers notes
               → (rest : List ℕ) × IsInput known (input_with (rest))
           tail_of answers notes talk =
               let more = given_more later (text_of talk.lines ++ talk.more) talk.consumed in
               ((text_of talk.lines ++ talk.more) ++ more.0, more.1)
 
           abbrev is_talk : (answers : List (List ℕ)) (notes : _)
-              (talk : Conversation (checked_by catalog) feed.limit left later answers notes)
+              (talk : Conversation (checked_by catalog) feed.limit [] left later answers notes)
               → IsTalk catalog feed.limit (ended_lines (tail_of answers notes talk).0) answers
           is_talk answers notes talk =
               let more = given_more later (text_of talk.lines ++ talk.more) talk.consumed in
@@ -352,12 +348,40 @@ module _ (feed : Feed) (known old : Option (List ℕ)) where
                 catalog = catalog;
                 parts = parts_with tail;
                 head = is_head tail;
+                sound = sound;
+                unrefused = unrefused_lines;
                 first = told_first lines said;
               })
 
+          last_lines : (bytes rest : List ℕ) → AreLast may_fail left later bytes
+              → (IfSome left (λ all. IsAtEnd later) → rest ≡ []) → AreUnanswered may_fail (ended_lines (bytes ++ rest))
+          last_lines bytes rest (Quits is) none =
+              let line : ended_lines (bytes ++ rest) ≡ codes "QUIT;" ∷ ended_lines rest =
+              ap (λ (b : List ℕ). ended_lines (b ++ rest)) is
+              ∙ ap ended_lines (append_assoc (codes "QUIT;") (10 ∷ []) rest)
+              ∙ ended_lines-line (codes "QUIT;") rest quit_plain in
+              subst (AreUnanswered may_fail) (sym line) (AfterQuit (ended_lines rest))
+          last_lines bytes rest (Ends plain ends) none =
+              let no_line : ended_lines (bytes ++ rest) ≡ [] =
+              ap (λ (r : List ℕ). ended_lines (bytes ++ r)) (none ends) ∙ ap ended_lines (append-nil bytes)
+              ∙ ended_lines-plain bytes plain in
+              subst (AreUnanswered may_fail) (sym no_line) NoneLeft
+          last_lines bytes rest (Fails is) none = MayFail (ended_lines (bytes ++ rest)) is
+
+          unanswered : (callers : Option ℕ) (answers : List (List ℕ)) (notes : _)
+              (talk : Conversation (checked_by catalog) feed.limit [] left later answers notes)
+              → AreLastFor callers may_fail left later talk.more
+              → AreUnansweredFor callers may_fail (is_talk answers notes talk).unsaid
+          unanswered (Some port) answers notes talk last = tt
+          unanswered None answers notes talk last =
+              let bytes = text_of talk.lines ++ talk.more in
+              last_lines talk.more (given_more later bytes talk.consumed).0 last
+              (starts_all known left later head bytes head_read
+              (Consumes-trans known left later head bytes head_read talk.consumed))
+
           closed : (lines : List (List ℕ)) (status : Status)
-              (all : HasClosed feed (checked_by catalog) left later lines status)
-              → IsPublished feed
+              (all : HasClosed feed (checked_by catalog) left later may_fail lines status)
+              → IsPublished may_fail feed
               (input_with (tail_of all.said.answers all.said.own all.said.conversation).0) lines status
           closed lines status all =
               let tail = (tail_of all.said.answers all.said.own all.said.conversation).0 in
@@ -372,6 +396,7 @@ module _ (feed : Feed) (known old : Option (List ℕ)) where
                     earlier = all.earlier;
                     line = all.line;
                     first = told_first all.earlier all.said;
+                    unanswered = unanswered all.said.callers all.said.answers all.said.own all.said.conversation all.all;
                     last = all.last;
                     are = all.are;
                   };
@@ -379,8 +404,8 @@ module _ (feed : Feed) (known old : Option (List ℕ)) where
               }
 
           pub served : (new : Option (List ℕ)) (result : Result Status Failure)
-              → Serves feed (checked_by catalog) left later old new result
-              → AnswersReader (Publish feed) true known old new result
+              → Serves feed (checked_by catalog) left later may_fail old new result
+              → AnswersReader (Publish feed) may_fail known old new result
           served new (Ok status) told =
               let said = told.whole.said in
               let tail = tail_of said.answers said.own said.conversation in

@@ -1,4 +1,4 @@
--- What is asked where clap answers with an error.
+-- What is requested if clap returns an error.
 use Rattle.std.proofs.Common.{◌≡◌, inl, inr, ◌⊎◌, List, sym, subst, ◌∙◌}
 use Rattle.std.specs.Prelude.{Result, Ok, Err, IfOk, IfErr}
 use Rattle.clap.specs.Words.{IsAmong, Text, fault_of}

@@ -27,7 +27,7 @@ use Rattle.cli.specs.Views.{IsViewText}
 module _ (checked : CheckedOf) (limit : ℕ) (line : List ℕ) (had : List Note) where
   -- nothing is kept
   told_only : (lines : List (List ℕ)) (text : List ℕ) → text ≡ text_of lines
-      → IsAnswer checked limit line lines [] → Answers checked limit line had had text
+      → IsAnswer checked limit had line lines [] → Answers checked limit line had had text
   told_only lines text is answer =
       record { lines = lines; notes = []; is = answer; text_is = is; kept = sym (append-nil had) }
 
@@ -83,15 +83,15 @@ module _ (checked : CheckedOf) (limit : ℕ) where
         kept = replies.kept;
       })
 
-  pub viewed : (step : StepOf) (had : List Note) (text : List ℕ) → step ≡ View → IsViewText checked text
-      → Tells checked limit step had had text
-  viewed step had text e is =
-      subst (λ (s : StepOf). Tells checked limit s had had text) (sym e) (record {
+  pub viewed : (step : StepOf) (had has : List Note) (text : List ℕ) → step ≡ View → has ≡ had
+      → IsViewText checked had text → Tells checked limit step had has text
+  viewed step had has text e same is =
+      subst (λ (s : StepOf). Tells checked limit s had has text) (sym e) (record {
         lines = is.lines;
         notes = [];
         is = Viewing is.lines is.view;
         text_is = is.is;
-        kept = sym (append-nil had);
+        kept = same ∙ sym (append-nil had);
       })
 
 pub view_left : (step : Step) → is_fit (step_view step) ≡ true → ((commands : _) → step ≡ s.Commit commands → ⊥)
@@ -122,7 +122,7 @@ not_more : (first step : LineOf) (steps : List LineOf) (fit : Bool)
 not_more first step steps true e = not_first steps step e
 not_more first step steps false e = absurd (cc)
 
--- steps of which none is unfit are one step that is fit, where there is a last one
+-- steps of which none is unfit are one step that is fit, if there is a last one
 pub is_one : (steps : List LineOf) (step : LineOf) → first_unfit (steps ++ step ∷ []) ≡ None
     → (steps ≡ []) × (is_fit step.step ≡ true)
 is_one [] step none = (refl, fit_alone (is_fit step.step) step.place none)

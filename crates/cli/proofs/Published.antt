@@ -1,5 +1,5 @@
 -- What `publish` writes, and of which input that is the answer.
-use Rattle.std.proofs.Common.{◌≡◌, ◌⊎◌, inl, inr, ℕ, List, [], ◌∷◌, ◌++◌, All, Option, Some, None, IfSome, append_assoc, append-nil, refl, sym, ap, subst, ◌∙◌}
+use Rattle.std.proofs.Common.{Bool, ◌≡◌, ◌⊎◌, inl, inr, ℕ, List, [], ◌∷◌, ◌++◌, All, Option, Some, None, IfSome, append_assoc, append-nil, refl, sym, ap, subst, ◌∙◌}
 use Rattle.std.specs.Prelude.{IsErrAnd, IfErr, Result, Ok, Err}
 use Rattle.std.proofs.KnownBytes.{Appends-trans, Consumes-nil, Consumes-trans}
 use Rattle.std.proofs.lemmas.List.Elements.{All-nil}
@@ -54,14 +54,14 @@ module _ (checked : CheckedOf) (limit : ℕ) (notes : List Note) where
   closes line status old new (Err (f.CommandLine why)) last says = absurd says
   closes line status old new (Err (f.Input fault)) last says = absurd says
 
-module _ (feed : Feed) (checked : CheckedOf) where
+module _ (feed : Feed) (checked : CheckedOf) (may_fail : Bool) where
   -- ---- before the session
 
-  silence : (before : Option (List ℕ)) → Conversation checked feed.limit before before [] []
+  silence : (before : Option (List ℕ)) → Conversation checked feed.limit [] before before [] []
   silence before =
       record { lines = []; more = []; consumed = Consumes-nil before; plain = All-nil IsPlain; answered = Nothing }
 
-  nothing_kept : (callers : Option ℕ) → AreNotes checked feed.limit callers [] [] []
+  nothing_kept : (callers : Option ℕ) → AreNotes checked feed.limit [] callers [] [] []
   nothing_kept None = refl
   nothing_kept (Some port) = (refl, Nobody)
 
@@ -80,9 +80,9 @@ module _ (feed : Feed) (checked : CheckedOf) where
     are = sym (append-nil (first_lines port callers));
   }
 
-  -- it doesn't come to the first line
+  -- it stops before the first line
   pub unopened : (before old new : Option (List ℕ)) (failure : Failure) → StopsTelling feed old new failure
-      → Serves feed checked before before old new (Err failure)
+      → Serves feed checked before before may_fail old new (Err failure)
   unopened before old new f.OutOfMemory stops =
       record { lines = []; begun = inl refl; appends = unwritten old new stops.stops }
   unopened before old new f.Output stops = record {
@@ -95,18 +95,18 @@ module _ (feed : Feed) (checked : CheckedOf) where
 
   pub unopened_returned : (before old new : Option (List ℕ)) (failure : Failure) (result : Result Status Failure)
       → StopsTelling feed old new failure → IsErrAnd result (λ failed. failed ≡ failure)
-      → Serves feed checked before before old new result
+      → Serves feed checked before before may_fail old new result
   unopened_returned before old new failure (Ok told) stops is = absurd is
   unopened_returned before old new failure (Err failed) stops is =
-      subst (λ (f : Failure). Serves feed checked before before old new (Err f)) (sym is)
+      subst (λ (f : Failure). Serves feed checked before before may_fail old new (Err f)) (sym is)
       (unopened before old new failure stops)
 
   -- memory is refused before it listens
   pub nothing_said : (before old : Option (List ℕ)) (result : Result Status Failure)
-      → IsErrAnd result (λ failed. failed ≡ f.OutOfMemory) → Serves feed checked before before old old result
+      → IsErrAnd result (λ failed. failed ≡ f.OutOfMemory) → Serves feed checked before before may_fail old old result
   nothing_said before old (Ok told) is = absurd is
   nothing_said before old (Err failed) is =
-      subst (λ (f : Failure). Serves feed checked before before old old (Err f)) (sym is)
+      subst (λ (f : Failure). Serves feed checked before before may_fail old old (Err f)) (sym is)
       (record { lines = []; begun = inl refl; appends = unwritten old old refl })
 
   -- ---- after it
@@ -120,8 +120,8 @@ module _ (feed : Feed) (checked : CheckedOf) where
     first_text = text_of firsts
 
     abbrev said : (answers : List (List ℕ)) (own notes : List Note)
-        → Conversation checked feed.limit before after answers own
-        → AreNotes checked feed.limit callers answers own notes
+        → Conversation checked feed.limit [] before after answers own
+        → AreNotes checked feed.limit [] callers answers own notes
         → HasSaid feed checked before after (firsts ++ answers)
     said answers own notes talk are = record {
       port = port;
@@ -140,40 +140,44 @@ module _ (feed : Feed) (checked : CheckedOf) where
     said_text answers = flat_map-append ended firsts answers
 
     -- it is cut off
-    cut_off : (new : Option (List ℕ)) (had has : List Note) (failure : Failure)
-        → IsCutOff checked feed.limit callers before after mid new had has failure
-        → Serves feed checked before after old new (Err failure)
-    cut_off new had has f.OutOfMemory cut = record {
+    cut_off : (new : Option (List ℕ)) (has : List Note) (failure : Failure)
+        → IsCutOff checked feed.limit callers before after mid new [] has failure
+        → Serves feed checked before after may_fail old new (Err failure)
+    cut_off new has f.OutOfMemory cut = record {
       lines = firsts ++ cut.answers;
       begun = inr (said cut.answers cut.own cut.notes cut.conversation cut.notes_are);
       appends = subst (Appends old new) (sym (said_text cut.answers))
           (Appends-trans old mid new first_text (text_of cut.answers) opens.told cut.written);
     }
-    cut_off new had has f.Output cut = record {
+    cut_off new has f.Output cut = record {
       lines = firsts ++ cut.answers;
       part = inl (inr (said cut.answers cut.own cut.notes cut.conversation cut.notes_are));
       first = subst (λ (t : List ℕ). WritesFirst t old new) (sym (said_text cut.answers))
           (first_after first_text (text_of cut.answers) old mid new opens.told cut.first);
     }
-    cut_off new had has (f.CommandLine why) cut = absurd cut
-    cut_off new had has (f.Input fault) cut = absurd cut
+    cut_off new has (f.CommandLine why) cut = absurd cut
+    cut_off new has (f.Input fault) cut = absurd cut
 
+    -- where the session began without notes
     pub cut_off_returned : (new : Option (List ℕ)) (had has : List Note) (failure : Failure)
-        (result : Result Status Failure) → IsCutOff checked feed.limit callers before after mid new had has failure
-        → IsErrAnd result (λ failed. failed ≡ failure) → Serves feed checked before after old new result
-    cut_off_returned new had has failure (Ok told) cut is = absurd is
-    cut_off_returned new had has failure (Err failed) cut is =
-        subst (λ (f : Failure). Serves feed checked before after old new (Err f)) (sym is)
-        (cut_off new had has failure cut)
+        (result : Result Status Failure) → had ≡ []
+        → IsCutOff checked feed.limit callers before after mid new had has failure
+        → IsErrAnd result (λ failed. failed ≡ failure) → Serves feed checked before after may_fail old new result
+    cut_off_returned new had has failure (Ok told) none cut is = absurd is
+    cut_off_returned new had has failure (Err failed) none cut is =
+        subst (λ (f : Failure). Serves feed checked before after may_fail old new (Err f)) (sym is)
+        (cut_off new has failure
+        (subst (λ (notes : List Note). IsCutOff checked feed.limit callers before after mid new notes has failure) none
+        cut))
 
     -- memory is refused after the session
     pub no_memory : (new : Option (List ℕ)) (limit : ℕ) {had has : List Note} (result : Result Status Failure)
-        → feed.limit ≡ limit → HasAnswered checked limit callers before after mid new had has
-        → IsErrAnd result (λ failed. failed ≡ f.OutOfMemory) → Serves feed checked before after old new result
-    no_memory new limit {had} {has} result same answers is =
-        let answered = subst (λ (l : ℕ). HasAnswered checked l callers before after mid new had has) (sym same)
+        → feed.limit ≡ limit → had ≡ [] → HasAnswered checked limit callers may_fail before after mid new had has
+        → IsErrAnd result (λ failed. failed ≡ f.OutOfMemory) → Serves feed checked before after may_fail old new result
+    no_memory new limit {had} {has} result same none answers is =
+        let answered = subst (λ (l : ℕ). HasAnswered checked l callers may_fail before after mid new had has) (sym same)
         answers in
-        cut_off_returned new had has f.OutOfMemory result
+        cut_off_returned new had has f.OutOfMemory result none
         (record {
           answers = answered.answers;
           own = answered.own;
@@ -185,14 +189,15 @@ module _ (feed : Feed) (checked : CheckedOf) where
         is
 
     -- the last line comes
-    closed_lines : {had has : List Note} (now : Option (List ℕ))
-        (answered : HasAnswered checked feed.limit callers before after mid now had has) (lines : List (List ℕ))
+    closed_lines : {has : List Note} (now : Option (List ℕ))
+        (answered : HasAnswered checked feed.limit callers may_fail before after mid now [] has) (lines : List (List ℕ))
         (status : Status) → IsClosing checked feed.limit answered.notes lines status
-        → HasClosed feed checked before after ((firsts ++ answered.answers) ++ lines) status
+        → HasClosed feed checked before after may_fail ((firsts ++ answered.answers) ++ lines) status
     closed_lines now answered lines status closing = record {
       earlier = firsts ++ answered.answers;
       line = closing.line;
       said = said answered.answers answered.own answered.notes answered.conversation answered.notes_are;
+      all = answered.last;
       last = closing.last;
       are = ap (λ (l : List (List ℕ)). (firsts ++ answered.answers) ++ l) closing.are;
     }
@@ -203,11 +208,11 @@ module _ (feed : Feed) (checked : CheckedOf) where
         flat_map-append ended (firsts ++ answers) lines
         ∙ ap (λ (t : List ℕ). t ++ text_of lines) (said_text answers)
 
-    closes_then : (now new : Option (List ℕ)) (had has : List Note) (result : Result Status Failure)
-        → (answered : HasAnswered checked feed.limit callers before after mid now had has)
+    closes_then : (now new : Option (List ℕ)) (has : List Note) (result : Result Status Failure)
+        → (answered : HasAnswered checked feed.limit callers may_fail before after mid now [] has)
         → Closes checked feed.limit answered.notes now new result
-        → Serves feed checked before after old new result
-    closes_then now new had has (Ok status) answered closing =
+        → Serves feed checked before after may_fail old new result
+    closes_then now new has (Ok status) answered closing =
         let before_last = Appends-trans old mid now first_text (text_of answered.answers) opens.told answered.written in
         record {
           lines = (firsts ++ answered.answers) ++ closing.lines;
@@ -216,7 +221,7 @@ module _ (feed : Feed) (checked : CheckedOf) where
               (Appends-trans old now new (first_text ++ text_of answered.answers) (text_of closing.lines) before_last
               closing.appends);
         }
-    closes_then now new had has (Err f.OutOfMemory) answered closing =
+    closes_then now new has (Err f.OutOfMemory) answered closing =
         let before_last = Appends-trans old mid now first_text (text_of answered.answers) opens.told answered.written in
         record {
           lines = firsts ++ answered.answers;
@@ -226,7 +231,7 @@ module _ (feed : Feed) (checked : CheckedOf) where
               (Appends-trans old now new (first_text ++ text_of answered.answers) [] before_last
               (subst (λ (lines : List (List ℕ)). Appends now new (text_of lines)) closing.begun closing.appends));
         }
-    closes_then now new had has (Err f.Output) answered closing =
+    closes_then now new has (Err f.Output) answered closing =
         let before_last = Appends-trans old mid now first_text (text_of answered.answers) opens.told answered.written in
         let first = first_after (first_text ++ text_of answered.answers) (text_of closing.lines) old now new before_last
         closing.first in
@@ -245,18 +250,20 @@ module _ (feed : Feed) (checked : CheckedOf) where
             first = subst (λ (t : List ℕ). WritesFirst t old new) (sym (all_text answered.answers closing.lines)) first;
           }
         ]
-    closes_then now new had has (Err (f.CommandLine why)) answered closing = absurd closing
-    closes_then now new had has (Err (f.Input fault)) answered closing = absurd closing
+    closes_then now new has (Err (f.CommandLine why)) answered closing = absurd closing
+    closes_then now new has (Err (f.Input fault)) answered closing = absurd closing
 
-    -- where the session began without notes
+    -- if the session began with no notes
     pub closes_after : (now new : Option (List ℕ)) (limit : ℕ) {had has : List Note} (result : Result Status Failure)
-        → feed.limit ≡ limit → had ≡ [] → HasAnswered checked limit callers before after mid now had has
-        → Closes checked limit has now new result → Serves feed checked before after old new result
+        → feed.limit ≡ limit → had ≡ [] → HasAnswered checked limit callers may_fail before after mid now had has
+        → Closes checked limit has now new result → Serves feed checked before after may_fail old new result
     closes_after now new limit {had} {has} result same none answers closing =
-        let answered = subst (λ (l : ℕ). HasAnswered checked l callers before after mid now had has) (sym same)
+        let answered = subst (λ (l : ℕ). HasAnswered checked l callers may_fail before after mid now had has) (sym same)
         answers in
-        let kept : has ≡ answered.notes = answered.kept ∙ ap (λ (l : List Note). l ++ answered.notes) none in
-        closes_then now new had has result answered
+        let first = subst (λ (notes : List Note). HasAnswered checked feed.limit callers may_fail before after mid now notes has)
+        none answered in
+        let kept : has ≡ first.notes = first.kept in
+        closes_then now new has result first
         (subst (λ (n : List Note). Closes checked feed.limit n now new result) kept
         (subst (λ (l : ℕ). Closes checked l has now new result) (sym same) closing))
 

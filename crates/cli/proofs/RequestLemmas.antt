@@ -36,7 +36,7 @@ can_serve (Serve service) can false = can
 can_serve (Publish feed) can true = refl
 can_serve (Publish feed) can false = can
 
--- what has to be served can be, where somebody serves
+-- each request can be answered by a program that can serve
 pub somebody_serves : (request : Request) → CanServe true request
 somebody_serves (Eval table wanted) = tt
 somebody_serves Show = tt

@@ -27,8 +27,8 @@ use Rattle.commands.specs.declared.failure.InputFault.TheVariants as i
 use Rattle.commands.specs.declared.failure.Status.{Status}
 use Rattle.commands.specs.declared.failure.Status.TheVariants.{Refused}
 use Rattle.cli.specs.Scripts.{Commits, IsOfScript}
-use Rattle.cli.specs.Serving.{EndsService, IsFault, IsServing}
-use Rattle.cli.specs.Telling.{IsBegun, IsTold, Tells, service_of}
+use Rattle.cli.specs.Serving.{EndsService, IsBegun, IsFault, IsServing}
+use Rattle.cli.specs.Telling.{IsBegun as MayListen, IsTold, Tells, service_of}
 use Rattle.cli.specs.declared.requests.Service.{Service}
 
 pub out_of_memory : (service : Service) (input : List ℕ) (old new : Option (List ℕ)) → new ≡ old
@@ -138,7 +138,7 @@ module _ (service : Service) (input : List ℕ) (cut : CutTwice) (catalog : Cata
           → EndsService service input old new result
       served old new result sound unrefused tells =
           ends_as (IsTold (service_of service (checked_by catalog) lists)) (IsServing service input)
-          (IsBegun service.port) (IsBegun service.port)
+          (MayListen service.port) (IsBegun service input)
           (IsFault input)
           (λ lines status told. record {
             cut = cut;
@@ -150,7 +150,21 @@ module _ (service : Service) (input : List ℕ) (cut : CutTwice) (catalog : Cata
             script = script;
             result = inl (record { sound = sound; unrefused = unrefused; told = told });
           })
-          (λ lines begun. begun)
+          (λ lines begun. elim begun [
+            | inl none ↦ inl none
+            | inr first ↦ inr (record {
+              cut = cut;
+              catalog = catalog;
+              parts = parts;
+              reads = reads;
+              certificates = certificates;
+              lists = lists;
+              script = script;
+              sound = sound;
+              unrefused = unrefused;
+              are = first;
+            })
+          ])
           old new result tells
 
       refusal_line : (error : CheckError) → IsFirstRefusal catalog (trees_in (lines_of cut.second)) (Some error)

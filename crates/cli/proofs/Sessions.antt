@@ -6,7 +6,8 @@ use Rattle.shard_checker.specs.CheckedView.{CheckedOf, setting_in}
 use Rattle.table_changes.specs.Commands.{Command}
 use Rattle.tables_log.specs.declared.error.CommitError.{CommitError}
 use Rattle.tables_log.specs.declared.error.CommitError.TheVariants.{OutOfMemory}
-use Rattle.publisher_desk.specs.Answers.{IsMade, IsRefused}
+use Rattle.publisher_desk.specs.Answers.{IsMade}
+use Rattle.publisher_desk.specs.Logged.{IsRefused}
 use Rattle.publisher_desk.specs.Receipts.{ReceiptOf, receipt_of}
 use Rattle.publisher_desk.specs.Refusals.{HasFault}
 use Rattle.publisher_desk.specs.declared.note.Note.{Note}
@@ -48,11 +49,11 @@ module _ (checked : CheckedOf) (limit : ℕ) where
 
   -- ---- a list
 
-  -- what a commit answers, where it is not want of memory
+  -- the answer of a commit, if memory has not run out
   pub takes_up : (time : ℕ) (commands : List Command) (old new : List Note) (result : Result ℕ CommitError)
       → IfErr result (λ error. error ≢ OutOfMemory)
       → IfOk result (λ number. new ≡ old ++ Committed (receipt_of number commands time) ∷ [])
-      → IfOk result (IsMade checked limit commands time) → IfErr result (IsRefused checked limit commands)
+      → IfOk result (IsMade checked limit commands time) → IfErr result (IsRefused checked limit old commands)
       → IfErr result (HasFault (setting_in checked) commands) → OnErr result (new ≡ old)
       → TakesUp checked limit time commands old new
   takes_up time commands old new (Ok number) known last made refused fault same =

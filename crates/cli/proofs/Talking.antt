@@ -1,5 +1,5 @@
 -- Lines are answered one after another, and it may stop at each.
-use Rattle.std.proofs.Common.{◌≡◌, ℕ, List, [], ◌∷◌, ◌++◌, All, Option, Some, None, append_assoc, append-nil, codes, refl, sym, ap, ap₂, subst, ◌∙◌}
+use Rattle.std.proofs.Common.{◌≡◌, ℕ, Bool, List, [], ◌∷◌, ◌++◌, All, Option, Some, None, append_assoc, append-nil, codes, refl, sym, ap, ap₂, subst, ◌∙◌}
 use Rattle.std.specs.Prelude.{IfErr, IsErrAnd, Result, Ok, Err}
 use Rattle.std.proofs.KnownBytes.{Appends-nil, Appends-trans, Consumes-nil, Consumes-trans}
 use Rattle.std.proofs.lemmas.List.Concat.{flat_map-append}
@@ -11,7 +11,10 @@ use Rattle.commands.proofs.Writing.{first_after, text_of-more}
 use Rattle.commands.specs.Output.{WritesFirst, ended, text_of}
 use Rattle.commands.specs.declared.failure.Failure.{Failure}
 use Rattle.commands.specs.declared.failure.Failure.TheVariants as f
-use Rattle.cli.specs.Lines.{IsPlain, ReadsLine}
+use Rattle.commands.specs.declared.failure.InputFault.{InputFault}
+use Rattle.commands.specs.declared.failure.InputFault.TheVariants as i
+use Rattle.cli.proofs.LineLemmas.{last_of_all}
+use Rattle.cli.specs.Lines.{Ends, Fails, IsPlain, Quits, ReadsLast, ReadsLine, ReadsSome, StopsLine}
 use Rattle.cli.specs.Talks.{Answers, AreAnswered, AreNotes, Conversation, FailsToTell, GoesOn, HasAnswered, HasBegun, HasPart, IsAnswer, IsCutOff, IsOver, Nobody, Nothing, OneMore, StopsNext}
 
 module _ (checked : CheckedOf) (limit : ℕ) where
@@ -22,7 +25,7 @@ module _ (checked : CheckedOf) (limit : ℕ) where
     pub notes : List Note
     pub consumed : Consumes before now (text_of lines)
     pub plain : All IsPlain lines
-    pub answered : AreAnswered checked limit lines answers notes
+    pub answered : AreAnswered checked limit had lines answers notes
     pub appends : Appends old written (text_of answers)
     pub kept : has ≡ had ++ notes
 
@@ -39,16 +42,17 @@ module _ (checked : CheckedOf) (limit : ℕ) where
   }
 
   -- it stops before the first line
-  nothing_kept : (callers : Option ℕ) → AreNotes checked limit callers [] [] []
-  nothing_kept None = refl
-  nothing_kept (Some port) = (refl, Nobody)
+  nothing_kept : (had : List Note) (callers : Option ℕ) → AreNotes checked limit had callers [] [] []
+  nothing_kept had None = refl
+  nothing_kept had (Some port) = (refl, Nobody)
 
-  pub unbegun : (callers : Option ℕ) (before old : Option (List ℕ)) → HasBegun checked limit callers before before old old
-  unbegun callers before old = record {
+  pub unbegun : (had : List Note) (callers : Option ℕ) (before old : Option (List ℕ))
+      → HasBegun checked limit callers before before old old had
+  unbegun had callers before old = record {
     answers = [];
     own = [];
     notes = [];
-    notes_are = nothing_kept callers;
+    notes_are = nothing_kept had callers;
     conversation = record {
       lines = [];
       more = [];
@@ -81,7 +85,9 @@ module _ (checked : CheckedOf) (limit : ℕ) where
         notes = far.notes ++ answer.notes;
         consumed = more_lines far.lines on.line before now after far.consumed on.read.consumed;
         plain = All-push IsPlain far.lines on.line far.plain on.read.plain;
-        answered = OneMore far.lines far.answers answer.lines on.line far.notes answer.notes far.answered answer.is;
+        answered = OneMore far.lines far.answers answer.lines on.line far.notes answer.notes far.answered on.other
+            (subst (λ (notes : List Note). IsAnswer checked limit notes on.line answer.lines answer.notes) far.kept
+            answer.is);
         appends = subst (Appends old new) (sym (more_text far.answers answer.lines))
             (Appends-trans old written new (text_of far.answers) (text_of answer.lines) far.appends
             (subst (Appends written new) answer.text_is on.written));
@@ -91,7 +97,7 @@ module _ (checked : CheckedOf) (limit : ℕ) where
 
   talk : (before now after old written : Option (List ℕ)) (had has : List Note)
       → (far : IsSoFar before now old written had has) (more : List ℕ) → Consumes now after more
-      → Conversation checked limit before after far.answers far.notes
+      → Conversation checked limit had before after far.answers far.notes
   talk before now after old written had has far more consumed = record {
     lines = far.lines;
     more = more;
@@ -100,39 +106,57 @@ module _ (checked : CheckedOf) (limit : ℕ) where
     answered = far.answered;
   }
 
-  -- there is no line more
-  pub is_over : (before now after old written new : Option (List ℕ)) (had has next : List Note)
-      → IsSoFar before now old written had has → IsOver checked limit now after written new → next ≡ has
-      → HasAnswered checked limit None before after old new had next
-  is_over before now after old written new had has next far over same = record {
+  -- there is no further line
+  pub over_at_end : (may_fail : Bool) (before after old new : Option (List ℕ)) → ReadsLast before after → new ≡ old
+      → IsOver checked limit may_fail before after old new
+  over_at_end may_fail before after old new last same =
+      record { more = last.bytes; consumed = last.consumed; last = Ends last.plain last.at_end; unwritten = same }
+
+  pub over_failed : (may_fail : Bool) (before after old new : Option (List ℕ)) (fault : InputFault)
+      → ReadsSome before after → StopsLine may_fail (f.Input fault) → new ≡ old
+      → IsOver checked limit may_fail before after old new
+  over_failed may_fail before after old new i.Unread some fails same =
+      record { more = some.bytes; consumed = some.consumed; last = Fails fails; unwritten = same }
+  over_failed may_fail before after old new i.Parts some fails same = absurd fails
+  over_failed may_fail before after old new (i.Catalog error) some fails same = absurd fails
+  over_failed may_fail before after old new (i.Table name) some fails same = absurd fails
+  over_failed may_fail before after old new (i.Certificate number error) some fails same = absurd fails
+  over_failed may_fail before after old new (i.Script error) some fails same = absurd fails
+
+  pub is_over : (may_fail : Bool) (before now after old written new : Option (List ℕ)) (had has next : List Note)
+      → IsSoFar before now old written had has → IsOver checked limit may_fail now after written new → next ≡ has
+      → HasAnswered checked limit None may_fail before after old new had next
+  unfolding talk
+  is_over may_fail before now after old written new had has next far over same = record {
     answers = far.answers;
     own = far.notes;
     notes = far.notes;
     conversation = talk before now after old written had has far over.more over.consumed;
+    last = last_of_all may_fail before now after (text_of far.lines) over.more far.consumed over.last;
     notes_are = refl;
     written = subst (λ (n : Option (List ℕ)). Appends old n (text_of far.answers)) (sym over.unwritten) far.appends;
     kept = same ∙ far.kept;
   }
 
   -- the next line is `QUIT;`
-  pub quits : (before now after old written new : Option (List ℕ)) (had has next : List Note)
+  pub quits : (may_fail : Bool) (before now after old written new : Option (List ℕ)) (had has next : List Note)
       → IsSoFar before now old written had has → ReadsLine now after (codes "QUIT;") → new ≡ written → next ≡ has
-      → HasAnswered checked limit None before after old new had next
-  quits before now after old written new had has next far read silent same =
-      is_over before now after old written new had has next far
-      (record { more = codes "QUIT;" ++ 10 ∷ []; consumed = read.consumed; unwritten = silent }) same
+      → HasAnswered checked limit None may_fail before after old new had next
+  quits may_fail before now after old written new had has next far read silent same =
+      is_over may_fail before now after old written new had has next far
+      (record { more = ended (codes "QUIT;"); consumed = read.consumed; last = Quits refl; unwritten = silent }) same
 
   -- it stops
   pub stops : (before now after old written new : Option (List ℕ)) (had has next : List Note) (failure : Failure)
       → IsSoFar before now old written had has → StopsNext checked limit now after written new has next failure
       → IsCutOff checked limit None before after old new had next failure
-  stops before now after old written new had has next f.OutOfMemory far over = record {
+  stops before now after old written new had has next f.OutOfMemory far lost = record {
     answers = far.answers;
     own = far.notes;
     notes = far.notes;
-    conversation = talk before now after old written had has far over.more over.consumed;
+    conversation = talk before now after old written had has far lost.0.bytes lost.0.consumed;
     notes_are = refl;
-    written = subst (λ (n : Option (List ℕ)). Appends old n (text_of far.answers)) (sym over.unwritten) far.appends;
+    written = subst (λ (n : Option (List ℕ)). Appends old n (text_of far.answers)) (sym lost.1) far.appends;
   }
   stops before now after old written new had has next f.Output far fails =
       let answer = fails.answered in
@@ -149,7 +173,9 @@ module _ (checked : CheckedOf) (limit : ℕ) where
           consumed = subst (Consumes before after) (sym (append-nil (text_of (far.lines ++ fails.line ∷ []))))
               (more_lines far.lines fails.line before now after far.consumed fails.read.consumed);
           plain = All-push IsPlain far.lines fails.line far.plain fails.read.plain;
-          answered = OneMore far.lines far.answers answer.lines fails.line far.notes answer.notes far.answered answer.is;
+          answered = OneMore far.lines far.answers answer.lines fails.line far.notes answer.notes far.answered fails.other
+              (subst (λ (notes : List Note). IsAnswer checked limit notes fails.line answer.lines answer.notes) far.kept
+              answer.is);
         };
         first = subst (λ (t : List ℕ). WritesFirst t old new) (sym (more_text far.answers answer.lines))
             (first_after (text_of far.answers) (text_of answer.lines) old written new far.appends

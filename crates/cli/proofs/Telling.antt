@@ -77,7 +77,7 @@ module _ (service : ServiceOf) where
   one_line : text_of (listening_line service.port ∷ []) ≡ ended (listening_line service.port)
   one_line = text_of-one (listening_line service.port)
 
-  -- it doesn't come to the first line
+  -- it stops before the first line
   pub unheard : (old new : Option (List ℕ)) (failure : Failure)
       → StopsText (ended (listening_line service.port)) old new failure → Tells service old new (Err failure)
   unheard old new (f.CommandLine why) stops = absurd stops

@@ -1,8 +1,7 @@
--- What the words of a command line ask, as the crate `clap` reads words: the subcommand `eval`, and for it a table's
--- name and the flag `--insert`, in any order; or `check`, and for it the flag `--show` or nothing; or `show` or `make`,
--- and nothing for it; or `simulate`, and for it `--limit` and a number, or nothing; or `serve`, and for it `--port` and
--- a number, and `--limit` and `--connections` with a number each, or neither of these, in any order; or `publish`,
--- and for it `--port` and a number, and a file and numbers for its options, in any order; or the help or the version.
+-- What the arguments of a command line request, as the crate `clap` parses arguments: the help, the version or a
+-- subcommand. `show` and `make` take no arguments, `eval` a table's name and the flag `--insert`, `check` the flag
+-- `--show`, and `simulate` `--limit` with a number. `serve` takes `--port`, `--limit` and `--connections` with a number
+-- each, and `publish` `--port`, a file and numbers for its other options, and a format. Arguments may be in any order.
 use Rattle.std.specs.Prelude.{◌≡◌, ◌≢◌, ◌≤◌, ◌⊎◌, ℕ, Bool, true, false, List, [], Option, Some, None, codes}
 use Rattle.std.specs.Option.{option_map}
 use Rattle.std.specs.Str.Parse.{IsNumeral, digits_value, without_leading_plus}
@@ -25,7 +24,7 @@ use Rattle.commands.specs.Simulate.Limits.{IsWithin}
 use Rattle.commands.specs.declared.failure.Failure.{Failure}
 use Rattle.commands.specs.declared.failure.Failure.TheVariants as f
 
--- ---- the command line, as clap is told of it
+-- ---- the command line, as it is described to clap
 
 abbrev pub table_rule : Rule
 table_rule = record (new_rule (codes "TABLE")) { required = true; action = Some Set }
@@ -106,7 +105,7 @@ pgshard = with_subcommand (with_subcommand (with_subcommand (with_subcommand (wi
     (with_subcommand bare
     eval.top) show.top) check.top) make.top) simulate.top) serve.top) publish.top
 
--- ---- what is asked of the input
+-- ---- requests
 
 -- the arguments of `eval` are this table's name, and `--insert` if the message is wanted
 pub record HasArguments (found : List Row) (word : Text) (wanted : RowOutput) : Type 0 where
@@ -137,13 +136,13 @@ IsCheck found (Simulate limit) = ⊥
 IsCheck found (Serve service) = ⊥
 IsCheck found (Publish feed) = ⊥
 
--- the word spells this limit: decimal digits, with a plus before them or none, and nothing else
+-- the word spells this limit: decimal digits, with or without a plus before them
 pub record SpellsLimit (word : Text) (limit : ℕ) : Type 0 where
   pub numeral : IsNumeral 10 (without_leading_plus word)
   pub is : limit ≡ digits_value 10 (without_leading_plus word)
   pub within : IsWithin limit
 
--- where no word is given it is 1,000,000
+-- if no word is given, it is 1,000,000
 abbrev pub IsLimit : Option Text → ℕ → Type 0
 IsLimit None limit = limit ≡ 1000000
 IsLimit (Some word) limit = SpellsLimit word limit
@@ -161,20 +160,19 @@ IsSimulate found Make = ⊥
 IsSimulate found (Serve service) = ⊥
 IsSimulate found (Publish feed) = ⊥
 
--- the word spells this number, which is 1 at least and this one at most: decimal digits, with a plus before them or
--- none, and nothing else
+-- the word spells this number, which is from 1 to this maximum: decimal digits, with or without a plus before them
 pub record Spells (most : ℕ) (word : Text) (number : ℕ) : Type 0 where
   pub numeral : IsNumeral 10 (without_leading_plus word)
   pub is : number ≡ digits_value 10 (without_leading_plus word)
   pub some : 1 ≤ number
   pub within : number ≤ most
 
--- a port has to be said
+-- a port is required
 abbrev pub IsPort : Option Text → ℕ → Type 0
 IsPort None port = ⊥
 IsPort (Some word) port = Spells 65535 word port
 
--- where no word is given no number of connections is said
+-- if no word is given, there is no number of connections
 abbrev pub AreConnections : Option Text → Option ℕ → Type 0
 AreConnections None None = Unit {0}
 AreConnections None (Some count) = ⊥
@@ -196,31 +194,30 @@ IsServe found Make = ⊥
 IsServe found (Simulate limit) = ⊥
 IsServe found (Publish feed) = ⊥
 
--- the word spells this number, which is this one at most: decimal digits, with a plus before them or none, and nothing
--- else
+-- the word spells this number, which is at most this maximum: decimal digits, with or without a plus before them
 pub record SpellsUpTo (most : ℕ) (word : Text) (number : ℕ) : Type 0 where
   pub numeral : IsNumeral 10 (without_leading_plus word)
   pub is : number ≡ digits_value 10 (without_leading_plus word)
   pub within : number ≤ most
 
--- a port has to be said; 0 is any free one
+-- a port is required; 0 is any free one
 abbrev pub IsPortOrAny : Option Text → ℕ → Type 0
 IsPortOrAny None port = ⊥
 IsPortOrAny (Some word) port = SpellsUpTo 65535 word port
 
--- where no word is given commands come by the input
+-- if no word is given, commands come from the input
 abbrev pub AreCommandsAt : Option Text → Option ℕ → Type 0
 AreCommandsAt None None = Unit {0}
 AreCommandsAt None (Some port) = ⊥
 AreCommandsAt (Some word) None = ⊥
 AreCommandsAt (Some word) (Some port) = SpellsUpTo 65535 word port
 
--- so many seconds, or where no word is given this many
+-- this many seconds; if no word is given, the default
 abbrev pub AreSeconds : ℕ → Option Text → ℕ → Type 0
 AreSeconds otherwise None seconds = seconds ≡ otherwise
 AreSeconds otherwise (Some word) seconds = Spells 86400 word seconds
 
--- the word is the name of this format; where no word is given it is text
+-- the word is the name of this format; if no word is given, it is text
 abbrev pub IsLogFormat : Option Text → LogFormat → Type 0
 IsLogFormat None format = format ≡ TextLines
 IsLogFormat (Some word) TextLines = word ≡ codes "text"
@@ -247,7 +244,7 @@ IsPublish found Make = ⊥
 IsPublish found (Simulate limit) = ⊥
 IsPublish found (Serve service) = ⊥
 
--- what is asked can be done
+-- the request can be answered
 abbrev pub CanDo : Request → Type 0
 CanDo (Eval table wanted) = Unit {0}
 CanDo Show = Unit {0}
@@ -257,36 +254,36 @@ CanDo (Simulate limit) = IsWithin limit
 CanDo (Serve service) = IsWithin service.limit
 CanDo (Publish feed) = IsWithin feed.limit
 
--- what clap takes from the words is `eval` with its arguments
+-- what clap parses is `eval` with its arguments
 pub record TakesEval (taken : Option (Text × List Row)) (word : Text) (wanted : RowOutput) : Type 0 where
   pub found : List Row
   pub is : taken ≡ Some (codes "eval", found)
   pub arguments : HasArguments found word wanted
 
--- what clap takes from the words is the subcommand of this name
+-- what clap parses is the subcommand of this name
 pub record Takes (taken : Option (Text × List Row)) (name : Text) : Type 0 where
   pub found : List Row
   pub is : taken ≡ Some (name, found)
 
--- what clap takes from the words is `check` with its argument
+-- what clap parses is `check` with its argument
 pub record TakesCheck (taken : Option (Text × List Row)) (shows : Bool) : Type 0 where
   pub found : List Row
   pub is : taken ≡ Some (codes "check", found)
   pub argument : HasShow found shows
 
--- what clap takes from the words is `simulate` with its argument
+-- what clap parses is `simulate` with its argument
 pub record TakesSimulate (taken : Option (Text × List Row)) (limit : ℕ) : Type 0 where
   pub found : List Row
   pub is : taken ≡ Some (codes "simulate", found)
   pub argument : HasLimit found limit
 
--- what clap takes from the words is `serve` with its arguments
+-- what clap parses is `serve` with its arguments
 pub record TakesServe (taken : Option (Text × List Row)) (service : Service) : Type 0 where
   pub found : List Row
   pub is : taken ≡ Some (codes "serve", found)
   pub arguments : IsService found service
 
--- what clap takes from the words is `publish` with its arguments
+-- what clap parses is `publish` with its arguments
 pub record TakesPublish (taken : Option (Text × List Row)) (feed : Feed) : Type 0 where
   pub found : List Row
   pub is : taken ≡ Some (codes "publish", found)
@@ -301,27 +298,27 @@ IsTaken taken (Simulate limit) = TakesSimulate taken limit
 IsTaken taken (Serve service) = TakesServe taken service
 IsTaken taken (Publish feed) = TakesPublish taken feed
 
--- clap finds no fault in the words, and what it takes is the request
+-- clap finds no fault in the arguments, and what it parses is the request
 pub record IsRequest (words : List Text) (request : Request) : Type 0 where
   pub faultless : fault_of pgshard words ≡ []
   pub taken : IsTaken (subcommand_of pgshard words) request
 
 -- ---- what else the words may be
 
--- The words ask for the help or the version.
--- To the word help clap answers with the help, or that there is no such subcommand.
+-- The arguments request the help or the version. To the argument help, clap answers with the help, or that there is no
+-- such subcommand.
 abbrev pub AsksHelp : List Text → Type 0
 AsksHelp words = IsAmong kind.DisplayHelp (fault_of pgshard words) ⊎ IsAmong kind.DisplayVersion
     (fault_of pgshard words)
 
--- clap finds this fault in the words, which is no call for the help or the version
+-- clap finds this fault in the arguments, which do not request the help or the version
 pub record IsFaulty (words : List Text) : Type 0 where
   pub found : ErrorKind
   pub is : IsAmong found (fault_of pgshard words)
   pub no_help : found ≢ kind.DisplayHelp
   pub no_version : found ≢ kind.DisplayVersion
 
--- clap finds no fault in the words, and they ask nothing that can be done
+-- clap finds no fault in the arguments, and they request nothing that can be answered
 pub record AsksNothing (words : List Text) : Type 0 where
   pub faultless : fault_of pgshard words ≡ []
   pub nothing : (request : Request) → IsTaken (subcommand_of pgshard words) request → ⊥
@@ -333,7 +330,7 @@ abbrev pub IsAsking : List Text → Invocation → Type 0
 IsAsking words (Help text) = AsksHelp words
 IsAsking words (Answer request) = IsRequest words request
 
--- reading the words stops because they ask nothing, or for want of memory
+-- parsing fails because the arguments are a usage error, or memory ran out
 abbrev pub IsOfWords : List Text → Failure → Type 0
 IsOfWords words (f.CommandLine text) = IsMisworded words
 IsOfWords words f.OutOfMemory = Unit {0}
@@ -341,7 +338,7 @@ IsOfWords words _ = ⊥
 
 -- ---- an error of clap
 
--- it is a call for the help or the version
+-- it is a request for the help or the version
 abbrev pub IsHelpKind : ErrorKind → Type 0
 IsHelpKind found = (found ≡ kind.DisplayHelp) ⊎ (found ≡ kind.DisplayVersion)
 
@@ -349,7 +346,7 @@ abbrev pub IsHelp : Invocation → Type 0
 IsHelp (Help text) = Unit {0}
 IsHelp (Answer request) = ⊥
 
--- it is a fault of the words, or want of memory
+-- it is a usage error, or out of memory
 abbrev pub IsOfError : ErrorKind → Failure → Type 0
 IsOfError found (f.CommandLine text) = (found ≢ kind.OutOfMemory) × (found ≢ kind.DisplayHelp)
     × (found ≢ kind.DisplayVersion)

@@ -1,4 +1,4 @@
--- What becomes of the words of a command line: they are answered, or somebody has to serve; and how a run finishes.
+-- What a command line leads to: it is answered, or it requests to serve; and how a run finishes.
 use Rattle.std.specs.Prelude.{◌≡◌, ℕ, Bool, false, List, Option, Result}
 use Rattle.cli.specs.CommandLine.{IsRequest}
 use Rattle.cli.specs.Outcomes.{NumberSaysFault}
@@ -12,7 +12,7 @@ use Rattle.commands.specs.declared.failure.Failure.{Failure}
 use Rattle.commands.specs.declared.failure.Failure.TheVariants as f
 use Rattle.commands.specs.declared.failure.Status.{Status}
 
--- the words ask this, for which somebody has to serve, the input is as it was, and nothing is written
+-- the arguments request this, which is to serve; the input is unchanged, and nothing is written
 pub record IsToServe {I : Type 0} (words : List (List ℕ)) (input left : I) (old new : Option (List ℕ))
     (request : Request) : Type 0 where
   pub asks : IsRequest words request
@@ -20,19 +20,19 @@ pub record IsToServe {I : Type 0} (words : List (List ℕ)) (input left : I) (ol
   pub unread : left ≡ input
   pub unwritten : new ≡ old
 
--- where they are answered, it is as well whether anybody serves
+-- an answer is right whether or not the program can serve
 abbrev pub IsCourse : {I : Type 0} → List (List ℕ) → Bool → Option (List ℕ) → I → Option (List ℕ) → Option (List ℕ)
     → Course I → Type 0
 IsCourse words may_fail known input old new (c.Ended ending) =
     (serves : Bool) → IsEnding serves words may_fail known old new ending
 IsCourse words may_fail known input old new (c.Serve request left) = IsToServe words input left old new request
 
--- whether the writer fails; it does not where somebody has to serve
+-- whether the writer fails; it does not if the request is to serve
 abbrev pub CourseSaysFault : {I : Type 0} → Bool → Bool → Course I → Type 0
 CourseSaysFault old new (c.Ended ending) = EndsByFault old new ending
 CourseSaysFault old new (c.Serve request left) = new ≡ old
 
--- from any ending on, what is written is right for what was asked
+-- after any ending, what is written is right for the request
 abbrev pub Concludes : Result Status Failure → Option (List ℕ) → Option (List ℕ) → Status → Type 0
 Concludes ending mid new status =
     (serves : Bool) (words : List (List ℕ)) (may_fail : Bool) (known old : Option (List ℕ))
@@ -51,7 +51,7 @@ Finishes ending mid new number =
 abbrev pub FinishesFault : Result Status Failure → Bool → Bool → ℕ → Type 0
 FinishesFault ending mid new number = (old : Bool) → EndsByFault old mid ending → NumberSaysFault old new number
 
--- that nobody serves is told as a fault of the command line, or memory ran out
+-- a request to serve is reported as a usage error, or memory ran out
 abbrev pub IsUnserved : Failure → Type 0
 IsUnserved (f.CommandLine why) = Unit {0}
 IsUnserved f.OutOfMemory = Unit {0}

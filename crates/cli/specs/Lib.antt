@@ -1,6 +1,7 @@
 pub mod CommandLine
 pub mod Connections
 pub mod Courses
+pub mod Incoming
 pub mod Lines
 pub mod Outcomes
 pub mod Published

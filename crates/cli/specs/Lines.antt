@@ -1,10 +1,10 @@
--- An input that is read as it comes, by lines: a line counts once its newline has come. Two lines that are exactly `%%`
--- separate the lines of a catalog, those of certificates, and those of commands. The format is this program's own.
+-- An input that is read as it arrives, by lines: a line counts when its newline has arrived. Two lines that are exactly
+-- `%%` separate the lines of a catalog, those of certificates, and those of commands. The format is this program's own.
 use Rattle.std.specs.Prelude.{◌≡◌, ◌≢◌, ℕ, Bool, true, false, if◌then◌else◌, List, [], ◌∷◌, ◌++◌, All, Option, Some, None, IfSome, codes}
-use Rattle.std.specs.Io.{StopsAt}
 use Rattle.std.specs.Io.KnownBytes.{Consumes, IsAtEnd}
 use Rattle.std.specs.Option.{option_map}
-use Rattle.commands.specs.Output.{text_of}
+use Rattle.commands.specs.Inputs.{IsUnread}
+use Rattle.commands.specs.Output.{ended, text_of}
 use Rattle.commands.specs.Parts.{is_newline, is_separator}
 use Rattle.commands.specs.declared.failure.Failure.{Failure}
 use Rattle.commands.specs.declared.failure.Failure.TheVariants as f
@@ -62,11 +62,6 @@ parts_of lines = parts_by (cut_lines lines)
 abbrev pub IsPlain : List ℕ → Type 0
 IsPlain line = All (λ byte. byte ≢ 10) line
 
--- a newline was cut off, or there was none at the end, so that there is none where only the last byte may be one
-abbrev pub Cuts : List ℕ → List ℕ → Bool → Type 0
-Cuts old new true = old ≡ new ++ 10 ∷ []
-Cuts old new false = StopsAt old 10 → IsPlain old
-
 -- a line was read with its newline
 pub record ReadsLine (old new : Option (List ℕ)) (line : List ℕ) : Type 0 where
   pub consumed : Consumes old new (line ++ 10 ∷ [])
@@ -87,6 +82,19 @@ IsNext old new line false = ReadsLast old new
 pub record ReadsSome (old new : Option (List ℕ)) : Type 0 where
   pub bytes : List ℕ
   pub consumed : Consumes old new bytes
+
+-- no line is read because memory ran out, or the reader, which may fail, failed
+abbrev pub StopsLine : Bool → Failure → Type 0
+StopsLine may_fail f.OutOfMemory = Unit {0}
+StopsLine may_fail (f.Input i.Unread) = may_fail ≡ true
+StopsLine may_fail _ = ⊥
+
+-- Why nothing after these bytes is answered: they are the line `QUIT;`; or nothing is left, and they are no line; or the
+-- reader may fail.
+pub data AreLast (may_fail : Bool) (old new : Option (List ℕ)) (bytes : List ℕ) : Type 0 where
+  Quits : bytes ≡ ended (codes "QUIT;") → AreLast may_fail old new bytes
+  Ends : IsPlain bytes → IfSome old (λ all. IsAtEnd new) → AreLast may_fail old new bytes
+  Fails : may_fail ≡ true → AreLast may_fail old new bytes
 
 -- no line is `%%`
 abbrev pub HasNoSeparator : List (List ℕ) → Type 0
@@ -110,8 +118,9 @@ pub record LacksPart (old new : Option (List ℕ)) : Type 0 where
   pub whole : HasNoSeparator lines
   pub at_end : IfSome old (λ bytes. IsAtEnd new)
 
-abbrev pub StopsPart : Option (List ℕ) → Option (List ℕ) → Failure → Type 0
-StopsPart old new (f.Input i.Parts) = LacksPart old new
-StopsPart old new (f.Input i.Unread) = Unit {0}
-StopsPart old new f.OutOfMemory = Unit {0}
-StopsPart old new _ = ⊥
+-- a part is not read: its end is missing, the input cannot be read, or memory ran out
+abbrev pub StopsPart : Bool → Option (List ℕ) → Option (List ℕ) → Failure → Type 0
+StopsPart may_fail old new (f.Input i.Parts) = LacksPart old new
+StopsPart may_fail old new (f.Input i.Unread) = IsUnread may_fail old
+StopsPart may_fail old new f.OutOfMemory = Unit {0}
+StopsPart may_fail old new _ = ⊥

@@ -1,5 +1,5 @@
--- What a run writes, and its exit status: an output that is right for what is asked of an input, or where a write fails
--- the first bytes of one. The format is this program's own.
+-- What a run writes, and its exit status: an output that is right for a request and an input, or a prefix of one if a
+-- write fails. The format is this program's own.
 use Rattle.std.specs.Prelude.{◌≡◌, ◌≢◌, ℕ, ◌⊎◌, Bool, true, List, [], ◌∷◌, ◌++◌, Option, Result, Ok, Err, codes}
 use Rattle.std.specs.Io.KnownBytes.{Appends}
 use Rattle.commands.specs.Failures.{fault_line, number_of}
@@ -11,8 +11,8 @@ use Rattle.commands.specs.declared.failure.InputFault.TheVariants as i
 use Rattle.commands.specs.declared.failure.Status.{Status}
 use Rattle.commands.specs.declared.failure.Status.TheVariants.{Done, Refused, CommandLine, Input, Output, OutOfMemory}
 
--- What is asked: which lines answer it with which status, which lines begin such an answer, which faults the input has,
--- and that it can't be read; or that the help or the version is asked; or nothing that can be done.
+-- A request: which lines answer it with which status, which lines begin such an answer, which faults the input has, and
+-- that it cannot be read; or a request for the help or the version; or a usage error.
 pub record Asked : Type 1 where
   pub Answers : List (List ℕ) → Status → Type 0
   pub Begins : List (List ℕ) → Type 0
@@ -35,10 +35,10 @@ module _ (asked : Asked) where
   IsReason (i.Certificate line error) = asked.HasFault (i.Certificate line error)
   IsReason (i.Script error) = asked.HasFault (i.Script error)
 
-  -- ---- the right outputs, where no write fails
+  -- ---- the right outputs, if no write fails
 
-  -- Status 0 or 1: the answer. 0: some text, where the help or the version is asked. 2: a line, and some text. 3: the
-  -- line of a fault of the input. 5: no line of the answer or its first ones, and the line of want of memory.
+  -- Status 0 or 1: the answer. 0: some text, if the help or the version is requested. 2: a line, and some text. 3: the
+  -- line of a fault of the input. 5: no line of the answer or its first ones, and the line `out of memory`.
   pub data IsOutput : Status → List ℕ → Type 0 where
     Answered : (lines : List (List ℕ)) (status : Status) → asked.Answers lines status
         → IsOutput status (text_of lines)
@@ -61,7 +61,7 @@ module _ (asked : Asked) where
     pub is : IsOutput status text
     pub first : WritesFirst text old new
 
-  -- where a write fails, the first bytes of an output, and else the whole of one that is right for the status
+  -- if a write fails, a prefix of an output, and otherwise all of one that is right for the status
   abbrev pub IsOutcome : Option (List ℕ) → Option (List ℕ) → Status → Type 0
   IsOutcome old new Output = WritesFirstOutput old new
   IsOutcome old new Done = WritesOutput old new Done
@@ -83,7 +83,7 @@ module _ (asked : Asked) where
     pub begun : IsCutShort lines
     pub appends : Appends old new (text_of lines)
 
-  -- what is written when an answer or a failure is known, before the failure's own lines
+  -- what is written before the lines of a failure
   abbrev pub IsEnding : Option (List ℕ) → Option (List ℕ) → Result Status Failure → Type 0
   IsEnding old new (Ok status) = WritesOutput old new status
   IsEnding old new (Err (f.CommandLine text)) = asked.IsMisworded × (new ≡ old)
@@ -93,6 +93,6 @@ module _ (asked : Asked) where
 
 -- ---- whether the writer fails
 
--- with the number of a failed write the writer has failed, and with another one that is as it was
+-- with the number of a failed write, the writer has failed; with another one, this is unchanged
 abbrev pub NumberSaysFault : Bool → Bool → ℕ → Type 0
 NumberSaysFault old new number = (number ≡ 4 → new ≡ true) × (number ≢ 4 → new ≡ old)

@@ -1,7 +1,7 @@
 -- What `publish` answers: its input has the lines of a catalog, those of the certificates of its tables, and those of
--- commands, each of which is answered when it has come, while the subscribers are served. The format is this program's
--- own.
-use Rattle.std.specs.Prelude.{◌≡◌, ◌⊎◌, ℕ, List, [], ◌∷◌, ◌++◌, is_none, false, length, Option, Some, None, Ok, Result, codes}
+-- commands, each of which is answered when it has arrived, while the subscribers are served. The format is this
+-- program's own.
+use Rattle.std.specs.Prelude.{◌≡◌, ◌⊎◌, ℕ, Bool, List, [], ◌∷◌, ◌++◌, is_none, true, false, length, Option, Some, None, Ok, Result, codes}
 use Rattle.std.specs.Io.KnownBytes.{Appends}
 use Rattle.std.specs.Option.{option_map}
 use Rattle.filter_tree.specs.Expr.{Expr}
@@ -33,7 +33,7 @@ use Rattle.commands.specs.declared.failure.Status.{Status}
 use Rattle.commands.specs.declared.failure.Status.TheVariants.{Done, Refused}
 use Rattle.cli.specs.Lines.{LineParts, ended_lines, parts_of}
 use Rattle.cli.specs.Serving.{IsRefusal}
-use Rattle.cli.specs.Talks.{AreAnswered, AreNotes, Conversation}
+use Rattle.cli.specs.Talks.{AreAnswered, AreLastFor, AreNotes, Conversation}
 use Rattle.cli.specs.Telling.{closed_line, first_lines, name_of}
 use Rattle.cli.specs.declared.publish.door.Door.{Door}
 use Rattle.cli.specs.declared.requests.Feed.{Feed}
@@ -41,8 +41,8 @@ use Rattle.cli.specs.declared.requests.Feed.{Feed}
 -- ---- how it ends
 
 module _ (checked : CheckedOf) (limit : ℕ) (notes : List Note) where
-  -- The last line: the publisher was closed with the session's seat, one of 1,000, which has these notes, and with what
-  -- came of the connections; or why it was not.
+  -- The last line: the publisher was closed with the session's seat, one of 1,000, which has these notes, and with the
+  -- results of the connections; or why it was not.
   pub data IsLast : List ℕ → Status → Type 0 where
     Closed : (served : List Served) (book : Book) → IsClosed checked limit (notes ∷ []) served book
         → IsLast (closed_line (length (book_log book)) (length served)) Done
@@ -50,11 +50,11 @@ module _ (checked : CheckedOf) (limit : ℕ) (notes : List Note) where
         → RefusedClose checked limit 1000 999 (notes ∷ []) served error → name_of error ≡ Some name
         → IsLast (codes "close " ++ name) Refused
 
-  -- whatever name the error has, the line with it is a last one
+  -- whatever name the error has, the line with it is a last line
   abbrev pub IsLastOf : CloseError → Type 0
   IsLastOf error = (name : List ℕ) → name_of error ≡ Some name → IsLast (codes "close " ++ name) Refused
 
-  -- the lines are a last one alone
+  -- the lines are a last line alone
   pub record IsClosing (lines : List (List ℕ)) (status : Status) : Type 0 where
     pub line : List ℕ
     pub are : lines ≡ line ∷ []
@@ -63,13 +63,13 @@ module _ (checked : CheckedOf) (limit : ℕ) (notes : List Note) where
   abbrev pub Closes : Option (List ℕ) → Option (List ℕ) → Result Status Failure → Type 0
   Closes old new result = Writes IsClosing (λ lines. lines ≡ []) old new result
 
--- ---- what is told
+-- ---- what is written
 
--- the port that is listened on is the one that is asked for, or any where 0 is
+-- the port is the requested one, or any if 0 was requested
 abbrev pub IsPortFor : ℕ → ℕ → Type 0
 IsPortFor asked port = (asked ≡ 0) ⊎ (port ≡ asked)
 
--- callers are listened for where that is asked for, on the port that is asked for, or any where 0 is
+-- there is a port for callers if one was requested: that one, or any if 0 was requested
 abbrev pub AreCallersAt : Option ℕ → Option ℕ → Type 0
 AreCallersAt None None = Unit {0}
 AreCallersAt None (Some port) = ⊥
@@ -86,9 +86,21 @@ pub record IsTalk (catalog : CatalogOf Expr) (limit : ℕ) (commands answers : L
   pub unsaid : List (List ℕ)
   pub notes : List Note
   pub first : commands ≡ said ++ unsaid
-  pub answered : AreAnswered (checked_by catalog) limit said answers notes
+  pub answered : AreAnswered (checked_by catalog) limit [] said answers notes
 
--- That it listens, and those answers. If commands come from callers, it is their lines of which the session keeps notes.
+-- Why lines of commands are not answered: there are none, the first is `QUIT;`, or the reader may fail.
+pub data AreUnanswered (may_fail : Bool) : List (List ℕ) → Type 0 where
+  NoneLeft : AreUnanswered may_fail []
+  AfterQuit : (later : List (List ℕ)) → AreUnanswered may_fail (codes "QUIT;" ∷ later)
+  MayFail : (lines : List (List ℕ)) → may_fail ≡ true → AreUnanswered may_fail lines
+
+-- no further line of commands has an answer, unless commands come from callers at a port
+abbrev pub AreUnansweredFor : Option ℕ → Bool → List (List ℕ) → Type 0
+AreUnansweredFor None may_fail lines = AreUnanswered may_fail lines
+AreUnansweredFor (Some port) may_fail lines = Unit {0}
+
+-- That it listens, and those answers. If commands come from callers, it is their lines of which the session keeps
+-- notes.
 pub record HasToldFirst (feed : Feed) (catalog : CatalogOf Expr) (commands : List (List ℕ)) (lines : List (List ℕ)) :
     Type 0 where
   pub port : ℕ
@@ -98,26 +110,28 @@ pub record HasToldFirst (feed : Feed) (catalog : CatalogOf Expr) (commands : Lis
   pub port_is : IsPortFor feed.port port
   pub callers_are : AreCallersAt feed.commands callers
   pub talk : IsTalk catalog feed.limit commands answers
-  pub notes_are : AreNotes (checked_by catalog) feed.limit callers answers talk.notes notes
+  pub notes_are : AreNotes (checked_by catalog) feed.limit [] callers answers talk.notes notes
   pub are : lines ≡ first_lines port callers ++ answers
 
--- and a last line
-pub record HasTold (feed : Feed) (catalog : CatalogOf Expr) (commands : List (List ℕ)) (lines : List (List ℕ))
-    (status : Status) : Type 0 where
+-- the answers to all lines of commands, and a last line
+pub record HasTold (may_fail : Bool) (feed : Feed) (catalog : CatalogOf Expr) (commands : List (List ℕ))
+    (lines : List (List ℕ)) (status : Status) : Type 0 where
   pub earlier : List (List ℕ)
   pub line : List ℕ
   pub first : HasToldFirst feed catalog commands earlier
+  pub unanswered : AreUnansweredFor first.callers may_fail first.talk.unsaid
   pub last : IsLast (checked_by catalog) feed.limit first.notes line status
   pub are : lines ≡ earlier ++ line ∷ []
 
 -- ---- what is answered
 
--- there is no reason to refuse the sharding, it is sound, and the subscribers are served while the commands are answered
-pub record IsServed (feed : Feed) (catalog : CatalogOf Expr) (trees : List Tree) (commands : List (List ℕ))
-    (lines : List (List ℕ)) (status : Status) : Type 0 where
+-- there is no reason to refuse the sharding, it is sound, and the subscribers are served while the commands are
+-- answered
+pub record IsServed (may_fail : Bool) (feed : Feed) (catalog : CatalogOf Expr) (trees : List Tree)
+    (commands : List (List ℕ)) (lines : List (List ℕ)) (status : Status) : Type 0 where
   pub sound : IsSound catalog
   pub unrefused : IsFirstRefusal catalog trees None
-  pub told : HasTold feed catalog commands lines status
+  pub told : HasTold may_fail feed catalog commands lines status
 
 -- the input has three parts, the first is a catalog, and each line of the second is a certificate
 pub record IsHead (input : List ℕ) (catalog : CatalogOf Expr) (parts : LineParts) : Type 0 where
@@ -125,18 +139,21 @@ pub record IsHead (input : List ℕ) (catalog : CatalogOf Expr) (parts : LinePar
   pub reads : catalog_by as_filter (text_of parts.catalog) ≡ Ok catalog
   pub certificates : text_fault 1 parts.certificates ≡ None
 
-pub record IsPublished (feed : Feed) (input : List ℕ) (lines : List (List ℕ)) (status : Status) : Type 0 where
+pub record IsPublished (may_fail : Bool) (feed : Feed) (input : List ℕ) (lines : List (List ℕ)) (status : Status) :
+    Type 0 where
   pub catalog : CatalogOf Expr
   pub parts : LineParts
   pub head : IsHead input catalog parts
-  pub result : IsServed feed catalog (trees_in parts.certificates) parts.commands lines status
+  pub result : IsServed may_fail feed catalog (trees_in parts.certificates) parts.commands lines status
       ⊎ IsRefusal catalog (trees_in parts.certificates) lines status
 
--- the first lines of such an answer are written
+-- the sharding is sound, and the first lines of such an answer are written
 pub record HasListened (feed : Feed) (input : List ℕ) (lines : List (List ℕ)) : Type 0 where
   pub catalog : CatalogOf Expr
   pub parts : LineParts
   pub head : IsHead input catalog parts
+  pub sound : IsSound catalog
+  pub unrefused : IsFirstRefusal catalog (trees_in parts.certificates) None
   pub first : HasToldFirst feed catalog parts.commands lines
 
 abbrev pub IsBegun : Feed → List ℕ → List (List ℕ) → Type 0
@@ -167,8 +184,9 @@ IsFault input (i.Script error) = ⊥
 
 -- ---- what is written
 
-abbrev pub EndsPublishing : Feed → List ℕ → Option (List ℕ) → Option (List ℕ) → Result Status Failure → Type 0
-EndsPublishing feed input old new result = Ends (IsPublished feed input) (IsBegun feed input) (IsFault input) old new result
+abbrev pub EndsPublishing : Bool → Feed → List ℕ → Option (List ℕ) → Option (List ℕ) → Result Status Failure → Type 0
+EndsPublishing may_fail feed input old new result =
+    Ends (IsPublished may_fail feed input) (IsBegun feed input) (IsFault input) old new result
 
 -- ---- what is served of a reader
 
@@ -182,23 +200,24 @@ module _ (feed : Feed) (checked : CheckedOf) (before after : Option (List ℕ)) 
     pub notes : List Note
     pub port_is : IsPortFor feed.port port
     pub callers_are : AreCallersAt feed.commands callers
-    pub conversation : Conversation checked feed.limit before after answers own
-    pub notes_are : AreNotes checked feed.limit callers answers own notes
+    pub conversation : Conversation checked feed.limit [] before after answers own
+    pub notes_are : AreNotes checked feed.limit [] callers answers own notes
     pub are : lines ≡ first_lines port callers ++ answers
 
-  -- and a last line
-  pub record HasClosed (lines : List (List ℕ)) (status : Status) : Type 0 where
+  -- the answers to all that could be read, and a last line
+  pub record HasClosed (may_fail : Bool) (lines : List (List ℕ)) (status : Status) : Type 0 where
     pub earlier : List (List ℕ)
     pub line : List ℕ
     pub said : HasSaid earlier
+    pub all : AreLastFor said.callers may_fail before after said.conversation.more
     pub last : IsLast checked feed.limit said.notes line status
     pub are : lines ≡ earlier ++ line ∷ []
 
   abbrev pub MayHaveSaid : List (List ℕ) → Type 0
   MayHaveSaid lines = (lines ≡ []) ⊎ HasSaid lines
 
-  abbrev pub Serves : Option (List ℕ) → Option (List ℕ) → Result Status Failure → Type 0
-  Serves old new result = Writes HasClosed MayHaveSaid old new result
+  abbrev pub Serves : Bool → Option (List ℕ) → Option (List ℕ) → Result Status Failure → Type 0
+  Serves may_fail old new result = Writes (HasClosed may_fail) MayHaveSaid old new result
 
 -- ---- the ports
 
@@ -208,7 +227,7 @@ pub record Opens (feed : Feed) (port : ℕ) (callers : Option ℕ) (old new : Op
   pub callers_are : AreCallersAt feed.commands callers
   pub told : Appends old new (text_of (first_lines port callers))
 
--- or the lines are not written whole, for want of memory, a port, a file or the writer
+-- or not all of the lines are written, because memory ran out, or a port, the file or the writer failed
 pub record StopsTelling (feed : Feed) (old new : Option (List ℕ)) (failure : Failure) : Type 0 where
   pub port : ℕ
   pub callers : Option ℕ

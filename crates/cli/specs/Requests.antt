@@ -1,10 +1,9 @@
--- What the words of a command line ask of the input, and which lines answer it.
+-- What the arguments of a command line request, and which lines answer it.
 use Rattle.std.specs.Prelude.{◌≡◌, ℕ, ◌⊎◌, Bool, true, false, List, [], Option, IsErrAnd, Result}
 use Rattle.commands.specs.Check.Checking as checking
 use Rattle.cli.specs.CommandLine.{IsMisworded as IsMiswordedFor, IsRequest}
 use Rattle.cli.specs.Published as published
 use Rattle.cli.specs.Serving as serving
-use Rattle.cli.specs.Telling as telling
 use Rattle.commands.specs.Eval.Evaluation as evaluation
 use Rattle.commands.specs.Make.Making as making
 use Rattle.commands.specs.Inputs.{IsInput, IsOfReading, IsUnread}
@@ -19,26 +18,25 @@ use Rattle.commands.specs.declared.failure.Status.{Status}
 
 -- ---- of a request and its input
 
--- the lines are the whole answer, and the status says whether it is a refusal;
--- [] and 0 say that no row, table or step is left
-abbrev pub IsAnswer : Request → List ℕ → List (List ℕ) → Status → Type 0
-IsAnswer (Eval table wanted) input lines status = evaluation.IsEvaluation wanted input table.now [] lines status
-IsAnswer Show input lines status = showing.IsShowing input lines status
-IsAnswer (Check shows) input lines status = checking.IsCheck shows input lines status
-IsAnswer Make input lines status = making.IsMaking input 0 lines status
-IsAnswer (Simulate limit) input lines status = simulation.IsSimulation limit input [] lines status
-IsAnswer (Serve service) input lines status = serving.IsServing service input lines status
-IsAnswer (Publish feed) input lines status = published.IsPublished feed input lines status
+-- The lines are the whole answer, and the status says whether it is a refusal; [] and 0 say that no row, table or step is
+-- left. `may_fail` says whether reads may fail, since a read that fails ends the commands of `publish`.
+abbrev pub IsAnswer : Bool → Request → List ℕ → List (List ℕ) → Status → Type 0
+IsAnswer may_fail (Eval table wanted) input lines status = evaluation.IsEvaluation wanted input table.now [] lines status
+IsAnswer may_fail Show input lines status = showing.IsShowing input lines status
+IsAnswer may_fail (Check shows) input lines status = checking.IsCheck shows input lines status
+IsAnswer may_fail Make input lines status = making.IsMaking input 0 lines status
+IsAnswer may_fail (Simulate limit) input lines status = simulation.IsSimulation limit input [] lines status
+IsAnswer may_fail (Serve service) input lines status = serving.IsServing service input lines status
+IsAnswer may_fail (Publish feed) input lines status = published.IsPublished may_fail feed input lines status
 
--- there is no line yet, and nothing is said of the input;
--- or the lines are the first of an answer, and others are missing
+-- there is no line yet, and nothing is said of the input; or the lines are the first of an answer
 abbrev pub IsBegun : Request → List ℕ → List (List ℕ) → Type 0
 IsBegun (Eval table wanted) input lines = (lines ≡ []) ⊎ evaluation.IsBegunEvaluation wanted input table.now lines
 IsBegun Show input lines = lines ≡ []
 IsBegun (Check shows) input lines = lines ≡ []
 IsBegun Make input lines = (lines ≡ []) ⊎ making.IsBegunMaking input lines
 IsBegun (Simulate limit) input lines = (lines ≡ []) ⊎ simulation.IsBegunSimulation limit input lines
-IsBegun (Serve service) input lines = telling.IsBegun service.port lines
+IsBegun (Serve service) input lines = serving.IsBegun service input lines
 IsBegun (Publish feed) input lines = published.IsBegun feed input lines
 
 -- the input has this fault
@@ -53,13 +51,13 @@ IsFault (Publish feed) input fault = published.IsFault input fault
 
 -- the request is answered of this input, as far as memory and the writer go, or the input has a fault and nothing is
 -- written
-abbrev pub EndsRequest : Request → List ℕ → Option (List ℕ) → Option (List ℕ) → Result Status Failure → Type 0
-EndsRequest request input old new result =
-    Ends (IsAnswer request input) (IsBegun request input) (IsFault request input) old new result
+abbrev pub EndsRequest : Bool → Request → List ℕ → Option (List ℕ) → Option (List ℕ) → Result Status Failure → Type 0
+EndsRequest may_fail request input old new result =
+    Ends (IsAnswer may_fail request input) (IsBegun request input) (IsFault request input) old new result
 
 -- ---- whether it can be served
 
--- `serve` and `publish` are answered only by what can serve
+-- `serve` and `publish` are answered only by a program that can serve
 abbrev pub CanServe : Bool → Request → Type 0
 CanServe serves (Serve service) = serves ≡ true
 CanServe serves (Publish feed) = serves ≡ true
@@ -72,40 +70,35 @@ CanServe serves (Simulate limit) = Unit {0}
 -- ---- of a reader
 
 -- what the reader gave is answered
-pub record AnswersInput (request : Request) (known old new : Option (List ℕ)) (result : Result Status Failure) : Type 0
-  where
-    pub input : List ℕ
-    pub given : IsInput known input
-    pub ends : EndsRequest request input old new result
-
--- `publish` reads its input as it comes, over a buffer that doesn't tell why a read of it failed
-abbrev pub may_fail_for : Request → Bool → Bool
-may_fail_for (Publish feed) may_fail = true
-may_fail_for request may_fail = may_fail
+pub record AnswersInput (may_fail : Bool) (request : Request) (known old new : Option (List ℕ))
+    (result : Result Status Failure) : Type 0 where
+  pub input : List ℕ
+  pub given : IsInput known input
+  pub ends : EndsRequest may_fail request input old new result
 
 -- or reading it stopped, and nothing is written
 abbrev pub AnswersReader : Request → Bool → Option (List ℕ) → Option (List ℕ) → Option (List ℕ) → Result Status Failure
     → Type 0
 AnswersReader request may_fail known old new result =
-    AnswersInput request known old new result
-    ⊎ (IsErrAnd result (IsOfReading (may_fail_for request may_fail) known) × (new ≡ old))
+    AnswersInput may_fail request known old new result
+    ⊎ (IsErrAnd result (IsOfReading may_fail known) × (new ≡ old))
 
 -- ---- of the words and what the reader gives
 
--- `serves` says whether what is asked may be to serve
+-- `serves` says whether the program can serve
 module _ (serves : Bool) (words : List (List ℕ)) (known : Option (List ℕ)) where
-  -- what is asked, and of which input
+  -- what is requested, of which input
   pub record IsAsked (request : Request) (input : List ℕ) : Type 0 where
     pub asks : IsRequest words request
     pub can : CanServe serves request
     pub given : IsInput known input
 
-  -- the lines answer what the words ask of the input
-  pub record AnswersWords (lines : List (List ℕ)) (status : Status) : Type 0 where
+  -- the lines answer what the arguments request of the input
+  pub record AnswersWords (may_fail : Bool) (lines : List (List ℕ)) (status : Status) : Type 0 where
     pub request : Request
     pub input : List ℕ
     pub asked : IsAsked request input
-    pub answer : IsAnswer request input lines status
+    pub answer : IsAnswer may_fail request input lines status
 
   -- the lines begin such an answer
   pub record BeginsWords (lines : List (List ℕ)) : Type 0 where
@@ -114,30 +107,30 @@ module _ (serves : Bool) (words : List (List ℕ)) (known : Option (List ℕ)) w
     pub asked : IsAsked request input
     pub begun : IsBegun request input lines
 
-  -- the input of which the words ask has this fault
+  -- the input has this fault
   pub record HasFault (fault : InputFault) : Type 0 where
     pub request : Request
     pub input : List ℕ
     pub asked : IsAsked request input
     pub is : IsFault request input fault
 
--- the words ask something of an input, and the input that the reader gives can't be read
+-- the arguments request something of an input, and the reader's input cannot be read
 pub record LacksInput (serves : Bool) (words : List (List ℕ)) (may_fail : Bool) (known : Option (List ℕ)) : Type 0 where
   pub request : Request
   pub asks : IsRequest words request
   pub can : CanServe serves request
-  pub unread : IsUnread (may_fail_for request may_fail) known
+  pub unread : IsUnread may_fail known
 
--- the words ask to serve
+-- the arguments request to serve
 pub record AsksSockets (words : List (List ℕ)) : Type 0 where
   pub request : Request
   pub asks : IsRequest words request
   pub needs : CanServe false request → ⊥
 
--- and nobody can
+-- but the program cannot
 abbrev pub AsksToServe : Bool → List (List ℕ) → Type 0
 AsksToServe serves words = (serves ≡ false) × AsksSockets words
 
--- the words ask nothing, or nothing that can be done
+-- the arguments are a usage error, or request what the program cannot do
 abbrev pub IsMisworded : Bool → List (List ℕ) → Type 0
 IsMisworded serves words = IsMiswordedFor words ⊎ AsksToServe serves words

@@ -1,5 +1,5 @@
--- What a run of the program writes, and its exit status: an output that is right for the words of its command line
--- and for its input, or where the writer or a socket fails the first bytes of one.
+-- What a run of the program writes, and its exit status: an output that is right for its arguments and its input, or a
+-- prefix of one if the writer or a socket fails.
 use Rattle.std.specs.Prelude.{ℕ, Bool, List, Option, Result}
 use Rattle.cli.specs.CommandLine.{AsksHelp}
 use Rattle.cli.specs.Outcomes as outcomes
@@ -8,10 +8,10 @@ use Rattle.cli.specs.Requests.{AnswersWords, BeginsWords, HasFault, IsMisworded,
 use Rattle.commands.specs.declared.failure.Failure.{Failure}
 use Rattle.commands.specs.declared.failure.Status.{Status}
 
--- what the words ask of what the reader gives, which may fail or not, with `serve` or without it
+-- what the arguments request of a reader, which may fail or not, in a program that can serve or not
 abbrev pub asking : Bool → List (List ℕ) → Bool → Option (List ℕ) → Asked
 asking serves words may_fail known = record {
-  Answers = AnswersWords serves words known;
+  Answers = AnswersWords serves words known may_fail;
   Begins = BeginsWords serves words known;
   HasFault = HasFault serves words known;
   IsUnread = LacksInput serves words may_fail known;
@@ -20,7 +20,7 @@ asking serves words may_fail known = record {
 }
 
 module _ (serves : Bool) (words : List (List ℕ)) (may_fail : Bool) (known : Option (List ℕ)) where
-  -- where the writer fails, the first bytes of an output, and else the whole of one that is right for the status
+  -- if the writer fails, a prefix of an output, and otherwise all of one that is right for the status
   abbrev pub IsOutcome : Option (List ℕ) → Option (List ℕ) → Status → Type 0
   IsOutcome old new status = outcomes.IsOutcome (asking serves words may_fail known) old new status
 
@@ -28,6 +28,6 @@ module _ (serves : Bool) (words : List (List ℕ)) (may_fail : Bool) (known : Op
   abbrev pub IsRun : Option (List ℕ) → Option (List ℕ) → ℕ → Type 0
   IsRun old new number = outcomes.IsRun (asking serves words may_fail known) old new number
 
-  -- what is written when an answer or a failure is known, before the failure's own lines
+  -- what is written before the lines of a failure
   abbrev pub IsEnding : Option (List ℕ) → Option (List ℕ) → Result Status Failure → Type 0
   IsEnding old new result = outcomes.IsEnding (asking serves words may_fail known) old new result

@@ -17,7 +17,7 @@ abbrev pub is_commit : StepOf → Bool
 is_commit (Commit commands) = true
 is_commit _ = false
 
--- the place of the first step that isn't COMMIT
+-- the place of the first step that is not COMMIT
 abbrev pub first_other : List LineOf → Option ℕ
 first_other [] = None
 first_other (line ∷ lines) = if is_commit line.step then first_other lines else Some line.place
@@ -43,14 +43,14 @@ pub record Commits (tables : List Table) (text : List ℕ) (lists : List (List C
   pub none : first_other steps ≡ None
   pub lists_are : lists ≡ lists_of steps
 
--- it is a script, and the error tells of the first step that isn't COMMIT: `Expected`, at its first word
+-- it is a script, and the error is that of the first step that is not COMMIT: `Expected`, at its first word
 pub record HasOther (tables : List Table) (text : List ℕ) (error : ReadError) : Type 0 where
   pub steps : List LineOf
   pub reads : script_by tables text ≡ Ok steps
   pub place : first_other steps ≡ Some error.place
   pub kind : kind_name error.kind ≡ codes "Expected"
 
--- reading the script stops for its fault, for another step than COMMIT, or for want of memory
+-- reading the script stops for its fault, a step other than COMMIT, or because memory ran out
 abbrev pub IsOfScript : List Table → List ℕ → Failure → Type 0
 IsOfScript tables text (f.Input (i.Script error)) =
     TellsScript (script_by tables text) error ⊎ HasOther tables text error

@@ -1,7 +1,7 @@
 -- What `serve` answers: the first part of its input is a catalog, the second has the texts of the certificates of its
--- tables, one a line, and the third is a script, each step of which is COMMIT. Where the sharding is sound, its
--- subscribers are served. The format is this project's own.
-use Rattle.std.specs.Prelude.{◌≡◌, ◌⊎◌, ℕ, List, Option, Some, None, Ok, Result}
+-- tables, one per line, and the third is a script, each step of which is COMMIT. If the sharding is sound, its
+-- subscribers are served. The format is this program's own.
+use Rattle.std.specs.Prelude.{◌≡◌, ◌⊎◌, ℕ, List, [], ◌∷◌, Option, Some, None, Ok, Result}
 use Rattle.filter_tree.specs.Expr.{Expr}
 use Rattle.pub_catalog.specs.Catalogs.{CatalogOf}
 use Rattle.pub_reader.specs.Statements.{catalog_by}
@@ -24,8 +24,8 @@ use Rattle.cli.specs.Scripts.{Commits, HasOther}
 use Rattle.cli.specs.Telling as telling
 use Rattle.cli.specs.declared.requests.Service.{Service}
 
--- there is no reason to refuse the sharding, it is sound, and the lines are that it listens and how it ended, where the
--- session commits these lists
+-- there is no reason to refuse the sharding, it is sound, the session commits these lists, and the lines are the first
+-- line and the last one
 pub record AreServed (service : Service) (catalog : CatalogOf Expr) (trees : List Tree) (lists : List (List Command))
     (lines : List (List ℕ)) (status : Status) : Type 0 where
   pub sound : IsSound catalog
@@ -51,8 +51,24 @@ pub record IsServing (service : Service) (input : List ℕ) (lines : List (List 
   pub result : AreServed service catalog (trees_in (lines_of cut.second)) lists lines status ⊎ IsRefusal catalog
       (trees_in (lines_of cut.second)) lines status
 
+-- Such an input has a sound sharding, and the line that it listens is written, but not how it ended.
+pub record HasListened (service : Service) (input : List ℕ) (lines : List (List ℕ)) : Type 0 where
+  pub cut : CutTwice
+  pub catalog : CatalogOf Expr
+  pub parts : three_parts input ≡ Some cut
+  pub reads : catalog_by as_filter cut.first ≡ Ok catalog
+  pub certificates : text_fault 1 (lines_of cut.second) ≡ None
+  pub lists : List (List Command)
+  pub script : Commits catalog.tables cut.third lists
+  pub sound : IsSound catalog
+  pub unrefused : IsFirstRefusal catalog (trees_in (lines_of cut.second)) None
+  pub are : lines ≡ telling.listening_line service.port ∷ []
+
+abbrev pub IsBegun : Service → List ℕ → List (List ℕ) → Type 0
+IsBegun service input lines = (lines ≡ []) ⊎ HasListened service input lines
+
 -- the first is a catalog, each line of the second is a certificate, and the third is a script of its tables, whose
--- step at this place is the first that isn't COMMIT
+-- first step that is not COMMIT is at this place
 pub record IsOtherStep (input : List ℕ) (error : ReadError) : Type 0 where
   pub cut : CutTwice
   pub catalog : CatalogOf Expr
@@ -61,15 +77,15 @@ pub record IsOtherStep (input : List ℕ) (error : ReadError) : Type 0 where
   pub certificates : text_fault 1 (lines_of cut.second) ≡ None
   pub script : HasOther catalog.tables cut.third error
 
--- a step isn't COMMIT
+-- a step is not COMMIT
 abbrev pub IsOther : List ℕ → InputFault → Type 0
 IsOther input (i.Script error) = IsOtherStep input error
 IsOther input _ = ⊥
 
--- the input has this fault: one that it has for `simulate`, or a step that isn't COMMIT
+-- the input has this fault: one that it has for `simulate`, or a step that is not COMMIT
 abbrev pub IsFault : List ℕ → InputFault → Type 0
 IsFault input fault = simulation.IsFault input fault ⊎ IsOther input fault
 
 abbrev pub EndsService : Service → List ℕ → Option (List ℕ) → Option (List ℕ) → Result Status Failure → Type 0
 EndsService service input old new result =
-    Ends (IsServing service input) (telling.IsBegun service.port) (IsFault input) old new result
+    Ends (IsServing service input) (IsBegun service input) (IsFault input) old new result

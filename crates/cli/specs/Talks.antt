@@ -1,6 +1,6 @@
--- What `publish` answers to each line of its input after the certificates: a line has one step, COMMIT or VIEW, or
--- none. The format is this program's own; what a commit does is PostgreSQL 15's, 3.4. Transactions.
-use Rattle.std.specs.Prelude.{◌≡◌, ℕ, Bool, true, false, ◌&&◌, if◌then◌else◌, List, [], ◌∷◌, ◌++◌, All, IsUtf8, Option, Some, None, Ok, codes}
+-- What `publish` answers to each line of its input after the certificates: a line has one step, COMMIT or VIEW, or none.
+-- The format is this program's own; what a commit does is that of PostgreSQL 15, 3.4. Transactions.
+use Rattle.std.specs.Prelude.{◌≡◌, ◌≢◌, ℕ, Bool, true, false, ◌&&◌, if◌then◌else◌, List, [], ◌∷◌, ◌++◌, All, IsUtf8, Option, Some, None, Ok, codes}
 use Rattle.std.specs.Io.KnownBytes.{Appends, Consumes}
 use Rattle.filter_tree.specs.declared.table.Table.{Table}
 use Rattle.table_changes.specs.Commands.{Command}
@@ -12,13 +12,14 @@ use Rattle.shard_checker.specs.CheckedView.{CheckedOf, setting_in}
 use Rattle.shard_world.specs.declared.answer.Answer.{Answer}
 use Rattle.shard_world.specs.declared.answer.Answer.TheVariants as a
 use Rattle.tables_log.specs.declared.error.CommitError.{CommitError}
-use Rattle.publisher_desk.specs.Answers.{IsMade, IsRefused}
+use Rattle.publisher_desk.specs.Answers.{IsMade}
+use Rattle.publisher_desk.specs.Logged.{IsRefused}
 use Rattle.publisher_desk.specs.Receipts.{receipt_of}
 use Rattle.publisher_desk.specs.Refusals.{HasFault}
 use Rattle.publisher_desk.specs.declared.note.Note.{Note}
 use Rattle.publisher_desk.specs.declared.note.Note.TheVariants as n
 use Rattle.commands.specs.Failures.{fault_line}
-use Rattle.cli.specs.Lines.{IsPlain, ReadsLine}
+use Rattle.cli.specs.Lines.{AreLast, IsPlain, ReadsLine, ReadsSome}
 use Rattle.cli.specs.Views.{IsView}
 use Rattle.cli.specs.declared.publish.session.Turn.{Turn}
 use Rattle.cli.specs.declared.publish.session.Turn.TheVariants as t
@@ -45,70 +46,80 @@ unfit_from is_first (step ∷ others) =
 abbrev pub first_unfit : List LineOf → Option ℕ
 first_unfit steps = unfit_from true steps
 
+-- ---- whether all is answered
+
+-- the bytes after those of the lines are the last ones, unless commands come from callers at a port
+abbrev pub AreLastFor : Option ℕ → Bool → Option (List ℕ) → Option (List ℕ) → List ℕ → Type 0
+AreLastFor None may_fail before after bytes = AreLast may_fail before after bytes
+AreLastFor (Some port) may_fail before after bytes = Unit {0}
+
 -- ---- what is answered
 
 module _ (checked : CheckedOf) (limit : ℕ) where
-  -- Commands are answered by the number of the commit that they are, of which the session keeps a receipt; or by why
-  -- they are refused, and it keeps nothing.
-  pub data IsAnswered (commands : List Command) : Answer → List Note → Type 0 where
+  -- Commands are answered with the number of the commit that they are, of which the session keeps a receipt. Or they
+  -- are answered with the reason why they are refused after a log that has all of the session's notes, and it keeps
+  -- nothing.
+  pub data IsAnswered (had : List Note) (commands : List Command) : Answer → List Note → Type 0 where
     Made : (number time : ℕ) → IsMade checked limit commands time number
-        → IsAnswered commands (a.Committed number) (n.Committed (receipt_of number commands time) ∷ [])
-    Refused : (error : CommitError) → IsRefused checked limit commands error
-        → HasFault (setting_in checked) commands error → IsAnswered commands (a.Refused error) []
+        → IsAnswered had commands (a.Committed number) (n.Committed (receipt_of number commands time) ∷ [])
+    Refused : (error : CommitError) → IsRefused checked limit had commands error
+        → HasFault (setting_in checked) commands error → IsAnswered had commands (a.Refused error) []
 
-  -- a step is answered by these lines, and the session keeps these notes
-  pub data IsTold : StepOf → List (List ℕ) → List Note → Type 0 where
-    Committing : (commands : List Command) (answer : Answer) (notes : List Note) → IsAnswered commands answer notes
-        → IsTold (Commit commands) (answer_line answer ∷ []) notes
-    Viewing : (lines : List (List ℕ)) → IsView checked lines → IsTold View lines []
+  -- A step is answered with these lines, and the session keeps these notes, after those that it had. VIEW shows a log
+  -- that has all of them.
+  pub data IsTold (had : List Note) : StepOf → List (List ℕ) → List Note → Type 0 where
+    Committing : (commands : List Command) (answer : Answer) (notes : List Note)
+        → IsAnswered had commands answer notes → IsTold had (Commit commands) (answer_line answer ∷ []) notes
+    Viewing : (lines : List (List ℕ)) → IsView checked had lines → IsTold had View lines []
 
-  -- A line is answered by these lines, and the session keeps these notes.
-  pub data IsAnswer (line : List ℕ) : List (List ℕ) → List Note → Type 0 where
-    NoText : (IsUtf8 line → ⊥) → IsAnswer line (fault_line i.Unread ∷ []) []
+  -- A line is answered with these lines, and the session keeps these notes, after those that it had.
+  pub data IsAnswer (had : List Note) (line : List ℕ) : List (List ℕ) → List Note → Type 0 where
+    NoText : (IsUtf8 line → ⊥) → IsAnswer had line (fault_line i.Unread ∷ []) []
     NoScript : (error : ReadError) → TellsScript (script_by checked.catalog.tables line) error
-        → IsAnswer line (fault_line (i.Script error) ∷ []) []
+        → IsAnswer had line (fault_line (i.Script error) ∷ []) []
     Unfit : (steps : List LineOf) (error : ReadError) → script_by checked.catalog.tables line ≡ Ok steps
         → first_unfit steps ≡ Some error.place → kind_name error.kind ≡ codes "Expected"
-        → IsAnswer line (fault_line (i.Script error) ∷ []) []
-    Empty : script_by checked.catalog.tables line ≡ Ok [] → IsAnswer line [] []
+        → IsAnswer had line (fault_line (i.Script error) ∷ []) []
+    Empty : script_by checked.catalog.tables line ≡ Ok [] → IsAnswer had line [] []
     OneStep : (step : LineOf) (lines : List (List ℕ)) (notes : List Note)
-        → script_by checked.catalog.tables line ≡ Ok (step ∷ []) → IsTold step.step lines notes
-        → IsAnswer line lines notes
+        → script_by checked.catalog.tables line ≡ Ok (step ∷ []) → IsTold had step.step lines notes
+        → IsAnswer had line lines notes
 
-  -- Lines are answered one after another.
-  pub data AreAnswered : List (List ℕ) → List (List ℕ) → List Note → Type 0 where
-    Nothing : AreAnswered [] [] []
+  -- Lines other than `QUIT;` are answered one after another, and the session keeps these notes, after those that it had.
+  pub data AreAnswered (had : List Note) : List (List ℕ) → List (List ℕ) → List Note → Type 0 where
+    Nothing : AreAnswered had [] [] []
     OneMore : (lines answers own : List (List ℕ)) (line : List ℕ) (notes more : List Note)
-        → AreAnswered lines answers notes → IsAnswer line own more
-        → AreAnswered (lines ++ line ∷ []) (answers ++ own) (notes ++ more)
+        → AreAnswered had lines answers notes → line ≢ codes "QUIT;" → IsAnswer (had ++ notes) line own more
+        → AreAnswered had (lines ++ line ∷ []) (answers ++ own) (notes ++ more)
 
   -- ---- whose lines are answered
 
-  -- The lines of one caller after another were answered, of which the session keeps these notes.
-  pub data AreHeard : List Note → Type 0 where
-    Nobody : AreHeard []
-    NextCaller : (lines answers : List (List ℕ)) (notes more : List Note) → AreHeard notes
-        → AreAnswered lines answers more → AreHeard (notes ++ more)
+  -- The lines of one caller after another were answered, of which the session keeps these notes, after those that it
+  -- had.
+  pub data AreHeard (had : List Note) : List Note → Type 0 where
+    Nobody : AreHeard had []
+    NextCaller : (lines answers : List (List ℕ)) (notes more : List Note) → AreHeard had notes
+        → AreAnswered (had ++ notes) lines answers more → AreHeard had (notes ++ more)
 
-  -- The session's notes are those of the reader's own lines. Where commands come from callers, who call at some port,
-  -- they are those of callers' lines, and to the reader's lines nothing is answered.
-  abbrev pub AreNotes : Option ℕ → List (List ℕ) → List Note → List Note → Type 0
-  AreNotes None answers own notes = notes ≡ own
-  AreNotes (Some port) answers own notes = (answers ≡ []) × AreHeard notes
+  -- The session's notes are those of the reader's own lines. If commands come from callers at a port, they are those of
+  -- callers' lines, and nothing is answered to the reader's lines.
+  abbrev pub AreNotes : List Note → Option ℕ → List (List ℕ) → List Note → List Note → Type 0
+  AreNotes had None answers own notes = notes ≡ own
+  AreNotes had (Some port) answers own notes = (answers ≡ []) × AreHeard had notes
 
   -- ---- what the session does
 
   -- commands are answered so
   pub record Replies (commands : List Command) (before after : List Note) (answer : Answer) : Type 0 where
     pub notes : List Note
-    pub is : IsAnswered commands answer notes
+    pub is : IsAnswered before commands answer notes
     pub kept : after ≡ before ++ notes
 
   -- a step is answered by a text
   pub record Tells (step : StepOf) (before after : List Note) (text : List ℕ) : Type 0 where
     pub lines : List (List ℕ)
     pub notes : List Note
-    pub is : IsTold step lines notes
+    pub is : IsTold before step lines notes
     pub text_is : text ≡ text_of lines
     pub kept : after ≡ before ++ notes
 
@@ -116,7 +127,7 @@ module _ (checked : CheckedOf) (limit : ℕ) where
   pub record Answers (line : List ℕ) (before after : List Note) (text : List ℕ) : Type 0 where
     pub lines : List (List ℕ)
     pub notes : List Note
-    pub is : IsAnswer line lines notes
+    pub is : IsAnswer before line lines notes
     pub text_is : text ≡ text_of lines
     pub kept : after ≡ before ++ notes
 
@@ -124,44 +135,49 @@ module _ (checked : CheckedOf) (limit : ℕ) where
   pub record GoesOn (before after old new : Option (List ℕ)) (had has : List Note) : Type 0 where
     pub line : List ℕ
     pub text : List ℕ
+    pub other : line ≢ codes "QUIT;"
     pub read : ReadsLine before after line
     pub answered : Answers line had has text
     pub written : Appends old new text
 
-  -- some bytes are read, and nothing is written
-  pub record IsOver (before after old new : Option (List ℕ)) : Type 0 where
+  -- the last bytes are read, and nothing is written
+  pub record IsOver (may_fail : Bool) (before after old new : Option (List ℕ)) : Type 0 where
     pub more : List ℕ
     pub consumed : Consumes before after more
+    pub last : AreLast may_fail before after more
     pub unwritten : new ≡ old
 
-  abbrev pub HasGone : Option (List ℕ) → Option (List ℕ) → Option (List ℕ) → Option (List ℕ) → List Note → List Note
-      → Turn → Type 0
-  HasGone before after old new had has t.Line = GoesOn before after old new had has
-  HasGone before after old new had has t.Quit = ReadsLine before after (codes "QUIT;") × (new ≡ old) × (has ≡ had)
-  HasGone before after old new had has t.Over = IsOver before after old new × (has ≡ had)
+  abbrev pub HasGone : Bool → Option (List ℕ) → Option (List ℕ) → Option (List ℕ) → Option (List ℕ) → List Note
+      → List Note → Turn → Type 0
+  HasGone may_fail before after old new had has t.Line = GoesOn before after old new had has
+  HasGone may_fail before after old new had has t.Quit =
+      ReadsLine before after (codes "QUIT;") × (new ≡ old) × (has ≡ had)
+  HasGone may_fail before after old new had has t.Over = IsOver may_fail before after old new × (has ≡ had)
 
   -- a line is read, and the first bytes of its answer are written
   pub record FailsToTell (before after old new : Option (List ℕ)) (had has : List Note) : Type 0 where
     pub line : List ℕ
     pub text : List ℕ
+    pub other : line ≢ codes "QUIT;"
     pub read : ReadsLine before after line
     pub answered : Answers line had has text
     pub first : WritesFirst text old new
 
   abbrev pub StopsNext : Option (List ℕ) → Option (List ℕ) → Option (List ℕ) → Option (List ℕ) → List Note → List Note
       → Failure → Type 0
-  StopsNext before after old new had has f.OutOfMemory = IsOver before after old new
+  StopsNext before after old new had has f.OutOfMemory = ReadsSome before after × (new ≡ old)
   StopsNext before after old new had has f.Output = FailsToTell before after old new had has
   StopsNext before after old new had has (f.CommandLine why) = ⊥
   StopsNext before after old new had has (f.Input fault) = ⊥
 
   -- lines are read, and answered by these
-  pub record Conversation (before after : Option (List ℕ)) (answers : List (List ℕ)) (notes : List Note) : Type 0 where
+  pub record Conversation (had : List Note) (before after : Option (List ℕ)) (answers : List (List ℕ))
+      (notes : List Note) : Type 0 where
     pub lines : List (List ℕ)
     pub more : List ℕ
     pub consumed : Consumes before after (text_of lines ++ more)
     pub plain : All IsPlain lines
-    pub answered : AreAnswered lines answers notes
+    pub answered : AreAnswered had lines answers notes
 
   -- the last line that was read is `QUIT;`
   pub record HasQuit (after : Option (List ℕ)) : Type 0 where
@@ -173,34 +189,36 @@ module _ (checked : CheckedOf) (limit : ℕ) where
     pub lines : List (List ℕ)
     pub answers : List (List ℕ)
     pub notes : List Note
-    pub answered : AreAnswered lines answers notes
+    pub answered : AreAnswered had lines answers notes
     pub kept : has ≡ had ++ notes
 
   -- so were those of one caller after another
   pub record HasHeard (had has : List Note) : Type 0 where
     pub notes : List Note
-    pub heard : AreHeard notes
+    pub heard : AreHeard had notes
     pub kept : has ≡ had ++ notes
 
   -- `callers` is the port at which callers call, if commands come from callers
   module _ (callers : Option ℕ) where
-    -- the answers are written, and the session has these notes more
-    pub record HasAnswered (before after old new : Option (List ℕ)) (had has : List Note) : Type 0 where
-      pub answers : List (List ℕ)
-      pub own : List Note
-      pub notes : List Note
-      pub conversation : Conversation before after answers own
-      pub notes_are : AreNotes callers answers own notes
-      pub written : Appends old new (text_of answers)
-      pub kept : has ≡ had ++ notes
+    -- the answers to all lines are written, and the session has these notes more
+    pub record HasAnswered (may_fail : Bool) (before after old new : Option (List ℕ)) (had has : List Note) : Type 0
+      where
+        pub answers : List (List ℕ)
+        pub own : List Note
+        pub notes : List Note
+        pub conversation : Conversation had before after answers own
+        pub last : AreLastFor callers may_fail before after conversation.more
+        pub notes_are : AreNotes had callers answers own notes
+        pub written : Appends old new (text_of answers)
+        pub kept : has ≡ had ++ notes
 
     -- or the first of them
-    pub record HasBegun (before after old new : Option (List ℕ)) : Type 0 where
+    pub record HasBegun (before after old new : Option (List ℕ)) (had : List Note) : Type 0 where
       pub answers : List (List ℕ)
       pub own : List Note
       pub notes : List Note
-      pub conversation : Conversation before after answers own
-      pub notes_are : AreNotes callers answers own notes
+      pub conversation : Conversation had before after answers own
+      pub notes_are : AreNotes had callers answers own notes
       pub written : Appends old new (text_of answers)
 
     -- or the first bytes of them, and the session has these notes more
@@ -208,15 +226,15 @@ module _ (checked : CheckedOf) (limit : ℕ) where
       pub answers : List (List ℕ)
       pub own : List Note
       pub notes : List Note
-      pub conversation : Conversation before after answers own
-      pub notes_are : AreNotes callers answers own notes
+      pub conversation : Conversation had before after answers own
+      pub notes_are : AreNotes had callers answers own notes
       pub first : WritesFirst (text_of answers) old new
       pub kept : has ≡ had ++ notes
 
-    -- the session stops because the writer fails, or for want of memory
+    -- the session stops because the writer fails, or memory ran out
     abbrev pub IsCutOff : Option (List ℕ) → Option (List ℕ) → Option (List ℕ) → Option (List ℕ) → List Note → List Note
         → Failure → Type 0
-    IsCutOff before after old new had has f.OutOfMemory = HasBegun before after old new
+    IsCutOff before after old new had has f.OutOfMemory = HasBegun before after old new had
     IsCutOff before after old new had has f.Output = HasPart before after old new had has
     IsCutOff before after old new had has (f.CommandLine why) = ⊥
     IsCutOff before after old new had has (f.Input fault) = ⊥

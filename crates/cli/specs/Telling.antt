@@ -1,5 +1,5 @@
--- The lines that `serve` writes where the sharding is accepted: one when it listens, and one at the end. The format
--- is this program's own.
+-- The lines that `serve` writes if the sharding is accepted: one when it listens, and one at the end. The format is
+-- this program's own.
 use Rattle.std.specs.Prelude.{◌≡◌, ◌⊎◌, ℕ, List, [], ◌∷◌, ◌++◌, All, length, Option, Some, None, Result, codes}
 use Rattle.std.specs.Option.{unwrap_or}
 use Rattle.shard_checker.specs.CheckedView.{CheckedOf}
@@ -24,16 +24,16 @@ use Rattle.cli.specs.declared.requests.Service.{Service}
 abbrev pub listening_line : ℕ → List ℕ
 listening_line port = counted (codes "listening") port
 
--- that callers are listened for as well, if commands come from callers
+-- and that with the port for callers, if commands come from callers
 abbrev pub first_lines : ℕ → Option ℕ → List (List ℕ)
 first_lines port None = listening_line port ∷ []
 first_lines port (Some callers) = listening_line port ∷ counted (codes "commands") callers ∷ []
 
--- how many commits the log has, and how many connections there were
+-- the numbers of commits in the log, and of connections
 abbrev pub closed_line : ℕ → ℕ → List ℕ
 closed_line commits connections = counted (counted (codes "closed") commits) connections
 
--- the name of what differs; none where memory ran out
+-- the name of what differs; none if memory ran out
 abbrev pub name_of : CloseError → Option (List ℕ)
 name_of e.CountDiffers = Some (codes "CountDiffers")
 name_of e.ReceiptMissing = Some (codes "ReceiptMissing")
@@ -41,8 +41,8 @@ name_of e.ReadingWrong = Some (codes "ReadingWrong")
 name_of e.TakenDiffers = Some (codes "TakenDiffers")
 name_of e.OutOfMemory = None
 
--- What is served: a checked catalog, with a log of at most so many commits, by a session that commits these lists, to
--- so many connections.
+-- What is served: a checked catalog, with a log of at most `limit` commits, by a session that commits these lists, to
+-- this number of connections.
 pub record ServiceOf : Type 0 where
   pub port : ℕ
   pub checked : CheckedOf
@@ -50,7 +50,7 @@ pub record ServiceOf : Type 0 where
   pub lists : List (List Command)
   pub connections : ℕ
 
--- where no number of connections is said, it is that of the subscriptions
+-- the default number of connections is that of the subscriptions
 abbrev pub service_of : Service → CheckedOf → List (List Command) → ServiceOf
 service_of service checked lists = record {
   port = service.port;
@@ -60,16 +60,16 @@ service_of service checked lists = record {
   connections = unwrap_or service.connections (length checked.catalog.subscriptions);
 }
 
--- The lists were committed in their order, or passed over, and these are the notes of the session. So many connections
--- were served, each of them to its end, and this came of them. None was refused memory.
+-- The lists were committed in order, or skipped, and these are the notes of the session. As many connections were
+-- served as was requested, each to its end, with these results. None was refused memory.
 pub record IsOver (service : ServiceOf) (notes : List Note) (served : List Served) : Type 0 where
   pub committed : AreCommitted service.checked service.limit 1 service.lists [] notes
   pub many : length served ≡ service.connections
   pub each : All (WasServed service.checked) served
   pub memory : All HadMemory served
 
--- The last line: the publisher was closed with the session's seat, one of 1,000, and with what came of the connections;
--- or why it was not. The session has as many notes as the log has commits.
+-- The last line: the publisher was closed with the session's seat, one of 1,000, and the results of the connections; or
+-- why it was not. The session has as many notes as the log has commits.
 pub data IsLast (service : ServiceOf) : List ℕ → Status → Type 0 where
   Closed : (notes : List Note) (served : List Served) (book : Book) → IsOver service notes served
       → IsClosed service.checked service.limit (notes ∷ []) served book
@@ -78,7 +78,7 @@ pub data IsLast (service : ServiceOf) : List ℕ → Status → Type 0 where
       → IsOver service notes served → RefusedClose service.checked service.limit 1000 999 (notes ∷ []) served error
       → name_of error ≡ Some name → IsLast service (codes "close " ++ name) Refused
 
--- whatever name the error has, the line with it is a last one
+-- whatever name the error has, the line with it is a last line
 abbrev pub IsLastOf : ServiceOf → CloseError → Type 0
 IsLastOf service error = (name : List ℕ) → name_of error ≡ Some name → IsLast service (codes "close " ++ name) Refused
 
@@ -92,7 +92,7 @@ abbrev pub Says : List ℕ → Status → Option (List ℕ) → Option (List ℕ
 Says line status old new result =
     Writes (λ lines told. (lines ≡ line ∷ []) × (told ≡ status)) (λ lines. lines ≡ []) old new result
 
--- the lines are a last one alone
+-- the lines are a last line alone
 pub record IsClosing (service : ServiceOf) (lines : List (List ℕ)) (status : Status) : Type 0 where
   pub line : List ℕ
   pub are : lines ≡ line ∷ []
@@ -101,7 +101,7 @@ pub record IsClosing (service : ServiceOf) (lines : List (List ℕ)) (status : S
 abbrev pub Closes : ServiceOf → Option (List ℕ) → Option (List ℕ) → Result Status Failure → Type 0
 Closes service old new result = Writes (IsClosing service) (λ lines. lines ≡ []) old new result
 
--- the lines are that it listens on this port, and a last one
+-- the lines are the first line, with this port, and a last line
 pub record IsTold (service : ServiceOf) (lines : List (List ℕ)) (status : Status) : Type 0 where
   pub line : List ℕ
   pub are : lines ≡ listening_line service.port ∷ line ∷ []
@@ -114,7 +114,7 @@ IsBegun port lines = (lines ≡ []) ⊎ (lines ≡ listening_line port ∷ [])
 abbrev pub Tells : ServiceOf → Option (List ℕ) → Option (List ℕ) → Result Status Failure → Type 0
 Tells service old new result = Writes (IsTold service) (IsBegun service.port) old new result
 
--- it stops because the listening socket or the writer failed, or for want of memory
+-- it stops because the listening socket or the writer failed, or memory ran out
 abbrev pub IsStop : Failure → Type 0
 IsStop f.Output = Unit {0}
 IsStop f.OutOfMemory = Unit {0}

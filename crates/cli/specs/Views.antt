@@ -1,4 +1,4 @@
--- What VIEW shows of a publisher: its rows after some transactions, and how far each subscriber is. PostgreSQL 15,
+-- What VIEW shows of a publisher: its rows after some transactions, and the progress of each subscriber. PostgreSQL 15,
 -- 3.4. Transactions, and 7.5. Sorting Rows. The lines are this program's own format.
 use Rattle.std.specs.Prelude.{◌≡◌, ℕ, ◌+◌, Bool, true, false, List, [], ◌∷◌, ◌++◌, length, map, codes}
 use Rattle.filter_tree.specs.Datum.{Datum}
@@ -11,6 +11,9 @@ use Rattle.table_changes.specs.Tables.{holds, no_rows}
 use Rattle.tables_log.specs.BookView.{book_log}
 use Rattle.tables_log.specs.StandsFor.{Transaction, AreAccepted, after}
 use Rattle.tables_log.specs.declared.book.Book.{Book}
+use Rattle.publisher_desk.specs.Logged.{AreNoted}
+use Rattle.publisher_desk.specs.Receipts.{ReceiptOf, transactions_of}
+use Rattle.publisher_desk.specs.declared.note.Note.{Note}
 use Rattle.commands.specs.Names.{counted, subscriber_name}
 use Rattle.commands.specs.Output.{text_of}
 use Rattle.commands.specs.Simulate.Answers.{position_text}
@@ -18,19 +21,19 @@ use Rattle.commands.specs.Simulate.Views.{rows_lines}
 use Rattle.cli.specs.declared.publish.view.Progress.{Progress}
 use Rattle.cli.specs.declared.publish.view.View.{View}
 
--- ---- how far a subscriber is
+-- ---- the progress of a subscriber
 
 abbrev pub state : Bool → List ℕ
 state true = codes " connected"
 state false = codes " disconnected"
 
--- its name, up to where it was sent and has confirmed the log, and whether it is connected
+-- its name, the positions up to which it was sent and has confirmed the log, and whether it is connected
 abbrev pub progress_line : List ℕ → Progress → List ℕ
 progress_line name progress =
     name ++ codes " sent " ++ position_text progress.sent ++ codes " confirmed " ++ position_text progress.confirmed
     ++ state progress.is_connected
 
--- the line of each subscriber, where the first one has this number
+-- the lines of the subscribers, of which the first has this number
 abbrev pub progress_lines : CatalogOf Expr → ℕ → List Progress → List (List ℕ)
 progress_lines catalog number [] = []
 progress_lines catalog number (progress ∷ later) =
@@ -46,17 +49,21 @@ lines_of catalog log rows progress =
 abbrev pub view_lines : CatalogOf Expr → View → List (List ℕ)
 view_lines catalog view = lines_of catalog view.log (map (λ rows. rows.items) view.rows.items) view.progress.items
 
--- what was seen of a book, of so many tables and subscriptions
+-- what was seen of a book with these numbers of tables and subscriptions
 pub record IsSeen (book : Book) (tables subscriptions : ℕ) (view : View) : Type 0 where
   pub log_is : view.log ≡ length (book_log book)
   pub width : length view.rows.items ≡ tables
   pub rows : AllAt (λ table rows. FoundIn book table rows.items) view.rows.items
   pub count : length view.progress.items ≡ subscriptions
 
--- The lines show how many transactions there are, each of which was accepted after those before it, the rows that
--- they leave in each table, and each subscription. How far each subscriber is, is not said.
-pub record IsView (checked : CheckedOf) (lines : List (List ℕ)) : Type 0 where
+-- The lines show how many transactions a log has, each of which was accepted after those before it, the rows that they
+-- leave in each table, and each subscription. The log has all of these notes. Nothing is said of the progress
+-- of the subscribers.
+pub record IsView (checked : CheckedOf) (notes : List Note) (lines : List (List ℕ)) : Type 0 where
+  pub log : List ReceiptOf
+  pub noted : AreNoted (setting_in checked) log notes
   pub transactions : List Transaction
+  pub transactions_are : transactions ≡ transactions_of log
   pub rows : List (List (List Datum))
   pub progress : List Progress
   pub accepted : AreAccepted (setting_in checked) no_rows transactions
@@ -67,7 +74,7 @@ pub record IsView (checked : CheckedOf) (lines : List (List ℕ)) : Type 0 where
   pub are : lines ≡ lines_of checked.catalog (length transactions) rows progress
 
 -- the text has such lines
-pub record IsViewText (checked : CheckedOf) (text : List ℕ) : Type 0 where
+pub record IsViewText (checked : CheckedOf) (notes : List Note) (text : List ℕ) : Type 0 where
   pub lines : List (List ℕ)
-  pub view : IsView checked lines
+  pub view : IsView checked notes lines
   pub is : text ≡ text_of lines

@@ -1,4 +1,4 @@
-//! What the words of a command line ask.
+//! What the arguments of a command line request.
 
 ghost use Rattle.std.specs.Prelude.{IfErr, IfOk, map};
 ghost use Rattle.clap.specs.Words.{kind_of};
@@ -11,21 +11,21 @@ use commands::Failure;
 use std::alloc::{AllocError, Global};
 use std::convert::AsStr;
 
-/// What the words of a command line ask.
+/// What the arguments of a command line request.
 #[derive(Debug, Drop)]
 pub enum Invocation<'a> {
-    /// The help or the version, which is this text.
+    /// The help or the version; this is its text.
     Help(String),
     Answer(Request<'a>),
 }
 
-/// The text of an error for the user, without a newline at its end.
+/// The text of an error for the user, without a final newline.
 fn rendered(alloc: Global, error: &clap::Error) -> Result<String, AllocError> {
     let text = format!(in alloc; "{error}")?;
     String::from_str(alloc, text.as_str().trim_end())
 }
 
-/// What is asked by words that clap answers with an error.
+/// What is requested by arguments to which clap returns an error.
 fn asked_by<'a>(alloc: Global, error: &clap::Error) -> Result<Invocation<'a>, Failure<'a>>
     ensures help { IfOk result (λ asked. IsHelp asked × IsHelpKind (kind_of error.now)) }
     ensures stopped { IfErr result (IsOfError (kind_of error.now)) }
@@ -39,16 +39,21 @@ fn asked_by<'a>(alloc: Global, error: &clap::Error) -> Result<Invocation<'a>, Fa
     }
 }
 
-/// Reads the words of a command line, the program's name first.
+/// Parses the arguments of a command line, which begin with the program's name.
 ///
 /// # Errors
 ///
-/// `CommandLine`, with a text for the user, where the words are neither `show` or `make` alone, nor `check` and at most
-/// one `--show`, nor `eval`, a table's name and at most one `--insert`, nor `simulate` and at most one `--limit` of 1 to
-/// 1,000,000,000, nor `serve` with one `--port` of 1 to 65,535, at most one such `--limit` and at most one
-/// `--connections` of 1 to 1,000, nor `publish` with one `--port` of at most 65,535, at most one such `--commands`, one
-/// `--port-file`, such a `--limit`, a `--start-timeout`, a `--write-timeout`, a `--keepalive` and a `--timeout` of 1 to
-/// 86,400 each, and a `--log` of `text` or `json`, nor ask for the help or the version; `OutOfMemory`.
+/// `OutOfMemory`; `CommandLine`, with a text for the user, if the arguments request neither the help nor the version
+/// and are none of these:
+///
+/// - `show` or `make` alone
+/// - `check`, with at most one `--show`
+/// - `eval`, with a table's name and at most one `--insert`
+/// - `simulate`, with at most one `--limit` of 1 to 1,000,000,000
+/// - `serve`, with one `--port` of 1 to 65,535, and at most one such `--limit` and `--connections` of 1 to 1,000
+/// - `publish`, with one `--port` of 0 to 65,535, and at most one each of such a `--commands` and `--limit`, of
+///   `--port-file`, of `--start-timeout`, `--write-timeout`, `--keepalive` and `--timeout` of 1 to 86,400, and of
+///   `--log`, which is `text` or `json`
 pub fn parse<'a, S: AsStr>(alloc: Global, words: &'a [S]) -> Result<Invocation<'a>, Failure<'a>>
     ensures asked { IfOk result (IsAsking (map S.text words.entry.now)) }
     ensures stopped { IfErr result (IsOfWords (map S.text words.entry.now)) }

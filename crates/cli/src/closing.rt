@@ -1,4 +1,4 @@
-//! How serving ends.
+//! How `serve` ends.
 
 ghost use Rattle.std.specs.Prelude.{◌≡◌, All, map, IfErr, IfOk};
 ghost use Rattle.std.specs.Option.{option_map};
@@ -17,12 +17,12 @@ use senders::{CloseError, End, Publisher, Publishing, Seat, Seats, Served, close
 use std::alloc::Global;
 use std::sync::Arc;
 
-/// What came of the connections.
+/// The results of the connections.
 ///
 /// # Errors
 ///
-/// `Output` where the listening socket failed before there were all connections; `OutOfMemory`, also where memory or a
-/// thread was refused for a connection.
+/// `Output` if the listening socket failed before all connections were accepted; `OutOfMemory`, also if a connection
+/// was refused memory or a thread.
 pub fn served_in<'a>(alloc: Global, places: Vec<Place>) -> Result<Vec<Served>, Failure<'a>>
     ensures all { IfOk result (λ served. map Ended served.items ≡ places.items) }
     ensures memory { IfOk result (λ served. All HadMemory served.items) }
@@ -41,7 +41,7 @@ pub fn served_in<'a>(alloc: Global, places: Vec<Place>) -> Result<Vec<Served>, F
     Ok(all)
 }
 
-/// The name of an error; none where it is want of memory.
+/// The name of an error; none if it is out of memory.
 pub(crate) fn name_of(error: CloseError) -> Option<&'static str>
     ensures { option_map (λ name. name.now) result ≡ spec.name_of error }
 {
@@ -54,7 +54,7 @@ pub(crate) fn name_of(error: CloseError) -> Option<&'static str>
     }
 }
 
-/// Writes a line, and tells this status.
+/// Writes a line, and returns this status.
 pub(crate) fn say<'a, W: Writer>(
     mut line: String,
     status: Status,
@@ -68,7 +68,7 @@ pub(crate) fn say<'a, W: Writer>(
     }
 }
 
-/// Says how many commits and connections there were.
+/// Writes the numbers of commits and connections.
 fn say_closed<'a, W: Writer>(
     alloc: Global,
     commits: u32,
@@ -82,7 +82,7 @@ fn say_closed<'a, W: Writer>(
     say(line, Status::Done, writer)
 }
 
-/// Says why a publisher can't be closed.
+/// Writes why a publisher cannot be closed.
 fn say_error<'a, W: Writer>(
     alloc: Global,
     error: CloseError,
@@ -96,9 +96,9 @@ fn say_error<'a, W: Writer>(
     say(line, Status::Refused, writer)
 }
 
-/// Closes a publisher all of whose seats but this were never handed out, and says in a line how many commits and
-/// connections there were, or why it can't be closed. Before that the subscriptions that were not served to the end of the
-/// log are told on standard error.
+/// Closes a publisher of which only this seat was handed out, and writes a line with the numbers of commits and
+/// connections, or why it cannot be closed. Before that, standard error reports the subscriptions that were not served
+/// to the end of the log.
 pub fn close_and_tell<'a, P: Publishing, W: Writer, R: Eprint>(
     rt: &R,
     alloc: Global,

@@ -11,7 +11,7 @@ use std::sync::Wait;
 use table_changes::Command;
 use tables_log::CommitError;
 
-/// Commits a list, or passes it over where it is refused. The only error is want of memory.
+/// Commits a list, or skips it if it is refused. The only error is out of memory.
 fn take_up<P: Publishing, R: Wait>(
     rt: &R,
     publisher: &Publisher<P>,
@@ -29,12 +29,12 @@ fn take_up<P: Publishing, R: Wait>(
     Ok(())
 }
 
-/// Commits the lists one after another, each at the time of its number, from 1, as `simulate` does. So a script makes the
-/// same log each time. A list that is refused changes nothing, and is passed over.
+/// Commits the lists one after another, each at the time of its number, from 1, as `simulate` does. So a script always
+/// makes the same log. A list that is refused changes nothing, and is skipped.
 ///
 /// # Errors
 ///
-/// Want of memory, at the first list that meets it; no later list is committed.
+/// Out of memory, at the first list that meets it; no later list is committed.
 fn commit_all<P: Publishing, R: Wait>(
     rt: &R,
     publisher: &Publisher<P>,
@@ -52,8 +52,7 @@ fn commit_all<P: Publishing, R: Wait>(
     Ok(())
 }
 
-/// Takes the lists and commits them, and then finishes the publisher, so that its senders end once they have taken up
-/// all commits.
+/// Commits the lists, and then finishes the publisher, so that its senders end when they have taken all commits.
 pub fn commit_and_finish<P: Publishing, R: Wait>(
     rt: &R,
     publisher: &Publisher<P>,

@@ -1,4 +1,4 @@
-//! The connections that are accepted, each served from its accept on.
+//! The connections that are accepted, each of which is served as soon as it is accepted.
 
 ghost use Rattle.std.specs.Prelude.{◌≡◌, All, length, IfOk};
 ghost use Rattle.cli.specs.Connections.{IsFilled, WasServed};
@@ -17,13 +17,13 @@ use std::time::Clock;
 pub enum Place {
     /// No connection has ended here yet.
     Open,
-    /// What came of the connection that was served here.
+    /// The result of the connection that was served here.
     Ended(Served),
     /// The listening socket failed before a connection came.
     Failed,
 }
 
-/// So many places for connections.
+/// This number of places for connections.
 pub fn open_places(alloc: Global, count: usize) -> Result<Vec<Place>, AllocError>
     ensures { IfOk result (λ places. length places.items ≡ count) }
 {
@@ -34,8 +34,8 @@ pub fn open_places(alloc: Global, count: usize) -> Result<Vec<Place>, AllocError
     Ok(places)
 }
 
-/// The next connection that comes; none where the listening socket fails. One that its client gave up before it was
-/// accepted doesn't count.
+/// The next connection; none if the listening socket fails. One that its client gave up before it was accepted does not
+/// count.
 fn next_connection(listener: &TcpListener) -> Option<TcpStream> {
     for _ in 0..u64::MAX {
         match listener.accept() {
@@ -47,7 +47,7 @@ fn next_connection(listener: &TcpListener) -> Option<TcpStream> {
     None
 }
 
-/// Serves a connection to its end. What is written goes out at once, and doesn't wait for more.
+/// Serves a connection to its end. What is written is sent at once, and does not wait for more.
 fn serve_stream<P: Publishing + Sync, R: Threads + Wait + Clock + Sync>(
     rt: &R,
     publisher: &Publisher<P>,
@@ -61,7 +61,7 @@ fn serve_stream<P: Publishing + Sync, R: Threads + Wait + Clock + Sync>(
     serve(rt, publisher, &mut reader, &mut writer, &OpenGate)
 }
 
-/// Accepts a connection, serves it to its end, and keeps in its place what came of it.
+/// Accepts a connection, serves it to its end, and keeps its result in the place.
 fn fill<P: Publishing + Sync, R: Threads + Wait + Clock + Sync>(
     rt: &R,
     publisher: &Publisher<P>,
@@ -76,8 +76,8 @@ fn fill<P: Publishing + Sync, R: Threads + Wait + Clock + Sync>(
     };
 }
 
-/// Accepts a connection for each place, all side by side, each served from its accept on. It returns when all have
-/// ended.
+/// Accepts a connection for each place, all at the same time, and serves each as soon as it is accepted. Returns when
+/// all have ended.
 pub fn fill_all<P: Publishing + Sync, R: Threads + Wait + Clock + Sync>(
     rt: &R,
     publisher: &Publisher<P>,

@@ -1,6 +1,6 @@
-//! The command line of `pgshard`, over any reader and writer: one tree of its subcommands, one reading of its words, and
-//! one account of what is written for each exit status. Of the subcommands, `serve` is here: it serves the subscribers of
-//! a sharding over sockets, while a session commits the transactions of a script.
+//! The command line of `pgshard`, over any reader and writer: its subcommands, how arguments are parsed, and what is
+//! written for each exit status. Two subcommands are here: `serve` and `publish` serve the subscribers of a sharding
+//! over sockets, while a session commits the transactions of a script, or commands as they arrive.
 #![tactic(auto)]
 
 mod arguments;

@@ -1,4 +1,4 @@
-//! The socket on which connections are waited for.
+//! The listening socket.
 
 ghost use Rattle.std.specs.Prelude.{IfErr, OnOk};
 ghost use Rattle.std.specs.Io.KnownBytes.{Appends};
@@ -9,7 +9,7 @@ use commands::{Failure, Writer, write_line};
 use std::alloc::Global;
 use std::net::{Ipv4Addr, Net, TcpListener, TcpStream};
 
-/// Says in a line that a port is listened on.
+/// Writes the line with the port.
 pub fn say_listening<'a, W: Writer>(
     alloc: Global,
     port: u16,
@@ -27,11 +27,11 @@ pub fn say_listening<'a, W: Writer>(
     }
 }
 
-/// Listens on this port of the loopback interface, and says so in a line.
+/// Listens on this port of the loopback interface, and writes the line that says so.
 ///
 /// # Errors
 ///
-/// `Output` where the port can't be had, or the line can't be written.
+/// `Output` if the port cannot be used, or the line cannot be written.
 pub fn listen<'a, W: Writer, R: Net<Listener = TcpListener, Stream = TcpStream>>(
     rt: &R,
     alloc: Global,

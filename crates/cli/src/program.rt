@@ -1,6 +1,6 @@
 //! The program, over any reader and writer.
 
-ghost use Rattle.std.specs.Prelude.{◌≡◌, ◌⊎◌, true, false, map, IfErr, IfOk, OnOk};
+ghost use Rattle.std.specs.Prelude.{◌≡◌, ◌⊎◌, Bool, true, false, map, IfErr, IfOk, OnOk};
 ghost use Rattle.std.specs.Io.KnownBytes.{Appends};
 ghost use Rattle.std.specs.String.{string_bytes};
 ghost use Rattle.commands.specs.Output.{EndsByFault, StopsText, ended};
@@ -29,12 +29,12 @@ use std::sync::Wait;
 use std::thread::Threads;
 use std::time::Clock;
 
-/// What becomes of a command line.
+/// What a command line leads to.
 #[derive(Drop)]
 pub enum Course<'a, I> {
-    /// It was answered, or not, for this reason.
+    /// It was answered, or the failure says why not.
     Ended(Result<Status, Failure<'a>>),
-    /// Of this input this is asked, for which subscribers have to be served.
+    /// A request for which subscribers have to be served, and its input.
     Serve(Request<'a>, I),
 }
 
@@ -51,7 +51,7 @@ fn write_help<'a, W: Writer>(mut text: String, writer: &mut W) -> Result<Status,
     Ok(Status::Done)
 }
 
-/// Answers a request of an input.
+/// Answers a request that serves nobody, for an input.
 fn answer<'a, W: Writer>(
     alloc: Global,
     request: Request<'a>,
@@ -60,7 +60,8 @@ fn answer<'a, W: Writer>(
 ) -> Result<Status, Failure<'a>>
     requires can { CanDo request }
     requires other { CanServe false request }
-    ensures ends { EndsRequest request.entry input.now (W.contents writer.old) (W.contents writer.new) result }
+    ensures ends { (may_fail : Bool) → EndsRequest may_fail request.entry input.now (W.contents writer.old)
+        (W.contents writer.new) result }
     ensures failed { EndsByFault (W.has_failed writer.old) (W.has_failed writer.new) result }
 {
     match request {
@@ -73,7 +74,7 @@ fn answer<'a, W: Writer>(
     }
 }
 
-/// Answers a request of what a reader gives.
+/// Answers a request that serves nobody, for what a reader gives.
 fn answer_reader<'a, I: Reader + Drop, W: Writer>(
     alloc: Global,
     request: Request<'a>,
@@ -90,7 +91,7 @@ fn answer_reader<'a, I: Reader + Drop, W: Writer>(
     answer(alloc, request, input.as_str(), writer)
 }
 
-/// Answers what the words ask, but does not serve.
+/// Answers what the arguments request, or returns what is to be served.
 #[tactic(auto, using(crate::proofs::RequestLemmas::asked_can))]
 fn answer_words<'a, S: AsStr, I: Reader + Drop, W: Writer>(
     alloc: Global,
@@ -129,7 +130,7 @@ fn outcome<'a, W: Writer>(
     }
 }
 
-/// Reports a failure, flushes, and gives the exit status.
+/// Reports a failure, flushes, and returns the exit status.
 fn finish<'a, W: Writer>(alloc: Global, ending: Result<Status, Failure<'a>>, writer: &mut W) -> u8
     ensures finishes { Finishes ending.entry (W.contents writer.old) (W.contents writer.new) result }
     ensures failed { FinishesFault ending.entry (W.has_failed writer.old) (W.has_failed writer.new) result }
@@ -144,7 +145,7 @@ fn finish<'a, W: Writer>(alloc: Global, ending: Result<Status, Failure<'a>>, wri
     }
 }
 
-/// Tells that nobody serves.
+/// The failure of a request to serve where there are no sockets.
 fn unserved<'a>(alloc: Global) -> Failure<'a>
     ensures { IsUnserved result }
 {
@@ -154,13 +155,15 @@ fn unserved<'a>(alloc: Global) -> Failure<'a>
     }
 }
 
-/// Runs the program without `serve` on the words of a command line, the program's name first, and gives its exit status:
-/// 0 or 1 where what is asked was answered (1 where some row is not read or does not fit its table, where the sharding is
-/// refused, or where for some table no certificate was found), 0 where the help or the version was asked, 2 where the
-/// words ask nothing, or to serve, 3 where the input is not taken, 4 where the writer fails, 5 where memory runs out.
+/// Runs the program without `serve` and `publish` with the arguments of a command line, which begin with the program's
+/// name, and returns its exit status:
 ///
-/// With the statuses 2 and 3 a line says why, and nothing else is written. With 5 the first lines of the answer may be
-/// written before the line `out of memory`. With 4 what is written are the first bytes of what would have been.
+/// - 0 or 1: the request was answered. 1 is a refusal: a row cannot be read or does not fit its table, the sharding is
+///   refused, or no certificate was found for some table. The help and the version have the status 0
+/// - 2: a usage error, or a request to serve; a line and a text say so, and nothing else is written
+/// - 3: the input cannot be read; a line says why, and nothing else is written
+/// - 4: the writer failed; what is written is a prefix of what would have been written
+/// - 5: out of memory; the first lines of the answer may be written before the line `out of memory`
 pub fn run<S: AsStr, I: Reader + Drop, W: Writer>(
     alloc: Global,
     words: &[S],
@@ -177,7 +180,7 @@ pub fn run<S: AsStr, I: Reader + Drop, W: Writer>(
     }
 }
 
-/// Serves what a reader gives.
+/// Answers `serve` for what a reader gives.
 fn serve_script<
     'a,
     I: Reader + Drop,
@@ -198,7 +201,7 @@ fn serve_script<
     serve_input(rt, rt.alloc(), service, input.as_str(), writer)
 }
 
-/// Answers a request of what a reader gives, for which subscribers may have to be served.
+/// Answers any request for what a reader gives.
 fn serve_reader<
     'a,
     I: Reader + Drop,
@@ -225,9 +228,10 @@ fn serve_reader<
     answer_reader(rt.alloc(), request, input, writer)
 }
 
-/// Runs the whole program as `run` does, and serves subscribers over sockets where the words ask for it. With `serve` the
-/// status is 0 where all connections have ended and the publisher was closed, 1 where the sharding is refused or the
-/// publisher can't be closed, and 4 also where the port can't be had or the listening socket fails.
+/// Runs the whole program, as `run` does, and serves subscribers over sockets if the arguments request it. For `serve`
+/// and `publish` the status is 0 if all connections have ended and the publisher was closed, 1 if the sharding is
+/// refused or the publisher cannot be closed, and 4 also if a port cannot be used, or the listening socket of `serve`
+/// fails.
 pub fn run_serving<
     S: AsStr,
     I: Reader + Drop,

@@ -1,9 +1,11 @@
-//! `publish`: commits are read and made as they come, while the subscribers of a sharding are served over sockets.
+//! `publish`: commands are read and committed as they arrive, while the subscribers of a sharding are served over
+//! sockets.
 
 ghost use Rattle.std.specs.Prelude.{◌≡◌, None, IfErr, OnOk};
 ghost use Rattle.std.specs.Arc.{arc_value};
 ghost use Rattle.commands.specs.Simulate.Limits.{IsWithin};
 ghost use Rattle.shard_checker.specs.CheckedView.{checked_view};
+ghost use Rattle.cli.specs.Incoming.{coming};
 ghost use Rattle.cli.specs.Published.{Serves, callers_at};
 ghost use Rattle.cli.specs.Requests.{AnswersReader};
 ghost use Rattle.cli.specs.Talks.{HasAnswered, IsCutOff};
@@ -13,6 +15,7 @@ mod callers;
 mod closing;
 mod door;
 mod hall;
+mod incoming;
 mod keepalives;
 mod notices;
 mod objects;
@@ -29,6 +32,7 @@ use crate::publish::callers::answer_callers;
 use crate::publish::closing::close_session;
 use crate::publish::door::{Door, Doors, open_doors};
 use crate::publish::hall::Hall;
+use crate::publish::incoming::LineReader;
 use crate::publish::parting::see_off;
 use crate::publish::parts::read_part;
 use crate::publish::places::{Berth, attend_all, free_berths, served_at};
@@ -39,7 +43,6 @@ use pub_reader::read_catalog;
 use senders::{Opening, Publisher, Publishing, Seat};
 use shard_checker::Checked;
 use std::alloc::Global;
-use std::io::{BufRead, BufReader};
 use std::marker::Brand;
 use std::net::{Net, TcpListener, TcpStream};
 use std::rt::Files;
@@ -48,59 +51,60 @@ use std::thread::{Threads, join_mut};
 use std::time::Clock;
 
 /// Answers the lines of the reader.
-fn answer_input<'a, P: Publishing, I: BufRead, W: Writer, R: Wait + Clock>(
+fn answer_input<'a, P: Publishing, I: Reader, W: Writer, R: Wait + Clock>(
     rt: &R,
     publisher: &Publisher<P>,
     seat: &mut Seat<P>,
-    reader: &mut I,
+    lines: &mut LineReader<I>,
     writer: &mut W,
 ) -> Result<(), Failure<'a>>
-    ensures ok { OnOk result (HasAnswered P.checked P.limit None (I.remaining reader.old) (I.remaining reader.new)
-        (W.contents writer.old) (W.contents writer.new) seat.old seat.new) }
-    ensures err { IfErr result (IsCutOff P.checked P.limit None (I.remaining reader.old) (I.remaining reader.new)
-        (W.contents writer.old) (W.contents writer.new) seat.old seat.new) }
+    ensures ok { OnOk result (HasAnswered P.checked P.limit None I.may_fail (coming I.remaining lines.old)
+        (coming I.remaining lines.new) (W.contents writer.old) (W.contents writer.new) seat.old seat.new) }
+    ensures err { IfErr result (IsCutOff P.checked P.limit None (coming I.remaining lines.old)
+        (coming I.remaining lines.new) (W.contents writer.old) (W.contents writer.new) seat.old seat.new) }
 {
-    match answer_lines(rt, publisher.allocator(), publisher, seat, reader, writer) {
+    match answer_lines(rt, publisher.allocator(), publisher, seat, lines, writer) {
         Ok(_) => Ok(()),
         Err(failure) => Err(failure),
     }
 }
 
-/// Answers the lines of callers, if commands come from callers, or else those of the reader, once some place waits for
-/// clients.
+/// Answers the lines of callers if commands come from callers, and otherwise those of the reader, once a place waits
+/// for clients.
 ///
 /// # Errors
 ///
-/// `OutOfMemory` also where none does, since no other thread can be had.
+/// `OutOfMemory` also if none does, since no other thread can be started.
 #[tactic(auto, using(crate::proofs::Talking::unbegun))]
-fn answer_attended<'a, P: Publishing, I: BufRead, W: Writer, R: Wait + Clock + Eprint>(
+fn answer_attended<'a, P: Publishing, I: Reader, W: Writer, R: Wait + Clock + Eprint>(
     rt: &R,
     publisher: &Publisher<P>,
     hall: &Hall,
     callers: &Option<Door>,
     seat: &mut Seat<P>,
-    reader: &mut I,
+    lines: &mut LineReader<I>,
     writer: &mut W,
 ) -> Result<(), Failure<'a>>
-    ensures ok { OnOk result (HasAnswered P.checked P.limit (callers_at callers.now) (I.remaining reader.old)
-        (I.remaining reader.new) (W.contents writer.old) (W.contents writer.new) seat.old seat.new) }
-    ensures err { IfErr result (IsCutOff P.checked P.limit (callers_at callers.now) (I.remaining reader.old)
-        (I.remaining reader.new) (W.contents writer.old) (W.contents writer.new) seat.old seat.new) }
+    ensures ok { OnOk result (HasAnswered P.checked P.limit (callers_at callers.now) I.may_fail
+        (coming I.remaining lines.old) (coming I.remaining lines.new) (W.contents writer.old) (W.contents writer.new)
+        seat.old seat.new) }
+    ensures err { IfErr result (IsCutOff P.checked P.limit (callers_at callers.now) (coming I.remaining lines.old)
+        (coming I.remaining lines.new) (W.contents writer.old) (W.contents writer.new) seat.old seat.new) }
 {
     if !hall.is_attended(rt) {
         return Err(Failure::OutOfMemory);
     }
     match callers {
         Some(door) => answer_callers(rt, publisher, hall, seat, &door.listener),
-        None => answer_input(rt, publisher, seat, reader, writer),
+        None => answer_input(rt, publisher, seat, lines, writer),
     }
 }
 
-/// Answers the lines of the session, and lets the clients go when there are no more.
+/// Answers the lines of the session, and disconnects the clients when there are no more.
 fn conduct<
     'a,
     P: Publishing,
-    I: BufRead,
+    I: Reader,
     W: Writer,
     R: Wait + Clock + Eprint + Net<Listener = TcpListener, Stream = TcpStream>,
 >(
@@ -109,15 +113,17 @@ fn conduct<
     hall: &Hall,
     doors: &Doors,
     seat: &mut Seat<P>,
-    reader: &mut I,
+    lines: &mut LineReader<I>,
     writer: &mut W,
 ) -> Result<(), Failure<'a>>
-    ensures ok { OnOk result (HasAnswered P.checked P.limit (callers_at doors.now.callers) (I.remaining reader.old)
-        (I.remaining reader.new) (W.contents writer.old) (W.contents writer.new) seat.old seat.new) }
-    ensures err { IfErr result (IsCutOff P.checked P.limit (callers_at doors.now.callers) (I.remaining reader.old)
-        (I.remaining reader.new) (W.contents writer.old) (W.contents writer.new) seat.old seat.new) }
+    ensures ok { OnOk result (HasAnswered P.checked P.limit (callers_at doors.now.callers) I.may_fail
+        (coming I.remaining lines.old) (coming I.remaining lines.new) (W.contents writer.old) (W.contents writer.new)
+        seat.old seat.new) }
+    ensures err { IfErr result (IsCutOff P.checked P.limit (callers_at doors.now.callers)
+        (coming I.remaining lines.old) (coming I.remaining lines.new) (W.contents writer.old) (W.contents writer.new)
+        seat.old seat.new) }
 {
-    let answered = answer_attended(rt, publisher, hall, &doors.callers, seat, reader, writer);
+    let answered = answer_attended(rt, publisher, hall, &doors.callers, seat, lines, writer);
     publisher.finish(rt);
     hall.close(rt, doors.clients.port);
     see_off(rt, publisher, hall);
@@ -128,7 +134,7 @@ fn conduct<
 fn run_both<
     'a,
     P: Publishing + Sync,
-    I: BufRead,
+    I: Reader,
     W: Writer,
     R: Threads + Wait + Clock + Eprint + Net<Listener = TcpListener, Stream = TcpStream> + Sync,
 >(
@@ -138,13 +144,15 @@ fn run_both<
     doors: &Doors,
     berths: &mut [Berth],
     seat: &mut Seat<P>,
-    reader: &mut I,
+    lines: &mut LineReader<I>,
     writer: &mut W,
 ) -> Result<(), Failure<'a>>
-    ensures ok { OnOk result (HasAnswered P.checked P.limit (callers_at doors.now.callers) (I.remaining reader.old)
-        (I.remaining reader.new) (W.contents writer.old) (W.contents writer.new) seat.old seat.new) }
-    ensures err { IfErr result (IsCutOff P.checked P.limit (callers_at doors.now.callers) (I.remaining reader.old)
-        (I.remaining reader.new) (W.contents writer.old) (W.contents writer.new) seat.old seat.new) }
+    ensures ok { OnOk result (HasAnswered P.checked P.limit (callers_at doors.now.callers) I.may_fail
+        (coming I.remaining lines.old) (coming I.remaining lines.new) (W.contents writer.old) (W.contents writer.new)
+        seat.old seat.new) }
+    ensures err { IfErr result (IsCutOff P.checked P.limit (callers_at doors.now.callers)
+        (coming I.remaining lines.old) (coming I.remaining lines.new) (W.contents writer.old) (W.contents writer.new)
+        seat.old seat.new) }
 {
     let hall = Hall::new(feed);
     let shared = &hall;
@@ -153,22 +161,22 @@ fn run_both<
         rt,
         &mut || attend_all(rt, publisher, shared, listener, berths),
         &mut || -> Result<(), Failure<'_>>
-            ensures ok { OnOk result (HasAnswered P.checked P.limit (callers_at doors.entry.now.callers)
-                (I.remaining reader.entry.now) (I.remaining reader.exit.now) (W.contents writer.entry.now)
+            ensures ok { OnOk result (HasAnswered P.checked P.limit (callers_at doors.entry.now.callers) I.may_fail
+                (coming I.remaining lines.entry.now) (coming I.remaining lines.exit.now) (W.contents writer.entry.now)
                 (W.contents writer.exit.now) seat.entry.now seat.exit.now) }
             ensures err { IfErr result (IsCutOff P.checked P.limit (callers_at doors.entry.now.callers)
-                (I.remaining reader.entry.now) (I.remaining reader.exit.now) (W.contents writer.entry.now)
+                (coming I.remaining lines.entry.now) (coming I.remaining lines.exit.now) (W.contents writer.entry.now)
                 (W.contents writer.exit.now) seat.entry.now seat.exit.now) }
-        { conduct(rt, publisher, shared, doors, seat, reader, writer) },
+        { conduct(rt, publisher, shared, doors, seat, lines, writer) },
     );
     answered
 }
 
-/// Serves the clients of a publisher while a session makes commits, and closes it when all have ended.
+/// Serves the clients of a publisher while a session makes commits, and closes the publisher when all have ended.
 fn publish<
     'a,
     P: Publishing + Sync,
-    I: BufRead,
+    I: Reader,
     W: Writer,
     R: Threads
         + Wait
@@ -183,7 +191,7 @@ fn publish<
     opening: Opening,
     checked: Arc<Checked, Global>,
     feed: Feed<'_>,
-    reader: &mut I,
+    lines: &mut LineReader<I>,
     writer: &mut W,
 ) -> Result<Status, Failure<'a>>
     requires name { opening.name ≡ P.name }
@@ -193,8 +201,8 @@ fn publish<
     requires checked { checked_view (arc_value checked) ≡ P.checked }
     requires limit { feed.limit ≡ P.limit }
     requires within { IsWithin feed.limit }
-    ensures { Serves feed.entry P.checked (I.remaining reader.old) (I.remaining reader.new) (W.contents writer.old)
-        (W.contents writer.new) result }
+    ensures { Serves feed.entry P.checked (coming I.remaining lines.old) (coming I.remaining lines.new) I.may_fail
+        (W.contents writer.old) (W.contents writer.new) result }
 {
     let mut berths = free_berths(alloc, checked.catalog().subscriptions.len())?;
     let (publisher, mut seats) = Publisher::<P>::new(alloc, opening, checked, feed.limit)?;
@@ -209,7 +217,7 @@ fn publish<
         &doors,
         berths.as_mut_slice(),
         &mut seat,
-        reader,
+        lines,
         writer,
     );
     answered?;
@@ -217,8 +225,8 @@ fn publish<
     close_session(alloc, publisher, seats, seat, served, writer)
 }
 
-/// Publishes what a reader gives: a catalog, a line `%%`, the texts of the certificates of its tables, one a line, a line
-/// `%%`, and then commands, a step a line, each of which is made and answered when it has come.
+/// Publishes what a reader gives: a catalog, a line `%%`, the texts of the certificates of its tables, one per line, a
+/// line `%%`, and then commands, one step per line, each of which is executed and answered when it has arrived.
 pub(crate) fn publish_input<
     'a,
     I: Reader + Drop,
@@ -235,18 +243,18 @@ pub(crate) fn publish_input<
     ensures { AnswersReader (Publish feed.entry) I.may_fail (I.remaining input) (W.contents writer.old)
         (W.contents writer.new) result }
 {
-    let Ok(mut reader) = BufReader::new(alloc, input) else {
+    let Ok(mut lines) = LineReader::new(alloc, input) else {
         return Err(Failure::OutOfMemory);
     };
-    let text = read_part(rt, alloc, &mut reader)?;
-    let certificates = read_part(rt, alloc, &mut reader)?;
+    let text = read_part(rt, alloc, &mut lines)?;
+    let certificates = read_part(rt, alloc, &mut lines)?;
     let catalog = read_catalog(alloc, text.as_str())?;
     let texts = lines_of(alloc, certificates.as_str())?;
     match verdict_of(alloc, catalog, texts.as_slice())? {
         Ok(checked) => {
             let shared = Arc::new(alloc, checked)?;
             let opening = Opening::new(alloc)?;
-            publish::<Brand, _, _, _>(rt, alloc, opening, shared, feed, &mut reader, writer)
+            publish::<Brand, _, _, _>(rt, alloc, opening, shared, feed, &mut lines, writer)
         }
         Err(refusal) => {
             let catalog = read_catalog(alloc, text.as_str())?;

@@ -1,4 +1,4 @@
-//! What the program is asked of its input, by the arguments of a subcommand.
+//! What the arguments of a subcommand request.
 
 ghost use Rattle.std.specs.Prelude.{◌≡◌, ℕ, Option, None, IfSome, codes};
 ghost use Rattle.std.specs.Option.{option_map};
@@ -14,66 +14,65 @@ ghost use Rattle.cli.specs.declared.requests.Service.{Service as ServiceType};
 use clap::ArgMatches;
 use commands::RowOutput;
 
-/// What is served.
+/// What `serve` serves.
 #[derive(Clone, Copy, Debug, PartialEq, Eq)]
 pub struct Service {
     /// The port of the loopback interface.
     pub port: u16,
     /// The most commits that the log takes.
     pub limit: u32,
-    /// How many connections are accepted in all; none where it is one for each subscription.
+    /// How many connections are accepted in total; none if it is one for each subscription.
     pub connections: Option<usize>,
 }
 
-/// What is told on standard error of each connection.
+/// How standard error reports connections.
 #[derive(Clone, Copy, Debug, PartialEq, Eq)]
 pub enum LogFormat {
-    /// A line when it has ended.
+    /// A line when a connection has ended.
     Text,
-    /// An object of JSON, on a line of its own, when it is accepted, and one when it has ended.
+    /// A JSON object on a line of its own when a connection is accepted, and one when it has ended.
     Json,
 }
 
-/// What is published.
+/// What `publish` publishes.
 #[derive(Clone, Copy, Debug, PartialEq, Eq)]
 pub struct Feed<'a> {
-    /// The port of the loopback interface; any free one where it is 0.
+    /// The port of the loopback interface; 0 is any free one.
     pub port: u16,
-    /// The file into which the port is written.
+    /// The file to which the ports are written.
     pub port_file: Option<&'a str>,
-    /// The port of the loopback interface at which commands come, any free one where it is 0; none where they come by the
-    /// standard input.
+    /// The port of the loopback interface for commands, where 0 is any free one; none if they come from standard input.
     pub commands: Option<u16>,
     /// The most commits that the log takes.
     pub limit: u32,
-    /// How many seconds a client has at most to start its stream.
+    /// How many seconds a client has to start its stream, 1 to 86,400.
     pub start_timeout: u32,
-    /// How many seconds a write waits at most for a client that takes nothing.
+    /// How many seconds a write waits for a client that takes nothing, 1 to 86,400.
     pub write_timeout: u32,
-    /// How many seconds there are between two keepalives.
+    /// The seconds between two keepalives, 1 to 86,400.
     pub keepalive: u32,
-    /// How many seconds a client whose stream has started may be silent.
+    /// How many seconds a client may be silent once its stream has started, 1 to 86,400.
     pub timeout: u32,
-    /// What is told on standard error of each connection.
+    /// How standard error reports connections.
     pub log: LogFormat,
 }
 
-/// What the program is asked of its input.
+/// What the program is to do with its input.
 #[derive(Clone, Copy, Debug, PartialEq, Eq)]
 pub enum Request<'a> {
-    /// Print this of each row of this table.
+    /// Print this for each row of this table.
     Eval { table: &'a str, wanted: RowOutput },
     /// Print a catalog as it was read.
     Show,
-    /// Tell whether a sharding is sound, by certificates; before that, if it is to be shown, print the catalog.
+    /// Print whether certificates show that a sharding is sound; before that, print the catalog if it is to be shown.
     Check { shows: bool },
-    /// Look for the certificates of a sharding.
+    /// Search for the certificates of a sharding.
     Make,
-    /// Make the steps of a script, with a log of at most so many commits.
+    /// Execute the steps of a script, with a log of at most this many commits.
     Simulate { limit: u32 },
     /// Serve the subscribers of a sharding.
     Serve(Service),
-    /// Publish commits as they come.
+    /// Publish commits as commands arrive.
     Publish(Feed<'a>),
 }
 
@@ -81,7 +80,7 @@ impl Request<'_> {
     ghost use Rattle.std.specs.Prelude.{◌≡◌, true, false};
     ghost use Rattle.cli.specs.Requests.{CanServe};
 
-    /// Whether subscribers have to be served for it.
+    /// Whether subscribers have to be served.
     pub fn needs_sockets(&self) -> bool
         ensures yes { result ≡ true → CanServe false self.now → ⊥ }
         ensures no { result ≡ false → CanServe false self.now }
@@ -90,7 +89,7 @@ impl Request<'_> {
     }
 }
 
-/// What the arguments of `eval` ask.
+/// What the arguments of `eval` request.
 fn eval_request<'a>(eval: &ArgMatches<'a>) -> Option<Request<'a>>
     ensures some { IfSome result (IsEval (rows_of (found_of eval.now))) }
     ensures none { result ≡ None → first_of (codes "TABLE") (rows_of (found_of eval.now)) ≡ None }
@@ -104,7 +103,7 @@ fn eval_request<'a>(eval: &ArgMatches<'a>) -> Option<Request<'a>>
     Some(Request::Eval { table, wanted })
 }
 
-/// What the arguments of `check` ask.
+/// What the arguments of `check` request.
 fn check_request<'a>(check: &ArgMatches<'a>) -> Request<'a>
     ensures { IsCheck (rows_of (found_of check.now)) result }
 {
@@ -116,10 +115,10 @@ fn check_request<'a>(check: &ArgMatches<'a>) -> Request<'a>
 /// The most commits that a log may take.
 const MAX_LIMIT: u32 = 1_000_000_000;
 
-/// How many commits a log takes where it is not said.
+/// How many commits a log takes by default.
 const LIMIT: u32 = 1_000_000;
 
-/// The number of commits that a word spells, if a log may take so many.
+/// The number of commits that a word spells, if a log may take that many.
 fn read_limit(word: &str) -> Option<u32>
     ensures some { IfSome result (spec.SpellsLimit word.now) }
     ensures none { result ≡ None → (limit : ℕ) → spec.SpellsLimit word.now limit → ⊥ }
@@ -130,7 +129,7 @@ fn read_limit(word: &str) -> Option<u32>
     }
 }
 
-/// The most commits that the log takes, if the word is read.
+/// The most commits that the log takes, if the word can be read; the default if there is no word.
 fn limit_by(word: Option<&str>) -> Option<u32>
     ensures some { IfSome result (IsLimit (option_map (λ word. word.now) word.entry)) }
     ensures none { result ≡ None → (limit : ℕ) → IsLimit (option_map (λ word. word.now) word.entry) limit → ⊥ }
@@ -141,7 +140,7 @@ fn limit_by(word: Option<&str>) -> Option<u32>
     }
 }
 
-/// What the arguments of `simulate` ask.
+/// What the arguments of `simulate` request.
 fn simulate_request<'a>(simulate: &ArgMatches<'a>) -> Option<Request<'a>>
     ensures some { IfSome result (IsSimulate (rows_of (found_of simulate.now))) }
     ensures none { result ≡ None → (limit : ℕ) → HasLimit (rows_of (found_of simulate.now)) limit → ⊥ }
@@ -150,7 +149,7 @@ fn simulate_request<'a>(simulate: &ArgMatches<'a>) -> Option<Request<'a>>
     Some(Request::Simulate { limit })
 }
 
-/// The port that the word spells, if there is one.
+/// The port that the word spells, if it spells one of 1 to 65,535.
 fn port_by(word: Option<&str>) -> Option<u16>
     ensures some { IfSome result (IsPort (option_map (λ word. word.now) word.entry)) }
     ensures none { result ≡ None → (port : ℕ) → IsPort (option_map (λ word. word.now) word.entry) port → ⊥ }
@@ -161,10 +160,10 @@ fn port_by(word: Option<&str>) -> Option<u16>
     }
 }
 
-/// The most connections that are accepted.
+/// The most connections that may be accepted.
 const MOST_CONNECTIONS: usize = 1_000;
 
-/// The number of connections that a word spells, if so many may be accepted.
+/// The number of connections that a word spells, if that many may be accepted.
 fn read_count(word: &str) -> Option<usize>
     ensures some { IfSome result (spec.Spells 1000 word.now) }
     ensures none { result ≡ None → (count : ℕ) → spec.Spells 1000 word.now count → ⊥ }
@@ -175,7 +174,7 @@ fn read_count(word: &str) -> Option<usize>
     }
 }
 
-/// How many connections are accepted in all, if the word is read; none where there is no word.
+/// How many connections are accepted in total, if the word can be read; none if there is no word.
 fn connections_by(word: Option<&str>) -> Option<Option<usize>>
     ensures some { IfSome result (AreConnections (option_map (λ word. word.now) word.entry)) }
     ensures none { result ≡ None → (connections : Option ℕ)
@@ -190,7 +189,7 @@ fn connections_by(word: Option<&str>) -> Option<Option<usize>>
     }
 }
 
-/// What the arguments of `serve` ask.
+/// What the arguments of `serve` request.
 fn service_of<'a>(serve: &ArgMatches<'a>) -> Option<Service>
     ensures some { IfSome result (IsService (rows_of (found_of serve.now))) }
     ensures none { result ≡ None → (service : ServiceType) → IsService (rows_of (found_of serve.now)) service → ⊥ }
@@ -205,7 +204,7 @@ fn service_of<'a>(serve: &ArgMatches<'a>) -> Option<Service>
     })
 }
 
-/// That what the arguments of `serve` ask is to serve.
+/// The request to serve by the arguments of `serve`.
 fn serve_request<'a>(serve: &ArgMatches<'a>) -> Option<Request<'a>>
     ensures some { IfSome result (IsServe (rows_of (found_of serve.now))) }
     ensures none { result ≡ None → (service : ServiceType) → IsService (rows_of (found_of serve.now)) service → ⊥ }
@@ -214,7 +213,7 @@ fn serve_request<'a>(serve: &ArgMatches<'a>) -> Option<Request<'a>>
     Some(Request::Serve(service))
 }
 
-/// The port that the word spells, if there is one; 0 is any free port.
+/// The port that the word spells, if it spells one; 0 is any free port.
 fn port_or_any_by(word: Option<&str>) -> Option<u16>
     ensures some { IfSome result (IsPortOrAny (option_map (λ word. word.now) word.entry)) }
     ensures none { result ≡ None → (port : ℕ) → IsPortOrAny (option_map (λ word. word.now) word.entry) port → ⊥ }
@@ -225,7 +224,7 @@ fn port_or_any_by(word: Option<&str>) -> Option<u16>
     }
 }
 
-/// The port at which commands come, if the word is read; none where there is no word.
+/// The port for commands, if the word can be read; none if there is no word.
 fn commands_by(word: Option<&str>) -> Option<Option<u16>>
     ensures some { IfSome result (AreCommandsAt (option_map (λ word. word.now) word.entry)) }
     ensures none { result ≡ None → (commands : Option ℕ)
@@ -240,10 +239,10 @@ fn commands_by(word: Option<&str>) -> Option<Option<u16>>
     }
 }
 
-/// The most seconds that are waited for anything.
+/// The most seconds of any timeout.
 const MOST_SECONDS: u32 = 86_400;
 
-/// The number of seconds that a word spells, if so many may be waited.
+/// The number of seconds that a word spells, if a timeout may be that long.
 fn read_seconds(word: &str) -> Option<u32>
     ensures some { IfSome result (spec.Spells 86400 word.now) }
     ensures none { result ≡ None → (count : ℕ) → spec.Spells 86400 word.now count → ⊥ }
@@ -254,7 +253,7 @@ fn read_seconds(word: &str) -> Option<u32>
     }
 }
 
-/// How many seconds are waited, if the word is read; so many where there is no word.
+/// The seconds of a timeout, if the word can be read; the default if there is no word.
 fn seconds_by(word: Option<&str>, otherwise: u32) -> Option<u32>
     ensures some { IfSome result (AreSeconds otherwise (option_map (λ word. word.now) word.entry)) }
     ensures none { result ≡ None → (seconds : ℕ)
@@ -266,7 +265,7 @@ fn seconds_by(word: Option<&str>, otherwise: u32) -> Option<u32>
     }
 }
 
-/// The format that a word names, if one has this name; lines of text where there is no word.
+/// The format that a word names, if one has this name; text if there is no word.
 fn log_by(word: Option<&str>) -> Option<LogFormat>
     ensures some { IfSome result (IsLogFormat (option_map (λ word. word.now) word.entry)) }
     ensures none { result ≡ None → (format : LogFormatType)
@@ -284,7 +283,7 @@ fn log_by(word: Option<&str>) -> Option<LogFormat>
     None
 }
 
-/// What the arguments of `publish` ask.
+/// What the arguments of `publish` request.
 fn feed_of<'a>(publish: &ArgMatches<'a>) -> Option<Feed<'a>>
     ensures some { IfSome result (IsFeed (rows_of (found_of publish.now))) }
     ensures none { result ≡ None → (feed : FeedType) → IsFeed (rows_of (found_of publish.now)) feed → ⊥ }
@@ -311,7 +310,7 @@ fn feed_of<'a>(publish: &ArgMatches<'a>) -> Option<Feed<'a>>
     })
 }
 
-/// That what the arguments of `publish` ask is to publish.
+/// The request to publish by the arguments of `publish`.
 fn publish_request<'a>(publish: &ArgMatches<'a>) -> Option<Request<'a>>
     ensures some { IfSome result (IsPublish (rows_of (found_of publish.now))) }
     ensures none { result ≡ None → (feed : FeedType) → IsFeed (rows_of (found_of publish.now)) feed → ⊥ }
@@ -320,7 +319,7 @@ fn publish_request<'a>(publish: &ArgMatches<'a>) -> Option<Request<'a>>
     Some(Request::Publish(feed))
 }
 
-/// What is asked by the subcommand that the words name.
+/// What the subcommand that the arguments name requests.
 pub fn request_of<'a>(matches: &ArgMatches<'a>) -> Option<Request<'a>>
     ensures some { IfSome result (IsTaken (subcommand_rows_of matches.now)) }
     ensures none { result ≡ None → (request : RequestType) → IsTaken (subcommand_rows_of matches.now) request → ⊥ }

@@ -1,4 +1,4 @@
-//! A session that commits, beside connections that are served.
+//! A session that commits while connections are served.
 
 ghost use Rattle.std.specs.Prelude.{◌≡◌, ◌≤◌, All, map, length, OnOk};
 ghost use Rattle.cli.specs.Connections.{IsFilled};
@@ -15,7 +15,7 @@ use std::thread::{Threads, join_mut};
 use std::time::Clock;
 use table_changes::Command;
 
-/// Commits the lists in this thread, while others serve a connection for each place of a slice.
+/// Commits the lists in this thread, while other threads serve a connection for each place of a slice.
 fn run_in<P: Publishing + Sync, R: Threads + Wait + Clock + Sync>(
     rt: &R,
     publisher: &Publisher<P>,
@@ -43,8 +43,8 @@ fn run_in<P: Publishing + Sync, R: Threads + Wait + Clock + Sync>(
     committed
 }
 
-/// Commits the lists in this thread, while others serve a connection for each place. It returns when all have ended.
-/// Where no other thread can be had, the lists are committed first, and then each connection is served all of them.
+/// Commits the lists in this thread, while other threads serve a connection for each place. Returns when all have
+/// ended. If no other thread can be started, the lists are committed first, and then the connections are served.
 pub fn run_both<P: Publishing + Sync, R: Threads + Wait + Clock + Sync>(
     rt: &R,
     publisher: &Publisher<P>,

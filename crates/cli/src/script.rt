@@ -19,7 +19,7 @@ fn is_commit(step: &Step) -> bool
     matches!(step, Step::Commit(_))
 }
 
-/// The place of the first step that isn't COMMIT.
+/// The place of the first step that is not COMMIT.
 fn first_other(lines: &[Line]) -> Option<usize>
     ensures { result ≡ spec.first_other (map line_view lines.now) }
 {
@@ -45,12 +45,12 @@ fn lists_of(alloc: Global, lines: Vec<Line>) -> Result<Vec<Vec<Command>>, AllocE
     Ok(lists)
 }
 
-/// Reads a script, each step of which has to be COMMIT, and gives the lists of commands that are committed, of which
-/// there are at most 100,000.
+/// The lists of commands that a script commits, in order; at most 100,000. Each step has to be COMMIT.
 ///
 /// # Errors
 ///
-/// A fault of the script; where it is read, one at the first word of the first step that isn't COMMIT; `OutOfMemory`.
+/// The fault of the script; if it has none, `Expected` at the first word of the first step that is not COMMIT;
+/// `OutOfMemory`.
 pub fn read_lists<'a>(
     alloc: Global,
     catalog: &Catalog,

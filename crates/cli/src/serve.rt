@@ -28,7 +28,7 @@ use std::thread::Threads;
 use std::time::Clock;
 use table_changes::Command;
 
-/// Serves connections of a publisher while a session commits the lists, and closes it when all have ended.
+/// Serves the connections of a publisher while a session commits the lists, and closes it when all have ended.
 fn publish<
     'a,
     P: Publishing + Sync,
@@ -67,9 +67,9 @@ fn publish<
     close_and_tell(rt, alloc, publisher, seats, seat, served, writer)
 }
 
-/// Serves an input: a catalog, the texts of the certificates of its tables, one a line, and a script, with lines `%%`
-/// between them. Faults of the input are those of `simulate`, in its order. That a step isn't COMMIT is a fault of the
-/// script.
+/// Serves an input: a catalog, the texts of the certificates of its tables, one per line, and a script, with lines `%%`
+/// between them. The faults of the input are those of `simulate`, in its order. A step that is not COMMIT is a fault of
+/// the script.
 pub fn serve_input<
     'a,
     W: Writer,

@@ -1,4 +1,4 @@
-//! The subcommands and their arguments, as clap is told of them, and the texts of the help.
+//! The subcommands and their arguments, as they are described to clap, and the texts of the help.
 
 ghost use Rattle.std.specs.Prelude.{◌≡◌, false, IfOk};
 ghost use Rattle.clap.specs.Words.{app_of, rule_of};
@@ -27,17 +27,17 @@ pgshard serve --help describes serve.";
 const SERVE_HELP: &str =
     "The program reads standard input, whose parts are separated by lines that are exactly %%:
 a catalog, the certificates of its tables, one on each line, and a script in which each step is COMMIT.
-If the sharding is sound, it listens on 127.0.0.1, prints listening PORT, and accepts as many connections in all as it is
-told to. Each is served as soon as it is accepted, while one session commits the lists of the script, in their order.
-A list that is refused is skipped. A client speaks the streaming replication protocol as it is after startup, from
-START_REPLICATION on. The slots are the subscriptions of the catalog. A client that loses its connection can come back if
-there are more connections than subscriptions. When all connections have ended, the program compares what the session
-and the connections were told with the log, and prints closed COMMITS CONNECTIONS. For each subscription that was not
-sent the whole log there is a line on standard error.
+If the sharding is sound, it listens on 127.0.0.1, prints listening PORT, and accepts the given number of connections.
+Each is served as soon as it is accepted, while one session commits the lists of the script, in order. A list that is
+refused is skipped. A client speaks the streaming replication protocol as it is after startup, from START_REPLICATION
+on. The slots are the subscriptions of the catalog. A client that loses its connection can reconnect if there are more
+connections than subscriptions. When all connections have ended, the program compares what it answered to the session
+and sent to the connections with the log, and prints closed COMMITS CONNECTIONS. Standard error has a line for each
+subscription that was not sent the whole log.
 
 Exit status:
   0  all connections have ended, and the line closed is printed
-  1  the sharding is refused; or the log differs from what was told, and the line close says how
+  1  the sharding is refused; or the log differs from what was answered and sent, and the line close says how
   2  usage error
   3  the input cannot be read, and a line says why
   4  cannot write the output or use the port, or the listening socket failed
@@ -45,23 +45,23 @@ Exit status:
 
 const PUBLISH_HELP: &str =
     "The program reads standard input: a catalog, a line %%, the certificates of its tables, one on each line, a line %%, and
-then commands, one on each line. If the sharding is sound, it listens on 127.0.0.1, prints listening PORT, and answers each
-line when it has come:
+then commands, one on each line. If the sharding is sound, it listens on 127.0.0.1, prints listening PORT, and answers
+each line when it has arrived:
   COMMIT [COMMAND, ..];  makes one transaction, and prints commit N, or refused and why
-  VIEW;                  prints the number of commits, the publisher's rows, and for each subscription up to where it was
-                         sent and has confirmed the log, and whether it is connected
-  QUIT;                  ends the input, as its end does
-A line that cannot be read prints script PLACE KIND, and changes nothing. With --commands the lines come from clients of that
-port, one client after another, and what is printed for a line goes to its client; the program also prints commands PORT,
+  VIEW;                  prints the number of commits, the publisher's rows, and for each subscription the positions up to
+                         which it was sent and has confirmed the log, and whether it is connected
+  QUIT;                  ends the input
+A line that cannot be read prints script PLACE KIND, and changes nothing. With --commands, the lines come from clients of
+that port, one client after another, and the answer to a line goes to its client; the program also prints commands PORT,
 and runs until a client sends QUIT;.
-Clients are served as serve does, as often as they connect. When the input has ended, the clients get what is left and have
-ten seconds to confirm it. Then the program compares what the session and the connections were told with the log, and prints closed COMMITS CONNECTIONS.
-Each connection has a line on standard error when it has ended; with --log json an object when it is accepted, and one when
-it has ended.
+Clients are served as by serve, and may connect any number of times. When the input has ended, the clients get what is
+left, and have ten seconds to confirm it. Then the program compares what it answered and sent with the log, and prints
+closed COMMITS CONNECTIONS. Standard error has a line for each connection that has ended; with --log json, an object when
+a connection is accepted, and one when it has ended.
 
 Exit status:
   0  the input and all connections have ended, and the line closed is printed
-  1  the sharding is refused; or the log differs from what was told, and the line close says how
+  1  the sharding is refused; or the log differs from what was answered and sent, and the line close says how
   2  usage error
   3  the catalog or the certificates cannot be read, and a line says why
   4  cannot write the output or use a port
@@ -91,7 +91,7 @@ fn check_command<'a>(alloc: Global) -> Result<Command<'a>, AllocError>
 {
     let show = Arg::new(alloc, "show")
         .long("show")
-        .help("print the catalog as it was read, and then what is said of it")
+        .help("print the catalog as it was read, before the verdict")
         .action(ArgAction::SetTrue);
     Command::new(alloc, "check")
         .about(
@@ -107,7 +107,7 @@ fn limit_argument<'a>(alloc: Global) -> Arg<'a>
     Arg::new(alloc, "limit")
         .long("limit")
         .value_name("N")
-        .help("how many commits the log takes: 1 to 1000000000 [default: 1000000]")
+        .help("the most commits that the log takes: 1 to 1000000000 [default: 1000000]")
         .action(ArgAction::Set)
 }
 
@@ -117,7 +117,7 @@ fn simulate_command<'a>(alloc: Global) -> Result<Command<'a>, AllocError>
 {
     let limit = limit_argument(alloc);
     Command::new(alloc, "simulate")
-        .about("reads a catalog, certificates and a script, and prints what comes of each step")
+        .about("reads a catalog, certificates and a script, and prints the result of each step")
         .arg(limit)
 }
 
@@ -141,7 +141,7 @@ fn connections_argument<'a>(alloc: Global) -> Arg<'a>
         .long("connections")
         .value_name("N")
         .help(
-            "how many connections are accepted in all: 1 to 1000 [default: one for each subscription]",
+            "how many connections are accepted in total: 1 to 1000 [default: one for each subscription]",
         )
         .action(ArgAction::Set)
 }
@@ -192,7 +192,7 @@ fn start_timeout_argument<'a>(alloc: Global) -> Arg<'a>
     Arg::new(alloc, "start-timeout")
         .long("start-timeout")
         .value_name("SECONDS")
-        .help("ends a connection that starts no stream for so long: 1 to 86400 [default: 10]")
+        .help("ends a connection that starts no stream within this time: 1 to 86400 [default: 10]")
         .action(ArgAction::Set)
 }
 
@@ -203,7 +203,9 @@ fn write_timeout_argument<'a>(alloc: Global) -> Arg<'a>
     Arg::new(alloc, "write-timeout")
         .long("write-timeout")
         .value_name("SECONDS")
-        .help("ends a connection whose client takes no byte for so long: 1 to 86400 [default: 60]")
+        .help(
+            "ends a connection whose client takes no byte for this time: 1 to 86400 [default: 60]",
+        )
         .action(ArgAction::Set)
 }
 
@@ -214,7 +216,7 @@ fn keepalive_argument<'a>(alloc: Global) -> Arg<'a>
     Arg::new(alloc, "keepalive")
         .long("keepalive")
         .value_name("SECONDS")
-        .help("sends each client a keepalive so often: 1 to 86400 [default: 10]")
+        .help("the time between keepalives to each client: 1 to 86400 [default: 10]")
         .action(ArgAction::Set)
 }
 
@@ -225,7 +227,7 @@ fn timeout_argument<'a>(alloc: Global) -> Arg<'a>
     Arg::new(alloc, "timeout")
         .long("timeout")
         .value_name("SECONDS")
-        .help("ends a stream whose client sends nothing for so long: 1 to 86400 [default: 60]")
+        .help("ends a stream whose client sends nothing for this time: 1 to 86400 [default: 60]")
         .action(ArgAction::Set)
 }
 
@@ -236,7 +238,7 @@ fn log_argument<'a>(alloc: Global) -> Arg<'a>
     Arg::new(alloc, "log")
         .long("log")
         .value_name("FORMAT")
-        .help("what standard error has of connections: text or json [default: text]")
+        .help("how standard error reports connections: text or json [default: text]")
         .action(ArgAction::Set)
 }
 
@@ -257,7 +259,9 @@ fn publish_command<'a>(alloc: Global) -> Result<Command<'a>, AllocError>
     let timeout = timeout_argument(alloc);
     let log = log_argument(alloc);
     Command::new(alloc, "publish")
-        .about("serves subscribers over sockets, while it reads and makes commits one at a time")
+        .about(
+            "serves subscribers over sockets, while it reads commands and commits them one after another",
+        )
         .after_help(PUBLISH_HELP)
         .arg(port)?
         .arg(port_file)?
@@ -280,7 +284,7 @@ pub fn command<'a>(alloc: Global) -> Result<Command<'a>, AllocError>
     let publish = publish_command(alloc)?;
     let check = check_command(alloc)?;
     let show = Command::new(alloc, "show").about(
-        "reads a catalog, and prints it as it was read, as SQL",
+        "reads a catalog, and prints it as SQL, as it was read",
     );
     let make = Command::new(alloc, "make").about(
         "reads a catalog, and prints for each table a certificate, or a row that shows the fault",

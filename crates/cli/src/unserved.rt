@@ -5,21 +5,21 @@ use pub_catalog::Catalog;
 use senders::{Closed, End, Publishing, Served};
 use std::alloc::{AllocError, Global};
 
-/// How many bytes of the log a commit has.
+/// How many bytes of the log a commit takes.
 const COMMIT: u64 = 64;
 
-/// How many commits of the log end at a position or before it.
+/// How many commits of the log end at or before a position.
 fn commits_to(position: u64) -> u64 {
     position.saturating_sub(1) / COMMIT
 }
 
-/// The position after so many commits.
+/// The position after this many commits.
 fn end_of(commits: u64) -> u64 {
     commits.saturating_mul(COMMIT).saturating_add(COMMIT)
 }
 
 /// How many commits a client of the slot has or was sent: those before its start, and those that followed, unless a
-/// write failed, since then it is not known how many of them were written. None where the connection was not the slot's.
+/// write failed, since then it is unknown how many of them were written. None if the connection was not for the slot.
 fn commits_sent(served: &Served, slot: usize) -> Option<u64> {
     let start = served.start?;
     if served.slot != Some(slot) {
@@ -32,7 +32,7 @@ fn commits_sent(served: &Served, slot: usize) -> Option<u64> {
     Some(commits_to(start).saturating_add(taken))
 }
 
-/// How many commits the clients of the slot were sent at most; none where no stream of the slot was started.
+/// The most commits that a client of the slot was sent; none if no stream of the slot was started.
 fn most_sent(served: &[Served], slot: usize) -> Option<u64> {
     let mut most = None;
     for one in served {
@@ -43,7 +43,7 @@ fn most_sent(served: &[Served], slot: usize) -> Option<u64> {
     most
 }
 
-/// The line of a subscription that was sent so many commits of so many.
+/// The line of a subscription that was sent this many of the commits.
 fn unserved_line(
     alloc: Global,
     name: &str,
@@ -63,8 +63,8 @@ fn unserved_line(
     Ok(line)
 }
 
-/// Tells on standard error, in a line for each, which subscriptions no client started or none was sent to the end of the
-/// log. Where memory or the standard error fails, nothing is told.
+/// Reports on standard error, in a line for each, the subscriptions of which no client started a stream, or was sent
+/// the whole log. If memory or standard error fails, nothing is reported.
 pub(crate) fn tell_unserved<P: Publishing, R: Eprint>(
     rt: &R,
     alloc: Global,

@@ -1,4 +1,4 @@
-//! How publishing ends.
+//! How `publish` ends.
 
 ghost use Rattle.std.specs.Prelude.{ℕ, List, ◌≡◌};
 ghost use Rattle.commands.specs.declared.failure.Status.TheVariants.{Done};
@@ -12,7 +12,7 @@ use commands::{Failure, Status, Writer};
 use senders::{CloseError, Publisher, Publishing, Seat, Seats, Served, close};
 use std::alloc::Global;
 
-/// Says how many commits and connections there were.
+/// Writes the numbers of commits and connections.
 fn tell_closed<'a, W: Writer>(
     alloc: Global,
     commits: u32,
@@ -27,7 +27,7 @@ fn tell_closed<'a, W: Writer>(
     say(line, Status::Done, writer)
 }
 
-/// Says why a publisher can't be closed.
+/// Writes why a publisher cannot be closed.
 fn tell_error<'a, W: Writer>(
     alloc: Global,
     error: CloseError,
@@ -41,8 +41,8 @@ fn tell_error<'a, W: Writer>(
     say(line, Status::Refused, writer)
 }
 
-/// Closes a publisher all of whose seats but this were never handed out, and says in a line how many commits and
-/// connections there were, or why it can't be closed.
+/// Closes a publisher of which only this seat was handed out, and writes a line with the numbers of commits and
+/// connections, or why it cannot be closed.
 pub(crate) fn close_session<'a, P: Publishing, W: Writer>(
     alloc: Global,
     publisher: Publisher<P>,

@@ -1,4 +1,4 @@
-//! The ports at which clients are let in, and callers.
+//! The ports for clients, and for callers.
 
 ghost use Rattle.std.specs.Prelude.{◌≡◌, IfErr, IfOk, OnOk};
 ghost use Rattle.std.specs.Io.KnownBytes.{Appends};
@@ -18,21 +18,21 @@ use std::rt::Files;
 use std::time::Clock;
 use std::{fs, io};
 
-/// A socket that listens on a port.
+/// A listening socket, and its port.
 #[derive(Debug, Drop)]
 pub(crate) struct Door {
     pub(crate) listener: TcpListener,
     pub(crate) port: u16,
 }
 
-/// Where clients are let in, and callers, if commands come from callers.
+/// The door for clients, and that for callers if commands come from callers.
 #[derive(Debug, Drop)]
 pub(crate) struct Doors {
     pub(crate) clients: Door,
     pub(crate) callers: Option<Door>,
 }
 
-/// Listens on the port of the loopback interface that is asked for, or on any free one where it is 0.
+/// Listens on this port of the loopback interface, or on any free one if it is 0.
 fn bind<R: Net<Listener = TcpListener, Stream = TcpStream>>(rt: &R, port: u16) -> io::Result<Door>
     ensures { IfOk result (λ door. IsPortFor port door.port) }
 {
@@ -44,7 +44,7 @@ fn bind<R: Net<Listener = TcpListener, Stream = TcpStream>>(rt: &R, port: u16) -
     Ok(Door { listener, port })
 }
 
-/// Listens on the port that is asked for.
+/// Listens on this port, and returns the actual one. If it cannot be used, standard error reports why.
 fn find_door<'a, R: Net<Listener = TcpListener, Stream = TcpStream> + Clock + Eprint>(
     rt: &R,
     alloc: Global,
@@ -63,7 +63,7 @@ fn find_door<'a, R: Net<Listener = TcpListener, Stream = TcpStream> + Clock + Ep
     }
 }
 
-/// Listens on the port that is asked for callers, if one is.
+/// Listens on the port for callers, if commands come from callers.
 fn find_callers<'a, R: Net<Listener = TcpListener, Stream = TcpStream> + Clock + Eprint>(
     rt: &R,
     alloc: Global,
@@ -79,7 +79,7 @@ fn find_callers<'a, R: Net<Listener = TcpListener, Stream = TcpStream> + Clock +
     Ok(Some(door))
 }
 
-/// Listens on the ports that are asked for.
+/// Listens on the ports.
 fn find_doors<'a, R: Net<Listener = TcpListener, Stream = TcpStream> + Clock + Eprint>(
     rt: &R,
     alloc: Global,
@@ -104,7 +104,7 @@ fn callers_port(doors: &Doors) -> Option<u16>
     }
 }
 
-/// The ports, each on a line.
+/// The ports, one per line.
 fn numbers_text(alloc: Global, port: u16, callers: Option<u16>) -> Result<String, AllocError> {
     match callers {
         Some(callers) => format!(in alloc; "{port}\n{callers}\n"),
@@ -112,7 +112,7 @@ fn numbers_text(alloc: Global, port: u16, callers: Option<u16>) -> Result<String
     }
 }
 
-/// Writes the ports to the file that is asked for.
+/// Writes the ports to the file, if there is one.
 fn note_ports<'a, R: Files + Clock + Eprint>(
     rt: &R,
     alloc: Global,
@@ -133,7 +133,7 @@ fn note_ports<'a, R: Files + Clock + Eprint>(
     Ok(())
 }
 
-/// The lines that say which ports are listened on.
+/// The first lines of output, with the ports.
 fn ports_text(alloc: Global, port: u16, callers: Option<u16>) -> Result<String, AllocError>
     ensures { IfOk result (λ text. string_bytes text ≡ text_of (first_lines port callers)) }
 {
@@ -143,7 +143,7 @@ fn ports_text(alloc: Global, port: u16, callers: Option<u16>) -> Result<String, 
     }
 }
 
-/// Says which ports are listened on.
+/// Writes the lines with the ports.
 fn say_ports<'a, W: Writer>(
     alloc: Global,
     port: u16,
@@ -159,11 +159,11 @@ fn say_ports<'a, W: Writer>(
     tell(text.as_str(), writer)
 }
 
-/// Listens on the ports that are asked for, and says so in the file that is asked for and in lines.
+/// Listens on the ports, and writes them to the file, if there is one, and to the output.
 ///
 /// # Errors
 ///
-/// `Output` where a port can't be had, or the lines or the file can't be written. Why is told on standard error.
+/// `Output` if a port cannot be used, or the lines or the file cannot be written; standard error reports why.
 /// `OutOfMemory`.
 pub(crate) fn open_doors<
     'a,

@@ -1,4 +1,4 @@
-//! What the places share: who waits at the door, and whether it is still open.
+//! What the places share: how many wait for clients, and whether clients are still let in.
 
 use crate::requests::{Feed, LogFormat};
 use std::net::{Ipv4Addr, Net, SocketAddr, TcpListener, TcpStream};
@@ -7,14 +7,14 @@ use std::sync::atomic::{AtomicBool, AtomicUsize, Ordering};
 use std::thread;
 use std::time::{Clock, Duration};
 
-/// How many milliseconds it takes at most to knock at the own door.
+/// How many milliseconds a connection to the own port may take.
 const KNOCK: u64 = 100;
 
-/// How many milliseconds it is waited at most until a place waits for a client.
+/// How many milliseconds the session waits until a place waits for a client.
 const BEGIN: u32 = 10_000;
 
-/// How many places wait for a client, whether one ever did, whether further clients are let in, and whether those that are in have to go. Also
-/// for how many seconds a client is waited for, how many there are between keepalives, and how connections are told of.
+/// How many places wait for a client, whether one ever did, whether clients are still let in, and whether those that
+/// are in are to be disconnected. Also the timeouts, in seconds, and how standard error reports connections.
 #[derive(Debug, Drop)]
 pub(crate) struct Hall {
     waiting: AtomicUsize,
@@ -30,7 +30,7 @@ pub(crate) struct Hall {
 }
 
 impl Hall {
-    /// A hall whose door is open, at which no place waits.
+    /// A hall that lets clients in, where no place waits yet.
     pub(crate) fn new(feed: Feed<'_>) -> Hall {
         Hall {
             waiting: AtomicUsize::new(0),
@@ -46,38 +46,38 @@ impl Hall {
         }
     }
 
-    /// For how many seconds it is waited at most that a client starts its stream.
+    /// How many seconds a client has to start its stream.
     pub(crate) fn start_timeout(&self) -> u32 {
         self.start_timeout
     }
 
-    /// For how many seconds it is waited at most that a client takes a byte.
+    /// How many seconds a write waits for a client that takes nothing.
     pub(crate) fn write_timeout(&self) -> u32 {
         self.write_timeout
     }
 
-    /// How many seconds there are between two keepalives.
+    /// The seconds between two keepalives.
     pub(crate) fn keepalive(&self) -> u32 {
         self.keepalive
     }
 
-    /// For how many seconds a client whose stream has started may be silent.
+    /// How many seconds a client may be silent once its stream has started.
     pub(crate) fn timeout(&self) -> u32 {
         self.timeout
     }
 
-    /// How connections are told of.
+    /// How standard error reports connections.
     pub(crate) fn log(&self) -> LogFormat {
         self.log
     }
 
-    /// A place waits for a client from now on.
+    /// A place begins to wait for a client.
     pub(crate) fn enter(&self) {
         self.waiting.fetch_add(1, Ordering::SeqCst);
         self.has_waited.store(true, Ordering::SeqCst);
     }
 
-    /// A place waits no more.
+    /// A place has stopped waiting.
     pub(crate) fn leave(&self) {
         self.waiting.fetch_sub(1, Ordering::SeqCst);
     }
@@ -87,8 +87,8 @@ impl Hall {
         self.waiting.load(Ordering::SeqCst) == 0
     }
 
-    /// Whether some place has waited for a client. It is waited for a while until one does, since the threads of the
-    /// places start beside the session.
+    /// Whether some place has waited for a client. Waits for this up to ten seconds, since the threads of the places
+    /// start at the same time as the session.
     pub(crate) fn is_attended<R: Wait + Clock>(&self, rt: &R) -> bool {
         for _ in 0..BEGIN {
             if self.has_waited.load(Ordering::SeqCst) {
@@ -104,7 +104,7 @@ impl Hall {
         self.is_closed.load(Ordering::SeqCst)
     }
 
-    /// Whether the clients that are in have to go.
+    /// Whether the clients that are in are to be disconnected.
     pub(crate) fn is_cleared(&self) -> bool {
         self.is_cleared.load(Ordering::SeqCst)
     }
@@ -114,12 +114,12 @@ impl Hall {
         !self.was_busy.swap(true, Ordering::SeqCst)
     }
 
-    /// All clients have to go.
+    /// All clients are to be disconnected.
     pub(crate) fn clear(&self) {
         self.is_cleared.store(true, Ordering::SeqCst);
     }
 
-    /// Lets no further client in. Each place that waits for one is woken by a connection to the own port.
+    /// Lets no further client in. Connections to the own port wake the places that wait for one.
     pub(crate) fn close<R: Wait + Clock + Net<Listener = TcpListener, Stream = TcpStream>>(
         &self,
         rt: &R,

@@ -1,4 +1,4 @@
-//! Keepalives: clients learn by them that the publisher is still there.
+//! Keepalives, which tell clients that the publisher is still there.
 
 ghost use Rattle.std.specs.Prelude.{ℕ};
 ghost use Rattle.publisher_desk.specs.Held.{AreSentUpTo};
@@ -11,17 +11,17 @@ use std::thread;
 use std::time::{Clock, Duration};
 use tables_log::Book;
 
-/// After how many milliseconds it is asked whether keepalives are due.
+/// How many milliseconds a tick has. After each, keepalives may be due.
 const TICK: u64 = 100;
 
 /// How many ticks a second has.
 const TICKS: u64 = 1_000 / TICK;
 
-/// Has each client sent a keepalive.
+/// Requests a keepalive for each client.
 #[derive(Drop)]
 struct Reminding;
 
-/// Has the client of a slot sent a keepalive, unless its stream has ended.
+/// Requests a keepalive for the client of a slot, unless its stream has ended.
 fn remind(wishes: &mut [Wish], slot: usize)
     ensures { (most : ℕ) → AreSentUpTo most wishes.old → AreSentUpTo most wishes.new }
 {
@@ -38,7 +38,7 @@ fn remind(wishes: &mut [Wish], slot: usize)
     };
 }
 
-/// Has the clients of all slots sent a keepalive, unless their streams have ended.
+/// Requests a keepalive for the client of each slot whose stream has not ended.
 fn remind_all(wishes: &mut [Wish])
     ensures { (most : ℕ) → AreSentUpTo most wishes.old → AreSentUpTo most wishes.new }
 {
@@ -57,7 +57,7 @@ impl SlotUse for Reminding {
     }
 }
 
-/// Has all clients sent a keepalive each time that so many seconds have gone by, until the door is closed.
+/// Requests a keepalive for all clients each time this many seconds have passed, until the door is closed.
 pub(crate) fn keep_alive<P: Publishing, R: Wait + Clock>(
     rt: &R,
     publisher: &Publisher<P>,

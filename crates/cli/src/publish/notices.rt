@@ -1,4 +1,4 @@
-//! What is told on standard error of connections. Where memory or the standard error fails, nothing is told.
+//! Reports of connections on standard error. If memory or standard error fails, nothing is reported.
 
 use crate::publish::hall::Hall;
 use crate::publish::objects::{accepted_line, ended_line, fault_line, time_now};
@@ -60,7 +60,7 @@ fn start_line<R: Clock>(rt: &R, alloc: Global, client: SocketAddr) -> Result<Str
     accepted_line(alloc, time_now(rt), client.as_str())
 }
 
-/// The line of something that is amiss.
+/// The line of a failure.
 fn amiss_line<R: Clock>(
     rt: &R,
     alloc: Global,
@@ -73,7 +73,7 @@ fn amiss_line<R: Clock>(
     }
 }
 
-/// Tells that a connection was accepted, where objects are told.
+/// Reports that a connection was accepted, if reports are objects.
 pub(crate) fn tell_start<R: Clock + Eprint>(
     rt: &R,
     alloc: Global,
@@ -88,7 +88,7 @@ pub(crate) fn tell_start<R: Clock + Eprint>(
     }
 }
 
-/// Tells how a connection ended.
+/// Reports how a connection ended.
 pub(crate) fn tell_end<P: Publishing, R: Clock + Eprint>(
     rt: &R,
     publisher: &Publisher<P>,
@@ -101,14 +101,14 @@ pub(crate) fn tell_end<P: Publishing, R: Clock + Eprint>(
     }
 }
 
-/// Tells that something is amiss.
+/// Reports a failure.
 fn tell_amiss<R: Clock + Eprint>(rt: &R, alloc: Global, log: LogFormat, fault: &str) {
     if let Ok(line) = amiss_line(rt, alloc, log, fault) {
         let _ = rt.eprint(line.as_str());
     }
 }
 
-/// Tells, the first time, that no connection can be accepted now.
+/// Reports, only the first time, that no connection can be accepted now.
 pub(crate) fn tell_busy<R: Clock + Eprint>(rt: &R, alloc: Global, hall: &Hall, error: &io::Error) {
     if !hall.is_first_trouble() {
         return;
@@ -121,7 +121,7 @@ pub(crate) fn tell_busy<R: Clock + Eprint>(rt: &R, alloc: Global, hall: &Hall, e
     }
 }
 
-/// Tells that the port can't be had.
+/// Reports that the port cannot be used.
 pub(crate) fn tell_port<R: Clock + Eprint>(
     rt: &R,
     alloc: Global,
@@ -134,7 +134,7 @@ pub(crate) fn tell_port<R: Clock + Eprint>(
     }
 }
 
-/// Tells that the file of the port can't be written.
+/// Reports that the file of the ports cannot be written.
 pub(crate) fn tell_file<R: Clock + Eprint>(
     rt: &R,
     alloc: Global,

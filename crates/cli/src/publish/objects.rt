@@ -1,11 +1,11 @@
-//! What is told of connections as objects of JSON, each on a line.
+//! Reports of connections as JSON objects, one per line.
 
 use crate::publish::sent::Sent;
 use serde_json::{Value, json};
 use std::alloc::{AllocError, Global};
 use std::time::Clock;
 
-/// The time in milliseconds since 1970-01-01, in UTC; 0 where the clock can't be read.
+/// The time in milliseconds since 1970-01-01, in UTC; 0 if the clock cannot be read.
 pub(crate) fn time_now<R: Clock>(rt: &R) -> u64 {
     let Ok(time) = rt.since_1970() else {
         return 0;
@@ -21,13 +21,13 @@ fn line_of(alloc: Global, object: &Value) -> Result<String, AllocError> {
     Ok(line)
 }
 
-/// A connection of this client was accepted.
+/// That a connection of this client was accepted.
 pub(crate) fn accepted_line(alloc: Global, time: u64, client: &str) -> Result<String, AllocError> {
     let object = json!(in alloc; {"client": client, "event": "accepted", "time": time})?;
     line_of(alloc, &object)
 }
 
-/// A connection of this client has ended, for this reason, on which this was sent.
+/// That a connection of this client has ended, why, and what it was sent.
 pub(crate) fn ended_line(
     alloc: Global,
     time: u64,
@@ -48,7 +48,7 @@ pub(crate) fn ended_line(
     line_of(alloc, &object)
 }
 
-/// Something is amiss.
+/// A failure.
 pub(crate) fn fault_line(alloc: Global, time: u64, fault: &str) -> Result<String, AllocError> {
     let object = json!(in alloc; {"event": "fault", "fault": fault, "time": time})?;
     line_of(alloc, &object)

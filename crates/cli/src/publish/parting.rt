@@ -1,4 +1,4 @@
-//! How the publisher ends: what is left is sent, and confirmed for a while.
+//! How the publisher ends: clients are sent what is left, and have some time to confirm it.
 
 ghost use Rattle.std.specs.Prelude.{ℕ};
 ghost use Rattle.publisher_desk.specs.Held.{AreSentUpTo};
@@ -11,21 +11,20 @@ use std::thread;
 use std::time::{Clock, Duration};
 use tables_log::Book;
 
-/// After how many milliseconds it is asked again whether all is confirmed.
+/// The milliseconds between two looks at whether all is confirmed.
 const LOOK: u64 = 50;
 
-/// How often it is asked at most.
+/// How often this is looked at.
 const LOOKS: u32 = 200;
 
-/// How many bytes of the log a commit has.
+/// How many bytes of the log a commit takes.
 const COMMIT: u64 = 64;
 
-/// Asks whether some client that is connected has not confirmed the log yet, and has each such client sent a keepalive.
+/// Looks whether a connected client has not confirmed the log yet, and requests a keepalive for each such client.
 #[derive(Drop)]
 struct Asking;
 
-/// Asks whether the client of a slot is connected and has not confirmed the log up to its end, and has it sent a keepalive
-/// then.
+/// Whether the client of a slot is connected and has not confirmed the whole log. If so, requests a keepalive for it.
 fn ask(wishes: &mut [Wish], slot: usize, confirmed: u64, end: u64) -> bool
     ensures { (most : ℕ) → AreSentUpTo most wishes.old → AreSentUpTo most wishes.new }
 {
@@ -60,7 +59,7 @@ impl SlotUse for Asking {
     }
 }
 
-/// Waits until each client that is connected has confirmed the log, but no longer than ten seconds.
+/// Waits until each connected client has confirmed the log, but no longer than ten seconds.
 fn await_confirmed<P: Publishing, R: Wait + Clock>(rt: &R, publisher: &Publisher<P>) {
     for _ in 0..LOOKS {
         thread::sleep(rt, Duration::from_millis(LOOK));
@@ -70,7 +69,7 @@ fn await_confirmed<P: Publishing, R: Wait + Clock>(rt: &R, publisher: &Publisher
     }
 }
 
-/// Lets each client that is connected confirm what it was sent, and then has all go.
+/// Lets each connected client confirm what it was sent, and then disconnects all.
 pub(crate) fn see_off<P: Publishing, R: Wait + Clock>(
     rt: &R,
     publisher: &Publisher<P>,

@@ -13,20 +13,20 @@ use std::thread::{Threads, join_mut};
 use std::time::{Clock, Duration};
 use std::{io, thread};
 
-/// How many places there are besides one for each subscription. While they are all taken, a connection that starts no
-/// stream is ended, so that clients that ask for nothing keep nobody out.
+/// How many places there are besides one for each subscription. While all are taken, a connection that starts no stream
+/// is ended, so that clients that request nothing keep nobody out.
 const SPARE: usize = 64;
 
-/// How many milliseconds a place waits where no connection can be accepted, as while all file descriptors are in use.
+/// How many milliseconds a place waits if no connection can be accepted, such as while all file descriptors are in use.
 const PAUSE: u64 = 100;
 
-/// A place for clients, with what came of the connections that were served there.
+/// A place for clients, with the results of the connections that were served there.
 #[derive(Debug, Drop)]
 pub(crate) struct Berth {
     pub(crate) served: Vec<Served>,
 }
 
-/// The places for the clients of so many subscriptions.
+/// The places for the clients of this many subscriptions.
 pub(crate) fn free_berths(alloc: Global, subscriptions: usize) -> Result<Vec<Berth>, AllocError> {
     let count = subscriptions.saturating_add(SPARE);
     let mut berths = Vec::new(alloc);
@@ -38,7 +38,7 @@ pub(crate) fn free_berths(alloc: Global, subscriptions: usize) -> Result<Vec<Ber
     Ok(berths)
 }
 
-/// The connections of all places.
+/// The results of the connections of all places.
 pub(crate) fn served_at(alloc: Global, berths: Vec<Berth>) -> Result<Vec<Served>, AllocError> {
     let mut all = Vec::new(alloc);
     for berth in berths {
@@ -63,8 +63,8 @@ fn serve_stream<P: Publishing + Sync, R: Threads + Wait + Clock + Sync>(
     serve(rt, publisher, &mut reader, &mut writer, &OpenGate)
 }
 
-/// The connection that was accepted, with its client's address. Where none can be accepted now it is waited for a while, and
-/// there is none.
+/// The connection that was accepted, with its client's address. If none can be accepted now, waits a while, and returns
+/// none.
 pub(crate) fn accepted_or_waited<R: Clock + Eprint>(
     rt: &R,
     alloc: Global,
@@ -83,7 +83,7 @@ pub(crate) fn accepted_or_waited<R: Clock + Eprint>(
     }
 }
 
-/// Waits for the next connection at the door, which comes with its client's address; none where it is closed, or where no
+/// Waits for the next connection, and returns it with its client's address; none if the door is closed, or no
 /// connection can be accepted now.
 fn next_stream<R: Clock + Eprint>(
     rt: &R,
@@ -131,7 +131,7 @@ fn attend<P: Publishing + Sync, R: Threads + Wait + Clock + Eprint + Sync>(
     }
 }
 
-/// Serves clients in all places side by side, until the door is closed and all connections have ended.
+/// Serves clients in all places at the same time, until the door is closed and all connections have ended.
 fn attend_berths<P: Publishing + Sync, R: Threads + Wait + Clock + Eprint + Sync>(
     rt: &R,
     publisher: &Publisher<P>,
@@ -151,7 +151,7 @@ fn attend_berths<P: Publishing + Sync, R: Threads + Wait + Clock + Eprint + Sync
     );
 }
 
-/// Serves clients in all places, and has them sent keepalives, until the door is closed and all connections have ended.
+/// Serves clients in all places, and sends them keepalives, until the door is closed and all connections have ended.
 pub(crate) fn attend_all<P: Publishing + Sync, R: Threads + Wait + Clock + Eprint + Sync>(
     rt: &R,
     publisher: &Publisher<P>,

@@ -4,10 +4,10 @@ use commands::{push_position, subscriber_name};
 use senders::{Publisher, Publishing, Served};
 use std::alloc::{AllocError, Global};
 
-/// How many bytes of the log a commit has.
+/// How many bytes of the log a commit takes.
 const COMMIT: u64 = 64;
 
-/// The subscription whose stream a connection started, and from where to where in the log it was sent.
+/// The subscription whose stream a connection started, and which part of the log it was sent.
 #[derive(Debug, Drop)]
 pub(crate) struct Sent {
     pub(crate) name: String,
@@ -22,7 +22,7 @@ fn position_text(alloc: Global, position: u64) -> Result<String, AllocError> {
     Ok(text)
 }
 
-/// The position after the last commit that was taken up for a connection, or that of its start.
+/// The position after the last commit that was taken for a connection, or that of its start.
 fn reached(served: &Served, start: u64) -> u64 {
     match served.taken.last() {
         None => start,

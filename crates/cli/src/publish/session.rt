@@ -1,6 +1,6 @@
-//! The session that makes the commits, a line at a time.
+//! The session that makes the commits, one line at a time.
 
-ghost use Rattle.std.specs.Prelude.{◌≡◌, [], ◌∷◌, true, None, codes, map, IfErr, IfOk, OnOk};
+ghost use Rattle.std.specs.Prelude.{◌≡◌, ◌≢◌, false, [], ◌∷◌, true, None, codes, map, IfErr, IfOk, OnOk};
 ghost use Rattle.std.specs.String.{string_bytes};
 ghost use Rattle.pub_reader.specs.ScriptView.{line_view};
 ghost use Rattle.pub_reader.specs.StepView.{step_view};
@@ -8,19 +8,19 @@ ghost use Rattle.table_changes.specs.Commands.{command_view};
 ghost use Rattle.sql_reader.specs.KindNames.{kind_name};
 ghost use Rattle.commands.specs.Failures.{fault_line};
 ghost use Rattle.commands.specs.Output.{text_of};
+ghost use Rattle.cli.specs.Incoming.{coming};
 ghost use Rattle.cli.specs.Talks as spec;
 ghost use Rattle.cli.specs.Talks.{Answers, HasAnswered, HasGone, HasQuit, IsCutOff, Replies, StopsNext, Tells};
 
-use crate::publish::parts::next_line;
+use crate::publish::incoming::LineReader;
 use crate::publish::telling::tell;
 use crate::publish::view::view_text;
-use commands::{Failure, InputFault, Writer, answer_text, read_steps};
+use commands::{Failure, InputFault, Reader, Writer, answer_text, read_steps};
 use pub_catalog::Catalog;
 use pub_reader::{Command, ErrorKind, Line, ReadError, Step};
 use senders::{Publisher, Publishing, Seat};
 use shard_world::Answer;
 use std::alloc::{AllocError, Global};
-use std::io::BufRead;
 use std::str::from_utf8;
 use std::sync::Wait;
 use std::time::Clock;
@@ -32,7 +32,7 @@ fn is_fit(step: &Step) -> bool
     matches!(step, Step::Commit(_) | Step::View)
 }
 
-/// The place of the first step that is neither COMMIT nor VIEW, or that is not alone on its line.
+/// The place of the first step that is neither COMMIT nor VIEW, or not the first on its line.
 fn first_unfit(steps: &[Line]) -> Option<usize>
     ensures { result ≡ spec.first_unfit (map line_view steps.now) }
 {
@@ -46,10 +46,10 @@ fn first_unfit(steps: &[Line]) -> Option<usize>
     None
 }
 
-/// How many seconds after 1970-01-01 2000-01-01 is.
+/// The seconds from 1970-01-01 to 2000-01-01.
 const SECONDS_TO_2000: u64 = 946_684_800;
 
-/// The time in microseconds since 2000-01-01, as that of a commit; 0 where the clock can't be read.
+/// The time in microseconds since 2000-01-01, as that of a commit; 0 if the clock cannot be read.
 fn commit_time<R: Clock>(rt: &R) -> u64 {
     let Ok(time) = rt.since_1970() else {
         return 0;
@@ -60,7 +60,7 @@ fn commit_time<R: Clock>(rt: &R) -> u64 {
         .saturating_add(u64::from(time.subsec_micros()))
 }
 
-/// Makes the commands one commit at this time, and says what is answered.
+/// Makes the commands one commit at this time, and returns the answer.
 fn commit<P: Publishing, R: Wait + Clock>(
     rt: &R,
     publisher: &Publisher<P>,
@@ -75,7 +75,7 @@ fn commit<P: Publishing, R: Wait + Clock>(
     }
 }
 
-/// Makes a step, and gives the lines of what is answered or shown.
+/// Executes a step, and returns the lines of its answer.
 fn step_text<P: Publishing, R: Wait + Clock>(
     rt: &R,
     alloc: Global,
@@ -88,7 +88,7 @@ fn step_text<P: Publishing, R: Wait + Clock>(
 {
     match step {
         Step::Commit(commands) => answer_text(alloc, commit(rt, publisher, seat, commands)),
-        _ => view_text(rt, alloc, publisher),
+        _ => view_text(rt, alloc, publisher, seat),
     }
 }
 
@@ -108,7 +108,7 @@ fn unfit_at(place: usize) -> ReadError
     ReadError { place, kind }
 }
 
-/// Makes the step that a line has, if it has one, and gives the lines of what is answered.
+/// Executes the step of a line, if it has one, and returns the lines of the answer.
 fn line_text<P: Publishing, R: Wait + Clock>(
     rt: &R,
     alloc: Global,
@@ -133,7 +133,7 @@ fn line_text<P: Publishing, R: Wait + Clock>(
     }
 }
 
-/// Answers a line.
+/// Executes a line, and returns the lines of the answer.
 fn answer<P: Publishing, R: Wait + Clock>(
     rt: &R,
     alloc: Global,
@@ -151,38 +151,40 @@ fn answer<P: Publishing, R: Wait + Clock>(
 
 /// Whether a line ends the session.
 fn is_quit(line: &[u8]) -> bool
-    ensures { result ≡ true → line.now ≡ codes "QUIT;" }
+    ensures quits { result ≡ true → line.now ≡ codes "QUIT;" }
+    ensures other { result ≡ false → line.now ≢ codes "QUIT;" }
 {
     line == "QUIT;".as_bytes()
 }
 
-/// What comes next of what is read.
+/// What was read.
 #[derive(Clone, Copy, Debug, PartialEq, Eq)]
 pub(crate) enum Turn {
     /// A line, which was answered.
     Line,
     /// `QUIT;`
     Quit,
-    /// No line more.
+    /// No further line.
     Over,
 }
 
-/// Reads the next line, and answers it unless it is `QUIT;`. A reader that fails has no more.
-fn answer_next<'a, P: Publishing, I: BufRead, W: Writer, R: Wait + Clock>(
+/// Reads the next line, and answers it unless it is `QUIT;`. A reader that fails has no further line.
+#[tactic(auto, using(crate::proofs::Talking::over_at_end, crate::proofs::Talking::over_failed))]
+fn answer_next<'a, P: Publishing, I: Reader, W: Writer, R: Wait + Clock>(
     rt: &R,
     alloc: Global,
     publisher: &Publisher<P>,
     seat: &mut Seat<P>,
     line: &mut Vec<u8>,
-    reader: &mut I,
+    lines: &mut LineReader<I>,
     writer: &mut W,
 ) -> Result<Turn, Failure<'a>>
-    ensures ok { IfOk result (HasGone P.checked P.limit (I.remaining reader.old) (I.remaining reader.new)
-        (W.contents writer.old) (W.contents writer.new) seat.old seat.new) }
-    ensures err { IfErr result (StopsNext P.checked P.limit (I.remaining reader.old) (I.remaining reader.new)
-        (W.contents writer.old) (W.contents writer.new) seat.old seat.new) }
+    ensures ok { IfOk result (HasGone P.checked P.limit I.may_fail (coming I.remaining lines.old)
+        (coming I.remaining lines.new) (W.contents writer.old) (W.contents writer.new) seat.old seat.new) }
+    ensures err { IfErr result (StopsNext P.checked P.limit (coming I.remaining lines.old)
+        (coming I.remaining lines.new) (W.contents writer.old) (W.contents writer.new) seat.old seat.new) }
 {
-    match next_line(reader, line) {
+    match lines.next_line(rt, line) {
         Ok(true) => {}
         Ok(false) | Err(Failure::Input(_)) => return Ok(Turn::Over),
         Err(_) => return Err(Failure::OutOfMemory),
@@ -195,24 +197,24 @@ fn answer_next<'a, P: Publishing, I: BufRead, W: Writer, R: Wait + Clock>(
     Ok(Turn::Line)
 }
 
-/// Answers each line as it comes, until there is no more or one is `QUIT;`. The answer is whether one was.
-pub(crate) fn answer_lines<'a, P: Publishing, I: BufRead, W: Writer, R: Wait + Clock>(
+/// Answers each line as it arrives, until there are no more or one is `QUIT;`. Returns whether one was.
+pub(crate) fn answer_lines<'a, P: Publishing, I: Reader, W: Writer, R: Wait + Clock>(
     rt: &R,
     alloc: Global,
     publisher: &Publisher<P>,
     seat: &mut Seat<P>,
-    reader: &mut I,
+    lines: &mut LineReader<I>,
     writer: &mut W,
 ) -> Result<bool, Failure<'a>>
-    ensures ok { OnOk result (HasAnswered P.checked P.limit None (I.remaining reader.old) (I.remaining reader.new)
-        (W.contents writer.old) (W.contents writer.new) seat.old seat.new) }
-    ensures err { IfErr result (IsCutOff P.checked P.limit None (I.remaining reader.old) (I.remaining reader.new)
-        (W.contents writer.old) (W.contents writer.new) seat.old seat.new) }
-    ensures quit { IfOk result (λ quits. quits ≡ true → HasQuit P.checked P.limit (I.remaining reader.new)) }
+    ensures ok { OnOk result (HasAnswered P.checked P.limit None I.may_fail (coming I.remaining lines.old)
+        (coming I.remaining lines.new) (W.contents writer.old) (W.contents writer.new) seat.old seat.new) }
+    ensures err { IfErr result (IsCutOff P.checked P.limit None (coming I.remaining lines.old)
+        (coming I.remaining lines.new) (W.contents writer.old) (W.contents writer.new) seat.old seat.new) }
+    ensures quit { IfOk result (λ quits. quits ≡ true → HasQuit P.checked P.limit (coming I.remaining lines.new)) }
 {
     let mut line = Vec::new(alloc);
     for _ in rt.forever() {
-        match answer_next(rt, alloc, publisher, seat, &mut line, reader, writer)? {
+        match answer_next(rt, alloc, publisher, seat, &mut line, lines, writer)? {
             Turn::Line => {}
             Turn::Quit => return Ok(true),
             Turn::Over => return Ok(false),

@@ -1,4 +1,4 @@
-//! Sockets whose clients are waited for only so long.
+//! Sockets with timeouts.
 
 ghost use Rattle.std.specs.Io.{WritesAtMost};
 
@@ -9,7 +9,7 @@ use std::net::TcpStream;
 use std::sync::atomic::{AtomicBool, Ordering};
 use std::time::Duration;
 
-/// After how many milliseconds without a byte it is asked whether a client is still to be waited for.
+/// How many milliseconds a tick has. After a tick without a byte, a client may have to be disconnected.
 const TICK: u64 = 200;
 
 /// How many ticks a second has.
@@ -34,8 +34,9 @@ impl Writes {
     }
 }
 
-/// What is read of a client. It fails where the client starts no stream in time, or in no time while no place is free,
-/// where it is silent for too long after that, once a write to it has failed, and once all clients have to go.
+/// What a client sends. A read fails if the client does not start its stream in time, or at once while no place is
+/// free; if it is silent for too long after that; once a write to it has failed; and once all clients are to be
+/// disconnected.
 #[derive(Debug, Drop)]
 pub(crate) struct PatientRead<'a> {
     hall: &'a Hall,
@@ -48,7 +49,7 @@ pub(crate) struct PatientRead<'a> {
 }
 
 impl<'a> PatientRead<'a> {
-    /// A reader of the socket, whose client has as long as is said to start its stream.
+    /// A reader of the socket, whose client has the start timeout of the hall to start its stream.
     pub(crate) fn new(
         hall: &'a Hall,
         stream: &'a TcpStream,
@@ -64,7 +65,7 @@ impl<'a> PatientRead<'a> {
         }
     }
 
-    /// Counts a tick in which the client was silent, or was not.
+    /// Counts a tick in which the client was silent, or not.
     fn count(&mut self, is_silent: bool) {
         self.silent = if is_silent {
             self.silent.saturating_add(1)
@@ -73,8 +74,8 @@ impl<'a> PatientRead<'a> {
         };
     }
 
-    /// Whether the client has to go. It is asked after each read and each tick. A client that is silent has to go where
-    /// another waits for its place.
+    /// Whether the client is to be disconnected. Called after each read and each tick. A silent client is disconnected
+    /// if another waits for its place.
     fn is_over(&mut self, is_silent: bool) -> bool {
         self.count(is_silent);
         if self.hall.is_cleared() || self.writes.has_failed.load(Ordering::SeqCst) {
@@ -111,8 +112,8 @@ impl Read for PatientRead<'_> {
     }
 }
 
-/// What is written to a client. A write fails where the client takes no byte for too long, or when all clients have to go
-/// and it takes none; then the client is no longer listened to.
+/// What is written to a client. A write fails if the client takes no byte for too long, or takes none when all clients
+/// are to be disconnected; then nothing more is read from it.
 #[derive(Debug, Drop)]
 pub(crate) struct PatientWrite<'a> {
     hall: &'a Hall,
@@ -121,7 +122,7 @@ pub(crate) struct PatientWrite<'a> {
 }
 
 impl<'a> PatientWrite<'a> {
-    /// A writer to the socket, which notes that something is written, and that a write has failed.
+    /// A writer to the socket, which records that something is written, and that a write has failed.
     pub(crate) fn new(
         hall: &'a Hall,
         stream: &'a TcpStream,
@@ -135,7 +136,7 @@ impl<'a> PatientWrite<'a> {
         }
     }
 
-    /// Writes some bytes, for which the client is waited for only so long.
+    /// Writes some of the bytes, within the write timeout.
     fn write_some(&self, bytes: &[u8]) -> io::Result<usize>
         ensures { WritesAtMost result bytes.now }
     {

@@ -1,4 +1,4 @@
-//! How a text is written that somebody waits for.
+//! How a text is written for which somebody waits.
 
 ghost use Rattle.std.specs.Prelude.{IfErr, OnOk};
 ghost use Rattle.std.specs.Io.KnownBytes.{Appends};
@@ -10,7 +10,7 @@ use commands::{Failure, Writer, write_text};
 ///
 /// # Errors
 ///
-/// `Output` where the writer fails.
+/// `Output` if the writer fails.
 pub(crate) fn tell<'a, W: Writer>(text: &str, writer: &mut W) -> Result<(), Failure<'a>>
     ensures written { OnOk result (Appends (W.contents writer.old) (W.contents writer.new) text.now) }
     ensures stopped { IfErr result (StopsText text.now (W.contents writer.old) (W.contents writer.new)) }

@@ -1,4 +1,4 @@
-//! What VIEW shows: the publisher's rows, and how far each subscriber is.
+//! What VIEW shows: the publisher's rows, and the progress of each subscriber.
 
 ghost use Rattle.std.specs.Prelude.{◌≡◌, ◌++◌, length, IfOk, OnOk};
 ghost use Rattle.std.specs.String.{string_bytes};
@@ -14,13 +14,13 @@ use commands::{push_position, push_tables, subscriber_name};
 use filter_tree::Row;
 use pub_catalog::Catalog;
 use publisher_desk::{SlotUse, Wish};
-use senders::{Publisher, Publishing};
+use senders::{Publisher, Publishing, Seat};
 use std::alloc::{AllocError, Global};
 use std::sync::Wait;
 use tables_log::{Book, StartError};
 
-/// How far a subscriber is: up to where it has confirmed the log, up to where it was sent it since its stream was
-/// started last, and whether it is connected.
+/// The progress of a subscriber: the position up to which it has confirmed the log, that up to which it was sent the
+/// log since its stream last started, and whether it is connected.
 #[derive(Clone, Copy, Debug, PartialEq, Eq)]
 pub(crate) struct Progress {
     pub(crate) confirmed: u64,
@@ -28,7 +28,7 @@ pub(crate) struct Progress {
     pub(crate) is_connected: bool,
 }
 
-/// How many commits the log has, the rows of each table, and how far each subscriber is.
+/// The number of commits of the log, the rows of each table, and the progress of each subscriber.
 #[derive(Debug, Drop)]
 pub(crate) struct View {
     pub(crate) log: u32,
@@ -44,7 +44,7 @@ struct Viewing {
     subscriptions: usize,
 }
 
-/// Whether a stream has the slot: then it can't be started.
+/// Whether a stream has the slot, so that none can be started.
 fn is_taken(book: &mut Book, slot: usize) -> bool
     ensures { ChangesSlots book.old book.new (book_slots book.new) }
 {
@@ -57,7 +57,7 @@ fn is_taken(book: &mut Book, slot: usize) -> bool
     }
 }
 
-/// Up to where the client of a slot was sent the log; 0 where there is no such slot.
+/// The position up to which the client of a slot was sent the log; 0 if there is no such slot.
 fn sent_to(wishes: &[Wish], slot: usize) -> u64 {
     match wishes.get(slot) {
         Some(wish) => wish.sent,
@@ -65,7 +65,7 @@ fn sent_to(wishes: &[Wish], slot: usize) -> u64 {
     }
 }
 
-/// How far each of so many subscribers is.
+/// The progress of each subscriber.
 fn progress_in(
     alloc: Global,
     book: &mut Book,
@@ -87,7 +87,7 @@ fn progress_in(
     Ok(progress)
 }
 
-/// The rows of so many tables.
+/// The rows of each table.
 #[tactic(auto, using(shard_world::proofs::ViewLemmas::at_more))]
 fn rows_in(alloc: Global, book: &Book, tables: usize) -> Result<Vec<Vec<Row>>, AllocError>
     ensures width { IfOk result (λ rows. length rows.items ≡ tables) }
@@ -120,7 +120,7 @@ impl SlotUse for Viewing {
     }
 }
 
-/// Whether a subscriber is connected, in a word after a space.
+/// Whether a subscriber is connected, as a word after a space.
 fn state(is_connected: bool) -> &'static str
     ensures { result.now ≡ spec.state is_connected }
 {
@@ -162,7 +162,7 @@ fn push_all_progress(
     Ok(())
 }
 
-/// The lines of what was seen of a publisher of this catalog.
+/// The lines of a view of a publisher of this catalog.
 fn shown_text(alloc: Global, catalog: &Catalog, view: &View) -> Result<String, AllocError>
     ensures { IfOk result (λ text. string_bytes text ≡ text_of (spec.view_lines (catalog_view catalog.now) view.now)) }
 {
@@ -179,13 +179,16 @@ fn shown_text(alloc: Global, catalog: &Catalog, view: &View) -> Result<String, A
     Ok(text)
 }
 
-/// The lines that show the publisher: the log's length, its rows, and how far each subscriber is.
+/// The lines that show the publisher: the log's length, its rows, and the progress of each subscriber. The log has all
+/// commits of the session's seat.
 pub(crate) fn view_text<P: Publishing, R: Wait>(
     rt: &R,
     alloc: Global,
     publisher: &Publisher<P>,
+    seat: &mut Seat<P>,
 ) -> Result<String, AllocError>
-    ensures { IfOk result (λ text. IsViewText P.checked (string_bytes text)) }
+    ensures text { IfOk result (λ text. IsViewText P.checked seat.old (string_bytes text)) }
+    ensures same { seat.new ≡ seat.old }
 {
     let catalog = publisher.checked().catalog();
     let mut viewing = Viewing {
@@ -193,6 +196,6 @@ pub(crate) fn view_text<P: Publishing, R: Wait>(
         tables: catalog.tables.len(),
         subscriptions: catalog.subscriptions.len(),
     };
-    let view = publisher.lend(rt, &mut viewing)?;
+    let view = publisher.lend_to(rt, seat, &mut viewing)?;
     shown_text(alloc, catalog, &view)
 }

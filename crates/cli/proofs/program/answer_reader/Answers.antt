@@ -1,18 +1,12 @@
-use Rattle.std.proofs.Common.{inl, inr, refl, subst, Bool}
-use Rattle.commands.specs.Inputs.{IsOfReading}
-use Rattle.cli.proofs.Answering.{may_fail_same, reading_returned, reading_says}
-use Rattle.cli.specs.Requests.{may_fail_for}
+use Rattle.std.proofs.Common.{inl, inr, refl}
+use Rattle.cli.proofs.Answering.{reading_returned, reading_says}
 use Rattle.cli.proofs.program.answer_reader.Goals as goal
 
 pub returns-in_err-input-clause-ends : goal.returns-in_err-input-clause-ends
 returns-in_err-input-clause-ends g c =
-    let known = g.I.Read.remaining c.args.input in
     inr (
-      reading_returned (may_fail_for c.args.request g.I.Reader.may_fail) known c.in_err-input.field-0.0
-          c.from_residual.result
-          (subst (λ (may_fail : Bool). IsOfReading may_fail known c.in_err-input.field-0.0)
-          (may_fail_same c.args.request g.I.Reader.may_fail c.requires.other) c.in_err-input.ensures.stopped)
-          c.from_residual.ensures.1,
+      reading_returned g.I.Reader.may_fail (g.I.Read.remaining c.args.input) c.in_err-input.field-0.0
+          c.from_residual.result c.in_err-input.ensures.stopped c.from_residual.ensures.1,
       refl,
     )
 
@@ -26,6 +20,5 @@ pub returns-clause-ends : goal.returns-clause-ends
 returns-clause-ends g c = inl (record {
   input = c.as_str.result.now;
   given = rw c.as_str.ensures.value c.in_ok-input.ensures.bytes;
-  ends =
-      c.answer.ensures.ends;
+  ends = c.answer.ensures.ends g.I.Reader.may_fail;
 })

@@ -1,6 +1,5 @@
 use Rattle.std.proofs.Common.{◌≡◌, ◌∙◌, ℕ, List, Option, Some, None, OnOk, IfErr, ap, subst, sym}
 use Rattle.std.specs.Prelude.{Ok}
-use Rattle.std.specs.Io.Buffered.{reader_remaining}
 use Rattle.std.specs.Io.KnownBytes.{Appends}
 use Rattle.std.specs.String.{string_bytes}
 use Rattle.filter_tree.specs.Expr.{Expr}
@@ -16,7 +15,8 @@ use Rattle.commands.specs.Output.{StopsText, ended}
 use Rattle.commands.specs.Parts.{lines_of}
 use Rattle.commands.specs.Refusals.{refused_line}
 use Rattle.commands.specs.Verdicts.{IsFirstRefusal}
-use Rattle.cli.proofs.Heads.{catalog_returned, certificate_returned, first_returned, second_returned, served, sharding_refused, unread_reader}
+use Rattle.cli.proofs.Heads.{catalog_returned, certificate_returned, first_returned, second_returned, served, sharding_refused}
+use Rattle.cli.specs.Incoming.{coming}
 use Rattle.cli.specs.Lines.{ReadsPart, StopsPart}
 use Rattle.cli.specs.Published.{Serves}
 use Rattle.cli.proofs.publish.publish_input.Goals as goal
@@ -26,11 +26,10 @@ returns-in_err-text g c =
     let read = g.I.Read.remaining in
     let known = read c.args.input in
     let old = g.W.Writer.contents c.args.writer.now in
-    let same = unread_reader read c.in-Ok.reader c.args.input c.in-Ok.ensures.capacity
-    c.in-Ok.ensures.empty c.in-Ok.ensures.inner in
-    let mid = reader_remaining read c.read_part.new.reader in
-    first_returned c.args.feed known old mid c.in_err-text.field-0.0 c.from_residual.result
-    (subst (λ (k : Option (List ℕ)). StopsPart k mid c.in_err-text.field-0.0) same c.in_err-text.ensures.err)
+    let same = c.in-Ok.ensures in
+    let mid = coming read c.read_part.new.lines in
+    first_returned g.I.Reader.may_fail c.args.feed known old mid c.in_err-text.field-0.0 c.from_residual.result
+    (subst (λ (k : Option (List ℕ)). StopsPart g.I.Reader.may_fail k mid c.in_err-text.field-0.0) same c.in_err-text.ensures.err)
     c.from_residual.ensures.1
 
 pub returns-in_err-certificates : goal.returns-in_err-certificates
@@ -38,13 +37,12 @@ returns-in_err-certificates g c =
     let read = g.I.Read.remaining in
     let known = read c.args.input in
     let old = g.W.Writer.contents c.args.writer.now in
-    let same = unread_reader read c.in-Ok.reader c.args.input c.in-Ok.ensures.capacity
-    c.in-Ok.ensures.empty c.in-Ok.ensures.inner in
-    let mid = reader_remaining read c.read_part.new.reader in
-    let left = reader_remaining read c.read_part-2.new.reader in
+    let same = c.in-Ok.ensures in
+    let mid = coming read c.read_part.new.lines in
+    let left = coming read c.read_part-2.new.lines in
     let first : ReadsPart known mid (string_bytes c.in_ok-text.text) =
     subst (λ (k : Option (List ℕ)). ReadsPart k mid (string_bytes c.in_ok-text.text)) same c.in_ok-text.ensures.ok in
-    second_returned c.args.feed known old mid left (string_bytes c.in_ok-text.text) c.in_err-certificates.field-0.0
+    second_returned g.I.Reader.may_fail c.args.feed known old mid left (string_bytes c.in_ok-text.text) c.in_err-certificates.field-0.0
     c.from_residual-in_err-certificates.result first c.in_err-certificates.ensures.err
     c.from_residual-in_err-certificates.ensures.1
 
@@ -53,14 +51,13 @@ returns-in_err-catalog g c =
     let read = g.I.Read.remaining in
     let known = read c.args.input in
     let old = g.W.Writer.contents c.args.writer.now in
-    let same = unread_reader read c.in-Ok.reader c.args.input c.in-Ok.ensures.capacity
-    c.in-Ok.ensures.empty c.in-Ok.ensures.inner in
-    let mid = reader_remaining read c.read_part.new.reader in
-    let left = reader_remaining read c.read_part-2.new.reader in
+    let same = c.in-Ok.ensures in
+    let mid = coming read c.read_part.new.lines in
+    let left = coming read c.read_part-2.new.lines in
     let first : ReadsPart known mid (string_bytes c.in_ok-text.text) =
     subst (λ (k : Option (List ℕ)). ReadsPart k mid (string_bytes c.in_ok-text.text)) same c.in_ok-text.ensures.ok in
     let certificates = string_bytes c.in_ok-certificates.certificates in
-    catalog_returned c.args.feed known old mid left (string_bytes c.in_ok-text.text) certificates first
+    catalog_returned g.I.Reader.may_fail c.args.feed known old mid left (string_bytes c.in_ok-text.text) certificates first
     c.in_ok-certificates.ensures.ok c.in_err-catalog.field-0.0
     (rw c.as_str.ensures.value at c.in_err-catalog.ensures.catalog) c.from_residual-in_err-catalog.result
     c.from_residual-in_err-catalog.ensures.1
@@ -70,10 +67,9 @@ returns-in_err-checked g c =
     let read = g.I.Read.remaining in
     let known = read c.args.input in
     let old = g.W.Writer.contents c.args.writer.now in
-    let same = unread_reader read c.in-Ok.reader c.args.input c.in-Ok.ensures.capacity
-    c.in-Ok.ensures.empty c.in-Ok.ensures.inner in
-    let mid = reader_remaining read c.read_part.new.reader in
-    let left = reader_remaining read c.read_part-2.new.reader in
+    let same = c.in-Ok.ensures in
+    let mid = coming read c.read_part.new.lines in
+    let left = coming read c.read_part-2.new.lines in
     let first : ReadsPart known mid (string_bytes c.in_ok-text.text) =
     subst (λ (k : Option (List ℕ)). ReadsPart k mid (string_bytes c.in_ok-text.text)) same c.in_ok-text.ensures.ok in
     let certificates = string_bytes c.in_ok-certificates.certificates in
@@ -82,7 +78,7 @@ returns-in_err-checked g c =
     rw c.as_str.ensures.value at c.in_ok-catalog.ensures.catalog in
     let lines : texts_view c.as_slice.result.now ≡ lines_of certificates =
     ap texts_view c.as_slice.ensures.value ∙ c.in_ok-texts.ensures ∙ ap lines_of c.as_str-2.ensures.value in
-    certificate_returned c.args.feed known old mid left (string_bytes c.in_ok-text.text) certificates first
+    certificate_returned g.I.Reader.may_fail c.args.feed known old mid left (string_bytes c.in_ok-text.text) certificates first
     c.in_ok-certificates.ensures.ok catalog reads c.in_err-checked.field-0.0 c.from_residual-in_err-checked.result
     (rw lines at c.in_err-checked.ensures.err) c.from_residual-in_err-checked.ensures.1
 
@@ -91,10 +87,9 @@ returns-in-Ok-2 g c =
     let read = g.I.Read.remaining in
     let known = read c.args.input in
     let old = g.W.Writer.contents c.args.writer.now in
-    let same = unread_reader read c.in-Ok.reader c.args.input c.in-Ok.ensures.capacity
-    c.in-Ok.ensures.empty c.in-Ok.ensures.inner in
-    let mid = reader_remaining read c.read_part.new.reader in
-    let left = reader_remaining read c.read_part-2.new.reader in
+    let same = c.in-Ok.ensures in
+    let mid = coming read c.read_part.new.lines in
+    let left = coming read c.read_part-2.new.lines in
     let first : ReadsPart known mid (string_bytes c.in_ok-text.text) =
     subst (λ (k : Option (List ℕ)). ReadsPart k mid (string_bytes c.in_ok-text.text)) same c.in_ok-text.ensures.ok in
     let certificates = string_bytes c.in_ok-certificates.certificates in
@@ -108,12 +103,12 @@ returns-in-Ok-2 g c =
     let sound = rw c.in-Ok-2.is at c.in_ok-checked.ensures.sound in
     let kept = rw c.in-Ok-2.is at c.in_ok-checked.ensures.kept in
     let unrefused = rw c.in-Ok-2.is at c.in_ok-checked.ensures.unrefused in
-    let later = reader_remaining read c.publish.new.reader in
-    served c.args.feed known old mid left (string_bytes c.in_ok-text.text) certificates first
+    let later = coming read c.publish.new.lines in
+    served g.I.Reader.may_fail c.args.feed known old mid left (string_bytes c.in_ok-text.text) certificates first
     c.in_ok-certificates.ensures.ok catalog reads faultless sound
     (subst (λ (l : List (List ℕ)). IsFirstRefusal catalog (trees_in l) None) lines unrefused) later
     (g.W.Writer.contents c.publish.new.writer) c.publish.result
-    (subst (λ (checked : CheckedOf). Serves c.args.feed checked left later old (g.W.Writer.contents c.publish.new.writer)
+    (subst (λ (checked : CheckedOf). Serves c.args.feed checked left later g.I.Reader.may_fail old (g.W.Writer.contents c.publish.new.writer)
     c.publish.result) (ap checked_view c.in_ok-shared-in-Ok-2.ensures.ok ∙ kept) c.publish.ensures)
 
 pub returns : goal.returns
@@ -121,10 +116,9 @@ returns g c =
     let read = g.I.Read.remaining in
     let known = read c.args.input in
     let old = g.W.Writer.contents c.args.writer.now in
-    let same = unread_reader read c.in-Ok.reader c.args.input c.in-Ok.ensures.capacity
-    c.in-Ok.ensures.empty c.in-Ok.ensures.inner in
-    let mid = reader_remaining read c.read_part.new.reader in
-    let left = reader_remaining read c.read_part-2.new.reader in
+    let same = c.in-Ok.ensures in
+    let mid = coming read c.read_part.new.lines in
+    let left = coming read c.read_part-2.new.lines in
     let first : ReadsPart known mid (string_bytes c.in_ok-text.text) =
     subst (λ (k : Option (List ℕ)). ReadsPart k mid (string_bytes c.in_ok-text.text)) same c.in_ok-text.ensures.ok in
     let certificates = string_bytes c.in_ok-certificates.certificates in
@@ -144,7 +138,7 @@ returns g c =
     ) in
     let refused = rw c.in-Err.is at c.in_ok-checked.ensures.refused in
     let wrong = rw c.in-Err.is at c.in_ok-checked.ensures.wrong in
-    sharding_refused c.args.feed known old mid left (string_bytes c.in_ok-text.text) certificates first
+    sharding_refused g.I.Reader.may_fail c.args.feed known old mid left (string_bytes c.in_ok-text.text) certificates first
     c.in_ok-certificates.ensures.ok catalog reads faultless refusal new result
     (subst (λ (l : List (List ℕ)). IsFirstRefusal catalog (trees_in l) (Some refusal)) lines refused)
     (subst (λ (l : List (List ℕ)). ShardingIsWrong catalog (plan_of catalog) (trees_in l) refusal) lines wrong)

@@ -18,5 +18,6 @@ pub returns-in_default : goal.returns-in_default
 returns-in_default g c =
     IfOk-weaker c.view_text.result _ _
     (λ text is. viewed g.P.Publishing.checked g.P.Publishing.limit (step_view c.args.step) c.args.seat.now
-    (string_bytes text) (view_left c.args.step c.requires c.in_default.not-Commit) is)
-    c.view_text.ensures
+    c.view_text.new.seat (string_bytes text) (view_left c.args.step c.requires c.in_default.not-Commit)
+    c.view_text.ensures.same is)
+    c.view_text.ensures.text

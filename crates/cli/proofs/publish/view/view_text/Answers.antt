@@ -8,11 +8,12 @@ use Rattle.cli.specs.Views.{view_lines}
 use Rattle.cli.proofs.Viewing.{shows}
 use Rattle.cli.proofs.publish.view.view_text.Goals as goal
 
-pub returns : goal.returns
-returns g c =
+pub returns-clause-text : goal.returns-clause-text
+returns-clause-text g c =
     let checked = g.P.Publishing.checked in
     let view = c.in_ok-view.view in
-    let lent = c.lend.ensures in
+    let lends = c.lend_to.ensures.lent in
+    let lent = lends.lent in
     let same : catalog_view c.catalog-catalog.result.now ≡ checked.catalog = search rules in
     let shown_tables : c.len.result ≡ length (catalog_view c.catalog-catalog.result.now).tables = search rules in
     let tables : c.len.result ≡ length checked.catalog.tables =
@@ -24,8 +25,8 @@ returns g c =
     IfOk-weaker c.shown_text.result _ _
     (λ text is. record {
       lines = view_lines checked.catalog view;
-      view = shows checked lent.old lent.transactions lent.named lent.stands c.len.result c.len-2.result view tables slots
-          seen;
+      view = shows checked lent.old lent.transactions lent.named lent.stands c.args.seat.now lends.log lends.log_is
+          lends.noted c.len.result c.len-2.result view tables slots seen;
       is = is ∙ ap (λ (its : CatalogOf Expr). text_of (view_lines its view)) same;
     })
     c.shown_text.ensures
