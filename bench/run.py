@@ -3,8 +3,8 @@
 
     bench/run.py [--program FILE] [--core N] [--first] [--runs N] [PART ..]
 
-The parts are start, large, eval, check, make, book, send, apply, messages, serve and publish; without one, all are
-run. The program has to be built, which the script `pgshard` does.
+The parts are start, large, eval, worst, check, make, book, send, apply, messages, serve and publish; without one, all
+are run. The program has to be built, which the script `pgshard` does.
 PostgreSQL 15, z3, valgrind and rustc are left out where they are not installed.
 """
 
@@ -24,12 +24,14 @@ import sending
 import serving
 import sharding
 import starting
+import worst
 from measuring import BUILT, Setup, machine
 
 PARTS = {
     "start": ("The start of the program", starting.measure_small),
     "large": ("Catalogs near the limits", starting.measure_large),
     "eval": ("eval", evaluation.measure),
+    "worst": ("The worst known inputs of eval", worst.measure),
     "check": ("check", checking.measure),
     "make": ("make", sharding.measure),
     "book": ("The book", book.measure),

@@ -10,8 +10,8 @@ from refusing.positions import Arm, Body
 
 # The values, by the last word of their path, and the texts of their lines.
 WORDS = {
-    "AllocError", "AllocFailed", "OutOfMemory", "Output", "Unread", "Failed", "WriteFault", "ReadFault", "Halted",
-    '"out of memory"', '"out of memory\\n"', '"OutOfMemory"'}
+    "AllocError", "AllocFailed", "OutOfMemory", "Output", "Unread", "Failed", "WriteFault", "ReadFault", "SourceFailed",
+    "Halted", '"out of memory"', '"out of memory\\n"', '"OutOfMemory"'}
 # Makes an error of a device.
 MAKERS = {"from", "new", "other"}
 # The types of which a From may make such a value.
@@ -208,7 +208,7 @@ class Forms:
     def names_refusal(self, part: tuple[int, int]) -> bool:
         """Whether a pattern matches nothing but a refusal."""
         return re.fullmatch(
-            r"(?:[\w:]+\()*(?:\w+::)+(?:OutOfMemory|Output|Unread|Failed|WriteFault|ReadFault)\)*",
+            r"(?:[\w:]+\()*(?:\w+::)+(?:OutOfMemory|Output|Unread|Failed|SourceFailed|WriteFault|ReadFault)\)*",
             self.source.written(*part)) is not None
 
     def in_block(self, begin: int, end: int) -> tuple[str, str, str] | None:

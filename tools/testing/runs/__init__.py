@@ -9,6 +9,7 @@ from . import (
     certificates,
     checks,
     command_lines,
+    evals,
     families,
     filters,
     forms,
@@ -30,7 +31,7 @@ from . import (
 
 TOPICS = [
     checks, certificates, shows, forms, makes, families, simulations, losses, serves, loads, rows, inserts, filters,
-    inputs, command_lines, limits, most, long, peaks, memory]
+    inputs, command_lines, limits, evals, most, long, peaks, memory]
 
 
 def check_runs(tally: Tally) -> None:

@@ -1,12 +1,14 @@
 """Long inputs, whose runs have to end soon: many commits, many rows of a table, many rows that are read, also by many
-lists, many commits of many tables, and many leaves of a certificate below many lists. Runs of many steps and of many
-nodes are in most.py and limits.py."""
+lists and remainders, many commits of many tables, and many leaves of a certificate below many lists. Runs of many steps
+and of many nodes are in most.py and limits.py."""
 
 from collections.abc import Iterator
+from itertools import count, islice
 
 from .case import ACCEPTED, LONG_SECONDS, Case, two_parts
 from .catalogs import C, halves
 from .checks import HIGH, LOW
+from .inputs import MAX_INPUT
 from .limits import catalog_of_remainders, inserts, tree_of_remainders
 from .simulations import end_of, text_of, three_parts
 
@@ -22,6 +24,14 @@ COMMANDS = 1_000
 # Lists that have all numbers below 6,000 together, and how far the numbers go that are read.
 EVAL_LISTS, EVAL_ENTRIES = 60, 100
 EVAL_NUMBERS = 9_000
+
+# How many seconds of a processor eval may take on the longest input.
+EVAL_SECONDS = 3
+
+# Remainders by so many primes from the first one on, and the keys whose remainders are tested: nearly no two of them
+# are told the same.
+PRIMES, FIRST_PRIME = 60, 211
+LEAST_KEY, KEYS = 100_000, 900_000
 
 # Lists that have all remainders by 2500, and how often their certificate splits below them.
 LISTS, ENTRIES = 50, 100
@@ -41,6 +51,8 @@ def cases() -> Iterator[Case]:
     yield simulation("many rows of a table", B, C, commits, 2)
     yield reading()
     yield reading_by_lists()
+    yield reading_by_remainders()
+    yield inserts_by_remainders()
     commits = [inserts([(number % TABLES, number)]) for number in range(ROWS_OF_TABLES)]
     certificates = f"{tree_of_remainders()}\n" * TABLES
     yield simulation("many rows of many tables", catalog_of_remainders(), certificates, commits, SUBSCRIBERS)
@@ -61,7 +73,7 @@ def reading() -> Case:
     """Rows below 100, and others."""
     rows = "".join(f"({key}, NULL)\n" for key in range(READ_ROWS))
     lines = ["pa=true pb=false"] * 100 + ["pa=false pb=true"] * (READ_ROWS - 100)
-    return Case("eval of many rows", ("eval", "t"), two_parts(B, rows), 0, text_of(lines), LONG_SECONDS)
+    return Case("eval of many rows", ("eval", "t"), two_parts(B, rows), 0, text_of(lines), EVAL_SECONDS)
 
 
 def reading_by_lists() -> Case:
@@ -73,7 +85,40 @@ def reading_by_lists() -> Case:
     numbers = [number * 7 % EVAL_NUMBERS for number in range(READ_ROWS)]
     lines = [f"p={'true' if number < listed else 'false'}" for number in numbers]
     rows = "".join(f"({number})\n" for number in numbers)
-    return Case("eval of many rows by lists", ("eval", "t"), two_parts(catalog, rows), 0, text_of(lines), LONG_SECONDS)
+    return Case("eval of many rows by lists", ("eval", "t"), two_parts(catalog, rows), 0, text_of(lines), EVAL_SECONDS)
+
+
+def remainder_lists() -> list[tuple[int, set[int]]]:
+    """Prime numbers, each with as many remainders by it as a list may have."""
+    primes = (it for it in count(FIRST_PRIME) if all(it % one for one in range(2, int(it**0.5) + 1)))
+    return [(it, {at * 37 % it for at in range(EVAL_ENTRIES)}) for it in islice(primes, PRIMES)]
+
+
+def rows_by_remainders(condition: str) -> tuple[str, list[int]]:
+    """An input as long as it may be: one publication, by any of the lists and another condition, and the keys of its
+    rows."""
+    lists = [f"k % {prime} IN ({', '.join(map(str, sorted(entries)))})" for prime, entries in remainder_lists()]
+    where = f"({' OR '.join(lists)}) AND {condition}"
+    catalog = f"CREATE TABLE t (k bigint PRIMARY KEY);\nCREATE PUBLICATION p FOR TABLE t WHERE ({where});\n"
+    number = (MAX_INPUT - len(two_parts(catalog, ""))) // len(f"({LEAST_KEY})\n")
+    keys = [LEAST_KEY + at * 387_563 % KEYS for at in range(number)]
+    return two_parts(catalog, "".join(f"({key})\n" for key in keys)), keys
+
+
+def reading_by_remainders() -> Case:
+    """The worst rows for the constants of many terms."""
+    text, keys = rows_by_remainders("k > 0")
+    lists = remainder_lists()
+    lines = ["p=true" if any(key % prime in entries for prime, entries in lists) else "p=false" for key in keys]
+    return Case("eval of many rows by remainders", ("eval", "t"), text, 0, text_of(lines), EVAL_SECONDS)
+
+
+def inserts_by_remainders() -> Case:
+    """The same rows, none of which is carried."""
+    text, keys = rows_by_remainders("k < 0")
+    lines = ["none"] * len(keys)
+    return Case(
+        "eval of many rows by remainders --insert", ("eval", "t", "--insert"), text, 0, text_of(lines), EVAL_SECONDS)
 
 
 def below_lists() -> Case:

@@ -25,6 +25,12 @@ DELAY = 60
 # What is shown to a caller that reads nothing: more than sockets hold.
 LONG_ROWS, LONG_TEXT, VIEWS = 50, 60_000, 6
 
+# The most commands of a commit, and the most bytes of a text and of an input. A line may be longer than an input.
+COMMANDS, TEXT, INPUT = 1_000, 65_535, 16_777_216
+
+# How many callers come one after another.
+CALLERS = 1_000
+
 WRONG_WORDS = [
     ("--commands",), ("--commands", ""), ("--commands", "x"), ("--commands", "65536"), ("--commands", "-1"),
     ("--commands", "0", "--commands", "0"),
@@ -84,6 +90,8 @@ def check_callers(tally: Tally) -> None:
     check_ports(tally, text)
     check_answers(tally, text)
     check_turns(tally, text)
+    check_limits(tally, text)
+    check_many(tally, text)
     check_lost(tally, text)
     check_stalled(tally, text)
 
@@ -150,6 +158,61 @@ def check_turns(tally: Tally, text: str) -> None:
             tally.check("a caller after QUIT; without its newline", third.ask("COMMIT TRUNCATE (stock);"), "commit 6\n")
             third.say("QUIT;\nCOMMIT TRUNCATE (stock);\n")
             tally.check("the end after callers", program.end(), (0, ["closed 6 0\n"]))
+
+
+def orders(count: int, note: str | None = None) -> list[Insert]:
+    """As many rows of london."""
+    return [Insert("orders", (number, 20, 500, note, None)) for number in range(count)]
+
+
+def limits() -> Iterator[tuple[str, str, str]]:
+    """Lines at a limit and past it, what they are, and what is answered. Each commit that is made empties the table."""
+    empty = "TRUNCATE (orders)"
+    yield "a commit of the most commands", commit_line(orders(COMMANDS)), "commit 1"
+    yield "a commit of one command more", commit_line(orders(COMMANDS + 1)), "refused TooManyCommands"
+    longest = f"COMMIT {empty}, INSERT orders (1, 20, 500, '{'x' * TEXT}', NULL);"
+    yield "the longest text", longest, "commit 2"
+    longer = longest.replace("'x", "'xx")
+    yield "a text of one byte more", longer, f"script {longer.index(chr(39))} TooMany"
+    yield "a line as long as an input may be", f"COMMIT {empty};".ljust(INPUT), "commit 3"
+    yield "a line of one byte more", f"COMMIT {empty};".ljust(INPUT + 1), "commit 4"
+    long = commit_line(orders(COMMANDS, "x" * (INPUT // COMMANDS)))
+    yield f"the most commands, of {len(long)} bytes", long, "commit 5"
+    yield "a short line after these", f"COMMIT {empty};", "commit 6"
+
+
+def check_limits(tally: Tally, text: str) -> None:
+    """Lines at the limits, with memory at hand, and the stream of the commit of the most commands."""
+    with answering(text, "--keepalive", "86400") as (program, port, callers), calling(callers) as caller:
+        for what, line, expected in limits():
+            tally.check(f"a caller says {what}", caller.ask(line), f"{expected}\n")
+            if expected == "commit 1":
+                check_first(tally, port)
+        caller.say("QUIT;\n")
+        tally.check("the end after lines at the limits", program.end(), (0, ["closed 6 1\n"]))
+
+
+def check_first(tally: Tally, port: int) -> None:
+    """The stream of the first commit."""
+    made = SHOP.publisher().__class__(SHOP.tables)
+    made.commit(orders(COMMANDS))
+    with client(port) as connection:
+        connection.start(LONDON)
+        expected = made.stream(LONDON)
+        tally.check("the stream of the most commands", connection.receive(len(expected)), expected)
+
+
+def check_many(tally: Tally, text: str) -> None:
+    """Many callers, one after another."""
+    with answering(text) as (program, _, callers):
+        answers = []
+        for row in orders(CALLERS):
+            with calling(callers) as caller:
+                answers.append(caller.ask(commit_line([row])))
+        tally.check("many callers", answers, [f"commit {number}\n" for number in range(1, CALLERS + 1)])
+        with calling(callers) as caller:
+            caller.say("QUIT;\n")
+            tally.check("the end after many callers", program.end(), (0, [f"closed {CALLERS} 0\n"]))
 
 
 def check_lost(tally: Tally, text: str) -> None:
