@@ -1,5 +1,6 @@
 //! What the threads of a test tell each other.
 
+use crate::rounds::Round;
 use crate::work::{Hold, Work};
 use std::alloc::{AllocError, Global};
 use std::sync::atomic::{AtomicU64, Ordering};
@@ -7,7 +8,7 @@ use std::thread;
 use std::time::{Clock, Duration};
 
 /// How often a thread looks before it gives up.
-const TURNS: u32 = 1_000_000;
+pub(crate) const TURNS: u32 = 1_000_000;
 
 /// How much a client has got whose writer failed: as much as anybody may wait for.
 pub(crate) const LOST: u64 = u64::MAX;
@@ -18,6 +19,7 @@ pub(crate) struct Board {
     pub(crate) alloc: Global,
     pub(crate) work: Work,
     pub(crate) hold: Hold,
+    pub(crate) round: Round,
     pub(crate) port: u16,
     /// The greatest number of a commit that has returned.
     returned: AtomicU64,
@@ -30,12 +32,22 @@ pub(crate) struct Board {
     turns: AtomicU64,
     /// 1 where the program listens, or has ended.
     listening: AtomicU64,
+    /// How many acts of the round the session has done.
+    played: AtomicU64,
+    /// How many lines each slot's client may say.
+    cues: Vec<AtomicU64>,
+    /// How many keepalives each slot's client has heard.
+    replies: Vec<AtomicU64>,
+    /// How often each slot's sender has come to its gate.
+    gates: Vec<AtomicU64>,
+    /// 1 where a gate that was shut is open.
+    opened: AtomicU64,
     /// How often something failed.
     failures: AtomicU64,
 }
 
 /// Lets other threads run.
-fn rest<C: Clock>(clock: &C, turn: u32) {
+pub(crate) fn rest<C: Clock>(clock: &C, turn: u32) {
     if turn % 32 == 31 {
         thread::sleep(clock, Duration::from_millis(1));
     } else {
@@ -43,15 +55,28 @@ fn rest<C: Clock>(clock: &C, turn: u32) {
     }
 }
 
-/// Waits until the word is so great, and answers whether it came to that.
-fn comes<C: Clock>(clock: &C, word: &AtomicU64, least: u64) -> bool {
-    for turn in 0..TURNS {
-        if least <= word.load(Ordering::SeqCst) {
-            return true;
-        }
-        rest(clock, turn);
+/// A word for each slot.
+fn words(alloc: Global, work: Work) -> Result<Vec<AtomicU64>, AllocError> {
+    let mut list = Vec::new(alloc);
+    for _ in 0..work.slots() {
+        list.push(AtomicU64::new(0))?;
     }
-    false
+    Ok(list)
+}
+
+/// Adds so much to the word of the slot.
+fn add(words: &[AtomicU64], slot: usize, count: u64) {
+    if let Some(word) = words.get(slot) {
+        word.fetch_add(count, Ordering::SeqCst);
+    }
+}
+
+/// The word of the slot.
+fn word_of(words: &[AtomicU64], slot: usize) -> u64 {
+    match words.get(slot) {
+        Some(word) => word.load(Ordering::SeqCst),
+        None => 0,
+    }
 }
 
 impl Board {
@@ -61,22 +86,53 @@ impl Board {
         hold: Hold,
         port: u16,
     ) -> Result<Board, AllocError> {
-        let mut got = Vec::new(alloc);
-        for _ in 0..work.slots() {
-            got.push(AtomicU64::new(0))?;
-        }
         Ok(Board {
             alloc,
             work,
             hold,
+            round: Round::Free,
             port,
             returned: AtomicU64::new(0),
-            got,
+            got: words(alloc, work)?,
             connected: AtomicU64::new(0),
             turns: AtomicU64::new(0),
             listening: AtomicU64::new(0),
+            played: AtomicU64::new(0),
+            cues: words(alloc, work)?,
+            replies: words(alloc, work)?,
+            gates: words(alloc, work)?,
+            opened: AtomicU64::new(0),
             failures: AtomicU64::new(0),
         })
+    }
+
+    /// A board of two slots, in this round.
+    pub(crate) fn of_round(alloc: Global, round: Round) -> Result<Board, AllocError> {
+        let mut board = Board::new(alloc, Work::Pairs, Hold::Nobody, 0)?;
+        board.round = round;
+        Ok(board)
+    }
+
+    /// Waits until the word is so great, and answers whether it came to that. Once something has failed nobody waits.
+    fn comes<C: Clock>(&self, clock: &C, word: &AtomicU64, least: u64) -> bool {
+        for turn in 0..TURNS {
+            if least <= word.load(Ordering::SeqCst) {
+                return true;
+            }
+            if !self.is_fine() {
+                return false;
+            }
+            rest(clock, turn);
+        }
+        false
+    }
+
+    /// The same, for the word of a slot.
+    fn comes_to<C: Clock>(&self, clock: &C, words: &[AtomicU64], slot: usize, least: u64) -> bool {
+        match words.get(slot) {
+            Some(word) => self.comes(clock, word, least),
+            None => false,
+        }
     }
 
     /// Something failed.
@@ -123,7 +179,7 @@ impl Board {
     /// Waits until the client of the slot has got so much. It is a failure if that does not come.
     pub(crate) fn await_got<C: Clock>(&self, clock: &C, slot: usize, least: u64) {
         if let Some(word) = self.got.get(slot) {
-            if !comes(clock, word, least) {
+            if !self.comes(clock, word, least) {
                 self.fail();
             }
         }
@@ -131,7 +187,7 @@ impl Board {
 
     /// Waits until the clients of all slots before this one are connected.
     pub(crate) fn await_turn<C: Clock>(&self, clock: &C, slot: u64) {
-        if !comes(clock, &self.connected, slot) {
+        if !self.comes(clock, &self.connected, slot) {
             self.fail();
         }
     }
@@ -143,7 +199,7 @@ impl Board {
 
     /// Waits until the program listens, or has ended. It is a failure if that does not come.
     pub(crate) fn await_listener<C: Clock>(&self, clock: &C) {
-        if !comes(clock, &self.listening, 1) {
+        if !self.comes(clock, &self.listening, 1) {
             self.fail();
         }
     }
@@ -155,7 +211,7 @@ impl Board {
 
     /// Waits until a later commit than the first has returned, and the client of the second slot has got it.
     pub(crate) fn await_later<C: Clock>(&self, clock: &C) {
-        if !comes(clock, &self.returned, 2) {
+        if !self.comes(clock, &self.returned, 2) {
             self.fail();
         }
         let later = self.returned.load(Ordering::SeqCst);
@@ -168,6 +224,72 @@ impl Board {
             for slot in 0..self.work.slots() {
                 self.await_got(clock, slot, 1);
             }
+        }
+    }
+
+    /// The session has done one more act of the round.
+    pub(crate) fn plays(&self) {
+        self.played.fetch_add(1, Ordering::SeqCst);
+    }
+
+    /// How many acts of the round the session has done.
+    pub(crate) fn played(&self) -> u64 {
+        self.played.load(Ordering::SeqCst)
+    }
+
+    /// The client of the slot may say its next line.
+    pub(crate) fn cue(&self, slot: usize) {
+        add(self.cues.as_slice(), slot, 1);
+    }
+
+    /// Waits until the client of the slot may say so many lines, and answers whether it may.
+    pub(crate) fn is_cued<C: Clock>(&self, clock: &C, slot: usize, count: u64) -> bool {
+        self.comes_to(clock, self.cues.as_slice(), slot, count)
+    }
+
+    /// Waits until the client of the slot has got so much, and answers whether it has.
+    pub(crate) fn has_got<C: Clock>(&self, clock: &C, slot: usize, least: u64) -> bool {
+        self.comes_to(clock, self.got.as_slice(), slot, least)
+    }
+
+    /// The client of the slot has heard so many more keepalives.
+    pub(crate) fn is_answered(&self, slot: usize, count: u64) {
+        add(self.replies.as_slice(), slot, count);
+    }
+
+    /// Waits until the client of the slot has heard so many keepalives, and answers whether it has.
+    pub(crate) fn has_heard<C: Clock>(&self, clock: &C, slot: usize, least: u64) -> bool {
+        self.comes_to(clock, self.replies.as_slice(), slot, least)
+    }
+
+    /// The sender of the slot comes to its gate with the commit of this number. It is a failure if its client has got
+    /// that commit already.
+    pub(crate) fn comes_to_gate(&self, slot: usize, number: u32) {
+        if word_of(self.got.as_slice(), slot) > u64::from(number) {
+            self.fail();
+        }
+        add(self.gates.as_slice(), slot, 1);
+    }
+
+    /// How often the sender of the slot has come to its gate.
+    pub(crate) fn gates(&self, slot: usize) -> u64 {
+        word_of(self.gates.as_slice(), slot)
+    }
+
+    /// Waits until the sender of the slot has come to its gate so often, and answers whether it has.
+    pub(crate) fn is_at_gate<C: Clock>(&self, clock: &C, slot: usize, least: u64) -> bool {
+        self.comes_to(clock, self.gates.as_slice(), slot, least)
+    }
+
+    /// The gate that is shut opens.
+    pub(crate) fn open(&self) {
+        self.opened.store(1, Ordering::SeqCst);
+    }
+
+    /// Waits until the gate that is shut opens. It is a failure if that does not come.
+    pub(crate) fn await_open<C: Clock>(&self, clock: &C) {
+        if !self.comes(clock, &self.opened, 1) {
+            self.fail();
         }
     }
 }

@@ -36,7 +36,7 @@ fn given<P: Publishing, R: Wait>(
 }
 
 /// A finished connection that took so many commits.
-fn finished<P: Publishing, R: Wait>(
+pub(crate) fn finished<P: Publishing, R: Wait>(
     rt: &R,
     alloc: Global,
     publisher: &Publisher<P>,

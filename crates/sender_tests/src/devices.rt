@@ -4,6 +4,7 @@ ghost use Rattle.std.specs.Prelude.{◌≡◌, true};
 
 use crate::board::{Board, LOST};
 use crate::clients::{hears, subscriber};
+use crate::phrases::{before_done, keepalives};
 use crate::work::Hold;
 use senders::{Failed, Sink, Source};
 use std::time::Clock;
@@ -107,8 +108,8 @@ impl<C: Clock> Source for Asking<'_, C> {
 }
 
 /// What a client reads, kept in memory, and its subscriber. It has room for so many bytes and then fails, and takes at
-/// most so many at a time. It tells the board how much it has got after each push of which it takes all. It counts pushes,
-/// and keeps the length of the longest one.
+/// most so many at a time. It tells the board how much it has got after each push of which it takes all, and of each
+/// keepalive. It counts pushes, and keeps the length of the longest one.
 #[derive(Drop)]
 pub(crate) struct Kept<'a, C> {
     clock: &'a C,
@@ -176,13 +177,14 @@ impl<'a, C: Clock> Kept<'a, C> {
     {
         self.pushes = self.pushes.saturating_add(1);
         self.longest = self.longest.max(bytes.len());
-        let Some(got) = hears(&mut self.subscriber, bytes) else {
+        let Some(got) = hears(&mut self.subscriber, before_done(bytes)) else {
             self.board.fail();
             return;
         };
         if are_all {
             self.got = got;
             self.board.gets(self.slot, got);
+            self.board.is_answered(self.slot, keepalives(bytes));
         }
     }
 }

@@ -3,6 +3,8 @@
 #![tactic(auto)]
 
 #[cfg(test)]
+mod acting;
+#[cfg(test)]
 mod batches;
 #[cfg(test)]
 mod board;
@@ -21,7 +23,13 @@ mod gates;
 #[cfg(test)]
 mod memory;
 #[cfg(test)]
+mod phrases;
+#[cfg(test)]
 mod program;
+#[cfg(test)]
+mod prompted;
+#[cfg(test)]
+mod rounds;
 #[cfg(test)]
 mod running;
 #[cfg(test)]
@@ -31,8 +39,12 @@ mod sessions;
 #[cfg(test)]
 mod sharding;
 #[cfg(test)]
+mod sizes;
+#[cfg(test)]
 mod sockets;
 #[cfg(test)]
 mod streams;
+#[cfg(test)]
+mod talks;
 #[cfg(test)]
 mod work;

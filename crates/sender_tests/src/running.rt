@@ -1,7 +1,9 @@
 //! Connections that are served while sessions write.
 
+use crate::acting::play;
 use crate::board::Board;
 use crate::checks::{holds, same};
+use crate::rounds::Round;
 use crate::sessions::write;
 use crate::work::{Work, are_rows};
 use senders::{
@@ -13,7 +15,21 @@ use std::test::Fail;
 use std::thread::{Threads, join};
 use std::time::Clock;
 
-/// Serves the connections while the sessions write.
+/// What the sessions do: they write, or the first one does the acts of the round.
+fn work<P: Publishing + Sync, R: Threads + Wait + Clock + Sync>(
+    rt: &R,
+    publisher: &Publisher<P>,
+    seats: &mut Vec<Seat<P>>,
+    board: &Board,
+) {
+    if board.round == Round::Free {
+        write(rt, publisher, seats, board);
+    } else {
+        play(rt, publisher, seats, board);
+    }
+}
+
+/// Serves the connections while the sessions write, or do the acts of the round.
 pub(crate) fn run<
     P: Publishing + Sync,
     S: Source + Send + Drop,
@@ -30,7 +46,7 @@ pub(crate) fn run<
 ) {
     join(
         rt,
-        || write(rt, publisher, seats, board),
+        || work(rt, publisher, seats, board),
         || run_all(rt, publisher, connections, gate),
     );
 }
@@ -66,7 +82,7 @@ fn count_receipts(notes: &[Note]) -> usize {
 }
 
 /// How many receipts the seats have.
-fn count_all<P: Publishing>(seats: &[Seat<P>]) -> usize {
+pub(crate) fn count_all<P: Publishing>(seats: &[Seat<P>]) -> usize {
     let mut count = 0usize;
     for seat in seats {
         count = count.saturating_add(count_receipts(seat.notes()));

@@ -8,6 +8,8 @@ use crate::batches::expect_batches;
 use crate::closing::{Lacks, expect_answer};
 use crate::faults::expect_faults;
 use crate::sharding::{HALVES, HALVES_SPLIT, shards, shards_split};
+use crate::sizes::expect_size;
+use crate::talks::expect_talk;
 use crate::work::{Hold, Work};
 use crate::{memory, sockets};
 use senders::{Opening, Publisher, Publishing};
@@ -30,6 +32,9 @@ enum Use {
     Faults,
     Batches,
     Closing(Lacks),
+    Talk,
+    /// By so many seats, for so many commits.
+    Size(usize, usize),
 }
 
 /// A publisher whose log takes 10,000 commits, used so.
@@ -59,6 +64,8 @@ fn publish<
         Use::Faults => expect_faults(rt, alloc, &publisher, seats),
         Use::Batches => expect_batches(rt, alloc, &publisher, seats),
         Use::Closing(lacks) => expect_answer(rt, alloc, publisher, seats, lacks),
+        Use::Talk => expect_talk(rt, alloc, publisher, seats),
+        Use::Size(count, commits) => expect_size(rt, alloc, publisher, seats, count, commits),
     }
 }
 
@@ -118,6 +125,23 @@ fn commits_that_wait_are_written_at_once(rt: HostRuntime) -> Result<(), Fail> {
 fn a_publisher_is_closed_where_all_agree(rt: HostRuntime) -> Result<(), Fail> {
     for lacks in [Lacks::All, Lacks::Seat, Lacks::Taken, Lacks::Nothing] {
         expect(&rt, rt.alloc(), HALVES, HALVES_SPLIT, Use::Closing(lacks))?;
+    }
+    Ok(())
+}
+
+#[test]
+fn what_clients_report_is_heard_answered_and_kept(rt: HostRuntime) -> Result<(), Fail> {
+    expect(&rt, rt.alloc(), HALVES, HALVES_SPLIT, Use::Talk)
+}
+
+#[test]
+fn publishers_of_all_small_sizes_are_closed(rt: HostRuntime) -> Result<(), Fail> {
+    let alloc = rt.alloc();
+    for commits in 0..21 {
+        expect(&rt, alloc, HALVES, HALVES_SPLIT, Use::Size(3, commits))?;
+    }
+    for count in 0..9 {
+        expect(&rt, alloc, HALVES, HALVES_SPLIT, Use::Size(count, count))?;
     }
     Ok(())
 }

@@ -1,0 +1,102 @@
+//! Publishers of small sizes, which are closed.
+
+use crate::checks::{holds, same};
+use crate::closing::finished;
+use crate::running::count_all;
+use crate::sessions::take_seats;
+use crate::work::{key_of, row_of};
+use senders::{Publisher, Publishing, Seat, Seats, Served, close};
+use std::alloc::{AllocError, Global};
+use std::process::Abort;
+use std::sync::Wait;
+use std::test::Fail;
+use table_changes::Command;
+
+/// The commands of the commit after so many: one more than these, of which the first inserts a row of the first
+/// subscriber, and the others rows of the second.
+fn commands(alloc: Global, count: usize) -> Result<Vec<Command>, AllocError> {
+    let mut list = Vec::new(alloc);
+    let mut key = count;
+    for place in 0..count.saturating_add(1) {
+        let row = row_of(alloc, key)?;
+        list.push(Command::Insert { table: 0, row })?;
+        key = count
+            .saturating_mul(100)
+            .saturating_add(place)
+            .saturating_add(100);
+    }
+    Ok(list)
+}
+
+/// Makes a commit after so many, and reads its first row. Whether it is there.
+fn turn<P: Publishing, R: Wait>(
+    rt: &R,
+    alloc: Global,
+    publisher: &Publisher<P>,
+    seat: &mut Seat<P>,
+    count: usize,
+) -> Result<bool, Fail> {
+    publisher.commit(rt, seat, commands(alloc, count)?, 1)?;
+    let reading = publisher.read(rt, seat, 0, key_of(alloc, count)?)?;
+    Ok(reading.answer.is_some())
+}
+
+/// Makes so many commits, each at the seat after that of the one before.
+fn commit_all<P: Publishing, R: Wait + Abort>(
+    rt: &R,
+    alloc: Global,
+    publisher: &Publisher<P>,
+    seats: &mut Vec<Seat<P>>,
+    commits: usize,
+) -> Result<(), Fail> {
+    let mut made = 0usize;
+    for _ in 0..commits {
+        for seat in seats.as_mut_slice() {
+            if made < commits {
+                holds(rt, turn(rt, alloc, publisher, seat, made)?);
+                made = made.saturating_add(1);
+            }
+        }
+    }
+    Ok(())
+}
+
+/// Up to two finished connections, each of which took all of so many commits.
+fn connections<P: Publishing, R: Wait>(
+    rt: &R,
+    alloc: Global,
+    publisher: &Publisher<P>,
+    commits: usize,
+) -> Result<Vec<Served>, AllocError> {
+    let mut list = Vec::new(alloc);
+    for _ in 0..commits % 3 {
+        list.push(finished(rt, alloc, publisher, commits as u64)?)?;
+    }
+    Ok(list)
+}
+
+/// That a publisher of so many seats and commits is closed. Where the commits are odd in number, a seat without notes
+/// is held back.
+pub(crate) fn expect_size<P: Publishing, R: Wait + Abort>(
+    rt: &R,
+    alloc: Global,
+    publisher: Publisher<P>,
+    mut free: Seats<P>,
+    count: usize,
+    commits: usize,
+) -> Result<(), Fail> {
+    let mut seats = take_seats(alloc, &mut free, count)?;
+    commit_all(rt, alloc, &publisher, &mut seats, commits)?;
+    let served = connections(rt, alloc, &publisher, commits)?;
+    let held = if commits % 2 == 1 { free.seat() } else { None };
+    let closed = close(publisher, free, seats, served)?;
+    drop(held);
+    same(
+        rt,
+        (closed.seats.len(), closed.book.log_len() as usize),
+        (count, commits),
+    );
+    same(rt, count_all(closed.seats.as_slice()), commits);
+    same(rt, closed.served.len(), commits % 3);
+    Ok(())
+}
