@@ -56,7 +56,7 @@ nothing_said said p q = record {
       rw (truth, null) refl;
 }
 
-joined : (p q r s : Bool) → tri_by (p || q) (r || s) ≡ or_of (tri_by p r) (tri_by q s)
+pub joined : (p q r s : Bool) → tri_by (p || q) (r || s) ≡ or_of (tri_by p r) (tri_by q s)
 joined true true true true = refl
 joined true true true false = refl
 joined true true false true = refl

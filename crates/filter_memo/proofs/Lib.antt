@@ -1,8 +1,10 @@
 pub mod Alike
 pub mod BitLemmas
+pub mod ClauseLemmas
 pub mod Finding
 pub mod Judging
 pub mod Memos
 pub mod Planning
 pub mod Sides
+pub mod Stepping
 pub mod WithinInterval

@@ -20,17 +20,19 @@ use Rattle.filter_tree.proofs.SameLemmas.{same_term_is}
 use Rattle.filter_tree.proofs.Tests.{by_test, both_true}
 use Rattle.filter_memo.specs.Covering.{has, has_constants, covers}
 use Rattle.filter_memo.specs.Memos.{says, SayTheSame, Follows, IsKept, IsMemoOf, IsLocated, AreEmpty}
-use Rattle.filter_memo.specs.Places.{value_cmp, kind_of, IsPlace}
-use Rattle.filter_memo.specs.Plans.{said_by, IsPlanOf, IsPlanFor, ArePlans}
+use Rattle.filter_memo.specs.Places.{value_cmp, kind_of}
+use Rattle.filter_memo.specs.Plans.{IsPlanOf, IsPlanFor, ArePlans}
+use Rattle.filter_memo.specs.Steps.{LeadTo}
 use Rattle.filter_memo.specs.Telling.{part_at, told_at, Tells, IsSettled, AreSettled, IsCell, IsInterval, AreCells, AreNew, AreTold}
 use Rattle.filter_memo.specs.declared.memo.Kept.{Kept}
 use Rattle.filter_memo.specs.declared.memo.Memo.{Memo}
-use Rattle.filter_memo.specs.declared.place.Place.{Place}
-use Rattle.filter_memo.specs.declared.plan.Plan.{Plan}
 use Rattle.filter_memo.specs.declared.said.Said.{Said}
 use Rattle.filter_memo.specs.declared.scale.Scale.{Scale}
+use Rattle.filter_memo.specs.declared.steps.Step.{Step}
 use Rattle.filter_memo.proofs.Alike.{atom_alike}
+use Rattle.filter_memo.proofs.ClauseLemmas.{some_values}
 use Rattle.filter_memo.proofs.Sides.{same_side}
+use Rattle.filter_memo.proofs.Stepping.{leads_once}
 use Rattle.filter_memo.proofs.WithinInterval.{same_interval, no_number}
 
 -- ---- rows at the same place
@@ -115,21 +117,25 @@ no_text parts text_of slots empty =
 
 -- the filters say the same of rows of which the parts say the same
 filters_say : {A : _} (parts : List (Filter A)) (one other : List Datum) (said : Said) → Tells parts one said
-    → Tells parts other said → (filters : List (Option Expr)) (plans : List Plan) → ArePlans parts filters plans
-    → SayTheSame filters one other
-filters_say parts one other said at_one at_other [] plans are = All-nil (λ it. says one it ≡ says other it)
-filters_say parts one other said at_one at_other (filter ∷ filters) [] are = absurd are
-filters_say parts one other said at_one at_other (filter ∷ filters) (plan ∷ plans) are =
-    All-cons (λ it. says one it ≡ says other it) filter filters (first filter plan are.0)
-    (filters_say parts one other said at_one at_other filters plans are.1) where
-      first : (own : Option Expr) (its : Plan) → IsPlanFor parts own its → says one own ≡ says other own
-      first None its is = refl
-      first (Some own) its is = ap Some (sym (is.says one said at_one) ∙ is.says other said at_other)
+    → Tells parts other said → (steps : List Step) (filters : List (Option Expr)) (starts : List ℕ)
+    → ArePlans parts filters steps starts → SayTheSame filters one other
+filters_say parts one other said at_one at_other steps [] starts are = All-nil (λ it. says one it ≡ says other it)
+filters_say parts one other said at_one at_other steps (filter ∷ filters) [] are = absurd are
+filters_say parts one other said at_one at_other steps (filter ∷ filters) (start ∷ starts) are =
+    All-cons (λ it. says one it ≡ says other it) filter filters (first filter are.0)
+    (filters_say parts one other said at_one at_other steps filters starts are.1) where
+      first : (own : Option Expr) → IsPlanFor parts steps own start → says one own ≡ says other own
+      first None is = refl
+      first (Some own) is =
+          let values = some_values said in
+          ap Some (leads_once values.0 steps (meaning own one) (meaning own other) start
+          (is.leads one said at_one values.0 values.1) (is.leads other said at_other values.0 values.1))
 
 -- a memo that has no text yet
 pub fresh : (memo : Memo) (filters : List (Option Expr)) (text_of : List Datum → List ℕ)
     → AreSettled memo.parts.items memo.scales.items → AreNew memo.cells
-    → AreTold memo.scales.items (length memo.parts.items) → ArePlans memo.parts.items filters memo.plans.items
+    → AreTold memo.scales.items (length memo.parts.items)
+    → ArePlans memo.parts.items filters memo.plan.steps.items memo.plan.starts.items
     → AreEmpty memo.slots.items → Follows filters text_of → IsMemoOf filters text_of memo
 fresh memo filters text_of settled empty told plans no_slot follows = record {
   cells = record {
@@ -142,7 +148,8 @@ fresh memo filters text_of settled empty told plans no_slot follows = record {
   plans = λ used. plans;
   text = λ used. record {
     same = λ one other said at_one at_other. follows.same one other
-        (filters_say memo.parts.items one other said at_one at_other filters memo.plans.items plans);
+        (filters_say memo.parts.items one other said at_one at_other memo.plan.steps.items filters
+        memo.plan.starts.items plans);
   };
   kept = no_text memo.parts.items text_of memo.slots.items no_slot;
 }
@@ -171,17 +178,21 @@ unused memo filters text_of not_used no_scale no_place no_interval no_slot = rec
 module _ (memo : Memo) (filters : List (Option Expr)) (text_of : List Datum → List ℕ)
     (is : IsMemoOf filters text_of memo) (row : List Datum) (said : Said) (located : IsLocated memo row said)
     (used : memo.is_used ≡ true) where
-  -- what a plan says
-  pub plan_says : (number : ℕ) (plan : Plan) (filter : Expr) → slice_get memo.plans.items number ≡ Some plan
-      → slice_get filters number ≡ Some (Some filter) → said_by plan said ≡ meaning filter row
-  plan_says number plan filter found asked =
-      let all = AllZip-left (IsPlanFor memo.parts.items) filters memo.plans.items (is.plans used) number in
-      let at : IsSomeAnd (slice_get memo.plans.items number) (IsPlanFor memo.parts.items (Some filter)) =
+  -- the steps lead to what the filter says
+  pub steps_lead : (number start : ℕ) (filter : Expr) → slice_get memo.plan.starts.items number ≡ Some start
+      → slice_get filters number ≡ Some (Some filter) → LeadTo memo.plan.steps.items said (meaning filter row) start
+  steps_lead number start filter found asked =
+      let all = AllZip-left (IsPlanFor memo.parts.items memo.plan.steps.items) filters memo.plan.starts.items
+      (is.plans used) number in
+      let at : IsSomeAnd (slice_get memo.plan.starts.items number)
+      (IsPlanFor memo.parts.items memo.plan.steps.items (Some filter)) =
       subst (λ (own : Option (Option Expr)). MatchOption own (Unit {0})
-      (λ it. IsSomeAnd (slice_get memo.plans.items number) (IsPlanFor memo.parts.items it))) asked all in
-      let its : IsPlanOf memo.parts.items filter plan =
-      subst (λ (own : Option Plan). IsSomeAnd own (IsPlanFor memo.parts.items (Some filter))) found at in
-      its.says row said (located.tells used)
+      (λ it. IsSomeAnd (slice_get memo.plan.starts.items number)
+      (IsPlanFor memo.parts.items memo.plan.steps.items it))) asked all in
+      let its : IsPlanOf memo.parts.items memo.plan.steps.items filter start =
+      subst (λ (own : Option ℕ). IsSomeAnd own (IsPlanFor memo.parts.items memo.plan.steps.items (Some filter))) found
+      at in
+      its.leads row said (located.tells used)
 
   -- what is kept in a slot is the text of each row of which the parts say this
   pub kept_text : (slot : ℕ) (kept : Kept) → slice_get memo.slots.items slot ≡ Some (Some kept) → kept.said ≡ said
@@ -202,26 +213,26 @@ module _ (memo : Memo) (filters : List (Option Expr)) (text_of : List Datum → 
 
 -- other cells
 pub other_cells : (old new : Memo) (filters : List (Option Expr)) (text_of : List Datum → List ℕ)
-    → IsMemoOf filters text_of old → new.parts ≡ old.parts → new.plans ≡ old.plans → new.scales ≡ old.scales
+    → IsMemoOf filters text_of old → new.parts ≡ old.parts → new.plan ≡ old.plan → new.scales ≡ old.scales
     → new.slots ≡ old.slots → new.is_used ≡ old.is_used
     → AreCells old.parts.items old.scales.items new.cells → IsMemoOf filters text_of new
-other_cells old new filters text_of is parts plans scales slots used cells = record {
+other_cells old new filters text_of is parts plan scales slots used cells = record {
   cells = rw (parts, scales) cells;
   told = λ own. rw (parts, scales) (is.told (sym used ∙ own));
-  plans = λ own. rw (parts, plans) (is.plans (sym used ∙ own));
+  plans = λ own. rw (parts, plan) (is.plans (sym used ∙ own));
   text = λ own. rw parts (is.text (sym used ∙ own));
   kept = rw (parts, slots) is.kept;
 }
 
 -- other slots
 pub other_slots : (old new : Memo) (filters : List (Option Expr)) (text_of : List Datum → List ℕ)
-    → IsMemoOf filters text_of old → new.parts ≡ old.parts → new.plans ≡ old.plans → new.scales ≡ old.scales
+    → IsMemoOf filters text_of old → new.parts ≡ old.parts → new.plan ≡ old.plan → new.scales ≡ old.scales
     → new.cells ≡ old.cells → new.is_used ≡ old.is_used → All (IsKept old.parts.items text_of) new.slots.items
     → IsMemoOf filters text_of new
-other_slots old new filters text_of is parts plans scales cells used kept = record {
+other_slots old new filters text_of is parts plan scales cells used kept = record {
   cells = rw (parts, scales, cells) is.cells;
   told = λ own. rw (parts, scales) (is.told (sym used ∙ own));
-  plans = λ own. rw (parts, plans) (is.plans (sym used ∙ own));
+  plans = λ own. rw (parts, plan) (is.plans (sym used ∙ own));
   text = λ own. rw parts (is.text (sym used ∙ own));
   kept = rw parts kept;
 }

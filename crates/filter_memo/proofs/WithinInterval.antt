@@ -1,12 +1,12 @@
 -- Numbers of an interval that no constant divides have the same order to each constant.
 use Rattle.std.proofs.Common.{◌≡◌, ℕ, ◌<◌, ℤ, pos, ◌≤ℤ◌, Bool, true, false, ◌||◌, T, List, length, get_or, refl, sym, ap, subst, ◌∙◌, arith}
-use Rattle.std.specs.Prelude.{◌<ℤ◌, int_lt, slice_index_or, if◌then◌else◌}
+use Rattle.std.specs.Prelude.{◌<ℤ◌, int_lt, slice_index_or}
 use Rattle.std.specs.Cmp.{Equal-is, int_cmp_is}
-use Rattle.std.specs.List.{list_all, list_any}
+use Rattle.std.specs.List.{list_all}
 use Rattle.std.specs.Ordering.{eq_by_cmp, int_cmp}
 use Rattle.std.proofs.lemmas.Int.{ints}
 use Rattle.std.proofs.lemmas.List.Folds.{list_all_at}
-use Rattle.std.specs.declared.cmp.Ordering.TheVariants.{Less, Equal, Greater}
+use Rattle.std.specs.declared.cmp.Ordering.TheVariants.{Less, Greater}
 use Rattle.filter_tree.specs.Datum.{Constant, Number, Truth, Bytes, Datum, Known}
 use Rattle.filter_tree.specs.Order.{datum_cmp}
 use Rattle.filter_tree.specs.Values.{datum_view}

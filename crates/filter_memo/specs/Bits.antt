@@ -1,9 +1,10 @@
 -- Truth values of numbered filters, as two words of bits.
-use Rattle.std.specs.Prelude.{◌≡◌, ◌<◌, ◌==◌, ◌||◌, ℕ, Bool, true, false, if◌then◌else◌, nat_lt}
+use Rattle.std.specs.Prelude.{◌≡◌, ◌<◌, ◌==◌, ◌||◌, ℕ, Bool, true, false, not, if◌then◌else◌, nat_lt}
 use Rattle.std.specs.Int.{bit_at}
-use Rattle.filter_tree.specs.Logic.{or_of}
+use Rattle.filter_tree.specs.Logic.{or_of, not_of}
 use Rattle.filter_tree.specs.declared.tri.Tri.{Tri}
 use Rattle.filter_tree.specs.declared.tri.Tri.TheVariants.{True, False, Null}
+use Rattle.filter_memo.specs.declared.clause.Values.{Values}
 use Rattle.filter_memo.specs.declared.said.Said.{Said}
 
 -- the number's bit is set
@@ -43,3 +44,14 @@ pub record Joins (one other both : Said) : Type 0 where
 -- nothing is true or null
 pub record IsNothing (said : Said) : Type 0 where
   pub each : (number : ℕ) → said_at said number ≡ False
+
+-- the other bits of a word
+pub record Inverts (old new : ℕ) : Type 0 where
+  pub each : (number : ℕ) → number < 64 → is_set new number ≡ not (is_set old number)
+
+-- the same values as three words: by the words for true and null, and for false and null
+pub record IsSplit (said : Said) (values : Values) : Type 0 where
+  pub holds : (number : ℕ) → number < 64
+      → tri_by (is_set values.truths number) (is_set values.nulls number) ≡ said_at said number
+  pub fails : (number : ℕ) → number < 64
+      → tri_by (is_set values.falses number) (is_set values.nulls number) ≡ not_of (said_at said number)

@@ -40,7 +40,7 @@ IsKept parts text_of (Some kept) =
 pub record IsMemoOf (filters : List (Option Expr)) (text_of : List Datum → List ℕ) (memo : Memo) : Type 0 where
   pub cells : AreCells memo.parts.items memo.scales.items memo.cells
   pub told : memo.is_used ≡ true → AreTold memo.scales.items (length memo.parts.items)
-  pub plans : memo.is_used ≡ true → ArePlans memo.parts.items filters memo.plans.items
+  pub plans : memo.is_used ≡ true → ArePlans memo.parts.items filters memo.plan.steps.items memo.plan.starts.items
   pub text : memo.is_used ≡ true → IsText memo.parts.items text_of
   pub kept : All (IsKept memo.parts.items text_of) memo.slots.items
 

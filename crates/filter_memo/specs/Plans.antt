@@ -1,41 +1,62 @@
 -- Filters over the truth values of numbered filters: row filters of PostgreSQL 15, "Logical Replication", 31.3 Row
 -- Filters.
-use Rattle.std.specs.Prelude.{◌≡◌, List, Option, Some, None, map}
+use Rattle.std.specs.Prelude.{◌≡◌, ℕ, Bool, List, Option, Some, None, map, slice_get}
 use Rattle.std.specs.Borrow.{Bor}
 use Rattle.std.specs.List.{AllZip}
 use Rattle.std.specs.Option.{option_map}
 use Rattle.filter_tree.specs.Datum.{Datum}
 use Rattle.filter_tree.specs.Expr.{Expr, meaning}
-use Rattle.filter_tree.specs.Logic.{and_of, or_of, not_of, is_of, tri_of}
 use Rattle.filter_tree.specs.Shape.{expr_view}
 use Rattle.filter_tree.specs.declared.filter.Filter.{Filter}
 use Rattle.filter_tree.specs.declared.tri.Tri.{Tri}
-use Rattle.filter_memo.specs.Bits.{said_within}
+use Rattle.filter_tree.specs.declared.tri.Tri.TheVariants.{True, False, Null}
+use Rattle.filter_memo.specs.Bits.{IsSplit}
+use Rattle.filter_memo.specs.Clauses.{clause_says, negated_if}
+use Rattle.filter_memo.specs.Steps.{Extends, Leads, LeadTo, exit_of}
 use Rattle.filter_memo.specs.Telling.{Tells}
-use Rattle.filter_memo.specs.declared.plan.Plan.{Plan}
-use Rattle.filter_memo.specs.declared.plan.Plan.TheVariants.{Const, Part, Not', And', Or', Is'}
+use Rattle.filter_memo.specs.declared.clause.Clause.{Clause}
+use Rattle.filter_memo.specs.declared.clause.Values.{Values}
 use Rattle.filter_memo.specs.declared.said.Said.{Said}
+use Rattle.filter_memo.specs.declared.steps.Exits.{Exits}
+use Rattle.filter_memo.specs.declared.steps.Step.{Step}
+use Rattle.filter_memo.specs.declared.steps.Step.TheVariants.{Told}
 
--- what a plan says by the values of its parts
-abbrev pub said_by : Plan → Said → Tri
-said_by (Const known) said = tri_of known
-said_by (Part number) said = said_within said number
-said_by (Not' p part) said = not_of (said_by part said)
-said_by (And' p left q right) said = and_of (said_by left said) (said_by right said)
-said_by (Or' p left q right) said = or_of (said_by left said) (said_by right said)
-said_by (Is' test p part) said = is_of test (said_by part said)
+-- the clause says what the filter says of the row, or its negation
+pub record IsClauseOf {A : _} (parts : List (Filter A)) (filter : Expr) (is_negated : Bool) (clause : Clause) :
+    Type 0 where
+  pub says : (row : List Datum) (said : Said) (values : Values) → Tells parts row said → IsSplit said values
+      → clause_says clause values ≡ negated_if is_negated (meaning filter row)
 
--- the plan says what the filter says of the row
-pub record IsPlanOf {A : _} (parts : List (Filter A)) (filter : Expr) (plan : Plan) : Type 0 where
-  pub says : (row : List Datum) (said : Said) → Tells parts row said → said_by plan said ≡ meaning filter row
+-- steps are added, which lead to where the exit of the filter's truth value leads
+pub record IsAdded {A : _} (parts : List (Filter A)) (filter : Expr) (exits : Exits) (old new : List Step) (start : ℕ) :
+    Type 0 where
+  pub kept : Extends old new
+  pub leads : (row : List Datum) (said : Said) (values : Values) (tri : Tri) → Tells parts row said
+      → IsSplit said values → Leads old values tri (exit_of exits (meaning filter row)) → Leads new values tri start
+
+-- the steps lead to what the filter says of the row
+pub record IsPlanOf {A : _} (parts : List (Filter A)) (steps : List Step) (filter : Expr) (start : ℕ) : Type 0 where
+  pub leads : (row : List Datum) (said : Said) → Tells parts row said → LeadTo steps said (meaning filter row) start
 
 -- where there is a filter
-abbrev pub IsPlanFor : {A : _} → List (Filter A) → Option Expr → Plan → Type 0
-IsPlanFor parts None plan = Unit {0}
-IsPlanFor parts (Some filter) plan = IsPlanOf parts filter plan
+abbrev pub IsPlanFor : {A : _} → List (Filter A) → List Step → Option Expr → ℕ → Type 0
+IsPlanFor parts steps None start = Unit {0}
+IsPlanFor parts steps (Some filter) start = IsPlanOf parts steps filter start
 
-abbrev pub ArePlans : {A : _} → List (Filter A) → List (Option Expr) → List Plan → Type 0
-ArePlans parts filters plans = AllZip (IsPlanFor parts) filters plans
+abbrev pub ArePlans : {A : _} → List (Filter A) → List (Option Expr) → List Step → List ℕ → Type 0
+ArePlans parts filters steps starts = AllZip (IsPlanFor parts steps) filters starts
+
+-- the first three steps are truth values
+pub record HasEnds (steps : List Step) : Type 0 where
+  pub is_true : slice_get steps 0 ≡ Some (Told True)
+  pub is_false : slice_get steps 1 ≡ Some (Told False)
+  pub is_null : slice_get steps 2 ≡ Some (Told Null)
+
+-- the steps of one more filter are added
+pub record IsStart {A : _} (parts : List (Filter A)) (filter : Option Expr) (old new : List Step) (start : ℕ) :
+    Type 0 where
+  pub kept : Extends old new
+  pub is : HasEnds old → IsPlanFor parts new filter start
 
 abbrev pub filter_view : {A : _} → Option (Bor (Filter A)) → Option Expr
 filter_view filter = option_map (λ own. expr_view own.now) filter

@@ -1,4 +1,4 @@
-//! The bounds of filters. What they cover is tested afterwards.
+//! Collects the constants that filters compare a term with. Nothing is proved of the result: `covers` tests it.
 
 ghost use Rattle.std.specs.Prelude.{◌≡◌, IfOk};
 ghost use Rattle.std.specs.List.Sorted.{IsSorted};
@@ -9,7 +9,7 @@ ghost use Rattle.filter_memo.specs.Places.{value_cmp};
 use filter_tree::{Atom, Filter, Literal, Term, Text, Value, same_term};
 use std::alloc::{AllocError, Global};
 
-/// A constant as the value that is equal to it.
+/// The value that is equal to a constant.
 pub fn value_of(alloc: Global, literal: &Literal) -> Result<Value, AllocError>
     ensures { IfOk result (λ value. datum_view value ≡ Known (constant_view literal.now)) }
 {
@@ -20,7 +20,7 @@ pub fn value_of(alloc: Global, literal: &Literal) -> Result<Value, AllocError>
     }
 }
 
-/// Puts the value in its place, unless it is there.
+/// Inserts a value in ascending order, unless the bounds already contain it.
 fn add_bound(bounds: &mut Vec<Value>, value: Value) -> Result<(), AllocError> {
     match bounds.binary_search(&value) {
         Ok(_) => Ok(()),
@@ -31,7 +31,7 @@ fn add_bound(bounds: &mut Vec<Value>, value: Value) -> Result<(), AllocError> {
     }
 }
 
-/// Adds the constants of an atom.
+/// Adds the constants of an atom to the bounds.
 fn add_constants(alloc: Global, bounds: &mut Vec<Value>, atom: &Atom) -> Result<(), AllocError> {
     match atom {
         Atom::IsNull(_) => Ok(()),
@@ -51,7 +51,7 @@ fn add_constants(alloc: Global, bounds: &mut Vec<Value>, atom: &Atom) -> Result<
     }
 }
 
-/// The constants that the filters compare the term with, in order. The only error is want of memory.
+/// The constants that the filters compare the term with, in ascending order. The only error is out of memory.
 pub fn bounds_of(alloc: Global, term: Term, parts: &[Filter]) -> Result<Vec<Value>, AllocError>
     ensures { IfOk result (λ bounds. IsSorted value_cmp bounds.items) }
 {

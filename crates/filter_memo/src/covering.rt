@@ -1,4 +1,4 @@
-//! Whether bounds have all that filters compare.
+//! Tests whether bounds contain every constant that a filter compares.
 
 ghost use Rattle.std.specs.Prelude.{◌≡◌, true, map, IfOk, IsTrue};
 ghost use Rattle.std.specs.List.{list_all};
@@ -11,7 +11,7 @@ use crate::bounds::value_of;
 use filter_tree::{Atom, Filter, Literal, Term, Value, same_term};
 use std::alloc::{AllocError, Global};
 
-/// A number as a value.
+/// The value of a number.
 fn number_value(number: i64) -> Value
     ensures { datum_view result ≡ Known (Number number) }
 {
@@ -47,7 +47,7 @@ fn has_each(alloc: Global, bounds: &[Value], literals: &[Literal]) -> Result<boo
     }
 }
 
-/// Whether the constants of the atom are bounds. A no may be wrong.
+/// Whether the bounds contain all constants of the atom. The answer `false` may be wrong.
 fn has_constants(alloc: Global, bounds: &[Value], atom: &Atom) -> Result<bool, AllocError>
     ensures { IfOk result (λ all. IsTrue all → spec.has_constants bounds.now (atom_view atom.now) ≡ true) }
 {
@@ -59,7 +59,8 @@ fn has_constants(alloc: Global, bounds: &[Value], atom: &Atom) -> Result<bool, A
     }
 }
 
-/// Whether the filter compares the term with bounds alone. A no may be wrong. The only error is want of memory.
+/// Whether the filter compares only this term, and only with these bounds. The answer `false` may be wrong. The only
+/// error is out of memory.
 pub fn covers(
     alloc: Global,
     term: Term,

@@ -1,4 +1,4 @@
-//! Intervals of numbers that the atoms of a term do not tell apart.
+//! Intervals of numbers for which each atom of a term has one value.
 
 ghost use Rattle.std.specs.Prelude.{◌≡◌, IsTrue};
 ghost use Rattle.filter_tree.specs.Values.{datum_view};
@@ -7,7 +7,7 @@ ghost use Rattle.filter_memo.specs.Intervals as spec;
 use crate::said::Said;
 use filter_tree::Value;
 
-/// What the atoms of a scale say of the numbers from `low` to `high`.
+/// The values of the atoms of a scale for all numbers from `low` to `high`.
 #[derive(Clone, Copy, Debug, PartialEq, Eq)]
 pub struct Interval {
     pub scale: usize,
@@ -16,7 +16,7 @@ pub struct Interval {
     pub said: Said,
 }
 
-/// Whether the constant is not a number from `low` to `high`.
+/// Whether the constant is no number from `low` to `high`.
 fn is_outside(bound: &Value, low: i64, high: i64) -> bool
     ensures { result ≡ spec.is_outside (datum_view bound.now) low high }
 {
@@ -32,7 +32,7 @@ fn are_outside(bounds: &[Value], low: i64, high: i64) -> bool
     bounds.iter().all(|bound| is_outside(bound, low, high))
 }
 
-/// Whether all numbers from `low` to `high` compare alike with each of the constants.
+/// Whether each constant compares in the same way with all numbers from `low` to `high`.
 pub fn are_alike(bounds: &[Value], low: i64, high: i64) -> bool
     ensures { IsTrue result → spec.AreAlike bounds.now low high }
 {

@@ -1,17 +1,17 @@
-//! Which interval between constants a number is in. Nothing is proved of the answer: it is tested where it is used.
+//! Finds the interval between constants that contains a number. Nothing is proved of the result: the caller tests it.
 
 use filter_tree::Value;
 use std::alloc::{AllocError, Global};
 
-/// The most buckets.
+/// The maximum number of buckets.
 const MAX_BUCKETS: usize = 1_024;
 
-/// How many buckets there are for each interval.
+/// The number of buckets for each interval.
 const BUCKETS_PER_INTERVAL: usize = 4;
 
-/// Intervals that have all numbers together: each begins at a number of `lows` and ends before the next one. The numbers
-/// from `first` on are divided into buckets of equal width, a power of two. Of each bucket the first interval and the
-/// last one are known.
+/// Adjacent intervals that cover all numbers. Each one starts at a number of `lows` and ends before the next number
+/// there. The numbers from `first` on are divided into buckets of equal width, which is a power of two. Each bucket
+/// stores the first and the last interval that it overlaps.
 #[derive(Drop)]
 pub struct IntervalIndex {
     lows: Vec<i64>,
@@ -20,7 +20,7 @@ pub struct IntervalIndex {
     buckets: Vec<(u16, u16)>,
 }
 
-/// Adds the beginning of an interval, unless one begins there.
+/// Adds the start of an interval, unless the last interval starts there.
 fn add_low(lows: &mut Vec<i64>, low: i64) -> Result<(), AllocError> {
     if lows.last() != Some(&low) {
         lows.push(low)?;
@@ -28,7 +28,7 @@ fn add_low(lows: &mut Vec<i64>, low: i64) -> Result<(), AllocError> {
     Ok(())
 }
 
-/// The beginnings of intervals, where each constant that is a number has one of its own.
+/// The starts of the intervals. Each constant that is a number has an interval of its own.
 fn lows_of(alloc: Global, bounds: &[Value]) -> Result<Vec<i64>, AllocError> {
     let mut lows = Vec::new(alloc);
     lows.push(i64::MIN)?;
@@ -43,7 +43,7 @@ fn lows_of(alloc: Global, bounds: &[Value]) -> Result<Vec<i64>, AllocError> {
     Ok(lows)
 }
 
-/// The interval that the number is in, where it is one from `first` to `last`.
+/// The interval from `first` to `last` that contains the number, by binary search.
 fn search(lows: &[i64], first: usize, last: usize, number: i64) -> usize {
     let mut first = first;
     let mut last = last;
@@ -57,7 +57,7 @@ fn search(lows: &[i64], first: usize, last: usize, number: i64) -> usize {
     first
 }
 
-/// The power of two by which so many numbers are divided into fewer buckets than this.
+/// The least exponent of a bucket width that gives fewer buckets than the limit.
 fn shift_of(numbers: u64, limit: u64) -> u32 {
     for shift in 0..63u32 {
         if numbers.wrapping_shr(shift) < limit {
@@ -67,12 +67,12 @@ fn shift_of(numbers: u64, limit: u64) -> u32 {
     63
 }
 
-/// The number of an interval, as it is kept.
+/// The number of an interval in the form that buckets store.
 fn short(interval: usize) -> u16 {
     u16::try_from(interval).unwrap_or(u16::MAX)
 }
 
-/// So many buckets from this number on.
+/// A number of buckets, the first of which starts at `first`.
 fn buckets_of(
     alloc: Global,
     lows: &[i64],
@@ -95,7 +95,7 @@ fn buckets_of(
 }
 
 impl IntervalIndex {
-    /// The index of the intervals between these constants, which are in order.
+    /// The index of the intervals between these constants, which are in ascending order.
     pub fn new(alloc: Global, bounds: &[Value]) -> Result<IntervalIndex, AllocError> {
         let lows = lows_of(alloc, bounds)?;
         let first = lows.get(1).copied().unwrap_or(i64::MAX);
@@ -116,12 +116,12 @@ impl IntervalIndex {
         })
     }
 
-    /// How many intervals there are.
+    /// The number of intervals.
     pub fn len(&self) -> usize {
         self.lows.len()
     }
 
-    /// The interval that the number is in.
+    /// The interval that contains the number.
     pub fn find(&self, number: i64) -> usize {
         if number < self.first {
             return 0;
@@ -139,7 +139,7 @@ impl IntervalIndex {
         }
     }
 
-    /// The first number and the last one of an interval.
+    /// The first and the last number of an interval.
     pub fn ends(&self, interval: usize) -> Option<(i64, i64)> {
         let low = *self.lows.get(interval)?;
         match self.lows.get(interval.saturating_add(1)) {

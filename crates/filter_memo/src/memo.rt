@@ -1,4 +1,4 @@
-//! The memo.
+//! The cache.
 
 ghost use Rattle.std.specs.Prelude.{◌≡◌, ℕ, List, Option, Some, slice_get, IfOk, IfSome, OnOk};
 ghost use Rattle.filter_tree.specs.Datum.{Datum};
@@ -6,44 +6,46 @@ ghost use Rattle.filter_tree.specs.Expr.{Expr, meaning};
 ghost use Rattle.filter_memo.specs.Memos as spec;
 ghost use Rattle.filter_memo.specs.Plans.{filters_view};
 
-use crate::plan::{Plan, parts_of, plans_of};
+use crate::parts::parts_of;
+use crate::plan::{Plan, plan_of};
 use crate::said::Said;
 use crate::scale::Scale;
 use crate::scales::{are_told, cell_counts, scales_of};
+use crate::steps::run;
 use crate::telling::{Cells, look_all};
 use filter_tree::{Filter, Row, Tri};
 use std::alloc::{AllocError, Global};
 
-/// How many texts are kept.
+/// The maximum number of texts that are kept.
 const TEXTS: usize = 1_024;
 
-/// A text, and what the atoms say of the rows that have it.
+/// A text, and the values of the atoms for the rows that have it.
 #[derive(Drop)]
 pub struct Kept {
     pub said: Said,
     pub text: String,
 }
 
-/// Texts of rows, which follow from what filters say of them. It keeps up to 1,024 of them.
+/// A cache of texts of rows that depend only on the values of filters. It keeps up to 1,024 texts.
 #[derive(Drop)]
 pub struct Memo {
     pub alloc: Global,
     pub parts: Vec<Filter>,
-    pub plans: Vec<Plan>,
+    pub plan: Plan,
     pub scales: Vec<Scale>,
     pub cells: Cells,
     pub slots: Vec<Option<Kept>>,
     pub is_used: bool,
 }
 
-/// The slot of truth values.
+/// The slot for these values of the atoms.
 fn slot_of(said: Said) -> usize {
     let mixed = said.truths.wrapping_mul(0x9e37_79b9_7f4a_7c15)
         ^ said.nulls.wrapping_mul(0xc2b2_ae3d_27d4_eb4f);
     ((mixed >> 32) as usize) % TEXTS
 }
 
-/// So many slots with nothing in them.
+/// The given number of empty slots.
 fn empty_slots(alloc: Global, count: usize) -> Result<Vec<Option<Kept>>, AllocError>
     ensures { IfOk result (λ slots. spec.AreEmpty slots.items) }
 {
@@ -54,7 +56,7 @@ fn empty_slots(alloc: Global, count: usize) -> Result<Vec<Option<Kept>>, AllocEr
     Ok(slots)
 }
 
-/// What is kept in the slot.
+/// The entry in the slot.
 fn kept_at(slots: &[Option<Kept>], slot: usize) -> Option<&Kept>
     ensures { IfSome result (λ kept. slice_get slots.now slot ≡ Some (Some kept.now)) }
 {
@@ -64,14 +66,14 @@ fn kept_at(slots: &[Option<Kept>], slot: usize) -> Option<&Kept>
     }
 }
 
-fn plan_at(plans: &[Plan], number: usize) -> Option<&Plan>
-    ensures { IfSome result (λ plan. slice_get plans.now number ≡ Some plan.now) }
+fn start_at(starts: &[usize], number: usize) -> Option<usize>
+    ensures { IfSome result (λ start. slice_get starts.now number ≡ Some start) }
 {
-    plans.get(number)
+    starts.get(number).copied()
 }
 
 impl Memo {
-    /// A memo that is not used.
+    /// A memo that keeps nothing and answers nothing.
     #[tactic(auto, using(crate::proofs::Memos::unused))]
     fn unused(alloc: Global) -> Memo
         ensures { (filters : List (Option Expr)) (text_of : List Datum → List ℕ) → spec.IsMemoOf filters text_of result }
@@ -79,7 +81,10 @@ impl Memo {
         Memo {
             alloc,
             parts: Vec::new(alloc),
-            plans: Vec::new(alloc),
+            plan: Plan {
+                steps: Vec::new(alloc),
+                starts: Vec::new(alloc),
+            },
             scales: Vec::new(alloc),
             cells: Cells {
                 places: Vec::new(alloc),
@@ -90,14 +95,14 @@ impl Memo {
         }
     }
 
-    /// A memo of texts that follow from what these filters say, with no text yet. The only error is want of memory.
+    /// An empty memo of texts that depend only on the values of these filters. The only error is out of memory.
     pub fn new(alloc: Global, filters: &[Option<&Filter>]) -> Result<Memo, AllocError>
         ensures { IfOk result (λ memo. (text_of : List Datum → List ℕ)
             → spec.Follows (filters_view filters.now) text_of
             → spec.IsMemoOf (filters_view filters.now) text_of memo) }
     {
         let parts = parts_of(alloc, filters)?;
-        let Some(plans) = plans_of(alloc, &parts, filters)? else {
+        let Some(plan) = plan_of(alloc, &parts, filters)? else {
             return Ok(Memo::unused(alloc));
         };
         let scales = scales_of(alloc, &parts)?;
@@ -109,7 +114,7 @@ impl Memo {
         Ok(Memo {
             alloc,
             parts,
-            plans,
+            plan,
             scales,
             cells,
             slots: empty_slots(alloc, TEXTS)?,
@@ -117,7 +122,7 @@ impl Memo {
         })
     }
 
-    /// What the atoms of the filters say of the row. It allocates nothing.
+    /// Evaluates the atoms of the filters for a row. It allocates no memory.
     pub fn look(&mut self, row: &Row) -> Said
         ensures memo { (filters : List (Option Expr)) (text_of : List Datum → List ℕ)
             → spec.IsMemoOf filters text_of self.old → spec.IsMemoOf filters text_of self.new }
@@ -127,7 +132,8 @@ impl Memo {
         look_all(&mut self.cells, &self.parts, &self.scales, row)
     }
 
-    /// What the filter of this number says of the rows of which the atoms say this; `None` if it has to be evaluated.
+    /// The value of a filter, given by its number, for the rows whose atoms have these values. If it is `None`, the
+    /// caller has to evaluate the filter.
     pub fn answer(&self, said: Said, number: usize) -> Option<Tri>
         ensures { IfSome result (λ answer. (filters : List (Option Expr)) (text_of : List Datum → List ℕ)
             (row : List Datum) (filter : Expr) → spec.IsMemoOf filters text_of self.now
@@ -137,11 +143,11 @@ impl Memo {
         if !self.is_used {
             return None;
         }
-        let plan = plan_at(&self.plans, number)?;
-        Some(plan.tell(said))
+        let start = start_at(&self.plan.starts, number)?;
+        run(&self.plan.steps, start, said)
     }
 
-    /// The text of the rows of which the atoms say this, if it is kept.
+    /// The text of the rows whose atoms have these values, if the memo has it.
     pub fn text(&self, said: Said) -> Option<&str>
         ensures { IfSome result (λ text. (filters : List (Option Expr)) (text_of : List Datum → List ℕ)
             (row : List Datum) → spec.IsMemoOf filters text_of self.now → spec.IsLocated self.now row said
@@ -157,7 +163,7 @@ impl Memo {
         Some(kept.text.as_str())
     }
 
-    /// Keeps the text of the rows of which the atoms say this. The only error is want of memory.
+    /// Keeps the text of the rows whose atoms have these values. The only error is out of memory.
     pub fn keep(&mut self, said: Said, text: &str) -> Result<(), AllocError>
         ensures { OnOk result ((filters : List (Option Expr)) (text_of : List Datum → List ℕ) (row : List Datum)
             → spec.IsMemoOf filters text_of self.old → spec.IsLocated self.old row said

@@ -1,4 +1,4 @@
-//! Places of values among sorted values.
+//! Positions of values among sorted values.
 
 ghost use Rattle.std.specs.Prelude.{◌≡◌};
 ghost use Rattle.filter_tree.specs.Values.{datum_view};
@@ -6,7 +6,7 @@ ghost use Rattle.filter_memo.specs.Places.{IsPlace, kind_of};
 
 use filter_tree::Value;
 
-/// What a value is: null, or a constant of one of three kinds.
+/// The kind of a value: null, or one of three kinds of constants.
 #[derive(Clone, Copy, Debug, PartialEq, Eq)]
 pub enum Kind {
     Null,
@@ -15,7 +15,8 @@ pub enum Kind {
     Text,
 }
 
-/// Where a value lies among bounds: its kind, and the index of the bound that it is, or at which it would be put.
+/// The position of a value among bounds: its kind, and the index of the bound that is equal to it, or at which it would
+/// be inserted.
 #[derive(Clone, Copy, Debug, PartialEq, Eq)]
 pub struct Place {
     pub kind: Kind,
@@ -23,7 +24,7 @@ pub struct Place {
 }
 
 impl Kind {
-    /// The kind of the value.
+    /// The kind of a value.
     fn of(value: &Value) -> Kind
         ensures { result ≡ kind_of (datum_view value.now) }
     {
@@ -36,7 +37,7 @@ impl Kind {
     }
 }
 
-/// Where the value lies among the bounds.
+/// The position of a value among bounds.
 pub fn place_of(bounds: &[Value], value: &Value) -> Place
     ensures { IsPlace bounds.now (datum_view value.now) result }
 {
@@ -46,7 +47,7 @@ pub fn place_of(bounds: &[Value], value: &Value) -> Place
     }
 }
 
-/// The number of a place, which places of one kind and of null do not share.
+/// The number of a place. Places of the same kind have different numbers, and none of them has the number of null.
 pub fn number_of(place: &Place) -> usize {
     match (place.kind, place.found) {
         (Kind::Null, _) => 0,

@@ -1,187 +1,185 @@
-//! Filters over the truth values of their atoms, which have numbers.
+//! The steps of the filters of a memo.
 
-ghost use Rattle.std.specs.Prelude.{◌≡◌, ◌<◌, length, IfOk, IfSome, IsTrue};
-ghost use Rattle.filter_tree.specs.Expr as e;
-ghost use Rattle.filter_tree.specs.Shape.{atom_view, expr_view};
-ghost use Rattle.filter_memo.specs.Plans.{ArePlans, IsPlanFor, IsPlanOf, filter_view, filters_view, said_by};
-ghost use Rattle.filter_memo.specs.Telling.{part_at};
+ghost use Rattle.std.specs.Prelude.{◌≡◌, ◌++◌, ◌∷◌, [], IfOk, IfSome, OnOk};
+ghost use Rattle.filter_tree.specs.Shape.{expr_view};
+ghost use Rattle.filter_memo.specs.Plans as spec;
+ghost use Rattle.filter_memo.specs.Plans.{filter_view, filters_view};
 
-use crate::said::Said;
-use filter_tree::{Atom, Filter, Test, Tri, copy_in, same_atom};
+use crate::clause::Clause;
+use crate::parts::find_part;
+use crate::steps::{Exits, Step, add_test};
+use filter_tree::{Filter, Tri};
 use std::alloc::{AllocError, Global};
 
-/// The most atoms that have numbers.
-const MAX_PARTS: usize = 64;
-
-/// A filter whose atoms are given by their numbers.
+/// The steps of filters, and for each filter the step at which it begins.
 #[derive(Drop)]
-pub enum Plan {
-    Const(bool),
-    Part(usize),
-    Not(Box<Plan>),
-    And(Box<Plan>, Box<Plan>),
-    Or(Box<Plan>, Box<Plan>),
-    Is(Test, Box<Plan>),
+pub struct Plan {
+    pub steps: Vec<Step>,
+    pub starts: Vec<usize>,
 }
 
-impl Plan {
-    /// What the plan says by the values of its parts.
-    pub fn tell(&self, said: Said) -> Tri
-        ensures { result ≡ said_by self.now said }
-    {
-        match self {
-            Plan::Const(known) => Tri::from(*known),
-            Plan::Part(number) => said.at(*number),
-            Plan::Not(part) => part.tell(said).not(),
-            Plan::And(left, right) => match left.tell(said) {
-                Tri::False => Tri::False,
-                told => told.and(right.tell(said)),
-            },
-            Plan::Or(left, right) => match left.tell(said) {
-                Tri::True => Tri::True,
-                told => told.or(right.tell(said)),
-            },
-            Plan::Is(test, part) => part.tell(said).is(*test),
-        }
+/// Why there is no plan.
+#[derive(Clone, Copy, Debug, PartialEq, Eq)]
+enum NoPlan {
+    /// An atom has no number.
+    Unnumbered,
+    OutOfMemory,
+}
+
+impl From<AllocError> for NoPlan {
+    fn from(_error: AllocError) -> NoPlan {
+        NoPlan::OutOfMemory
     }
 }
 
-/// Whether the filter is this atom.
-fn is_atom(part: &Filter, atom: &Atom) -> bool
-    ensures { IsTrue result → expr_view part.now ≡ e.Atom (atom_view atom.now) }
-{
-    match part {
-        Filter::Atom(own) => same_atom(own, atom),
-        Filter::Const(_)
-        | Filter::Not(_)
-        | Filter::And(_, _)
-        | Filter::Or(_, _)
-        | Filter::Is(_, _) => false,
-    }
-}
-
-/// Whether the filter of this number is the atom.
-fn is_part(parts: &[Filter], number: usize, atom: &Atom) -> bool
-    ensures { IsTrue result → part_at parts.now number ≡ e.Atom (atom_view atom.now) }
-{
-    match parts.get(number) {
-        None => false,
-        Some(part) => is_atom(part, atom),
-    }
-}
-
-/// The number of the atom.
-fn find_part(parts: &[Filter], atom: &Atom) -> Option<usize>
-    ensures atom { IfSome result (λ number. part_at parts.now number ≡ e.Atom (atom_view atom.now)) }
-    ensures within { IfSome result (λ number. number < length parts.now) }
-    ensures low { IfSome result (λ number. number < 64) }
-{
-    for number in 0..parts.len().min(MAX_PARTS) {
-        if is_part(parts, number, atom) {
-            return Some(number);
-        }
-    }
-    None
-}
-
-/// Adds the atoms of the filter that are not there yet, as far as they get numbers.
-fn add_parts(alloc: Global, parts: &mut Vec<Filter>, filter: &Filter) -> Result<(), AllocError> {
-    match filter {
-        Filter::Const(_) => Ok(()),
-        Filter::Atom(atom) => {
-            if parts.len() < MAX_PARTS && find_part(parts, atom).is_none() {
-                parts.push(copy_in(alloc, filter)?)?;
-            }
-            Ok(())
-        }
-        Filter::Not(part) | Filter::Is(_, part) => add_parts(alloc, parts, part),
-        Filter::And(left, right) | Filter::Or(left, right) => {
-            add_parts(alloc, parts, left)?;
-            add_parts(alloc, parts, right)
-        }
-    }
-}
-
-/// The atoms of the filters. The only error is want of memory.
-pub fn parts_of(alloc: Global, filters: &[Option<&Filter>]) -> Result<Vec<Filter>, AllocError> {
-    let mut parts = Vec::new(alloc);
-    for filter in filters {
-        if let Some(filter) = filter {
-            add_parts(alloc, &mut parts, *filter)?;
-        }
-    }
-    Ok(parts)
-}
-
-/// The plan of a filter, unless one of its atoms has no number.
-#[tactic(auto, using(crate::proofs::Planning::const_plan, crate::proofs::Planning::atom_plan, crate::proofs::Planning::not_plan, crate::proofs::Planning::and_plan, crate::proofs::Planning::or_plan, crate::proofs::Planning::is_plan))]
-fn plan_of(alloc: Global, parts: &[Filter], filter: &Filter) -> Result<Option<Plan>, AllocError>
-    ensures { IfOk result (λ found. IfSome found (IsPlanOf parts.now (expr_view filter.now))) }
+/// The filter, or its negation, as a clause; `None` if it is none.
+#[tactic(auto, using(crate::proofs::Planning::atom_clause, crate::proofs::Planning::not_clause, crate::proofs::Planning::or_clause, crate::proofs::Planning::and_clause))]
+fn clause_of(parts: &[Filter], filter: &Filter, is_negated: bool) -> Option<Clause>
+    ensures { IfSome result (spec.IsClauseOf parts.now (expr_view filter.now) is_negated) }
 {
     match filter {
-        Filter::Const(known) => Ok(Some(Plan::Const(*known))),
-        Filter::Atom(atom) => match find_part(parts, atom) {
-            None => Ok(None),
-            Some(number) => Ok(Some(Plan::Part(number))),
-        },
-        Filter::Not(part) => match plan_of(alloc, parts, part)? {
-            None => Ok(None),
-            Some(plan) => Ok(Some(Plan::Not(Box::new(alloc, plan)?))),
-        },
+        Filter::Atom(atom) => Some(Clause::literal(find_part(parts, atom)?, is_negated)),
+        Filter::Not(part) => clause_of(parts, part, !is_negated),
+        Filter::Or(left, right) if !is_negated => {
+            let left = clause_of(parts, left, is_negated)?;
+            let right = clause_of(parts, right, is_negated)?;
+            Some(left.or(right))
+        }
+        Filter::And(left, right) if is_negated => {
+            let left = clause_of(parts, left, is_negated)?;
+            let right = clause_of(parts, right, is_negated)?;
+            Some(left.or(right))
+        }
+        Filter::Const(_) | Filter::And(_, _) | Filter::Or(_, _) | Filter::Is(_, _) => None,
+    }
+}
+
+/// Adds the steps of a filter, which lead to the exit of its truth value, and returns the first of them. They are added
+/// from the last one to the first. Where a side is null, the other side leads elsewhere, so it has steps of its own.
+#[tactic(auto, using(crate::proofs::Planning::no_step, crate::proofs::Planning::const_steps, crate::proofs::Planning::not_steps, crate::proofs::Planning::is_steps))]
+fn add_steps(
+    parts: &[Filter],
+    steps: &mut Vec<Step>,
+    filter: &Filter,
+    exits: Exits,
+) -> Result<usize, NoPlan>
+    ensures { IfOk result (spec.IsAdded parts.now (expr_view filter.now) exits steps.old.items steps.new.items) }
+{
+    if exits.lead_to_one() {
+        return Ok(exits.on_true);
+    }
+    if let Some(clause) = clause_of(parts, filter, false) {
+        return Ok(add_test(steps, clause, exits)?);
+    }
+    if let Some(clause) = clause_of(parts, filter, true) {
+        return Ok(add_test(steps, clause, exits.negated())?);
+    }
+    match filter {
+        Filter::Const(known) => Ok(exits.of(Tri::from(*known))),
+        Filter::Atom(_) => Err(NoPlan::Unnumbered),
+        Filter::Not(part) => add_steps(parts, steps, part, exits.negated()),
+        Filter::Is(test, part) => add_steps(parts, steps, part, exits.asked(*test)),
         Filter::And(left, right) => {
-            let Some(left) = plan_of(alloc, parts, left)? else {
-                return Ok(None);
-            };
-            match plan_of(alloc, parts, right)? {
-                None => Ok(None),
-                Some(right) => Ok(Some(Plan::And(Box::new(alloc, left)?, Box::new(alloc, right)?))),
+            let second = add_steps(parts, steps, right, exits)?;
+            if exits == exits.of_null_and() {
+                return add_steps(parts, steps, left, exits.of_first_and(second, second));
             }
+            let other = add_steps(parts, steps, right, exits.of_null_and())?;
+            add_steps(parts, steps, left, exits.of_first_and(second, other))
         }
         Filter::Or(left, right) => {
-            let Some(left) = plan_of(alloc, parts, left)? else {
-                return Ok(None);
-            };
-            match plan_of(alloc, parts, right)? {
-                None => Ok(None),
-                Some(right) => Ok(Some(Plan::Or(Box::new(alloc, left)?, Box::new(alloc, right)?))),
+            let second = add_steps(parts, steps, right, exits)?;
+            if exits == exits.of_null_or() {
+                return add_steps(parts, steps, left, exits.of_first_or(second, second));
             }
+            let other = add_steps(parts, steps, right, exits.of_null_or())?;
+            add_steps(parts, steps, left, exits.of_first_or(second, other))
         }
-        Filter::Is(test, part) => match plan_of(alloc, parts, part)? {
-            None => Ok(None),
-            Some(plan) => Ok(Some(Plan::Is(*test, Box::new(alloc, plan)?))),
-        },
     }
 }
 
-/// The plan of a filter, or any plan where there is none.
-fn plan_for(
-    alloc: Global,
+/// Adds the steps of a filter, if there is one, and returns the first of them.
+#[tactic(auto, using(crate::proofs::Planning::no_start, crate::proofs::Planning::one_start))]
+fn add_start(
     parts: &[Filter],
+    steps: &mut Vec<Step>,
     filter: Option<&Filter>,
-) -> Result<Option<Plan>, AllocError>
-    ensures { IfOk result (λ found. IfSome found (IsPlanFor parts.now (filter_view filter.entry))) }
+) -> Result<usize, NoPlan>
+    ensures { IfOk result (spec.IsStart parts.now (filter_view filter.entry) steps.old.items steps.new.items) }
 {
     match filter {
-        None => Ok(Some(Plan::Const(true))),
-        Some(filter) => plan_of(alloc, parts, filter),
+        None => Ok(0),
+        Some(filter) => add_steps(
+            parts,
+            steps,
+            filter,
+            Exits {
+                on_true: 0,
+                on_false: 1,
+                on_null: 2,
+            },
+        ),
     }
 }
 
-/// The plans of filters, unless one of their atoms has no number. The only error is want of memory.
-pub fn plans_of(
+fn push_start(starts: &mut Vec<usize>, start: usize) -> Result<(), AllocError>
+    ensures { OnOk result (starts.new.items ≡ starts.old.items ++ start ∷ []) }
+{
+    starts.push(start)?;
+    Ok(())
+}
+
+/// The first steps of the filters, whose steps are added.
+fn starts_of(
+    alloc: Global,
+    parts: &[Filter],
+    steps: &mut Vec<Step>,
+    filters: &[Option<&Filter>],
+) -> Result<Vec<usize>, NoPlan>
+    requires { spec.HasEnds steps.old.items }
+    ensures { IfOk result (λ starts.
+        spec.ArePlans parts.now (filters_view filters.now) steps.new.items starts.items) }
+{
+    let mut starts = Vec::with_capacity(alloc, filters.len())?;
+    for filter in filters {
+        let start = add_start(parts, steps, *filter)?;
+        push_start(&mut starts, start)?;
+    }
+    Ok(starts)
+}
+
+/// The three steps with which a plan begins.
+fn ends_of(alloc: Global) -> Result<Vec<Step>, AllocError>
+    ensures { IfOk result (λ steps. spec.HasEnds steps.items) }
+{
+    let mut steps = Vec::new(alloc);
+    steps.push(Step::Told(Tri::True))?;
+    steps.push(Step::Told(Tri::False))?;
+    steps.push(Step::Told(Tri::Null))?;
+    Ok(steps)
+}
+
+fn new_plan(alloc: Global, parts: &[Filter], filters: &[Option<&Filter>]) -> Result<Plan, NoPlan>
+    ensures { IfOk result (λ plan.
+        spec.ArePlans parts.now (filters_view filters.now) plan.steps.items plan.starts.items) }
+{
+    let mut steps = ends_of(alloc)?;
+    let starts = starts_of(alloc, parts, &mut steps, filters)?;
+    Ok(Plan { steps, starts })
+}
+
+/// The plan of filters, unless one of their atoms has no number. The only error is out of memory.
+pub fn plan_of(
     alloc: Global,
     parts: &[Filter],
     filters: &[Option<&Filter>],
-) -> Result<Option<Vec<Plan>>, AllocError>
-    ensures { IfOk result (λ found. IfSome found (λ plans.
-        ArePlans parts.now (filters_view filters.now) plans.items)) }
+) -> Result<Option<Plan>, AllocError>
+    ensures { IfOk result (λ found. IfSome found (λ plan.
+        spec.ArePlans parts.now (filters_view filters.now) plan.steps.items plan.starts.items)) }
 {
-    let mut plans = Vec::with_capacity(alloc, filters.len())?;
-    for filter in filters {
-        match plan_for(alloc, parts, *filter)? {
-            None => return Ok(None),
-            Some(plan) => plans.push(plan)?,
-        }
+    match new_plan(alloc, parts, filters) {
+        Ok(plan) => Ok(Some(plan)),
+        Err(NoPlan::Unnumbered) => Ok(None),
+        Err(NoPlan::OutOfMemory) => Err(AllocError),
     }
-    Ok(Some(plans))
 }

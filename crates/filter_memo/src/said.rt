@@ -2,11 +2,11 @@
 
 use filter_tree::Tri;
 
-/// How many bits a word has.
+/// The number of bits in a word.
 const WORD: usize = 64;
 
-/// Truth values of the filters numbered 0 to 63: a bit of the first word is set where the filter is true, and one of the
-/// second where it is null.
+/// The truth values of the filters with the numbers 0 to 63. A filter that is true has its bit set in `truths`, and a
+/// filter that is null has it set in `nulls`.
 #[derive(Clone, Copy, Debug, PartialEq, Eq)]
 pub struct Said {
     pub truths: u64,
@@ -17,7 +17,7 @@ impl Said {
     ghost use Rattle.std.specs.Prelude.{◌≡◌, ◌<◌};
     ghost use Rattle.filter_memo.specs.Bits.{Adds, HasBoth, IsNothing, Joins, SetsBit, is_set, said_within};
 
-    /// The word with the number's bit.
+    /// The word with one more bit set.
     #[tactic(auto, using(crate::proofs::BitLemmas::bit_set))]
     fn with_bit(word: u64, number: usize) -> u64
         requires { number < 64 }
@@ -26,7 +26,7 @@ impl Said {
         word | (1u64 << number)
     }
 
-    /// Whether the number's bit is set.
+    /// Whether a bit is set.
     #[tactic(auto, using(crate::proofs::BitLemmas::bit_tested))]
     fn has_bit(word: u64, number: usize) -> bool
         requires { number < 64 }
@@ -35,7 +35,7 @@ impl Said {
         (word >> number) & 1 == 1
     }
 
-    /// The bits of both words.
+    /// The bits that are set in either word.
     #[tactic(auto, using(crate::proofs::BitLemmas::bits_joined))]
     fn both_bits(one: u64, other: u64) -> u64
         ensures { HasBoth one other result }
@@ -43,7 +43,7 @@ impl Said {
         one | other
     }
 
-    /// Everything is false.
+    /// All filters are false.
     #[tactic(auto, using(crate::proofs::BitLemmas::nothing_said))]
     pub fn nothing() -> Said
         ensures { IsNothing result }
@@ -54,7 +54,7 @@ impl Said {
         }
     }
 
-    /// The values with one more, which is joined with that of its number by OR. Numbers from 64 on have no place.
+    /// Joins one more value with the value of its number by OR. Numbers from 64 on are ignored.
     #[tactic(auto, using(crate::proofs::BitLemmas::true_added, crate::proofs::BitLemmas::null_added, crate::proofs::BitLemmas::false_added, crate::proofs::BitLemmas::past_added))]
     pub fn with(self, number: usize, tri: Tri) -> Said
         ensures { Adds self result number tri }
@@ -75,7 +75,7 @@ impl Said {
         }
     }
 
-    /// The values of both, joined by OR.
+    /// The values of both, joined number by number by OR.
     #[tactic(auto, using(crate::proofs::BitLemmas::values_joined))]
     pub fn join(self, other: Said) -> Said
         ensures { Joins self other result }

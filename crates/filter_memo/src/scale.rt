@@ -1,4 +1,4 @@
-//! Scales: a term of filters, and the constants that it is compared with.
+//! Scales: a term, and the constants that filters compare it with.
 
 ghost use Rattle.std.specs.Prelude.{◌≡◌, int_rem, IfSome};
 ghost use Rattle.filter_tree.specs.Datum.{Known, Number};
@@ -10,8 +10,8 @@ use crate::interval_index::IntervalIndex;
 use crate::place::{Place, place_of};
 use filter_tree::{Row, Term, Value};
 
-/// A term, in ascending order the values that filters compare it with, and the numbers of these filters. Its cells
-/// begin at `base`, and its intervals at `first_interval`.
+/// A term, the values that filters compare it with in ascending order, and the numbers of these filters. The cells of
+/// its places start at `base`, and those of its intervals at `first_interval`.
 #[derive(Drop)]
 pub struct Scale {
     pub term: Term,
@@ -22,12 +22,12 @@ pub struct Scale {
     pub first_interval: usize,
 }
 
-/// How many cells a scale with so many bounds has.
+/// The number of places on a scale with this number of bounds.
 pub fn width(bounds: usize) -> usize {
     bounds.saturating_mul(2).saturating_add(2)
 }
 
-/// Where the remainder of the value lies. A remainder has the sign of the value.
+/// The place of a remainder. It has the sign of the value that is divided.
 fn place_of_remainder(bounds: &[Value], value: &Value, divisor: i64) -> Place
     ensures { IsPlace bounds.now (remainder_of (datum_view value.now) divisor) result }
 {
@@ -39,7 +39,7 @@ fn place_of_remainder(bounds: &[Value], value: &Value, divisor: i64) -> Place
     }
 }
 
-/// Where the value of the scale's term lies in the row.
+/// The place of the value that the term of a scale has in a row.
 pub fn place_in(scale: &Scale, row: &Row) -> Place
     ensures { IsPlace scale.now.bounds.items (term_value scale.now.term row.now) result }
 {
@@ -56,7 +56,7 @@ pub fn place_in(scale: &Scale, row: &Row) -> Place
     }
 }
 
-/// The value of the scale's term in the row, if it is a number.
+/// The value of the term of a scale in a row, if it is a number.
 pub fn number_in(scale: &Scale, row: &Row) -> Option<i64>
     ensures { IfSome result (λ number. term_value scale.now.term row.now ≡ Known (Number number)) }
 {

@@ -1,4 +1,4 @@
-//! The scales of filters, and which filters they tell.
+//! Builds the scales of filters, and tests which filters they evaluate.
 
 ghost use Rattle.std.specs.Prelude.{◌≡◌, true, All, IfOk, IsTrue};
 ghost use Rattle.filter_memo.specs.Covering as covering;
@@ -12,7 +12,8 @@ use crate::scale::{Scale, width};
 use filter_tree::{Filter, Term, Value, same_term};
 use std::alloc::{AllocError, Global};
 
-/// Whether the filter of this number compares the term with bounds alone. A no may be wrong.
+/// Whether the filter with this number compares only this term, and only with these bounds. The answer `false` may be
+/// wrong.
 fn covers_part(
     alloc: Global,
     term: Term,
@@ -28,7 +29,7 @@ fn covers_part(
     }
 }
 
-/// The numbers of filters that compare the term with bounds alone.
+/// The numbers of the filters that compare only this term, and only with these bounds.
 fn numbers_of(
     alloc: Global,
     term: Term,
@@ -47,14 +48,14 @@ fn numbers_of(
     Ok(numbers)
 }
 
-/// How many cells scales have for places, and how many for intervals.
+/// The number of cells for places, and for intervals.
 #[derive(Clone, Copy, Debug, PartialEq, Eq)]
 pub struct Counts {
     pub places: usize,
     pub intervals: usize,
 }
 
-/// The scale of a term, whose cells for places begin at `base`, and those for intervals at `first_interval`.
+/// The scale of a term. The cells of its places start at `base`, and those of its intervals at `first_interval`.
 #[tactic(auto, using(crate::proofs::Memos::scale_settled))]
 fn scale_of(
     alloc: Global,
@@ -78,7 +79,7 @@ fn scale_of(
     })
 }
 
-/// The term of an atom that is not one of these scales'.
+/// The term of an atom, unless one of the scales has it.
 fn new_term(scales: &[Scale], part: &Filter) -> Option<Term> {
     match part {
         Filter::Atom(atom) => {
@@ -96,7 +97,7 @@ fn new_term(scales: &[Scale], part: &Filter) -> Option<Term> {
     }
 }
 
-/// A scale for each term of the filters. The only error is want of memory.
+/// A scale for each term of the filters. The only error is out of memory.
 pub fn scales_of(alloc: Global, parts: &[Filter]) -> Result<Vec<Scale>, AllocError>
     ensures { IfOk result (λ scales. AreSettled parts.now scales.items) }
 {
@@ -114,7 +115,7 @@ pub fn scales_of(alloc: Global, parts: &[Filter]) -> Result<Vec<Scale>, AllocErr
     Ok(scales)
 }
 
-/// How many cells the scales have.
+/// The number of cells that the scales need.
 pub fn cell_counts(scales: &[Scale]) -> Counts {
     match scales.last() {
         None => Counts {
@@ -134,7 +135,7 @@ fn has_number(numbers: &[usize], number: usize) -> bool
     numbers.iter().any(|own| number == *own)
 }
 
-/// Whether the scales tell the filter of this number.
+/// Whether one of the scales evaluates the filter with this number.
 #[tactic(auto, using(crate::proofs::Judging::told_by_one))]
 fn is_told(scales: &[Scale], number: usize) -> bool
     ensures { result ≡ spec.has_number (numbers_in scales.now) number }
@@ -145,7 +146,7 @@ fn is_told(scales: &[Scale], number: usize) -> bool
     }
 }
 
-/// Whether the scales tell the filters below this number.
+/// Whether the scales evaluate all filters with numbers below `count`.
 pub fn are_told(scales: &[Scale], count: usize) -> bool
     ensures { IsTrue result → AreTold scales.now count }
 {

@@ -1,4 +1,4 @@
-//! What numbered filters say of a row, which is kept for each place on a scale.
+//! Evaluates numbered filters for a row, once for each place and each interval of a scale.
 
 ghost use Rattle.std.specs.Prelude.{◌≡◌, ◌≤ℤ◌, Some, slice_get, length, IfOk, IfSome, IsTrue, All, None};
 ghost use Rattle.std.specs.Option.{option_copied};
@@ -14,7 +14,7 @@ use crate::scale::{Scale, number_in, place_in};
 use filter_tree::{Filter, Row, Tri, eval};
 use std::alloc::{AllocError, Global};
 
-/// What the filters of a scale say of the rows at a place.
+/// The values of the filters of a scale for the rows at a place.
 #[derive(Clone, Copy, Debug, PartialEq, Eq)]
 pub struct Cell {
     pub scale: usize,
@@ -22,7 +22,7 @@ pub struct Cell {
     pub said: Said,
 }
 
-/// What is kept for the places and the intervals of all scales.
+/// The values that are kept for the places and the intervals of all scales.
 #[derive(Drop)]
 pub struct Cells {
     pub places: Vec<Option<Cell>>,
@@ -64,7 +64,7 @@ impl Cells {
     ghost use Rattle.std.specs.Prelude.{IfOk};
     ghost use Rattle.filter_memo.specs.Telling.{AreNew};
 
-    /// Cells for so many places and intervals, with nothing in them.
+    /// Empty cells for the given numbers of places and intervals.
     pub fn new(alloc: Global, places: usize, intervals: usize) -> Result<Cells, AllocError>
         ensures { IfOk result AreNew }
     {
@@ -74,7 +74,7 @@ impl Cells {
     }
 }
 
-/// What the filter of this number says.
+/// The value of the filter with this number.
 fn part_says(parts: &[Filter], number: usize, row: &Row) -> Tri
     ensures { result ≡ meaning (part_at parts.now number) row.now }
 {
@@ -84,7 +84,7 @@ fn part_says(parts: &[Filter], number: usize, row: &Row) -> Tri
     }
 }
 
-/// What the filters of these numbers say.
+/// The values of the filters with these numbers.
 #[tactic(auto, using(crate::proofs::Judging::none_told, crate::proofs::Judging::one_more_told))]
 fn judge(parts: &[Filter], numbers: &[usize], row: &Row) -> Said
     ensures { Told parts.now numbers.now row.now result }
@@ -97,7 +97,7 @@ fn judge(parts: &[Filter], numbers: &[usize], row: &Row) -> Said
     }
 }
 
-/// What is kept of the scale's place.
+/// The values that are kept for a place of the scale.
 #[tactic(auto, using(crate::proofs::Judging::cell_is))]
 fn found(cells: &[Option<Cell>], index: usize, scale: usize, place: Place) -> Option<Said>
     ensures { IfSome result (λ said. slice_get cells.now index
@@ -115,12 +115,12 @@ fn scale_at(scales: &[Scale], number: usize) -> Option<&Scale>
     scales.get(number)
 }
 
-/// Where the cell of the scale's interval at this position is.
+/// The index of the cell for the interval at this position of the scale.
 fn cell_of(scale: &Scale, position: usize) -> usize {
     scale.first_interval.wrapping_add(position)
 }
 
-/// The interval at this index, if it is one of the scale that has the number.
+/// The interval at this index, if it belongs to the scale and contains the number.
 fn interval_at(intervals: &[Interval], index: usize, scale: usize, number: i64) -> Option<Interval>
     ensures found { IfSome result (λ interval. slice_get intervals.now index ≡ Some interval) }
     ensures scale { IfSome result (λ interval. interval.scale ≡ scale) }
@@ -134,7 +134,7 @@ fn interval_at(intervals: &[Interval], index: usize, scale: usize, number: i64) 
     None
 }
 
-/// The interval of the scale that has the number, where it is at this position.
+/// The interval at this position of the scale, if it contains the value and no constant divides it.
 fn interval_of(
     scale: &Scale,
     number: usize,
@@ -160,7 +160,7 @@ fn interval_of(
     None
 }
 
-/// What the filters of the scale of this number say, where its term is a number.
+/// The values of the filters of a scale, for a row in which its term is a number.
 fn look_number(
     cells: &mut Cells,
     parts: &[Filter],
@@ -190,7 +190,7 @@ fn look_number(
     said
 }
 
-/// What the filters of the scale of this number say, whatever its term is.
+/// The values of the filters of a scale, for any row.
 fn look_place(
     cells: &mut Cells,
     parts: &[Filter],
@@ -219,7 +219,7 @@ fn look_place(
     said
 }
 
-/// What the filters of the scale of this number say.
+/// The values of the filters of the scale with this number.
 fn look(cells: &mut Cells, parts: &[Filter], scales: &[Scale], number: usize, row: &Row) -> Said
     ensures { AreCells parts.now scales.now cells.old → Judges parts.now scales.now cells.new
         (numbers_at scales.now number) row.now result }
@@ -233,7 +233,7 @@ fn look(cells: &mut Cells, parts: &[Filter], scales: &[Scale], number: usize, ro
     }
 }
 
-/// What the filters of all scales say.
+/// The values of the filters of all scales.
 pub fn look_all(cells: &mut Cells, parts: &[Filter], scales: &[Scale], row: &Row) -> Said
     ensures { AreCells parts.now scales.now cells.old → Judges parts.now scales.now cells.new
         (numbers_in scales.now) row.now result }

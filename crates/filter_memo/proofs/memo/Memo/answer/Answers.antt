@@ -1,14 +1,25 @@
-use Rattle.std.proofs.Common.{rules, ◌≡◌, true, Some, List, subst, ◌∙◌}
-use Rattle.std.specs.Prelude.{slice_get}
-use Rattle.filter_memo.specs.declared.plan.Plan.{Plan}
-use Rattle.filter_memo.proofs.Memos.{plan_says}
+use Rattle.std.proofs.Common.{rules, ◌≡◌, true, Option, Some, None, List, ℕ, sym, subst}
+use Rattle.std.specs.Prelude.{IfSome, slice_get}
+use Rattle.filter_tree.specs.Expr.{meaning}
+use Rattle.filter_memo.specs.Steps.{LeadTo}
+use Rattle.filter_memo.specs.declared.steps.Step.{Step}
+use Rattle.filter_memo.proofs.Memos.{steps_lead}
 use Rattle.filter_memo.proofs.memo.Memo.answer.Goals as goal
 
+if_some : {X : Type 0} {P Q : X → Type 0} (found : Option X) → ((x : X) → P x → Q x) → IfSome found P → IfSome found Q
+if_some None gives has = tt
+if_some (Some x) gives has = gives x has
+
 pub returns : goal.returns
-returns c = λ filters text_of row filter is located asked.
+returns c =
     let used : c.args.self.now.is_used ≡ true = search rules in
-    let found : slice_get c.args.self.now.plans.items c.args.number ≡ Some c.in_ok-plan.plan.now =
-    subst (λ (plans : List Plan). slice_get plans c.args.number ≡ Some c.in_ok-plan.plan.now) c.deref.ensures.value
-    c.in_ok-plan.ensures in
-    c.tell.ensures ∙ plan_says c.args.self.now filters text_of is row c.args.said located used c.args.number
-    c.in_ok-plan.plan.now filter found asked
+    let found : slice_get c.args.self.now.plan.starts.items c.args.number ≡ Some c.in_ok-start.start =
+    subst (λ (starts : List ℕ). slice_get starts c.args.number ≡ Some c.in_ok-start.start) c.deref.ensures.value
+    c.in_ok-start.ensures in
+    if_some c.run.result
+    (λ tri is_one filters text_of row filter is located asked. is_one (meaning filter row)
+    (subst (λ (steps : List Step). LeadTo steps c.args.said (meaning filter row) c.in_ok-start.start)
+    (sym c.deref-2.ensures.value)
+    (steps_lead c.args.self.now filters text_of is row c.args.said located used c.args.number c.in_ok-start.start filter
+    found asked)))
+    c.run.ensures

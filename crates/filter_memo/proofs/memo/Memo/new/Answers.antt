@@ -24,11 +24,15 @@ returns c = λ text_of follows.
     let told : AreTold c.in_ok-scales.scales.items (length c.in_ok-parts.parts.items) =
     told_as c.deref-3.result.now c.in_ok-scales.scales.items c.len.result (length c.in_ok-parts.parts.items)
     c.deref-3.ensures.value count (c.are_told.ensures tested) in
-    let planned : ArePlans c.deref.result.now (filters_view c.args.filters.now) c.in-Some.plans.items =
-    subst (λ found. IfSome found (λ plans. ArePlans c.deref.result.now (filters_view c.args.filters.now) plans.items))
-    c.in-Some.is c.in_ok-plans.ensures in
-    let plans : ArePlans c.in_ok-parts.parts.items (filters_view c.args.filters.now) c.in-Some.plans.items =
+    let planned : ArePlans c.deref.result.now (filters_view c.args.filters.now) c.in-Some.plan.steps.items
+    c.in-Some.plan.starts.items =
+    subst (λ found. IfSome found (λ plan.
+    ArePlans c.deref.result.now (filters_view c.args.filters.now) plan.steps.items plan.starts.items))
+    c.in-Some.is c.in_ok-plan.ensures in
+    let plans : ArePlans c.in_ok-parts.parts.items (filters_view c.args.filters.now) c.in-Some.plan.steps.items
+    c.in-Some.plan.starts.items =
     subst (λ (parts : List (Filter Global)).
-    ArePlans parts (filters_view c.args.filters.now) c.in-Some.plans.items) c.deref.ensures.value planned in
+    ArePlans parts (filters_view c.args.filters.now) c.in-Some.plan.steps.items c.in-Some.plan.starts.items)
+    c.deref.ensures.value planned in
     fresh _ (filters_view c.args.filters.now) text_of settled c.in_ok-cells.ensures told plans
     c.in_ok-empty_slots.ensures follows
