@@ -1,13 +1,14 @@
 pub mod AnyTest
 pub mod BitSetLemmas
-pub mod BlockLemmas
 pub mod CandidateLemmas
 pub mod CandidateSetLemmas
 pub mod CatalogReasons
+pub mod ClaimLemmas
 pub mod EmptyLemmas
 pub mod ExistingLemmas
 pub mod FactLemmas
 pub mod KnownLemmas
+pub mod LeafMaskLemmas
 pub mod LimitFacts
 pub mod ListTests
 pub mod MaskLemmas

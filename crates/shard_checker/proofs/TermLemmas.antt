@@ -18,9 +18,8 @@ use Rattle.shard_checker.specs.declared.candidate_sets.CandidateSets.{CandidateS
 use Rattle.shard_checker.specs.declared.formulas.Formulas.{Formulas}
 use Rattle.shard_checker.specs.declared.known.Undo.{Undo}
 use Rattle.shard_checker.specs.declared.known.Known.{Known}
-use Rattle.shard_checker.specs.declared.masks.Masks.{Masks}
+use Rattle.shard_checker.specs.declared.claims.Claims.{Claims}
 use Rattle.shard_checker.specs.declared.remaining.Remaining.{Remaining}
-use Rattle.shard_checker.specs.declared.dependents.Dependents.{Dependents}
 use Rattle.shard_checker.proofs.CandidateLemmas.{told_by_candidates}
 use Rattle.shard_checker.proofs.CandidateSetLemmas.{zip_read, meeting_is}
 use Rattle.shard_checker.proofs.Testing.{by_either}
@@ -40,9 +39,9 @@ not_not : (b : Bool) → not (not b) ≡ b
 not_not true = refl
 not_not false = refl
 
-module _ (subject : Subject) (formulas : Formulas) (dependents : Dependents) (sets : CandidateSets) (known : Known)
-    (masks : Masks) (remaining : Remaining) (path : Path)
-    (agrees : AgreesWithPath subject formulas dependents sets known masks remaining path) (number : ℕ) (set : BitSet)
+module _ (subject : Subject) (formulas : Formulas) (sets : CandidateSets) (known : Known)
+    (claims : Claims) (remaining : Remaining) (path : Path)
+    (agrees : AgreesWithPath subject formulas sets known claims remaining path) (number : ℕ) (set : BitSet)
     (at : set ≡ get_or sets.of_terms.items number set) (meets : Bool)
     (told : TellsMeeting remaining.places set meets) where
   told_of : (found : Option Term) → slice_get subject.terms number ≡ found

@@ -1,6 +1,7 @@
 -- What a walk preserves about the path, as it enters branches and leaves them, and what it says about owners.
-use Rattle.std.proofs.Common.{◌≡◌, ℕ, ◌+◌, ◌<◌, get_or, true, false, not, ◌&&◌, List, [], ◌∷◌, ◌++◌, length, refl, sym, ap, subst, ◌∙◌, arith, length-append}
-use Rattle.std.specs.Prelude.{◌==◌, if◌then◌else◌, Option, Some, None, Result, slice_get, slice_set, map}
+use Rattle.std.proofs.Common.{◌≡◌, ℕ, zero, suc, ◌+◌, ◌<◌, get_or, Bool, true, false, not, ◌&&◌, List, [], ◌∷◌, ◌++◌, length, refl, sym, ap, subst, ◌∙◌, arith, length-append}
+use Rattle.std.specs.Prelude.{◌==◌, if◌then◌else◌, Option, Some, None, slice_get, slice_set, map}
+use Rattle.std.specs.Global.{Vec}
 use Rattle.std.specs.Option.{option_map}
 use Rattle.std.specs.Borrow.{Bor}
 use Rattle.std.proofs.lemmas.List.{map-append}
@@ -13,68 +14,68 @@ use Rattle.filter_tree.specs.declared.mask.Mask.{Mask}
 use Rattle.filter_tree.specs.declared.tri.Tri.{Tri}
 use Rattle.filter_tree.specs.declared.tri.Tri.TheVariants.{True, False, Null}
 use Rattle.replica_identity.specs.Shares.{ShareOf, Nothing, Everything, Where}
-use Rattle.shard_checker.specs.Blocks.{Marks, IsSettledBut, blocks_in}
-use Rattle.shard_checker.specs.Checks.{Finds}
+use Rattle.shard_checker.specs.Claims.{Records, claim_of, claim_refusal, claims_refusal, refusal_due, root_refusal, steps_at}
 use Rattle.shard_checker.specs.KnownAtoms.{AreUndos, IsKnown, Learns, TakesBack, atom_masks, met}
 use Rattle.shard_checker.specs.Owners.{is_surely_true, must_take, may_take, second_owner}
 use Rattle.shard_checker.specs.CandidateSets.{AreAtomSets}
+use Rattle.shard_checker.specs.LeafMasks.{all_at}
 use Rattle.shard_checker.specs.Remaining.{Keeps, Restores, Remain}
 use Rattle.shard_checker.specs.WalkInvariants.{AgreesWithPath, GoesBack, candidates_of_table}
-use Rattle.shard_checker.specs.Refusal.{Subject, owner_refusal, second_refusal}
-use Rattle.shard_checker.specs.Steps.{AreFilters, IsSettled, filter_of, mask_in, second_among}
+use Rattle.shard_checker.specs.Refusal.{Subject, first_of, owner_refusal, second_refusal}
+use Rattle.shard_checker.specs.Steps.{AreFilters, IsCompiled, IsSettled, filter_of, mask_in, masks_of, second_among}
 use Rattle.shard_checker.specs.Walking.{onward}
 use Rattle.shard_checker.specs.declared.error.CheckError.{CheckError}
-use Rattle.shard_checker.specs.declared.error.CheckError.TheVariants.{BadIndex, NotOwner}
+use Rattle.shard_checker.specs.declared.error.CheckError.TheVariants.{NotOwner}
 use Rattle.shard_checker.specs.declared.candidate_sets.AtomSets.{AtomSets}
 use Rattle.shard_checker.specs.declared.candidate_sets.CandidateSets.{CandidateSets}
 use Rattle.shard_checker.specs.declared.formulas.Formulas.{Formulas}
 use Rattle.shard_checker.specs.declared.known.Undo.{Undo}
 use Rattle.shard_checker.specs.declared.known.Known.{Known}
-use Rattle.shard_checker.specs.declared.masks.Masks.{Masks}
+use Rattle.shard_checker.specs.declared.claims.Claims.{Claims}
+use Rattle.shard_checker.specs.declared.leaf_masks.LeafMasks.{LeafMasks}
 use Rattle.shard_checker.specs.declared.remaining.Remaining.{Remaining}
 use Rattle.shard_checker.specs.declared.steps.FormulaNode.{FormulaNode}
-use Rattle.shard_checker.specs.declared.dependents.Dependents.{Dependents}
-use Rattle.shard_checker.proofs.BlockLemmas.{marked_atom}
+use Rattle.shard_checker.proofs.ClaimLemmas.{one_more, recorded_waiting}
 use Rattle.shard_checker.proofs.CandidateSetLemmas.{zip_read}
 use Rattle.shard_checker.proofs.KnownLemmas.{known_learned, known_taken_back, was_named}
-use Rattle.shard_checker.proofs.MaskLemmas.{filter_mask}
+use Rattle.shard_checker.proofs.MaskLemmas.{filter_mask, told_settled}
 use Rattle.shard_checker.proofs.RemainingLemmas.{more_known, less_known}
 use Rattle.shard_checker.proofs.OnwardLemmas.{onward_true, onward_false, onward_null}
 
 -- ---- a branch is entered
 
-changed_ready : (subject : Subject) (formulas : Formulas) (dependents : Dependents) (sets : CandidateSets) (old new : Known)
-    (was masks : Masks) (left : Remaining) (path : Path) (number : ℕ) (mask : Mask) (atom : AtomOf)
-    → AgreesWithPath subject formulas dependents sets old was left path → slice_get subject.atoms number ≡ Some atom
-    → new.atoms.items ≡ slice_set old.atoms.items number mask → masks.list.items ≡ was.list.items
-    → Marks was.stale.items masks.stale.items (blocks_in dependents.of_atoms.items number)
-    → IsSettledBut 0 formulas.steps.list.items new.atoms.items masks
-changed_ready subject formulas dependents sets old new was masks left path number mask atom ready named put list_same marks =
-    let within : number < length subject.atoms = slice_get_within subject.atoms number atom named in
-    subst (λ (atoms : List Mask). IsSettledBut 0 formulas.steps.list.items atoms masks) (sym put)
-    (marked_atom number formulas.steps.list.items old.atoms.items mask dependents was masks ready.prepared.used
-    ready.settled list_same marks (omega (arith, within, ready.prepared.sized)))
+-- an atom's new set, recorded again, changes nothing
+set_found : (masks : List Mask) (number : ℕ) (mask : Mask)
+    → slice_set masks number (mask_in (slice_set masks number mask) number) ≡ slice_set masks number mask
+set_found [] number mask = refl
+set_found (first ∷ masks) zero mask = refl
+set_found (first ∷ masks) (suc number) mask = ap (λ ms. first ∷ ms) (set_found masks number mask)
 
-pub ready_entered : {A : _} (subject : Subject) (formulas : Formulas) (dependents : Dependents) (sets : CandidateSets)
-    (found : AtomSets) (old new : Known) (was masks : Masks) (left kept : Remaining)
+learned_again : (old new : Known) (number : ℕ) (value : Tri) → Learns old new number value
+    → new.atoms.items ≡ slice_set old.atoms.items number (mask_in new.atoms.items number)
+learned_again old new number value learns =
+    learns.masks
+    ∙ sym (set_found old.atoms.items number (met (mask_in old.atoms.items number) value))
+    ∙ ap (λ (ms : List Mask). slice_set old.atoms.items number (mask_in ms number)) (sym learns.masks)
+
+pub ready_entered : {A : _} (subject : Subject) (formulas : Formulas) (sets : CandidateSets)
+    (found : AtomSets) (old new : Known) (was claims : Claims) (left kept : Remaining)
     (entries more : List (Bor (Atom A) × Tri)) (number : ℕ) (atom : Bor (Atom A)) (value : Tri)
-    → AgreesWithPath subject formulas dependents sets old was left (path_view entries)
+    → AgreesWithPath subject formulas sets old was left (path_view entries)
     → Some (atom_view atom.now) ≡ slice_get subject.atoms number → Learns old new number value
-    → more ≡ entries ++ (atom, value) ∷ [] → masks.list.items ≡ was.list.items
-    → Marks was.stale.items masks.stale.items (blocks_in dependents.of_atoms.items number)
+    → more ≡ entries ++ (atom, value) ∷ [] → Records was claims number (mask_in new.atoms.items number)
     → found ≡ get_or sets.of_atoms.items number found → Keeps left kept found value
-    → AgreesWithPath subject formulas dependents sets new masks kept (path_view more)
-ready_entered {A} subject formulas dependents sets found old new was masks left kept entries more number atom value ready
-    named learns pushed list_same marks is keeps = record {
+    → AgreesWithPath subject formulas sets new claims kept (path_view more)
+ready_entered {A} subject formulas sets found old new was claims left kept entries more number atom value ready
+    named learns pushed records is keeps = record {
       prepared = ready.prepared;
       knows = subst (λ (path : Path). IsKnown subject.atoms new path)
           (sym (map-append (λ (e : Bor (Atom A) × Tri). (atom_view e.0.now, e.1)) entries ((atom, value) ∷ []))
           ∙ ap path_view (sym pushed))
           (known_learned subject.atoms old new (path_view entries) number (atom_view atom.now) value
           ready.prepared.differ ready.knows (sym named) learns);
-      settled = changed_ready subject formulas dependents sets old new was masks left (path_view entries) number
-          (met (mask_in old.atoms.items number) value) (atom_view atom.now) ready (sym named)
-          learns.masks list_same marks;
+      waiting = recorded_waiting old.atoms.items new.atoms.items was claims number (mask_in new.atoms.items number)
+          ready.waiting records (learned_again old new number value learns);
       left = subst (λ (path : Path). Remain (candidates_of_table subject) kept path)
           (sym (map-append (λ (e : Bor (Atom A) × Tri). (atom_view e.0.now, e.1)) entries ((atom, value) ∷ []))
           ∙ ap path_view (sym pushed))
@@ -97,9 +98,9 @@ not_at_end : (path : Path) (entry : AtomOf × Tri) → path ++ entry ∷ [] ≡ 
 not_at_end [] entry e = cc
 not_at_end (first ∷ path) entry e = cc
 
-module _ {A : _} (subject : Subject) (formulas : Formulas) (dependents : Dependents) (sets : CandidateSets) (was now : Known)
-    (held : Masks) (left : Remaining) (old new : List (Bor (Atom A) × Tri)) (last : Bor (Atom A) × Tri)
-    (ready : AgreesWithPath subject formulas dependents sets was held left (path_view old)) (pops : old ≡ new ++ last ∷ [])
+module _ {A : _} (subject : Subject) (formulas : Formulas) (sets : CandidateSets) (was now : Known)
+    (held : Claims) (left : Remaining) (old new : List (Bor (Atom A) × Tri)) (last : Bor (Atom A) × Tri)
+    (ready : AgreesWithPath subject formulas sets was held left (path_view old)) (pops : old ≡ new ++ last ∷ [])
   where
     whole : path_view old ≡ path_view new ++ (atom_view last.0.now, last.1) ∷ []
     whole = ap path_view pops ∙ map-append (λ (e : Bor (Atom A) × Tri). (atom_view e.0.now, e.1)) new (last ∷ [])
@@ -107,18 +108,15 @@ module _ {A : _} (subject : Subject) (formulas : Formulas) (dependents : Depende
     knew : IsKnown subject.atoms was (path_view new ++ (atom_view last.0.now, last.1) ∷ [])
     knew = subst (λ (path : Path). IsKnown subject.atoms was path) whole ready.knows
 
-    pub back_ready : (before : Undo) (masks : Masks) (kept : Remaining) → TakesBack was now before
-        → masks.list.items ≡ held.list.items
-        → Marks held.stale.items masks.stale.items (blocks_in dependents.of_atoms.items before.number)
-        → Restores left kept → AgreesWithPath subject formulas dependents sets now masks kept (path_view new)
-    back_ready before masks kept takes list_same marks restores = record {
+    pub back_ready : (before : Undo) (claims : Claims) (kept : Remaining) → TakesBack was now before
+        → Records held claims before.number before.mask → Restores left kept
+        → AgreesWithPath subject formulas sets now claims kept (path_view new)
+    back_ready before claims kept takes records restores = record {
       prepared = ready.prepared;
       knows = known_taken_back subject.atoms was now (path_view new) before (atom_view last.0.now) last.1 knew takes
           ready.prepared.differ;
-      settled = changed_ready subject formulas dependents sets was now held masks left (path_view old) before.number
-          before.mask (atom_view last.0.now) ready
-          (was_named subject.atoms was now (path_view new) before (atom_view last.0.now) last.1 knew takes) takes.masks
-          list_same marks;
+      waiting = recorded_waiting was.atoms.items now.atoms.items held claims before.number before.mask ready.waiting
+          records takes.masks;
       left = less_known (candidates_of_table subject) left kept (path_view new) (atom_view last.0.now, last.1)
           (subst (λ (path : Path). Remain (candidates_of_table subject) left path) whole ready.left) restores;
     }
@@ -199,69 +197,81 @@ roots_masks atoms path steps masks settled (root ∷ roots) (share ∷ shares) h
     ap (λ m. m ∷ map (mask_in masks) roots) (filter_mask atoms path steps masks settled root (filter_of share) h.0)
     ∙ ap (λ ms. share_mask path share ∷ ms) (roots_masks atoms path steps masks settled roots shares h.1)
 
-module _ (subject : Subject) (formulas : Formulas) (dependents : Dependents) (sets : CandidateSets) (known : Known)
-    (held : Masks) (left : Remaining) (path : Path)
-    (ready : AgreesWithPath subject formulas dependents sets known held left path)
-    (settled : IsSettled formulas.steps.list.items known.atoms.items held.list.items) (node number : ℕ) where
-  same_masks : map (mask_in held.list.items) formulas.roots.items ≡ map (share_mask path) subject.shares
-  same_masks = roots_masks subject.atoms path formulas.steps.list.items held.list.items
-      (subst (λ found. IsSettled formulas.steps.list.items found held.list.items) ready.knows.masks settled)
-      formulas.roots.items subject.shares ready.prepared.compiled.filters
+module _ (subject : Subject) (formulas : Formulas) (path : Path) (masks : List Mask)
+    (compiled : IsCompiled subject.atoms subject.shares formulas)
+    (settled : IsSettled formulas.steps.list.items (atom_masks subject.atoms path) masks) (node number : ℕ) where
+  same_masks : map (mask_in masks) formulas.roots.items ≡ map (share_mask path) subject.shares
+  same_masks = roots_masks subject.atoms path formulas.steps.list.items masks settled formulas.roots.items
+      subject.shares compiled.filters
 
-  by_mask : (found : Option ShareOf) → Option CheckError
-  by_mask found = owner_refusal subject path node number found
-
-  same_at : option_map (mask_in held.list.items) (slice_get formulas.roots.items number)
+  same_at : option_map (mask_in masks) (slice_get formulas.roots.items number)
       ≡ option_map (share_mask path) (slice_get subject.shares number)
-  same_at = sym (slice_get-map (mask_in held.list.items) formulas.roots.items number)
+  same_at = sym (slice_get-map (mask_in masks) formulas.roots.items number)
       ∙ ap (λ ms. slice_get ms number) same_masks ∙ slice_get-map (share_mask path) subject.shares number
 
-  unknown : (found : Option ShareOf) → None ≡ option_map (share_mask path) found
-      → owner_refusal subject path node number found ≡ Some (BadIndex subject.table node)
-  unknown None h = refl
-  unknown (Some share) h = absurd cc
+  same_refusal : (root : Option ℕ) (found : Option ShareOf)
+      → option_map (mask_in masks) root ≡ option_map (share_mask path) found
+      → root_refusal subject formulas.roots.items masks (claim_of node number) root
+      ≡ owner_refusal subject path node number found
+  same_refusal None None h = refl
+  same_refusal None (Some share) h = absurd cc
+  same_refusal (Some root) None h = absurd cc
+  same_refusal (Some root) (Some share) h =
+      let same : mask_in masks root ≡ share_mask path share = same_Some (mask_in masks root) (share_mask path share) h in
+      let seconds : second_refusal subject node (second_among number 0 (map (mask_in masks) formulas.roots.items))
+      ≡ second_refusal subject node (second_owner number 0 subject.shares path) =
+      ap (λ ms. second_refusal subject node (second_among number 0 ms)) same_masks
+      ∙ ap (second_refusal subject node) (sym (second_by_masks number 0 subject.shares path)) in
+      ap (λ (sure : Bool). if sure then
+      second_refusal subject node (second_among number 0 (map (mask_in masks) formulas.roots.items))
+      else Some (NotOwner subject.table node))
+      (ap is_surely_true same ∙ sym (must_by_mask share path))
+      ∙ ap (λ refusal. if must_take share path then refusal else Some (NotOwner subject.table node)) seconds
 
-  refused : (found : Option ShareOf) (mask : Mask) → Some mask ≡ option_map (share_mask path) found
-      → is_surely_true mask ≡ false
-      → owner_refusal subject path node number found ≡ Some (NotOwner subject.table node)
-  refused None mask h not_sure = absurd cc
-  refused (Some share) mask h not_sure =
-      let same : mask ≡ share_mask path share = same_Some mask (share_mask path share) h in
-      let no_must : must_take share path ≡ false = must_by_mask share path ∙ ap is_surely_true (sym same) ∙ not_sure in
-      rw no_must refl
+  pub owner_claimed : claim_refusal subject formulas.roots.items masks (claim_of node number)
+      ≡ owner_refusal subject path node number (slice_get subject.shares number)
+  owner_claimed = same_refusal (slice_get formulas.roots.items number) (slice_get subject.shares number) same_at
 
-  taken : (found : Option ShareOf) (mask : Mask) → Some mask ≡ option_map (share_mask path) found
-      → is_surely_true mask ≡ true
-      → owner_refusal subject path node number found
-      ≡ second_refusal subject node (second_owner number 0 subject.shares path)
-  taken None mask h sure = absurd cc
-  taken (Some share) mask h sure =
-      let same : mask ≡ share_mask path share = same_Some mask (share_mask path share) h in
-      let must : must_take share path ≡ true = must_by_mask share path ∙ ap is_surely_true (sym same) ∙ sure in
-      rw must refl
+-- an owner's node is added to those that wait
+module _ (subject : Subject) (formulas : Formulas) (sets : CandidateSets) (known : Known) (old new : Claims)
+    (left : Remaining) (path : Path) (ready : AgreesWithPath subject formulas sets known old left path)
+    (room : length old.list.items < 64) (node number : ℕ)
+    (added : new.list.items ≡ old.list.items ++ claim_of node number ∷ []) (atoms : new.atoms ≡ old.atoms) where
+  longer : length new.list.items ≡ length old.list.items + 1
+  longer = ap length added ∙ length-append old.list.items (claim_of node number ∷ [])
 
-  pub owner_unknown : slice_get formulas.roots.items number ≡ None
-      → owner_refusal subject path node number (slice_get subject.shares number) ≡ Some (BadIndex subject.table node)
-  owner_unknown h = unknown (slice_get subject.shares number)
-      (ap (option_map (mask_in held.list.items)) (sym h) ∙ same_at)
+  pub added_ready : AgreesWithPath subject formulas sets known new left path
+  added_ready = record {
+    prepared = ready.prepared;
+    knows = ready.knows;
+    waiting = record {
+      room = omega (arith, room, longer);
+      later = λ leaf past within. ap (λ (v : Vec LeafMasks). all_at leaf v.items) atoms
+          ∙ ready.waiting.later leaf (omega (arith, past, longer)) within;
+    };
+    left = ready.left;
+  }
 
-  pub owner_refused : (root : ℕ) → slice_get formulas.roots.items number ≡ Some root
-      → is_surely_true (mask_in held.list.items root) ≡ false
-      → owner_refusal subject path node number (slice_get subject.shares number) ≡ Some (NotOwner subject.table node)
-  owner_refused root h not_sure =
-      refused (slice_get subject.shares number) (mask_in held.list.items root)
-      (ap (option_map (mask_in held.list.items)) (sym h) ∙ same_at) not_sure
+  steps_here : IsSettled formulas.steps.list.items (atom_masks subject.atoms path)
+      (steps_at formulas old (length old.list.items))
+  steps_here =
+      subst (λ (found : List Mask). IsSettled formulas.steps.list.items found
+      (steps_at formulas old (length old.list.items)))
+      (ready.waiting.later (length old.list.items) (omega arith) room ∙ ready.knows.masks)
+      (told_settled (all_at (length old.list.items) old.atoms.items) formulas.steps.list.items
+      ready.prepared.compiled.ordered)
 
-  pub owner_found : {X : Type 0} (root : ℕ) (result : Result X CheckError)
-      → slice_get formulas.roots.items number ≡ Some root → is_surely_true (mask_in held.list.items root) ≡ true
-      → Finds (second_refusal subject node
-      (second_among number 0 (map (mask_in held.list.items) formulas.roots.items))) result
-      → Finds (owner_refusal subject path node number (slice_get subject.shares number)) result
-  owner_found root result h sure found =
-      subst (λ refusal. Finds refusal result)
-      (ap (λ ms. second_refusal subject node (second_among number 0 ms)) same_masks
-      ∙ ap (second_refusal subject node) (sym (second_by_masks number 0 subject.shares path))
-      ∙ sym (taken (slice_get subject.shares number) (mask_in held.list.items root)
-      (ap (option_map (mask_in held.list.items)) (sym h) ∙ same_at) sure)) found
+  pub added_due : refusal_due subject formulas new
+      ≡ first_of (refusal_due subject formulas old)
+      (owner_refusal subject path node number (slice_get subject.shares number))
+  added_due =
+      ap (λ (v : Vec LeafMasks). claims_refusal subject formulas.roots.items
+      (λ leaf. masks_of (all_at leaf v.items) [] formulas.steps.list.items) 0 new.list.items) atoms
+      ∙ ap (claims_refusal subject formulas.roots.items (steps_at formulas old) 0) added
+      ∙ one_more subject formulas.roots.items (steps_at formulas old) 0 (length old.list.items) old.list.items
+      (claim_of node number) (omega arith)
+      ∙ ap (first_of (refusal_due subject formulas old))
+      (owner_claimed subject formulas path (steps_at formulas old (length old.list.items)) ready.prepared.compiled
+      steps_here node number)
 
-pub ruleset owning = (owner_unknown, owner_refused, owner_found)
+pub ruleset claiming = (added_ready, added_due)

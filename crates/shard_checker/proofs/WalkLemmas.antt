@@ -17,36 +17,44 @@ none_due : (is_empty : Test) (subject : Subject) (nodes : List Node) (number : �
 none_due is_empty subject [] number = refl
 none_due is_empty subject (node ∷ nodes) number = refl
 
+pub first_one_of : (one two three : Option CheckError) → first_of (first_of one two) three ≡ first_of one (first_of two three)
+first_one_of None two three = refl
+first_one_of (Some error) two three = refl
+
 pub over_passes : (is_empty : Test) (subject : Subject) (node : Node) (over : Bool) (path : Path) (number : ℕ)
-    → over ≡ true
-    → Passes is_empty subject (node ∷ []) (place_at (path_unless over path) number) []
-    (place_at (path_unless over path) number)
-over_passes is_empty subject node true path number e =
-    record { each = λ more. sym (none_due is_empty subject more number) }
-over_passes is_empty subject node false path number e = absurd cc
+    (due : Option CheckError) → over ≡ true
+    → Passes is_empty subject (node ∷ []) (place_at (path_unless over path) number due) []
+    (place_at (path_unless over path) number due)
+over_passes is_empty subject node true path number due e =
+    record { each = λ more. ap (first_of due) (sym (none_due is_empty subject more number)) }
+over_passes is_empty subject node false path number due e = absurd cc
 
 pub node_passes : (is_empty : Test) (subject : Subject) (node : Node) (over : Bool) (path : Path) (number : ℕ)
-    (found : Option Path) (next : ℕ) → over ≡ false
-    → node_refusal is_empty subject node path number ≡ None → found ≡ path_after subject node path
-    → next ≡ later number 1
-    → Passes is_empty subject (node ∷ []) (place_at (path_unless over path) number) [] (place_at found next)
-node_passes is_empty subject node true path number found next e passed goes counts = absurd cc
-node_passes is_empty subject node false path number found next e passed goes counts = record {
+    (due after : Option CheckError) (found : Option Path) (next : ℕ) → over ≡ false
+    → after ≡ first_of due (node_refusal is_empty subject node path number)
+    → found ≡ path_after subject node path → next ≡ later number 1
+    → Passes is_empty subject (node ∷ []) (place_at (path_unless over path) number due) [] (place_at found next after)
+node_passes is_empty subject node true path number due after found next e passed goes counts = absurd cc
+node_passes is_empty subject node false path number due after found next e passed goes counts = record {
   each = λ more.
-      ap (λ refusal. first_of refusal (walk is_empty subject more (path_after subject node path) (later number 1)))
-      passed
-      ∙ ap (λ found. walk is_empty subject more found (later number 1)) (sym goes)
-      ∙ ap (walk is_empty subject more found) (sym counts);
+      sym (first_one_of due (node_refusal is_empty subject node path number)
+      (walk is_empty subject more (path_after subject node path) (later number 1)))
+      ∙ ap (λ refusal. first_of refusal (walk is_empty subject more (path_after subject node path) (later number 1)))
+      (sym passed)
+      ∙ ap (λ found. first_of after (walk is_empty subject more found (later number 1))) (sym goes)
+      ∙ ap (λ next. first_of after (walk is_empty subject more found next)) (sym counts);
 }
 
 pub node_stops : (is_empty : Test) (subject : Subject) (node : Node) (over : Bool) (path : Path) (number : ℕ)
-    (error : CheckError) → over ≡ false
-    → node_refusal is_empty subject node path number ≡ Some error
-    → Stops is_empty subject (node ∷ []) (place_at (path_unless over path) number) error
-node_stops is_empty subject node true path number error e refused = absurd cc
-node_stops is_empty subject node false path number error e refused = record {
+    (due : Option CheckError) (error : CheckError) → over ≡ false
+    → first_of due (node_refusal is_empty subject node path number) ≡ Some error
+    → Stops is_empty subject (node ∷ []) (place_at (path_unless over path) number due) error
+node_stops is_empty subject node true path number due error e refused = absurd cc
+node_stops is_empty subject node false path number due error e refused = record {
   each = λ more.
-      ap (λ refusal. first_of refusal (walk is_empty subject more (path_after subject node path) (later number 1)))
+      sym (first_one_of due (node_refusal is_empty subject node path number)
+      (walk is_empty subject more (path_after subject node path) (later number 1)))
+      ∙ ap (λ refusal. first_of refusal (walk is_empty subject more (path_after subject node path) (later number 1)))
       refused;
 }
 
@@ -132,9 +140,18 @@ module _ (is_empty : Test) (subject : Subject) (nodes : List Node) (old : Place)
   all_nodes : walk_from is_empty subject nodes old ≡ walk_from is_empty subject (nodes ++ []) old
   all_nodes = ap (λ nodes. walk_from is_empty subject nodes old) (sym (append-nil nodes))
 
-  pub whole_passes : (new : Place) → old ≡ beginning → Passes is_empty subject nodes old [] new
+  pub whole_is_due : (new : Place) → old ≡ beginning → Passes is_empty subject nodes old [] new
+      → walk is_empty subject nodes (Some []) 0 ≡ new.due
+  whole_is_due new begins passes = ap (walk_from is_empty subject nodes) (sym begins) ∙ all_nodes ∙ passes.each []
+      ∙ last_due new.due new.path
+    where
+      last_due : (due : Option CheckError) (path : Option Path) → first_of due (walk is_empty subject [] path new.node) ≡ due
+      last_due None path = refl
+      last_due (Some error) path = refl
+
+  pub whole_passes : (new : Place) → old ≡ beginning → Passes is_empty subject nodes old [] new → new.due ≡ None
       → walk is_empty subject nodes (Some []) 0 ≡ None
-  whole_passes new begins passes = ap (walk_from is_empty subject nodes) (sym begins) ∙ all_nodes ∙ passes.each []
+  whole_passes new begins passes none = whole_is_due new begins passes ∙ none
 
   pub whole_stops : (error : CheckError) → old ≡ beginning
       → (error ≢ OutOfMemory → Stops is_empty subject nodes old error) → error ≢ OutOfMemory

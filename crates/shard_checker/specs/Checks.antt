@@ -14,6 +14,16 @@ abbrev pub Checks : {A : Type 0} → Option CheckError → Result A CheckError �
 Checks refusal (Ok value) = refusal ≡ None
 Checks refusal (Err error) = error ≢ OutOfMemory → refusal ≡ Some error
 
+-- the error of a result, if it is one
+abbrev pub error_of : {A : Type 0} → Result A CheckError → Option CheckError
+error_of (Ok value) = None
+error_of (Err error) = Some error
+
+-- either the refusal is still due, or the result is the refusal, or out of memory in place of it
+abbrev pub Defers : {A : Type 0} → Option CheckError → Option CheckError → Result A CheckError → Type 0
+Defers refusal due (Ok value) = due ≡ refusal
+Defers refusal due (Err error) = error ≢ OutOfMemory → refusal ≡ Some error
+
 -- a fact about the refusal, if there is one
 abbrev pub IfRefused : {A : Type 0} → Result A CheckError → (CheckError → Type 0) → Type 0
 IfRefused result Fact = IfErr result (λ error. error ≢ OutOfMemory → Fact error)

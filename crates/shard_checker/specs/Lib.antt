@@ -1,14 +1,15 @@
 pub mod BitSets
-pub mod Blocks
 pub mod CandidateSets
 pub mod CatalogRefusal
 pub mod CatalogTruth
 pub mod CheckedView
 pub mod Checks
+pub mod Claims
 pub mod Domain
 pub mod Emptiness
 pub mod Facts
 pub mod KnownAtoms
+pub mod LeafMasks
 pub mod Members
 pub mod Numbering
 pub mod Owners

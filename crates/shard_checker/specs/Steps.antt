@@ -1,6 +1,6 @@
 -- Filters as one list of steps, in which a step names its parts by their numbers, and the sets of truth values that
 -- each may have: the connectives of "9.1 Logical Operators", on sets.
-use Rattle.std.specs.Prelude.{◌≡◌, ℕ, ◌+◌, ◌<◌, ◌==◌, Bool, true, false, not, ◌&&◌, if◌then◌else◌, List, [], ◌∷◌, Option, Some, None, slice_get, slice_index_or, length}
+use Rattle.std.specs.Prelude.{◌≡◌, ℕ, ◌+◌, ◌<◌, ◌==◌, Bool, true, false, not, ◌&&◌, if◌then◌else◌, List, [], ◌∷◌, ◌++◌, Option, Some, None, slice_get, slice_index_or, length}
 use Rattle.std.specs.List.{list_any}
 use Rattle.filter_tree.specs.Expr.{AtomOf, Expr}
 use Rattle.filter_tree.specs.Expr as e
@@ -88,6 +88,11 @@ step_mask atoms masks (Not part) = lift_one not_of (mask_in masks part)
 step_mask atoms masks (And left right) = lift_two and_of (mask_in masks left) (mask_in masks right)
 step_mask atoms masks (Or left right) = lift_two or_of (mask_in masks left) (mask_in masks right)
 step_mask atoms masks (Is test part) = lift_one (is_of test) (mask_in masks part)
+
+-- what the steps may be, one after another, after those that may be this
+abbrev pub masks_of : List Mask → List Mask → List FormulaNode → List Mask
+masks_of atoms masks [] = masks
+masks_of atoms masks (step ∷ steps) = masks_of atoms (masks ++ step_mask atoms masks step ∷ []) steps
 
 -- each step has the set that follows from the sets of its parts
 pub record IsSettled (steps : List FormulaNode) (atoms masks : List Mask) : Type 0 where

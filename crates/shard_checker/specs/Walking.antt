@@ -15,23 +15,27 @@ use Rattle.replica_identity.specs.Shares.{ShareOf}
 use Rattle.split_cert.specs.declared.node.Node.{Node}
 use Rattle.split_cert.specs.declared.node.Node.TheVariants.{Split, Owner, Empty, NeverNull}
 use Rattle.shard_checker.specs.CatalogRefusal.{table_shares, catalog_refusal, count_refusal}
+use Rattle.shard_checker.specs.Claims.{refusal_due}
 use Rattle.shard_checker.specs.Emptiness.{Test}
-use Rattle.shard_checker.specs.Refusal.{Subject, subject_of, later, first_of, owner_refusal, empty_refusal, never_null_refusal}
+use Rattle.shard_checker.specs.Refusal.{Subject, subject_of, later, first_of, owner_refusal, empty_refusal, never_null_refusal, subject_view}
+use Rattle.shard_checker.specs.declared.subject.Subject as d
 use Rattle.shard_checker.specs.declared.error.CheckError.{CheckError}
 use Rattle.shard_checker.specs.declared.error.CheckError.TheVariants.{BadIndex, OutOfMemory}
 use Rattle.shard_checker.specs.declared.walk.Walk.{Walk}
 
--- where the next node comes: at the end of a path, or nowhere, and the number that it has
+-- where the next node comes: at the end of a path, or nowhere, the number that it has, and what is wrong with a node
+-- before it
 pub record Place : Type 0 where
   pub path : Option Path
   pub node : ℕ
+  pub due : Option CheckError
 
-abbrev pub place_at : Option Path → ℕ → Place
-place_at path node = record { path = path; node = node }
+abbrev pub place_at : Option Path → ℕ → Option CheckError → Place
+place_at path node due = record { path = path; node = node; due = due }
 
 -- a certificate begins
 abbrev pub beginning : Place
-beginning = place_at (Some []) 0
+beginning = place_at (Some []) 0 None
 
 -- ---- the next branch
 
@@ -84,7 +88,7 @@ walk is_empty subject (first ∷ nodes) (Some path) node =
     (walk is_empty subject nodes (path_after subject first path) (later node 1))
 
 abbrev pub walk_from : Test → Subject → List Node → Place → Option CheckError
-walk_from is_empty subject nodes place = walk is_empty subject nodes place.path place.node
+walk_from is_empty subject nodes place = first_of place.due (walk is_empty subject nodes place.path place.node)
 
 -- the first refusal in the nodes of the certificate of the table of this number
 abbrev pub nodes_refusal : Test → ℕ → Table → List ShareOf → List Node → Option CheckError
@@ -114,8 +118,12 @@ path_unless false path = Some path
 abbrev pub path_of : {A : _} → Walk A → Option Path
 path_of walk = path_unless walk.is_over (path_view walk.path.items)
 
-abbrev pub place_of : {A : _} → Walk A → Place
-place_of walk = place_at (path_of walk) walk.node
+-- what is wrong with an owner's node that is still to be checked
+abbrev pub due_of : {A : _} → d.Subject A → Walk A → Option CheckError
+due_of subject walk = refusal_due (subject_view subject) subject.formulas.now walk.claims
+
+abbrev pub place_of : {A : _} → d.Subject A → Walk A → Place
+place_of subject walk = place_at (path_of walk) walk.node (due_of subject walk)
 
 -- the nodes are refused from one place as the nodes that are left are refused from another, whatever comes after them
 pub record Passes (is_empty : Test) (subject : Subject) (nodes : List Node) (old : Place) (left : List Node)

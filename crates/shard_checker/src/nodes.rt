@@ -1,19 +1,15 @@
-//! What a node that isn't a split says about the rows at the end of its path.
+//! What a node says about the rows at the end of its path, unless it names their owner.
 
-ghost use Rattle.std.specs.Prelude.{◌≡◌, ◌<◌, length, map, slice_get, IfSome};
+ghost use Rattle.std.specs.Prelude.{◌≡◌, ◌<◌, length, slice_get, IfSome};
 ghost use Rattle.filter_tree.specs.Paths.{path_view};
 ghost use Rattle.shard_checker.specs.Checks.{Finds};
 ghost use Rattle.shard_checker.specs.WalkInvariants.{WalkAgrees};
-ghost use Rattle.shard_checker.specs.Refusal.{second_refusal, subject_view};
-ghost use Rattle.shard_checker.specs.Steps.{IsSettled, mask_in, second_among};
+ghost use Rattle.shard_checker.specs.Refusal.{subject_view};
 ghost use Rattle.shard_checker.specs.Candidates as trying;
 ghost use Rattle.shard_checker.specs.Walking as spec;
 
 use crate::error::CheckError;
-use crate::formulas::root_at;
-use crate::masks::mask_at;
 use crate::nulls::is_never_null;
-use crate::owners::{is_surely_true, second_owner};
 use crate::subject::{Subject, atom_at, term_at};
 use crate::walk::Walk;
 use split_cert::Node;
@@ -85,51 +81,5 @@ pub fn check_never_null<A: Allocator>(
         None => Err(CheckError::BadIndex { table, node }),
         Some(atom) if is_never_null(subject, walk, number as usize, atom) => Ok(()),
         Some(_) => Err(CheckError::MayBeNull { table, node }),
-    }
-}
-
-/// Checks that no other share than the owner's may take a row.
-fn check_others<A: Allocator>(
-    subject: &Subject<'_, A>,
-    walk: &Walk<'_, A>,
-    owner: usize,
-) -> Result<(), CheckError>
-    ensures { Finds (second_refusal (subject_view subject.now) walk.now.node
-        (second_among owner 0 (map (mask_in walk.now.masks.list.items) subject.now.formulas.now.roots.items))) result }
-{
-    match second_owner(owner, &subject.formulas.roots, &walk.masks.list) {
-        None => Ok(()),
-        Some(subscriber) => Err(CheckError::SecondOwner {
-            table: subject.table,
-            node: walk.node,
-            subscriber,
-        }),
-    }
-}
-
-/// Checks a node that says that each row there passes to the subscriber, and to no other.
-#[tactic(auto, using(crate::proofs::WalkInvariantLemmas::owning))]
-pub fn check_owner<A: Allocator>(
-    subject: &Subject<'_, A>,
-    walk: &Walk<'_, A>,
-    number: u32,
-) -> Result<(), CheckError>
-    requires ready { WalkAgrees subject.now walk.now }
-    requires settled { IsSettled subject.now.formulas.now.steps.list.items walk.now.known.atoms.items
-        walk.now.masks.list.items }
-    ensures { Finds
-        (spec.node_refusal trying.is_empty (subject_view subject.now) (Node.Owner number)
-        (path_view walk.now.path.items) walk.now.node) result }
-{
-    let table = subject.table;
-    let node = walk.node;
-    match root_at(&subject.formulas.roots, number) {
-        None => Err(CheckError::BadIndex { table, node }),
-        Some(root) if is_surely_true(mask_at(&walk.masks.list, root)) => check_others(
-            subject,
-            walk,
-            number as usize,
-        ),
-        Some(_) => Err(CheckError::NotOwner { table, node }),
     }
 }

@@ -15,13 +15,12 @@ ghost use Rattle.shard_checker.specs.Truth.{CertificateIsWrong};
 ghost use Rattle.shard_checker.specs.Walking.{walk, nodes_refusal};
 
 use crate::candidate_sets::CandidateSets;
-use crate::dependents::Dependents;
 use crate::error::CheckError;
 use crate::formulas::formulas_of;
 use crate::numbering::{numbered_atoms, numbered_terms};
 use crate::source::Source;
 use crate::subject::Subject;
-use crate::walk::begin;
+use crate::walk::{begin, check_waiting};
 use filter_tree::Table;
 use replica_identity::Share;
 use split_cert::Cert;
@@ -39,6 +38,7 @@ fn check_subject<'a, A: Allocator, C: Source>(
 {
     let mut walk = begin(alloc, subject)?;
     cert.visit(subject, &mut walk)?;
+    check_waiting(subject, &mut walk)?;
     Ok(())
 }
 
@@ -56,7 +56,6 @@ pub fn check_table<A: Allocator, C: Source>(
     let atoms = numbered_atoms(alloc, shares)?;
     let terms = numbered_terms(alloc, shares)?;
     let formulas = formulas_of(alloc, &atoms, shares)?;
-    let dependents = Dependents::new(alloc, atoms.len(), &formulas.steps.list)?;
     let candidates = CandidateSets::new(alloc, table.columns.as_slice(), &atoms, &terms)?;
     let subject = Subject {
         table: number,
@@ -65,7 +64,6 @@ pub fn check_table<A: Allocator, C: Source>(
         atoms: &atoms,
         terms: &terms,
         formulas: &formulas,
-        dependents: &dependents,
         candidates: &candidates,
     };
     check_subject(alloc, &subject, cert)

@@ -14,6 +14,7 @@ pub trait Source {
     ghost use Rattle.shard_checker.specs.WalkInvariants.{WalkAgrees};
     ghost use Rattle.shard_checker.specs.Refusal.{subject_view};
     ghost use Rattle.shard_checker.specs.Candidates.{is_empty};
+    ghost use Rattle.std.specs.Prelude.{OnOk};
     ghost use Rattle.shard_checker.specs.Walking.{Walks, place_of};
 
     ghost nodes: { Self → List Node };
@@ -25,8 +26,9 @@ pub trait Source {
         walk: &mut Walk<'a, A>,
     ) -> Result<(), CheckError>
         requires { WalkAgrees subject.now walk.old }
-        ensures { Walks is_empty (subject_view subject.now) (nodes self.now) (place_of walk.old)
-            (place_of walk.new) result };
+        ensures walks { Walks is_empty (subject_view subject.now) (nodes self.now) (place_of subject.now walk.old)
+            (place_of subject.now walk.new) result }
+        ensures ready { OnOk result (WalkAgrees subject.now walk.new) };
 }
 
 impl<B: Allocator> Source for Cert<B> {

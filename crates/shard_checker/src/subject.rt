@@ -5,7 +5,6 @@ ghost use Rattle.std.specs.Option.{option_map};
 ghost use Rattle.filter_tree.specs.Shape.{atom_view, atoms_view};
 
 use crate::candidate_sets::CandidateSets;
-use crate::dependents::Dependents;
 use crate::formulas::Formulas;
 use filter_tree::{Atom, Column, Term};
 use replica_identity::Share;
@@ -22,8 +21,6 @@ pub struct Subject<'a, A: Allocator> {
     pub terms: &'a [Term],
     /// The shares' filters.
     pub formulas: &'a Formulas,
-    /// The steps of which the atoms and the filters' steps are parts.
-    pub dependents: &'a Dependents,
     /// What is tried for the terms.
     pub candidates: &'a CandidateSets,
 }

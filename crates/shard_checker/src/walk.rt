@@ -1,23 +1,22 @@
 //! The walk over the nodes of a certificate, in the order in which it is written.
 
-ghost use Rattle.std.specs.Prelude.{◌≡◌, ◌⊎◌, ◌++◌, ◌∷◌, [], false, slice_get, OnOk, IfOk, MatchOption};
+ghost use Rattle.std.specs.Prelude.{◌≡◌, ◌<◌, ◌++◌, ◌∷◌, [], None, false, length, slice_get, OnOk, IfOk, MatchOption};
 ghost use Rattle.std.specs.Option.{option_map};
 ghost use Rattle.filter_tree.specs.Paths.{path_view};
 ghost use Rattle.split_cert.specs.Nodes.{nodes_in, preorder};
 ghost use Rattle.split_cert.specs.Where.{tree_view};
-ghost use Rattle.shard_checker.specs.Checks.{Finds};
+ghost use Rattle.shard_checker.specs.Checks.{Checks, Defers, error_of};
 ghost use Rattle.shard_checker.specs.WalkInvariants.{GoesBack, Prepared, WalkAgrees};
 ghost use Rattle.shard_checker.specs.Refusal as refusal;
-ghost use Rattle.shard_checker.specs.Steps.{IsSettled};
-ghost use Rattle.shard_checker.specs.Refusal.{subject_view};
+ghost use Rattle.shard_checker.specs.Refusal.{first_of, subject_view};
 ghost use Rattle.shard_checker.specs.Candidates.{is_empty};
 ghost use Rattle.shard_checker.specs.Walking as spec;
 
-use crate::dependents::blocks_in;
+use crate::claims::{Claims, check_claims};
 use crate::error::CheckError;
 use crate::known::Known;
-use crate::masks::{Masks, refresh};
-use crate::nodes::{check_empty, check_never_null, check_owner, check_split};
+use crate::masks::mask_at;
+use crate::nodes::{check_empty, check_never_null, check_split};
 use crate::remaining::Remaining;
 use crate::subject::{Subject, atom_at};
 use filter_tree::{Atom, Tri};
@@ -31,8 +30,8 @@ pub struct Walk<'a, A: Allocator> {
     pub path: Vec<(&'a Atom<A>, Tri)>,
     /// What the path says about the atoms.
     pub known: Known,
-    /// What each step of the filters may be, and which of them must be recomputed.
-    pub masks: Masks,
+    /// The owners' nodes that are still to be checked.
+    pub claims: Claims,
     /// What is left for the terms.
     pub remaining: Remaining,
     pub node: usize,
@@ -46,13 +45,15 @@ pub fn begin<'a, A: Allocator>(
     subject: &Subject<'a, A>,
 ) -> Result<Walk<'a, A>, AllocError>
     requires { Prepared subject.now }
-    ensures place { IfOk result (λ walk. spec.place_of walk ≡ spec.beginning) }
+    ensures place { IfOk result (λ walk. spec.place_of subject.now walk ≡ spec.beginning) }
     ensures ready { IfOk result (λ walk. WalkAgrees subject.now walk) }
 {
+    let known = Known::new(alloc, subject.atoms)?;
+    let claims = Claims::new(alloc, &known.atoms)?;
     Ok(Walk {
         path: Vec::new(alloc),
-        known: Known::new(alloc, subject.atoms)?,
-        masks: Masks::new(alloc, subject.formulas.steps.list.len())?,
+        known,
+        claims,
         remaining: Remaining::new(alloc, subject.candidates.count)?,
         node: 0,
         is_over: false,
@@ -91,14 +92,15 @@ fn enter<'a, A: Allocator>(
         (λ atom. path_view walk.old.path.items ++ (atom, value) ∷ [])
         (slice_get (subject_view subject.now).atoms number)) }
     ensures node { walk.new.node ≡ walk.old.node }
+    ensures same { OnOk result (spec.due_of subject.now walk.new ≡ spec.due_of subject.now walk.old) }
     ensures ready { OnOk result (WalkAgrees subject.now walk.new) }
 {
     match atom_at(subject.atoms, number) {
         None => walk.is_over = true,
         Some(atom) => {
             walk.known.learn(number, value)?;
-            walk.masks
-                .mark(blocks_in(&subject.dependents.of_atoms, number as usize));
+            let mask = mask_at(&walk.known.atoms, number as usize);
+            walk.claims.record(number as usize, mask);
             walk.remaining
                 .keep(&subject.candidates.of_atoms[number as usize], value)?;
             extend(&mut walk.path, atom, value)?;
@@ -117,10 +119,11 @@ fn go_back<'a, A: Allocator>(subject: &Subject<'a, A>, walk: &mut Walk<'a, A>) -
         (path_view walk.new.path.items) last.0 last.1) }
     ensures node { walk.new.node ≡ walk.old.node }
     ensures due { walk.new.is_over ≡ walk.old.is_over }
+    ensures same { spec.due_of subject.now walk.new ≡ spec.due_of subject.now walk.old }
 {
     let (_, value) = walk.path.pop()?;
     let before = walk.known.take_back()?;
-    walk.masks.mark(blocks_in(&subject.dependents.of_atoms, before.number as usize));
+    walk.claims.record(before.number as usize, before.mask);
     walk.remaining.restore();
     Some((before.number, value))
 }
@@ -135,6 +138,7 @@ fn leave<'a, A: Allocator>(
     requires ready { WalkAgrees subject.now walk.old }
     ensures path { OnOk result (spec.path_of walk.new ≡ spec.onward (path_view walk.old.path.items)) }
     ensures node { walk.new.node ≡ walk.old.node }
+    ensures same { OnOk result (spec.due_of subject.now walk.new ≡ spec.due_of subject.now walk.old) }
     ensures ready { OnOk result (WalkAgrees subject.now walk.new) }
 {
     while let Some((number, value)) = go_back(subject, walk) {
@@ -159,6 +163,7 @@ fn step<'a, A: Allocator>(
     ensures path { OnOk result (spec.path_of walk.new
         ≡ spec.path_after (subject_view subject.now) node (path_view walk.old.path.items)) }
     ensures node { walk.new.node ≡ walk.old.node }
+    ensures same { OnOk result (spec.due_of subject.now walk.new ≡ spec.due_of subject.now walk.old) }
     ensures ready { OnOk result (WalkAgrees subject.now walk.new) }
 {
     match node {
@@ -167,22 +172,87 @@ fn step<'a, A: Allocator>(
     }
 }
 
-/// Determines for each step of the filters what it may be at the end of the path.
-fn settle<A: Allocator>(subject: &Subject<'_, A>, walk: &mut Walk<'_, A>)
+/// Checks the owners' nodes that wait to be checked.
+pub fn check_waiting<A: Allocator>(
+    subject: &Subject<'_, A>,
+    walk: &mut Walk<'_, A>,
+) -> Result<(), CheckError>
     requires { WalkAgrees subject.now walk.old }
-    ensures settled { IsSettled subject.now.formulas.now.steps.list.items walk.new.known.atoms.items
-        walk.new.masks.list.items }
-    ensures ready { WalkAgrees subject.now walk.new }
+    ensures refusal { Checks (spec.due_of subject.now walk.old) result }
+    ensures none { OnOk result (spec.due_of subject.now walk.new ≡ None) }
+    ensures room { OnOk result (walk.new.claims.list.items ≡ []) }
+    ensures ready { OnOk result (WalkAgrees subject.now walk.new) }
     ensures path { walk.new.path.items ≡ walk.old.path.items }
     ensures node { walk.new.node ≡ walk.old.node }
-    ensures due { walk.new.is_over ≡ walk.old.is_over }
+    ensures over { walk.new.is_over ≡ walk.old.is_over }
 {
-    refresh(
-        &subject.formulas.steps.list,
-        subject.dependents,
-        &walk.known.atoms,
-        &mut walk.masks,
-    );
+    check_claims(subject, &mut walk.claims)?;
+    walk.claims.restart(&walk.known.atoms)?;
+    Ok(())
+}
+
+/// Adds an owner's node to those that wait, for which there is room.
+#[tactic(auto, using(crate::proofs::WalkInvariantLemmas::claiming))]
+fn wait<A: Allocator>(
+    subject: &Subject<'_, A>,
+    walk: &mut Walk<'_, A>,
+    number: u32,
+) -> Result<(), AllocError>
+    requires ready { WalkAgrees subject.now walk.old }
+    requires room { length walk.old.claims.list.items < 64 }
+    ensures due { OnOk result (spec.due_of subject.now walk.new ≡ first_of (spec.due_of subject.now walk.old)
+        (spec.node_refusal is_empty (subject_view subject.now) (Node.Owner number) (path_view walk.old.path.items)
+        walk.old.node)) }
+    ensures ready { OnOk result (WalkAgrees subject.now walk.new) }
+    ensures path { walk.new.path.items ≡ walk.old.path.items }
+    ensures node { walk.new.node ≡ walk.old.node }
+    ensures over { walk.new.is_over ≡ walk.old.is_over }
+{
+    walk.claims.add(walk.node, number)?;
+    Ok(())
+}
+
+/// Adds an owner's node to those that wait, after these were checked if there is no room.
+fn check_later<A: Allocator>(
+    subject: &Subject<'_, A>,
+    walk: &mut Walk<'_, A>,
+    number: u32,
+) -> Result<(), CheckError>
+    requires { WalkAgrees subject.now walk.old }
+    ensures refusal { Defers (first_of (spec.due_of subject.now walk.old) (spec.node_refusal is_empty
+        (subject_view subject.now) (Node.Owner number) (path_view walk.old.path.items) walk.old.node))
+        (spec.due_of subject.now walk.new) result }
+    ensures ready { OnOk result (WalkAgrees subject.now walk.new) }
+    ensures path { walk.new.path.items ≡ walk.old.path.items }
+    ensures node { walk.new.node ≡ walk.old.node }
+    ensures over { walk.new.is_over ≡ walk.old.is_over }
+{
+    if walk.claims.is_full() {
+        check_waiting(subject, walk)?;
+    }
+    wait(subject, walk, number)?;
+    Ok(())
+}
+
+/// The result of the check of a node; if it is an error, the owners' nodes before it are checked first.
+fn after_waiting<A: Allocator>(
+    subject: &Subject<'_, A>,
+    walk: &mut Walk<'_, A>,
+    found: Result<(), CheckError>,
+) -> Result<(), CheckError>
+    requires { WalkAgrees subject.now walk.old }
+    ensures refusal { Defers (first_of (spec.due_of subject.now walk.old) (error_of found))
+        (spec.due_of subject.now walk.new) result }
+    ensures ready { OnOk result (WalkAgrees subject.now walk.new) }
+    ensures path { walk.new.path.items ≡ walk.old.path.items }
+    ensures node { walk.new.node ≡ walk.old.node }
+    ensures over { walk.new.is_over ≡ walk.old.is_over }
+{
+    if let Err(error) = found {
+        check_waiting(subject, walk)?;
+        return Err(error);
+    }
+    Ok(())
 }
 
 /// Checks a node at the end of a path, without a split's branches.
@@ -192,22 +262,21 @@ fn check_node<A: Allocator>(
     node: Node,
 ) -> Result<(), CheckError>
     requires { WalkAgrees subject.now walk.old }
-    ensures refusal { Finds (spec.node_refusal is_empty (subject_view subject.now) node (path_view walk.old.path.items)
-        walk.old.node) result }
-    ensures ready { WalkAgrees subject.now walk.new }
+    ensures refusal { Defers (first_of (spec.due_of subject.now walk.old) (spec.node_refusal is_empty
+        (subject_view subject.now) node (path_view walk.old.path.items) walk.old.node))
+        (spec.due_of subject.now walk.new) result }
+    ensures ready { OnOk result (WalkAgrees subject.now walk.new) }
     ensures path { walk.new.path.items ≡ walk.old.path.items }
     ensures node { walk.new.node ≡ walk.old.node }
-    ensures due { walk.new.is_over ≡ walk.old.is_over }
+    ensures over { walk.new.is_over ≡ walk.old.is_over }
 {
-    match node {
+    let found = match node {
+        Node::Owner(number) => return check_later(subject, walk, number),
         Node::Split(number) => check_split(subject, walk.node, number),
-        Node::Owner(number) => {
-            settle(subject, walk);
-            check_owner(subject, walk, number)
-        }
         Node::Empty(number) => check_empty(subject, walk, number),
         Node::NeverNull(number) => check_never_null(subject, walk, number),
-    }
+    };
+    after_waiting(subject, walk, found)
 }
 
 /// Checks the node that is expected, and moves the walk to the one after it.
@@ -218,8 +287,8 @@ fn visit<'a, A: Allocator>(
     node: Node,
 ) -> Result<(), CheckError>
     requires { WalkAgrees subject.now walk.old }
-    ensures walks { spec.Walks is_empty (subject_view subject.now) (node ∷ []) (spec.place_of walk.old)
-        (spec.place_of walk.new) result }
+    ensures walks { spec.Walks is_empty (subject_view subject.now) (node ∷ []) (spec.place_of subject.now walk.old)
+        (spec.place_of subject.now walk.new) result }
     ensures ready { OnOk result (WalkAgrees subject.now walk.new) }
 {
     if walk.is_over {
@@ -244,7 +313,8 @@ fn visit_branches<'a, A: Allocator, B: Allocator>(
     requires { WalkAgrees subject.now walk.old }
     ensures walks { spec.Walks is_empty (subject_view subject.now)
         (preorder (tree_view if_true.now) ++ preorder (tree_view if_false.now) ++ preorder (tree_view if_null.now))
-        (spec.place_of walk.old) (spec.place_of walk.new) result }
+        (spec.place_of subject.now walk.old)
+        (spec.place_of subject.now walk.new) result }
     ensures ready { OnOk result (WalkAgrees subject.now walk.new) }
 {
     visit_tree(subject, walk, if_true)?;
@@ -263,7 +333,8 @@ pub fn visit_tree<'a, A: Allocator, B: Allocator>(
 ) -> Result<(), CheckError>
     requires { WalkAgrees subject.now walk.old }
     ensures walks { spec.Walks is_empty (subject_view subject.now) (preorder (tree_view tree.now))
-        (spec.place_of walk.old) (spec.place_of walk.new) result }
+        (spec.place_of subject.now walk.old)
+        (spec.place_of subject.now walk.new) result }
     ensures ready { OnOk result (WalkAgrees subject.now walk.new) }
 {
     match tree {
@@ -297,8 +368,9 @@ pub fn visit_text<'a, A: Allocator>(
     text: &str,
 ) -> Result<(), CheckError>
     requires { WalkAgrees subject.now walk.old }
-    ensures { spec.Walks is_empty (subject_view subject.now) (nodes_in text.now).nodes
-        (spec.place_of walk.old) (spec.place_of walk.new) result }
+    ensures walks { spec.Walks is_empty (subject_view subject.now) (nodes_in text.now).nodes
+        (spec.place_of subject.now walk.old) (spec.place_of subject.now walk.new) result }
+    ensures ready { OnOk result (WalkAgrees subject.now walk.new) }
 {
     let mut reader = NodeReader::new(text);
     loop {

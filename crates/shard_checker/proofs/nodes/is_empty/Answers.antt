@@ -20,6 +20,6 @@ pub returns : goal.returns
 returns g c =
     let subject = c.args.subject.now in
     let walk = c.args.walk.now in
-    empty_is_told (subject_view subject) subject.formulas.now subject.dependents.now subject.candidates.now walk.known
-    walk.masks walk.remaining (path_view walk.path.items) c.requires.agrees c.args.number c.index-places.result.now
+    empty_is_told (subject_view subject) subject.formulas.now subject.candidates.now walk.known
+    walk.claims walk.remaining (path_view walk.path.items) c.requires.agrees c.args.number c.index-places.result.now
     c.index-places.ensures c.meets.result c.meets.ensures

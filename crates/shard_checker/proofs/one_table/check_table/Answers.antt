@@ -1,11 +1,9 @@
 use Rattle.std.proofs.Common.{◌≡◌, List, true, [], sym, ap, subst, ◌∙◌}
 use Rattle.std.specs.Prelude.{Some}
-use Rattle.std.proofs.lemmas.List.{length-map}
 use Rattle.filter_tree.specs.Expr.{AtomOf}
 use Rattle.filter_tree.specs.Shape.{atoms_view}
 use Rattle.filter_tree.specs.declared.filter.Term.{Term}
 use Rattle.filter_tree.specs.declared.table.Column.{Column}
-use Rattle.shard_checker.specs.Blocks.{AreDependents}
 use Rattle.shard_checker.specs.Candidates.{candidates_in}
 use Rattle.shard_checker.specs.CandidateSets.{AreCandidateSets}
 use Rattle.shard_checker.specs.Checks.{Checks}
@@ -17,7 +15,6 @@ use Rattle.shard_checker.specs.Steps.{all_name_only, IsCompiled}
 use Rattle.shard_checker.specs.Candidates.{is_empty}
 use Rattle.shard_checker.specs.Walking.{walk}
 use Rattle.shard_checker.specs.declared.candidate_sets.CandidateSets.{CandidateSets}
-use Rattle.shard_checker.specs.declared.steps.FormulaNode.{FormulaNode}
 use Rattle.shard_checker.proofs.NamingLemmas.{numbered_differ, numbered_names}
 use Rattle.shard_checker.proofs.one_table.check_table.Goals as goal
 
@@ -48,21 +45,17 @@ check_subject-requires g c =
     let shares = shares_view c.args.shares.now in
     let first : atoms_view c.deref.result.now ≡ numbered_atoms shares = ap atoms_view c.deref.ensures.value
     ∙ c.in_ok-atoms.ensures in
-    let atoms : atoms_view c.deref-5.result.now ≡ numbered_atoms shares = ap atoms_view c.deref-5.ensures.value
+    let atoms : atoms_view c.deref-4.result.now ≡ numbered_atoms shares = ap atoms_view c.deref-4.ensures.value
     ∙ c.in_ok-atoms.ensures in
     record {
       differ = subst (λ (found : List AtomOf). Differ found) (sym atoms) (numbered_differ shares);
       compiled = subst (λ (found : List AtomOf). IsCompiled found shares c.in_ok-formulas.formulas)
           (first ∙ sym atoms) c.in_ok-formulas.ensures;
-      used = subst (λ (steps : List FormulaNode). AreDependents steps c.in_ok-dependents.dependents) c.deref-2.ensures.value
-          c.in_ok-dependents.ensures.used;
-      tried = same_subject c.as_slice.result.now c.as_slice-2.result.now (atoms_view c.deref-3.result.now)
-          (atoms_view c.deref-5.result.now) c.deref-4.result.now c.deref-6.result.now c.in_ok-candidates.candidates
+      tried = same_subject c.as_slice.result.now c.as_slice-2.result.now (atoms_view c.deref-2.result.now)
+          (atoms_view c.deref-4.result.now) c.deref-3.result.now c.deref-5.result.now c.in_ok-candidates.candidates
           (c.as_slice.ensures ∙ sym c.as_slice-2.ensures)
-          (ap atoms_view (c.deref-3.ensures.value ∙ sym c.deref-5.ensures.value))
-          (c.deref-4.ensures.value ∙ sym c.deref-6.ensures.value) c.in_ok-candidates.ensures;
-      sized = c.in_ok-dependents.ensures.atoms ∙ c.len.ensures ∙ sym c.deref-5.ensures.len
-          ∙ sym (length-map c.deref-5.result.now _);
+          (ap atoms_view (c.deref-2.ensures.value ∙ sym c.deref-4.ensures.value))
+          (c.deref-3.ensures.value ∙ sym c.deref-5.ensures.value) c.in_ok-candidates.ensures;
     }
 
 -- the subject is the table's, with its atoms and terms numbered
@@ -70,14 +63,14 @@ pub returns : goal.returns
 returns g c =
     let columns = c.args.table.now.columns in
     let shares = shares_view c.args.shares.now in
-    let atoms : atoms_view c.deref-5.result.now ≡ numbered_atoms shares = ap atoms_view c.deref-5.ensures.value
+    let atoms : atoms_view c.deref-4.result.now ≡ numbered_atoms shares = ap atoms_view c.deref-4.ensures.value
     ∙ c.in_ok-atoms.ensures in
-    let terms : c.deref-6.result.now ≡ numbered_terms shares = c.deref-6.ensures.value ∙ c.in_ok-terms.ensures in
-    let same : numbered_subject c.args.number c.as_slice-2.result.now shares (atoms_view c.deref-5.result.now)
-    c.deref-6.result.now ≡ subject_of c.args.number columns shares =
-    ap (λ cs. numbered_subject c.args.number cs shares (atoms_view c.deref-5.result.now) c.deref-6.result.now)
+    let terms : c.deref-5.result.now ≡ numbered_terms shares = c.deref-5.ensures.value ∙ c.in_ok-terms.ensures in
+    let same : numbered_subject c.args.number c.as_slice-2.result.now shares (atoms_view c.deref-4.result.now)
+    c.deref-5.result.now ≡ subject_of c.args.number columns shares =
+    ap (λ cs. numbered_subject c.args.number cs shares (atoms_view c.deref-4.result.now) c.deref-5.result.now)
     c.as_slice-2.ensures
-    ∙ ap (λ found. numbered_subject c.args.number columns shares found c.deref-6.result.now) atoms
+    ∙ ap (λ found. numbered_subject c.args.number columns shares found c.deref-5.result.now) atoms
     ∙ ap (numbered_subject c.args.number columns shares (numbered_atoms shares)) terms in
     subst (λ (subject : Subject). Checks (walk is_empty subject (g.C.Source.nodes c.args.cert.now) (Some []) 0)
     c.check_subject.result) same c.check_subject.ensures

@@ -3,8 +3,10 @@ use Rattle.std.proofs.lemmas.Option.{slice_get_within}
 use Rattle.filter_tree.specs.Shape.{atom_view}
 use Rattle.shard_checker.specs.CandidateSets.{AreAtomSets}
 use Rattle.shard_checker.specs.WalkInvariants.{candidates_of_table}
-use Rattle.shard_checker.specs.Blocks.{Marks, blocks_in}
+use Rattle.shard_checker.specs.Claims.{Records}
 use Rattle.shard_checker.specs.Refusal.{subject_view}
+use Rattle.shard_checker.specs.Steps.{mask_in}
+use Rattle.shard_checker.proofs.ClaimLemmas.{recorded_due}
 use Rattle.shard_checker.proofs.WalkInvariantLemmas.{ready_entered}
 use Rattle.shard_checker.proofs.CandidateSetLemmas.{zip_long}
 use Rattle.shard_checker.proofs.walk.enter.Goals as goal
@@ -25,12 +27,16 @@ pub returns-in_ok-extend-in-Some-clause-ready : goal.returns-in_ok-extend-in-Som
 returns-in_ok-extend-in-Some-clause-ready g c =
     let subject = c.args.subject.now in
     let walk = c.args.walk.now in
-    ready_entered (subject_view subject) subject.formulas.now subject.dependents.now subject.candidates.now
-    c.index.result.now walk.known c.learn.new.self walk.masks c.mark.new.self walk.remaining c.keep.new.self
+    ready_entered (subject_view subject) subject.formulas.now subject.candidates.now
+    c.index.result.now walk.known c.learn.new.self walk.claims c.record.new.self walk.remaining c.keep.new.self
     walk.path.items c.extend.new.path.items c.args.number c.in-Some.atom c.args.value
     c.requires.ready c.in-Some.ensures c.in_ok-learn-in-Some.ensures c.in_ok-extend-in-Some.ensures
-    (ap (λ v. v.items) c.mark.ensures.list)
-    (subst (λ blocks. Marks walk.masks.stale.items c.mark.new.self.stale.items blocks)
-    (c.blocks_in.ensures ∙ ap (λ lists. blocks_in lists c.args.number) c.deref.ensures.value)
-    c.mark.ensures.stale)
+    (subst (λ mask. Records walk.claims c.record.new.self c.args.number mask)
+    (c.mask_at-mask.ensures ∙ ap (λ masks. mask_in masks c.args.number) c.deref.ensures.value) c.record.ensures)
     c.index.ensures c.in_ok-keep-in-Some.ensures
+
+-- what is wrong with the nodes that wait does not change
+pub returns-in_ok-extend-in-Some-clause-same : goal.returns-in_ok-extend-in-Some-clause-same
+returns-in_ok-extend-in-Some-clause-same g c =
+    recorded_due (subject_view c.args.subject.now) c.args.subject.now.formulas.now c.args.walk.now.claims
+    c.record.new.self c.args.number c.mask_at-mask.result c.record.ensures

@@ -9,8 +9,8 @@ use Rattle.shard_checker.proofs.walk.visit_text.Given as goal
 -- the text's nodes are refused just as the nodes that are left are refused from here
 abbrev pub invariant-loop-node : goal.invariant-loop-node
 invariant-loop-node g l = record {
-  passes : Passes is_empty (subject_view l.subject) (nodes_in l.text).nodes (place_of l.fn.walk) l.reader.nodes
-      (place_of l.walk);
+  passes : Passes is_empty (subject_view l.subject) (nodes_in l.text).nodes (place_of l.subject l.fn.walk)
+      l.reader.nodes (place_of l.subject l.walk);
   ready : WalkAgrees l.subject l.walk;
 }
 
