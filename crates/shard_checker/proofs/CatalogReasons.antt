@@ -1,7 +1,7 @@
 -- What a refusal of a catalog says is true: an operation that is not published, a row that is not distinguished from
 -- others, or a column that is not covered.
 use Rattle.std.proofs.Common.{◌≡◌, ℕ, zero, suc, ◌+◌, ◌<◌, Bool, true, false, List, [], ◌∷◌, All, length, refl, sym, ◌∙◌, ap, subst, inl, inr, arith}
-use Rattle.std.specs.Prelude.{Option, Some, None, if◌then◌else◌, ◌==◌, ◌⊎◌, Contains, slice_get}
+use Rattle.std.specs.Prelude.{Option, Some, None, if◌then◌else◌, ◌⊎◌, Contains, slice_get}
 use Rattle.std.proofs.lemmas.List.Elements.{All-head, All-tail}
 use Rattle.filter_tree.specs.Expr.{Expr}
 use Rattle.filter_tree.specs.Lists.{distinct_columns, NamesWithin}

@@ -1,10 +1,10 @@
 -- What is wrong with the claims of owners, as they are added and as what is known about the atoms changes.
-use Rattle.std.proofs.Common.{◌≡◌, ℕ, zero, suc, ◌+◌, ◌<◌, ◌≤◌, List, [], ◌∷◌, ◌++◌, length, refl, sym, ap, ◌∙◌, arith}
+use Rattle.std.proofs.Common.{◌≡◌, ℕ, ◌+◌, ◌<◌, ◌≤◌, List, [], ◌∷◌, ◌++◌, length, refl, sym, ap, ◌∙◌, arith}
 use Rattle.std.specs.Prelude.{Option, Some, None, slice_set}
 use Rattle.std.specs.Vec.{with_items}
 use Rattle.std.proofs.lemmas.List.{length-set, set-get_or, map-set, with_items_is}
 use Rattle.filter_tree.specs.declared.mask.Mask.{Mask}
-use Rattle.shard_checker.specs.Claims.{claim_of, claim_refusal, claims_refusal, steps_at, refusal_due, Begin, Records, AreTold, AreWaiting}
+use Rattle.shard_checker.specs.Claims.{claim_refusal, claims_refusal, steps_at, refusal_due, Begin, Records, AreTold, AreWaiting}
 use Rattle.shard_checker.specs.LeafMasks.{all_at, at_leaf}
 use Rattle.shard_checker.specs.Refusal.{Subject, first_of}
 use Rattle.shard_checker.specs.Steps.{mask_in, masks_of}
@@ -79,11 +79,6 @@ begun_waiting known claims begins =
       room = omega arith;
       later = λ leaf past within. begins.atoms leaf within;
     }
-
-pub begun_due : (subject : Subject) (formulas : Formulas) (claims : Claims) → claims.list.items ≡ []
-    → refusal_due subject formulas claims ≡ None
-begun_due subject formulas claims none =
-    ap (claims_refusal subject formulas.roots.items (steps_at formulas claims) 0) none
 
 -- ---- the steps are told
 

@@ -1,21 +1,15 @@
 -- Connectives on words are connectives on the sets at each leaf.
-use Rattle.std.proofs.Common.{◌≡◌, ℕ, zero, suc, ◌+◌, ◌-◌, ◌*◌, ◌%◌, ◌^◌, ◌<◌, ◌≤◌, min, max, Bool, true, false, not, ◌&&◌, ◌||◌, List, [], ◌∷◌, ◌++◌, length, refl, sym, ap, subst, ◌∙◌, inl, inr, arith, w64}
-use Rattle.std.specs.Prelude.{◌==◌, bit_and, bit_or, map, Option, Some, None, slice_get, slice_set}
+use Rattle.std.proofs.Common.{◌≡◌, ℕ, zero, suc, ◌-◌, ◌*◌, ◌%◌, ◌^◌, ◌<◌, ◌≤◌, min, max, Bool, true, false, not, ◌&&◌, ◌||◌, refl, sym, ap, subst, ◌∙◌, arith, w64}
+use Rattle.std.specs.Prelude.{◌==◌, bit_and, bit_or}
 use Rattle.std.specs.Int.{bit_at, bit_not}
-use Rattle.std.specs.Option.{option_map}
-use Rattle.std.proofs.lemmas.List.{get_or_past, map-append, length-map, map-set, set-get_or}
-use Rattle.std.proofs.lemmas.Bool.{cases_lt}
-use Rattle.std.proofs.lemmas.Option.{slice_get-map, get_or_from_slice_get}
 use Rattle.std.proofs.lemmas.Nat.Bits.{bit_at_and, bit_at_or, bit_at_not, bit_at-zero, bit_at-lt, bit_at_mask_inside, bit_at_mask_below, ones_shl}
 use Rattle.std.proofs.lemmas.Nat.{pow_pos}
 use Rattle.filter_tree.specs.Logic.{and_of, or_of, not_of, is_of}
 use Rattle.filter_tree.specs.Mask.{lift_one, lift_two}
-use Rattle.filter_tree.specs.declared.filter.Test.{Test}
 use Rattle.filter_tree.specs.declared.filter.Test.TheVariants as t
 use Rattle.filter_tree.specs.declared.mask.Mask.{Mask}
 use Rattle.filter_tree.proofs.Tests.{both_true}
-use Rattle.shard_checker.specs.LeafMasks.{has_leaf, at_leaf, all_at, SetsFrom}
-use Rattle.shard_checker.specs.Steps.{mask_in}
+use Rattle.shard_checker.specs.LeafMasks.{has_leaf, at_leaf, SetsFrom}
 use Rattle.shard_checker.specs.declared.leaf_masks.LeafMasks.{LeafMasks}
 
 -- ---- bits
@@ -125,12 +119,6 @@ shifted_cleared word leaf is_set room is =
     subst (λ (b : Bool). SetsFrom leaf b word (bit_and word (bit_not w64 (shifted leaf)))) (sym is)
     (subst (λ (later : ℕ). SetsFrom leaf false word (bit_and word (bit_not w64 later)))
     (sym (ones_shl 64 leaf (omega (arith, room)))) (all_cleared word leaf room))
-
-pub none_after : (word leaf : ℕ) (is_set : Bool) → 64 ≤ leaf → SetsFrom leaf is_set word word
-none_after word leaf is_set past = record {
-  before = λ other before. refl;
-  later = λ other after within. absurd (omega arith);
-}
 
 -- ---- sets
 
@@ -302,28 +290,3 @@ pub is_null_at : (leaf : ℕ) (masks : LeafMasks)
     → at_leaf leaf (asked_words masks.null (bit_or masks.truth masks.falsity))
     ≡ lift_one (is_of t.Unknown) (at_leaf leaf masks)
 is_null_at leaf masks = asked_at leaf masks.null masks.truth masks.falsity ∙ null_asked (at_leaf leaf masks)
-
--- ---- lists
-
-abbrev nowhere : LeafMasks
-nowhere = record { truth = 0; falsity = 0; null = 0 }
-
-pub nowhere_at : (leaf : ℕ) → at_leaf leaf nowhere ≡ set_of false false false
-nowhere_at leaf = same_parts (at_leaf leaf nowhere) (set_of false false false) (has_none leaf) (has_none leaf)
-    (has_none leaf)
-
-pub none_at : (leaf : ℕ) (list : List LeafMasks) (number : ℕ) → slice_get list number ≡ None
-    → at_leaf leaf nowhere ≡ mask_in (all_at leaf list) number
-none_at leaf [] number h = nowhere_at leaf
-none_at leaf (masks ∷ list) zero h = absurd cc
-none_at leaf (masks ∷ list) (suc number) h = none_at leaf list number h
-
-pub some_at : (leaf : ℕ) (list : List LeafMasks) (number : ℕ) (masks : LeafMasks) → slice_get list number ≡ Some masks
-    → at_leaf leaf masks ≡ mask_in (all_at leaf list) number
-some_at leaf list number masks h =
-    sym (get_or_from_slice_get (all_at leaf list) number (at_leaf leaf masks) _
-    (slice_get-map (at_leaf leaf) list number ∙ ap (option_map (at_leaf leaf)) h))
-
-pub pushed_at : (leaf : ℕ) (list more : List LeafMasks) (masks : LeafMasks) → more ≡ list ++ masks ∷ []
-    → all_at leaf more ≡ all_at leaf list ++ at_leaf leaf masks ∷ []
-pushed_at leaf list more masks h = ap (all_at leaf) h ∙ map-append (at_leaf leaf) list (masks ∷ [])

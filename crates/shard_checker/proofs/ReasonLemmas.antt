@@ -1,6 +1,6 @@
 -- What the first refusal of a sharding says about what it names is true.
-use Rattle.std.proofs.Common.{◌≡◌, ℕ, suc, ◌+◌, ◌<◌, true, List, [], ◌∷◌, length, refl, sym, ◌∙◌, ap, subst, inl, inr}
-use Rattle.std.specs.Prelude.{Option, Some, None, if◌then◌else◌, ◌==◌, ◌⊎◌, Contains, slice_get}
+use Rattle.std.proofs.Common.{◌≡◌, ℕ, suc, ◌+◌, true, List, [], ◌∷◌, length, refl, sym, ◌∙◌, ap, subst, inl, inr}
+use Rattle.std.specs.Prelude.{Option, Some, None, ◌==◌, Contains, slice_get}
 use Rattle.std.specs.Cmp.{unsigned_Decides}
 use Rattle.filter_tree.specs.Expr.{Expr, AtomOf}
 use Rattle.filter_tree.specs.Paths.{Path}

@@ -1,11 +1,11 @@
 -- What a walk preserves about the path, as it enters branches and leaves them, and what it says about owners.
-use Rattle.std.proofs.Common.{◌≡◌, ℕ, zero, suc, ◌+◌, ◌<◌, get_or, Bool, true, false, not, ◌&&◌, List, [], ◌∷◌, ◌++◌, length, refl, sym, ap, subst, ◌∙◌, arith, length-append}
+use Rattle.std.proofs.Common.{◌≡◌, ℕ, zero, suc, ◌+◌, ◌<◌, get_or, Bool, not, ◌&&◌, List, [], ◌∷◌, ◌++◌, length, refl, sym, ap, subst, ◌∙◌, arith, length-append}
 use Rattle.std.specs.Prelude.{◌==◌, if◌then◌else◌, Option, Some, None, slice_get, slice_set, map}
 use Rattle.std.specs.Global.{Vec}
 use Rattle.std.specs.Option.{option_map}
 use Rattle.std.specs.Borrow.{Bor}
 use Rattle.std.proofs.lemmas.List.{map-append}
-use Rattle.std.proofs.lemmas.Option.{slice_get-map, slice_get_within, same_Some}
+use Rattle.std.proofs.lemmas.Option.{slice_get-map, same_Some}
 use Rattle.filter_tree.specs.Expr.{AtomOf}
 use Rattle.filter_tree.specs.Paths.{Path, path_view, possible_of}
 use Rattle.filter_tree.specs.Shape.{atom_view}
@@ -24,7 +24,6 @@ use Rattle.shard_checker.specs.WalkInvariants.{AgreesWithPath, GoesBack, candida
 use Rattle.shard_checker.specs.Refusal.{Subject, first_of, owner_refusal, second_refusal}
 use Rattle.shard_checker.specs.Steps.{AreFilters, IsCompiled, IsSettled, filter_of, mask_in, masks_of, second_among}
 use Rattle.shard_checker.specs.Walking.{onward}
-use Rattle.shard_checker.specs.declared.error.CheckError.{CheckError}
 use Rattle.shard_checker.specs.declared.error.CheckError.TheVariants.{NotOwner}
 use Rattle.shard_checker.specs.declared.candidate_sets.AtomSets.{AtomSets}
 use Rattle.shard_checker.specs.declared.candidate_sets.CandidateSets.{CandidateSets}
@@ -217,7 +216,8 @@ module _ (subject : Subject) (formulas : Formulas) (path : Path) (masks : List M
   same_refusal None (Some share) h = absurd cc
   same_refusal (Some root) None h = absurd cc
   same_refusal (Some root) (Some share) h =
-      let same : mask_in masks root ≡ share_mask path share = same_Some (mask_in masks root) (share_mask path share) h in
+      let same : mask_in masks root ≡ share_mask path share =
+      same_Some (mask_in masks root) (share_mask path share) h in
       let seconds : second_refusal subject node (second_among number 0 (map (mask_in masks) formulas.roots.items))
       ≡ second_refusal subject node (second_owner number 0 subject.shares path) =
       ap (λ ms. second_refusal subject node (second_among number 0 ms)) same_masks

@@ -17,7 +17,8 @@ none_due : (is_empty : Test) (subject : Subject) (nodes : List Node) (number : �
 none_due is_empty subject [] number = refl
 none_due is_empty subject (node ∷ nodes) number = refl
 
-pub first_one_of : (one two three : Option CheckError) → first_of (first_of one two) three ≡ first_of one (first_of two three)
+pub first_one_of : (one two three : Option CheckError)
+    → first_of (first_of one two) three ≡ first_of one (first_of two three)
 first_one_of None two three = refl
 first_one_of (Some error) two three = refl
 
@@ -145,7 +146,8 @@ module _ (is_empty : Test) (subject : Subject) (nodes : List Node) (old : Place)
   whole_is_due new begins passes = ap (walk_from is_empty subject nodes) (sym begins) ∙ all_nodes ∙ passes.each []
       ∙ last_due new.due new.path
     where
-      last_due : (due : Option CheckError) (path : Option Path) → first_of due (walk is_empty subject [] path new.node) ≡ due
+      last_due : (due : Option CheckError) (path : Option Path)
+          → first_of due (walk is_empty subject [] path new.node) ≡ due
       last_due None path = refl
       last_due (Some error) path = refl
 

@@ -109,7 +109,8 @@ fn check_others<A: Allocator>(
 ) -> Result<(), CheckError>
     requires { leaf < 64 }
     ensures { Finds (second_refusal (subject_view subject.now) claim.node
-        (second_among claim.owner 0 (map (mask_in (all_at leaf masks.now)) subject.now.formulas.now.roots.items))) result }
+        (second_among claim.owner 0
+        (map (mask_in (all_at leaf masks.now)) subject.now.formulas.now.roots.items))) result }
 {
     match second_owner(claim.owner as usize, &subject.formulas.roots, masks, leaf) {
         None => Ok(()),

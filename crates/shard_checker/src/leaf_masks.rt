@@ -81,7 +81,8 @@ impl LeafMasks {
 
     /// As `Mask::and`, at each leaf.
     fn and(self, other: LeafMasks) -> LeafMasks
-        ensures { (leaf : ℕ) → spec.at_leaf leaf result ≡ lift_two and_of (spec.at_leaf leaf self) (spec.at_leaf leaf other) }
+        ensures { (leaf : ℕ) → spec.at_leaf leaf result
+            ≡ lift_two and_of (spec.at_leaf leaf self) (spec.at_leaf leaf other) }
     {
         let any = self.truth | self.falsity | self.null;
         let any_other = other.truth | other.falsity | other.null;
@@ -94,7 +95,8 @@ impl LeafMasks {
 
     /// As `Mask::or`, at each leaf.
     fn or(self, other: LeafMasks) -> LeafMasks
-        ensures { (leaf : ℕ) → spec.at_leaf leaf result ≡ lift_two or_of (spec.at_leaf leaf self) (spec.at_leaf leaf other) }
+        ensures { (leaf : ℕ) → spec.at_leaf leaf result
+            ≡ lift_two or_of (spec.at_leaf leaf self) (spec.at_leaf leaf other) }
     {
         let any = self.truth | self.falsity | self.null;
         let any_other = other.truth | other.falsity | other.null;

@@ -1,4 +1,3 @@
-use Rattle.std.proofs.Common.{ap, subst, ◌∙◌}
 use Rattle.shard_checker.specs.Refusal.{subject_view}
 use Rattle.shard_checker.proofs.ClaimLemmas.{recorded_due}
 use Rattle.shard_checker.proofs.WalkInvariantLemmas.{back_ready, goes_back}

@@ -1,4 +1,4 @@
-use Rattle.std.proofs.Common.{◌≡◌, ◌∙◌, List, ap, arith}
+use Rattle.std.proofs.Common.{◌∙◌, List, ap, arith}
 use Rattle.std.specs.Prelude.{slice_set}
 use Rattle.shard_checker.specs.LeafMasks.{all_at}
 use Rattle.shard_checker.specs.Steps.{mask_in}
