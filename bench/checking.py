@@ -1,4 +1,4 @@
-"""`check` on certificates of up to 1,000,000 nodes, for 32 ranges of a key and for large filters.
+"""`check` on certificates of up to 1,000,000 nodes, for 32 ranges of a key, for large filters and for the worst ones.
 
 A certificate of ranges tells them apart by halves, as `make` does. After 36 splits, where the first subscriber is found
 or no value is left, it splits by further bounds that tell nothing new and only make nodes: as many as are wanted, in a
@@ -8,6 +8,8 @@ In the other catalogs the last subscriber has the whole table, and all others ha
 since it also asks for a remainder by 1 that is 1. Their certificates split by that atom, and then by those of the
 filter.
 """
+
+import itertools
 
 import counting
 import families
@@ -175,6 +177,54 @@ def in_two_lists(size):
     return catalog.replace(" WHERE (n = n)", ""), f"s 59 e 1 {tree} n 59"
 
 
+FLAGS = 12
+
+
+def repeated_flag():
+    """OR of flags, the last of them 470 times: what is known changes for it at each leaf."""
+    return " OR ".join(["f0"] * 8 + [f"f{FLAGS - 1}"] * 470)
+
+
+def nested_flags(flags):
+    """OR of conditions in which these flags are nested by AND and OR, as deep as a filter may be."""
+    parts = []
+    for start in range(0, 420, 62):
+        part = flags[start % len(flags)]
+        for at in range(60):
+            part = f"({flags[(start + at + 1) % len(flags)]} {'OR' if at % 2 else 'AND'} {part})"
+        parts.append(f"({flags[-1]} AND {part})")
+    return " OR ".join(parts)
+
+
+def threes_of_flags():
+    """OR of many conditions that need the last flag and two others."""
+    pairs = list(itertools.combinations(range(FLAGS - 1), 2))
+    needed = [f"(f{FLAGS - 1} AND f{one} AND f{other})" for one, other in pairs]
+    return " OR ".join(needed + [f"(f{FLAGS - 1} AND NOT f{one} AND f{other})" for one, other in pairs[:40]])
+
+
+def by_flags(condition, splits):
+    """A catalog in which the first filter has this condition of flags, and the certificate in which each leaf is after
+    splits by so many of the last flags."""
+    columns = ", ".join(f"f{at} boolean" for at in range(FLAGS))
+    numbered = " AND ".join(f"f{at}" for at in range(FLAGS))
+    lines = [
+        f"CREATE TABLE t (id integer PRIMARY KEY, {columns});",
+        "ALTER TABLE t REPLICA IDENTITY FULL;",
+        f"CREATE PUBLICATION p0 FOR TABLE t WHERE (({numbered} OR {condition}) AND id % 1 = 1);",
+        "CREATE PUBLICATION p1 FOR TABLE t;",
+        *[f"CREATE SUBSCRIPTION s{at} CONNECTION '' PUBLICATION p{at};" for at in range(2)],
+    ]
+    tree = filled((3 ** (splits + 1) - 1) // 2, list(range(FLAGS - splits, FLAGS)), "o 1")
+    return "\n".join(lines) + "\n", f"s {FLAGS} e {FLAGS} {tree} n {FLAGS}"
+
+
+FLAG_CONDITIONS = {
+    "one of 12 flags 470 times": repeated_flag(),
+    "3 flags nested by AND and OR": nested_flags([f"f{at}" for at in range(FLAGS - 3, FLAGS)]),
+    "12 flags nested by AND and OR": nested_flags([f"f{at}" for at in range(FLAGS)]),
+    "threes of 12 flags": threes_of_flags(),
+}
 BOUNDS = 61
 KEYS = 100
 TEXTS = 52
@@ -196,6 +246,9 @@ def cases():
         yield f"lists of {KEYS} keys", "e 0", families.catalog(families.key_lists(SUBSCRIBERS, KEYS)), by_lists(size)
         yield "50 lists of remainders", "e 0", *below_lists(size)
         yield "59 lists of long texts", "e 0", *in_two_lists(size)
+    for words, condition in FLAG_CONDITIONS.items():
+        for splits in (9, FLAGS):
+            yield words, "o 1", *by_flags(condition, splits)
     yield "52 texts of 65,002 bytes", "o 1", whole_and_others(1, LONG, "note text"), beside_whole(10_000, 1, TEXTS, 1)
 
 
