@@ -1,21 +1,20 @@
 -- What frames that are heard one after another do: which one starts the stream, has a fault or ends it.
-use Rattle.std.proofs.Common.{◌≡◌, ℕ, ◌<◌, ◌≤◌, ◌==◌, min, max, Bool, true, false, if◌then◌else◌, List, [], ◌∷◌, ◌++◌, refl, sym, ap, subst, ◌∙◌, append_assoc}
+use Rattle.std.proofs.Common.{◌≡◌, ℕ, ◌<◌, ◌==◌, min, Bool, true, false, if◌then◌else◌, List, [], ◌∷◌, ◌++◌, length, refl, sym, ap, subst, ◌∙◌, append_assoc}
 use Rattle.std.specs.Prelude.{Option, Some, None, Result, Ok, Err, nat_lt, slice_get}
-use Rattle.std.proofs.Math.Nat.{le-max_left}
 use Rattle.std.proofs.lemmas.Bool.{eqb-true, ltb-true}
 use Rattle.shard_checker.specs.CheckedView.{CheckedOf}
-use Rattle.tables_log.specs.Slots.{end_after, confirmed_at, start_fault}
-use Rattle.tables_log.specs.declared.error.StartError.{StartError}
+use Rattle.tables_log.specs.BookView.{book_log, book_slots}
+use Rattle.tables_log.specs.Slots.{end_after}
+use Rattle.tables_log.specs.declared.book.Book.{Book}
 use Rattle.tables_log.specs.declared.slots.Slot.{Slot}
 use Rattle.copy_frames.specs.Contents.{status_in}
 use Rattle.copy_frames.specs.declared.frame.Frame.{Frame}
 use Rattle.copy_frames.specs.declared.status.Status.{Status}
 use Rattle.copy_both.specs.Events.{read_event, status_event, headed_event, data_event, is_end, event_of}
-use Rattle.copy_both.specs.HeardFrames.{IsFirst, IsAmong, IsLater, AsksFor, AsksIfStarted, IsStartedBy, HasEnd, Terminates, Ends, HasBadFrame, IsRefusedStart, IsStatus, HasStatusAhead, sent_then}
-use Rattle.copy_both.specs.Hearing.{HearingOf, Served, BeginOf, Begins, Refuses, begin_by, begin_of, begun, confirmed_by, ended_by, event_heard, frame_heard, frames_heard, is_over, is_over_by, next_heard, offer_in, unless_fault, unless_over, with_fault}
-use Rattle.copy_both.specs.Refusals.{ExpectedQuery, state_of}
-use Rattle.copy_both.specs.StartAnswers.{StartAnswerOf, Stream, Refused, asked_in, asked_of, text_in}
-use Rattle.copy_both.specs.StartOrder.{slot_name}
+use Rattle.copy_both.specs.HeardFrames.{IsFirst, IsAmong, IsLater, IsBookFor, begin_with, AsksFor, AsksIfStarted, IsStartedBy, HasEnd, Terminates, Ends, HasBadFrame, IsRefusedStart, IsAnsweredStart, IsStatus, HasStatusAhead, sent_then}
+use Rattle.copy_both.specs.Hearing.{HearingOf, Served, BeginOf, Begins, Refuses, begin_by, begin_of, begun, confirmed_by, ended_by, event_heard, frame_heard, frames_heard, is_over, is_over_by, next_heard, offer_in, unless_over, with_fault}
+use Rattle.copy_both.specs.Refusals.{ExpectedQuery, error_response, state_of}
+use Rattle.copy_both.specs.StartAnswers.{Refused, asked_in, asked_of, text_in}
 use Rattle.copy_both.specs.declared.event.Event.{Event}
 use Rattle.copy_both.specs.declared.event.Event.TheVariants as event
 use Rattle.copy_both.specs.declared.link_fault.LinkFault.{LinkFault}
@@ -253,69 +252,22 @@ later_runs served slot start (frame ∷ frames) h is going =
 
 -- ---- the first frame
 
--- a start requests its slot
-record Asks (served : Served) (kind : ℕ) (body : List ℕ) (slot start : ℕ) : Type 0 where
-  query : kind ≡ 81
-  position : ℕ
-  asks : asked_of (offer_in served) kind body ≡ Stream slot position
-  reached : position ≤ start
-
-record IsBegun (slot start position : ℕ) (asked : StartAnswerOf) : Type 0 where
-  asks : asked ≡ Stream slot position
-  reached : position ≤ start
-
-begun_unless : (f : Option StartError) (s confirmed position slot start : ℕ) (name : List ℕ)
-    → unless_fault f s (max position confirmed) name ≡ Begins slot start
-    → IsBegun slot start position (Stream s position)
-begun_unless (Some f) s confirmed position slot start name is = absurd cc
-begun_unless None s confirmed position slot start name is =
-    let same : s ≡ slot = cc in
-    let from : max position confirmed ≡ start = cc in
-    record {
-      asks = ap (λ n. Stream n position) same;
-      reached =
-          subst (λ n. position ≤ n) from (le-max_left position confirmed);
-    }
-
-begun_by : (served : Served) (slots : List Slot) (asked : StartAnswerOf) (slot start : ℕ)
-    → begin_by served slots asked ≡ Begins slot start → (position : ℕ) × IsBegun slot start position asked
-begun_by served slots (Refused refusal) slot start is = absurd cc
-begun_by served slots (Stream s position) slot start is = (
-  position,
-  begun_unless (start_fault slots (end_after served.commits) s position) s (confirmed_at slots s) position slot start
-      (slot_name served.checked.catalog.subscriptions s) is,
-)
-
-other_query : (kind : ℕ) (body : List ℕ) (slot position : ℕ) → Refused ExpectedQuery ≡ Stream slot position → ⊥
-other_query kind body slot position is = cc
-
-query_of : (served : Served) (kind : ℕ) (body : List ℕ) (slot position : ℕ)
-    → asked_of (offer_in served) kind body ≡ Stream slot position → kind ≡ 81
-unfolding asked_of
-query_of served kind body slot position is = by_test (kind == 81)
+-- a stream starts by a Query
+query_of : (served : Served) (slots : List Slot) (kind : ℕ) (body : List ℕ) (slot start : ℕ)
+    → begin_of served slots kind body ≡ Begins slot start → kind ≡ 81
+unfolding begin_of asked_of
+query_of served slots kind body slot start is = by_test (kind == 81)
     (λ yes. eqb-true kind 81 yes)
-    (λ no. absurd (other_query kind body slot position
-    (sym (ap (λ b. if b then asked_in (offer_in served) (text_in body) else Refused ExpectedQuery) no) ∙ is)))
-
-asks_of : (served : Served) (slots : List Slot) (kind : ℕ) (body : List ℕ) (slot start : ℕ)
-    → begin_of served slots kind body ≡ Begins slot start → Asks served kind body slot start
-unfolding begin_of
-asks_of served slots kind body slot start is =
-    let found = begun_by served slots (asked_of (offer_in served) kind body) slot start is in
-    record {
-      query = query_of served kind body slot found.0 found.1.asks;
-      position = found.0;
-      asks =
-          found.1.asks;
-      reached = found.1.reached;
-    }
+    (λ no. absurd (let wrong : Refuses ExpectedQuery ≡ Begins slot start =
+    sym (ap (λ b. begin_by served slots
+    (if b then asked_in (offer_in served) (text_in body) else Refused ExpectedQuery)) no) ∙ is in cc))
 
 -- the result of all frames
 pub data Comes (checked : CheckedOf) (frames : List Frame) (reach : ℕ) (last : HearingOf) : Type 0 where
   Comes_on : is_over last ≡ false → IsStartedBy checked frames last.started → Comes checked frames reach last
   Comes_bad : (f : LinkFault) → HasBadFrame frames f → last.fault ≡ Some f → Comes checked frames reach last
-  Comes_refused : (state : SqlState) → IsRefusedStart checked frames state → last.fault ≡ Some (fault.BadStart state)
-      → Comes checked frames reach last
+  Comes_refused : (state : SqlState) → IsAnsweredStart checked frames state last.response
+      → last.fault ≡ Some (fault.BadStart state) → Comes checked frames reach last
   Comes_ahead : HasStatusAhead frames reach → last.fault ≡ Some fault.StatusAhead → Comes checked frames reach last
   Comes_ended : (kind : ℕ) → HasEnd frames kind → last.fault ≡ None → last.heard.ended ≡ Some kind
       → Comes checked frames reach last
@@ -374,10 +326,9 @@ asks_more checked frames more slot start asks = record {
         ap (λ (x : List Frame). x ++ more) asks.first.frames_are;
   };
   query = asks.query;
-  commits = asks.commits;
-  position = asks.position;
-  asks = asks.asks;
-  reached = asks.reached;
+  book = asks.book;
+  is = asks.is;
+  begins = asks.begins;
 }
 
 pub asks_if_more : (checked : CheckedOf) (frames more : List Frame) (started : Option (ℕ × ℕ))
@@ -386,112 +337,114 @@ pub asks_if_more : (checked : CheckedOf) (frames more : List Frame) (started : O
 asks_if_more checked frames more None asks = tt
 asks_if_more checked frames more (Some started) asks = asks_more checked frames more started.0 started.1 asks
 
-abbrev RanFrom : Served → List Frame → Option (ℕ × ℕ) → ℕ → HearingOf → Type 0
-RanFrom served frames was sent last =
-    Ran served.checked frames (min (sent_then was sent last.started) (end_after served.commits)) last
-
 is_first : (frame : Frame) (frames : List Frame) → IsFirst frame (frame ∷ frames)
 is_first frame frames = record { others = frames; frames_are = refl }
 
-first_begins : (served : Served) (frame : Frame) (frames : List Frame) (h : HearingOf) → h.started ≡ None
-    → is_over h ≡ false → frame.kind == 88 ≡ false → (b : BeginOf)
-    → begin_of served h.slots frame.kind frame.body ≡ b
-    → RanFrom served (frame ∷ frames) None h.sent (frames_heard served (begun b h) frames)
-first_begins served frame frames h none going other (Begins slot start) is =
-    let next : HearingOf = begun (Begins slot start) h in
-    let last : HearingOf = frames_heard served next frames in
-    let still : last.started ≡ Some (slot, start) = frames_started served next frames (slot, start) refl in
-    let its : Asks served frame.kind frame.body slot start =
-    asks_of served h.slots frame.kind frame.body slot start is in
-    let asks : AsksFor served.checked (frame ∷ frames) slot start = record {
-      frame = frame;
-      first = is_first frame frames;
-      query = its.query;
-      commits = served.commits;
-      position = its.position;
-      asks = its.asks;
-      reached = its.reached;
-    } in
-    subst (λ (s : Option (ℕ × ℕ)). Ran served.checked (frame ∷ frames)
-    (min (sent_then None h.sent s) (end_after served.commits)) last) (sym still)
-    (from_later served.checked frame frames (frame ∷ frames) (min (first_sent start) (end_after served.commits)) last
-    slot start refl asks still
-    (later_runs served slot start frames next refl going))
-first_begins served frame frames h none going other (Refuses refusal) is =
-    let next : HearingOf = begun (Refuses refusal) h in
-    let stays : frames_heard served next frames ≡ next = over_stays served next frames refl in
-    record {
-      asks = subst (AsksIfStarted served.checked (frame ∷ frames))
-          (sym (ap (λ (x : HearingOf). x.started) stays ∙ none)) tt;
-      comes = Comes_refused (state_of refusal) (record {
+module _ (checked : CheckedOf) (book : Book) (is_for : IsBookFor checked book) where
+  abbrev lent : Served
+  lent = record { checked = checked; commits = length (book_log book) }
+
+  abbrev RanFrom : List Frame → Option (ℕ × ℕ) → ℕ → HearingOf → Type 0
+  RanFrom frames was sent last =
+      Ran checked frames (min (sent_then was sent last.started) (end_after (length (book_log book)))) last
+
+  first_begins : (frame : Frame) (frames : List Frame) (h : HearingOf) → h.started ≡ None → is_over h ≡ false
+      → h.response ≡ [] → frame.kind == 88 ≡ false → (b : BeginOf) → begin_with checked book frame ≡ b
+      → RanFrom (frame ∷ frames) None h.sent (frames_heard lent (begun b h) frames)
+  first_begins frame frames h none going silent other (Begins slot start) is =
+      let next : HearingOf = begun (Begins slot start) h in
+      let last : HearingOf = frames_heard lent next frames in
+      let still : last.started ≡ Some (slot, start) = frames_started lent next frames (slot, start) refl in
+      let asks : AsksFor checked (frame ∷ frames) slot start = record {
         frame = frame;
         first = is_first frame frames;
-        commits = served.commits;
-        slots = h.slots;
+        query = query_of lent (book_slots book) frame.kind frame.body slot start is;
+        book = book;
+        is = is_for;
+        begins = is;
+      } in
+      subst (λ (s : Option (ℕ × ℕ)). Ran checked (frame ∷ frames)
+      (min (sent_then None h.sent s) (end_after (length (book_log book)))) last) (sym still)
+      (from_later checked frame frames (frame ∷ frames) (min (first_sent start) (end_after (length (book_log book))))
+      last slot start refl asks still
+      (later_runs lent slot start frames next refl going))
+  first_begins frame frames h none going silent other (Refuses refusal) is =
+      let next : HearingOf = begun (Refuses refusal) h in
+      let stays : frames_heard lent next frames ≡ next = over_stays lent next frames refl in
+      let refused : IsRefusedStart checked (frame ∷ frames) (state_of refusal) = record {
+        frame = frame;
+        first = is_first frame frames;
+        book = book;
+        is = is_for;
         refusal = refusal;
         no_end = other;
         refuses = is;
         state_is = refl;
-      }) (ap (λ (x : HearingOf). x.fault) stays);
-    }
+      } in
+      record {
+        asks = subst (AsksIfStarted checked (frame ∷ frames)) (sym (ap (λ (x : HearingOf). x.started) stays ∙ none)) tt;
+        comes = Comes_refused (state_of refusal) (record {
+          refused = refused;
+          response_is = ap (λ (x : HearingOf). x.response) stays
+              ∙ ap (λ (x : List ℕ). x ++ error_response refusal) silent;
+        }) (ap (λ (x : HearingOf). x.fault) stays);
+      }
 
-first_ends : (served : Served) (frame : Frame) (frames : List Frame) (h : HearingOf) → h.started ≡ None
-    → is_over h ≡ false → frame.kind ≡ 88
-    → RanFrom served (frame ∷ frames) None h.sent (frames_heard served (ended_by 88 h) frames)
-first_ends served frame frames h none going is =
-    let stays : frames_heard served (ended_by 88 h) frames ≡ ended_by 88 h =
-    over_stays served (ended_by 88 h) frames (over_by_end h.fault 88) in
-    record {
-      asks = subst (AsksIfStarted served.checked (frame ∷ frames))
-          (sym (ap (λ (x : HearingOf). x.started) stays ∙ none)) tt;
-      comes =
-          Comes_ended 88 (Terminates frame (is_first frame frames) is refl)
-          (ap (λ (x : HearingOf). x.fault) stays ∙ fault_over h.fault h.heard.ended going)
-          (ap (λ (x : HearingOf). x.heard.ended) stays);
-    }
+  first_ends : (frame : Frame) (frames : List Frame) (h : HearingOf) → h.started ≡ None → is_over h ≡ false
+      → frame.kind ≡ 88 → RanFrom (frame ∷ frames) None h.sent (frames_heard lent (ended_by 88 h) frames)
+  first_ends frame frames h none going is =
+      let stays : frames_heard lent (ended_by 88 h) frames ≡ ended_by 88 h =
+      over_stays lent (ended_by 88 h) frames (over_by_end h.fault 88) in
+      record {
+        asks = subst (AsksIfStarted checked (frame ∷ frames)) (sym (ap (λ (x : HearingOf). x.started) stays ∙ none)) tt;
+        comes =
+            Comes_ended 88 (Terminates frame (is_first frame frames) is refl)
+            (ap (λ (x : HearingOf). x.fault) stays ∙ fault_over h.fault h.heard.ended going)
+            (ap (λ (x : HearingOf). x.heard.ended) stays);
+      }
 
-first_runs : (served : Served) (frames : List Frame) (h : HearingOf) → h.started ≡ None → is_over h ≡ false
-    → RanFrom served frames None h.sent (frames_heard served h frames)
-unfolding frames_heard
-first_runs served [] h none going = record {
-  asks = subst (AsksIfStarted served.checked []) (sym none) tt;
-  comes = Comes_on going (subst (IsStartedBy served.checked []) (sym none) refl);
-}
-first_runs served (frame ∷ frames) h none going =
-    let begins : BeginOf = begin_of served h.slots frame.kind frame.body in
-    let step : frame_heard served h frame ≡ (if frame.kind == 88 then ended_by 88 h else begun begins h) =
-    ap (λ over. unless_over over h (next_heard served frame h.started h)) going
-    ∙ ap (λ (s : Option (ℕ × ℕ)). next_heard served frame s h) none in
-    let Goal : HearingOf → Type 0 =
-    λ next. RanFrom served (frame ∷ frames) None h.sent (frames_heard served next frames) in
-    subst Goal (sym step)
-    (by_test (frame.kind == 88)
-    (λ yes. subst Goal (sym (ap (λ b. if b then ended_by 88 h else begun begins h) yes))
-    (first_ends served frame frames h none going (eqb-true frame.kind 88 yes)))
-    (λ no. subst Goal (sym (ap (λ b. if b then ended_by 88 h else begun begins h) no))
-    (first_begins served frame frames h none going no begins refl)))
+  first_runs : (frames : List Frame) (h : HearingOf) → h.started ≡ None → is_over h ≡ false → h.response ≡ []
+      → h.slots ≡ book_slots book → RanFrom frames None h.sent (frames_heard lent h frames)
+  unfolding frames_heard
+  first_runs [] h none going silent at = record {
+    asks = subst (AsksIfStarted checked []) (sym none) tt;
+    comes = Comes_on going (subst (IsStartedBy checked []) (sym none) refl);
+  }
+  first_runs (frame ∷ frames) h none going silent at =
+      let begins : BeginOf = begin_with checked book frame in
+      let step : frame_heard lent h frame ≡ (if frame.kind == 88 then ended_by 88 h else begun begins h) =
+      ap (λ over. unless_over over h (next_heard lent frame h.started h)) going
+      ∙ ap (λ (s : Option (ℕ × ℕ)). next_heard lent frame s h) none
+      ∙ ap (λ (slots : List Slot). if frame.kind == 88 then ended_by 88 h else
+      begun (begin_of lent slots frame.kind frame.body) h) at in
+      let Goal : HearingOf → Type 0 =
+      λ next. RanFrom (frame ∷ frames) None h.sent (frames_heard lent next frames) in
+      subst Goal (sym step)
+      (by_test (frame.kind == 88)
+      (λ yes. subst Goal (sym (ap (λ b. if b then ended_by 88 h else begun begins h) yes))
+      (first_ends frame frames h none going (eqb-true frame.kind 88 yes)))
+      (λ no. subst Goal (sym (ap (λ b. if b then ended_by 88 h else begun begins h) no))
+      (first_begins frame frames h none going silent no begins refl)))
 
-runs_by : (served : Served) (before frames : List Frame) (h : HearingOf) → is_over h ≡ false → (was : Option (ℕ × ℕ))
-    → h.started ≡ was
-    → IsStartedBy served.checked before was
-    → RanFrom served (before ++ frames) was h.sent (frames_heard served h frames)
-runs_by served before frames h going None is none =
-    subst (λ (x : List Frame). RanFrom served (x ++ frames) None h.sent (frames_heard served h frames)) (sym none)
-    (first_runs served frames h is going)
-runs_by served before frames h going (Some started) is asks =
-    let last : HearingOf = frames_heard served h frames in
-    from_later served.checked asks.frame (asks.first.others ++ frames) (before ++ frames)
-    (min h.sent (end_after served.commits)) last started.0 started.1
-    (ap (λ (x : List Frame). x ++ frames) asks.first.frames_are)
-    (asks_more served.checked before frames started.0 started.1 asks)
-    (frames_started served h frames started is)
-    (later_more (min h.sent (end_after served.commits)) asks.first.others frames last
-    (later_runs served started.0 started.1 frames h is going))
+  runs_by : (before frames : List Frame) (h : HearingOf) → is_over h ≡ false → h.response ≡ []
+      → h.slots ≡ book_slots book → (was : Option (ℕ × ℕ)) → h.started ≡ was → IsStartedBy checked before was
+      → RanFrom (before ++ frames) was h.sent (frames_heard lent h frames)
+  runs_by before frames h going silent at None is none =
+      subst (λ (x : List Frame). RanFrom (x ++ frames) None h.sent (frames_heard lent h frames)) (sym none)
+      (first_runs frames h is going silent at)
+  runs_by before frames h going silent at (Some started) is asks =
+      let last : HearingOf = frames_heard lent h frames in
+      let reach : ℕ = min h.sent (end_after (length (book_log book))) in
+      from_later checked asks.frame (asks.first.others ++ frames) (before ++ frames) reach last started.0 started.1
+      (ap (λ (x : List Frame). x ++ frames) asks.first.frames_are)
+      (asks_more checked before frames started.0 started.1 asks)
+      (frames_started lent h frames started is)
+      (later_more reach asks.first.others frames last (later_runs lent started.0 started.1 frames h is going))
 
--- the result of frames that are heard after others
-pub runs_on : (served : Served) (before frames : List Frame) (h : HearingOf) → is_over h ≡ false
-    → IsStartedBy served.checked before h.started
-    → Ran served.checked (before ++ frames)
-    (min (sent_then h.started h.sent (frames_heard served h frames).started) (end_after served.commits))
-    (frames_heard served h frames)
-runs_on served before frames h going started = runs_by served before frames h going h.started refl started
+  -- the result of frames that are heard after others
+  pub runs_on : (before frames : List Frame) (h : HearingOf) → is_over h ≡ false → h.response ≡ []
+      → h.slots ≡ book_slots book → IsStartedBy checked before h.started
+      → Ran checked (before ++ frames)
+      (min (sent_then h.started h.sent (frames_heard lent h frames).started) (end_after (length (book_log book))))
+      (frames_heard lent h frames)
+  runs_on before frames h going silent at started = runs_by before frames h going silent at h.started refl started

@@ -1,6 +1,6 @@
 -- What an ear has heard of all bytes since its first, after another piece.
 use Rattle.std.proofs.Common.{◌≡◌, ℕ, min, Bool, true, false, List, [], ◌∷◌, ◌++◌, length, take, drop, refl, sym, ap, subst, ◌∙◌, append_assoc, inl, inr}
-use Rattle.std.specs.Prelude.{Option, Some, None, Result, Ok, Err}
+use Rattle.std.specs.Prelude.{Option, Some, None, Result, Ok, Err, IfErr}
 use Rattle.std.proofs.lemmas.List.{take-append-drop}
 use Rattle.filter_tree.specs.Memory.{Answers}
 use Rattle.shard_checker.specs.CheckedView.{CheckedOf}
@@ -12,8 +12,8 @@ use Rattle.copy_frames.specs.declared.fault.FrameFault.{FrameFault}
 use Rattle.copy_frames.specs.declared.fault.FrameFault.TheVariants as frame
 use Rattle.copy_frames.specs.declared.frame.Frame.{Frame}
 use Rattle.copy_frames.proofs.PieceLemmas.{cut_more, more_after, rest_after}
-use Rattle.copy_both.specs.Ears.{ear_checked, ear_started, ear_heard, answer_in, HearLeaves, HearsPiece, Holds}
-use Rattle.copy_both.specs.HeardFrames.{TellsStart, start_told, frames_in, AsksIfStarted, IsStartedBy, HasHeard, HasEnd, HasBadFrame, HasFault, sent_then, reach_of, GoesOnOrEnds, Explains, HasHeardOn, NothingIsHeard, PiecesAreHeard}
+use Rattle.copy_both.specs.Ears.{ear_checked, ear_refusal, ear_started, ear_heard, answer_in, HearLeaves, HearsPiece, Holds}
+use Rattle.copy_both.specs.HeardFrames.{TellsStart, start_told, frames_in, IsAnswered, IsBookFor, AsksIfStarted, IsStartedBy, HasHeard, HasEnd, HasBadFrame, HasFault, sent_then, reach_of, GoesOnOrEnds, Explains, HasHeardOn, NothingIsHeard, PiecesAreHeard}
 use Rattle.copy_both.specs.Hearing.{HearingOf, Served, answer_by, answer_of, frames_heard, heard_told, is_over, is_over_by, link_fault, then_fault, unless_over, with_fault}
 use Rattle.copy_both.specs.Listening.{silence, Leaves, fed, resting, part_heard}
 use Rattle.copy_both.specs.Phases.{IsReady, phase_after, phase_by}
@@ -99,7 +99,7 @@ module _ (checked : CheckedOf) (frames : List Frame) (reach : ℕ) (last : Heari
       → answer_of (then_fault f last) ≡ Ok told → Answered checked frames f last told.ended
   ok_comes f told (Comes_on going started) is = ok_on f told going started is
   ok_comes f told (Comes_bad g bad some) is = absurd (wrong f told g some is)
-  ok_comes f told (Comes_refused state refused some) is = absurd (wrong f told (fault.BadStart state) some is)
+  ok_comes f told (Comes_refused state answered some) is = absurd (wrong f told (fault.BadStart state) some is)
   ok_comes f told (Comes_ahead says some) is = absurd (wrong f told fault.StatusAhead some is)
   ok_comes f told (Comes_ended kind ends none some) is =
       let stays : then_fault f last ≡ last = end_stays f last kind none some in
@@ -140,10 +140,10 @@ module _ (checked : CheckedOf) (bytes : List ℕ) (reach : ℕ) (last : HearingO
       subst (HasFault checked bytes reach)
       (same_fault (then_fault f last).fault other g (fault_stays f last other fails) some)
       (by_frame other (event_fault bad.frame other bad.fails) bad)
-  err_comes f g is (Comes_refused state refused fails) some =
+  err_comes f g is (Comes_refused state answered fails) some =
       subst (HasFault checked bytes reach)
       (same_fault (then_fault f last).fault (fault.BadStart state) g
-      (fault_stays f last (fault.BadStart state) fails) some) refused
+      (fault_stays f last (fault.BadStart state) fails) some) answered.refused
   err_comes f g is (Comes_ahead says fails) some =
       subst (HasFault checked bytes reach)
       (same_fault (then_fault f last).fault fault.StatusAhead g (fault_stays f last fault.StatusAhead fails) some)
@@ -151,10 +151,59 @@ module _ (checked : CheckedOf) (bytes : List ℕ) (reach : ℕ) (last : HearingO
   err_comes f g is (Comes_ended kind ends none so) some =
       absurd (some_is last.fault g (sym (ap (λ (x : HearingOf). x.fault) (end_stays f last kind none so)) ∙ some) none)
 
+  -- the response to a start that is refused
+  abbrev Has : LinkFault → Type 0
+  Has = IsAnswered checked (frames_in bytes) last.response
+
+  of_length : (f : FrameFault) → Has (link_fault f)
+  of_length frame.BadLength = tt
+  of_length frame.FrameTooLong = tt
+  of_length frame.OutOfMemory = tt
+
+  of_frame : (g : LinkFault) → IsEventFault g → Has g
+  of_frame fault.FrameTooLong so = tt
+  of_frame fault.BadLength so = tt
+  of_frame (fault.Unexpected byte) so = tt
+  of_frame (fault.BadStart state) so = absurd so
+  of_frame fault.StatusAhead so = tt
+  of_frame fault.Closed so = tt
+  of_frame fault.OutOfMemory so = tt
+
+  answered_on : (f : Option FrameFault) (g : LinkFault) → is_over last ≡ false → (then_fault f last).fault ≡ Some g
+      → Has g
+  answered_on None g going some = absurd (some_is last.fault g some (fault_over last.fault last.heard.ended going))
+  answered_on (Some f) g going some =
+      subst Has (same_fault (then_fault (Some f) last).fault (link_fault f) g (length_fault f last going) some)
+      (of_length f)
+
+  answered_comes : (f : Option FrameFault) (g : LinkFault) → Comes checked (frames_in bytes) reach last
+      → (then_fault f last).fault ≡ Some g → Has g
+  answered_comes f g (Comes_on going started) some = answered_on f g going some
+  answered_comes f g (Comes_bad other bad fails) some =
+      subst Has (same_fault (then_fault f last).fault other g (fault_stays f last other fails) some)
+      (of_frame other (event_fault bad.frame other bad.fails))
+  answered_comes f g (Comes_refused state answered fails) some =
+      subst Has (same_fault (then_fault f last).fault (fault.BadStart state) g
+      (fault_stays f last (fault.BadStart state) fails) some) answered
+  answered_comes f g (Comes_ahead says fails) some =
+      subst Has (same_fault (then_fault f last).fault fault.StatusAhead g
+      (fault_stays f last fault.StatusAhead fails) some) tt
+  answered_comes f g (Comes_ended kind ends none so) some =
+      absurd (some_is last.fault g (sym (ap (λ (x : HearingOf). x.fault) (end_stays f last kind none so)) ∙ some) none)
+
+same_response : (b : Bool) (one other : HearingOf) → other.response ≡ one.response
+    → (unless_over b one other).response ≡ one.response
+same_response true one other same = refl
+same_response false one other same = same
+
+fault_response : (f : Option FrameFault) (last : HearingOf) → (then_fault f last).response ≡ last.response
+fault_response None last = refl
+fault_response (Some f) last = same_response (is_over last) last (with_fault (link_fault f) last) refl
+
 -- ---- a piece
 
 module _ (bytes piece : List ℕ) (old new : Ear) (before after : Book) (sent : ℕ)
-    (has : HasHeard (ear_checked old) bytes old) where
+    (has : HasHeard (ear_checked old) bytes old) (is_for : IsBookFor (ear_checked old) before) where
   abbrev all : List ℕ
   all = bytes ++ piece
 
@@ -193,7 +242,8 @@ module _ (bytes piece : List ℕ) (old new : Ear) (before after : Book) (sent : 
 
   ran : Ran (ear_checked old) (frames_in all) (reached last.started) last
   ran = subst (λ (x : List Frame). Ran (ear_checked old) x (reached last.started) last) (sym all_frames)
-      (runs_on served (frames_in bytes) (frames_of whole) start refl has.started)
+      (runs_on (ear_checked old) before is_for (frames_in bytes) (frames_of whole) start refl ready.silent refl
+      has.started)
 
   total_started : (ear_heard old before piece sent).started ≡ last.started
   total_started = fault_started (fault_of whole) last
@@ -224,12 +274,14 @@ module _ (bytes piece : List ℕ) (old new : Ear) (before after : Book) (sent : 
   by_whole : ear_started new ≡ last.started → (result : Result Heard LinkFault)
       → TellsStart (ear_started old) (ear_started new) result
       → Explains (ear_checked old) all new (reach_of old new before sent) result
+      → IfErr result (IsAnswered (ear_checked old) (frames_in all) (ear_refusal new))
       → HasHeardOn (ear_checked old) all old new before sent result
-  by_whole is result tells explains = record {
+  by_whole is result tells explains answered = record {
     stays = λ s so. is ∙ frames_started served start (frames_of whole) s so;
     asks = subst (AsksIfStarted (ear_checked old) (frames_in all)) (sym is) ran.asks;
     tells = tells;
     explains = explains;
+    answered = answered;
   }
 
   -- the start that is reported
@@ -253,6 +305,9 @@ module _ (bytes piece : List ℕ) (old new : Ear) (before after : Book) (sent : 
       by_whole same (Err g) tt
       (subst (λ (n : ℕ). HasFault (ear_checked old) all n g) (reach_is same)
       (err_comes (ear_checked old) all (reached last.started) last (fault_of whole) g all_fault ran.comes some))
+      (subst (λ (x : List ℕ). IsAnswered (ear_checked old) (frames_in all) x g)
+      (sym (leaves.response ∙ fault_response (fault_of whole) last))
+      (answered_comes (ear_checked old) all (reached last.started) last (fault_of whole) g ran.comes some))
 
   -- memory was refused after the first few frames
   err_memory : (count : ℕ)
@@ -262,7 +317,7 @@ module _ (bytes piece : List ℕ) (old new : Ear) (before after : Book) (sent : 
       let some : List Frame = take count (frames_of whole) in
       let part : Ran (ear_checked old) (frames_in bytes ++ some) (reached (frames_heard served start some).started)
       (frames_heard served start some) =
-      runs_on served (frames_in bytes) some start refl has.started in
+      runs_on (ear_checked old) before is_for (frames_in bytes) some start refl ready.silent refl has.started in
       let left : List Frame = drop count (frames_of whole) in
       let split : (frames_in bytes ++ some) ++ left ≡ frames_in all =
       append_assoc (frames_in bytes) some left
@@ -276,6 +331,7 @@ module _ (bytes piece : List ℕ) (old new : Ear) (before after : Book) (sent : 
             (subst (AsksIfStarted (ear_checked old) (frames_in bytes ++ some)) (sym leaves.started) part.asks));
         tells = tt;
         explains = tt;
+        answered = tt;
       }
 
   by_result : (result : Result Heard LinkFault)
@@ -286,7 +342,7 @@ module _ (bytes piece : List ℕ) (old new : Ear) (before after : Book) (sent : 
       (ok_tells heard (left.leaves.started ∙ total_started) is)
       (ok_explained heard left
       (ok_comes (ear_checked old) (frames_in all) (reached last.started) last (fault_of whole) heard ran.comes
-      is))
+      is)) tt
   by_result (Err fault.OutOfMemory) is left = err_memory left.leaves
   by_result (Err fault.FrameTooLong) is left = err_whole fault.FrameTooLong left.leaves is
   by_result (Err fault.BadLength) is left = err_whole fault.BadLength left.leaves is
@@ -296,15 +352,15 @@ module _ (bytes piece : List ℕ) (old new : Ear) (before after : Book) (sent : 
   by_result (Err fault.Closed) is left = err_whole fault.Closed left.leaves is
 
 pub pieces_are_heard : PiecesAreHeard
-pieces_are_heard checked bytes piece old new before after sent result has answer left =
-    let Goal : CheckedOf → Type 0 = λ k. HasHeard k bytes old
+pieces_are_heard checked bytes piece old new before after sent result has is_for answer left =
+    let Goal : CheckedOf → Type 0 = λ k. HasHeard k bytes old → IsBookFor k before
     → HasHeardOn k (bytes ++ piece) old new before sent result in
-    let own : Goal (ear_checked old) = λ known.
-    by_result bytes piece old new before after sent known result
+    let own : Goal (ear_checked old) = λ known lent.
+    by_result bytes piece old new before after sent known lent result
     (subst (λ p. Answers (λ heard. heard) told_fault (answer_in p (ear_heard old before piece sent)) result)
     known.phase_is answer)
     (subst (λ p. HearLeaves p old new before after piece sent result) known.phase_is left) in
-    subst Goal has.checked_is own has
+    subst Goal has.checked_is own has is_for
 
 nothing_rests : rest_of (cut 65536 []) ≡ []
 unfolding cut

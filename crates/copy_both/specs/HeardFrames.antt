@@ -1,23 +1,22 @@
 -- What an ear has heard of all bytes since its first, in whatever pieces they came: which frame started the stream,
 -- which has a fault, and which ended the connection ("55.4. Streaming Replication Protocol", "55.7. Message
 -- Formats").
-use Rattle.std.specs.Prelude.{◌≡◌, ◌<◌, ◌≤◌, ◌⊎◌, ℕ, ◌==◌, min, true, false, List, [], ◌∷◌, ◌++◌, length, slice_get, Option, Some, None, Result, Ok, Err}
+use Rattle.std.specs.Prelude.{◌≡◌, ◌<◌, ◌⊎◌, ℕ, ◌==◌, min, true, false, List, [], ◌∷◌, ◌++◌, length, slice_get, Option, Some, None, Result, Ok, Err, IfErr}
 use Rattle.filter_tree.specs.Memory.{Answers}
 use Rattle.shard_checker.specs.CheckedView.{CheckedOf}
-use Rattle.tables_log.specs.BookView.{book_log}
+use Rattle.tables_log.specs.BookView.{book_checked, book_log, book_slots}
 use Rattle.tables_log.specs.Slots.{end_after}
+use Rattle.tables_log.specs.StandsFor.{Transaction, StandsFor}
 use Rattle.tables_log.specs.declared.book.Book.{Book}
-use Rattle.tables_log.specs.declared.slots.Slot.{Slot}
 use Rattle.copy_frames.specs.Contents.{status_in}
 use Rattle.copy_frames.specs.Frames.{cut, frames_of, rest_of, fault_in}
 use Rattle.copy_frames.specs.declared.fault.FrameFault.TheVariants as frame
 use Rattle.copy_frames.specs.declared.frame.Frame.{Frame}
 use Rattle.copy_frames.specs.declared.status.Status.{Status}
-use Rattle.copy_both.specs.Ears.{ear_checked, ear_phase, ear_started, ear_held, hear_answer, HearLeaves}
+use Rattle.copy_both.specs.Ears.{ear_checked, ear_phase, ear_started, ear_held, ear_refusal, hear_answer, HearLeaves}
 use Rattle.copy_both.specs.Events.{event_of, is_end}
-use Rattle.copy_both.specs.Hearing.{Refuses, begin_of, offer_in}
-use Rattle.copy_both.specs.Refusals.{RefusalOf, state_of}
-use Rattle.copy_both.specs.StartAnswers.{Stream, asked_of}
+use Rattle.copy_both.specs.Hearing.{BeginOf, Begins, Refuses, begin_of}
+use Rattle.copy_both.specs.Refusals.{RefusalOf, state_of, error_response}
 use Rattle.copy_both.specs.Streams.{first_sent}
 use Rattle.copy_both.specs.Voices.{told_fault}
 use Rattle.copy_both.specs.declared.ear.Ear.{Ear}
@@ -49,17 +48,26 @@ pub record IsLater (frame : Frame) (frames : List Frame) : Type 0 where
 
 -- ---- the start
 
--- the first frame is a Query that requests the stream of this slot, from a position that is not after where the stream
--- starts
+-- the book is of the checked catalog and of some list of transactions
+pub record IsBookFor (checked : CheckedOf) (book : Book) : Type 0 where
+  pub named : book_checked book ≡ checked
+  pub transactions : List Transaction
+  pub stands : StandsFor book transactions
+
+-- whether the book starts the stream that the frame requests: at the requested position, or at the slot's confirmed one
+-- if that is later
+abbrev pub begin_with : CheckedOf → Book → Frame → BeginOf
+begin_with checked book frame =
+    begin_of (record { checked = checked; commits = length (book_log book) }) (book_slots book) frame.kind frame.body
+
+-- the first frame is a Query by which the publisher's book, as it was then, starts the stream of this slot here
 pub record AsksFor (checked : CheckedOf) (frames : List Frame) (slot start : ℕ) : Type 0 where
   pub frame : Frame
   pub first : IsFirst frame frames
   pub query : frame.kind ≡ 81
-  pub commits : ℕ
-  pub position : ℕ
-  pub asks : asked_of (offer_in (record { checked = checked; commits = commits })) frame.kind frame.body
-      ≡ Stream slot position
-  pub reached : position ≤ start
+  pub book : Book
+  pub is : IsBookFor checked book
+  pub begins : begin_with checked book frame ≡ Begins slot start
 
 abbrev pub AsksIfStarted : CheckedOf → List Frame → Option (ℕ × ℕ) → Type 0
 AsksIfStarted checked frames None = Unit {0}
@@ -93,17 +101,27 @@ pub record HasBadFrame (frames : List Frame) (f : LinkFault) : Type 0 where
   pub later : IsLater frame frames
   pub fails : event_of frame.kind frame.body ≡ Err f
 
--- the first frame is not Terminate, `X`, and its start is refused with this, when the log had this number of commits
--- and the book these slots
+-- the first frame is not Terminate, `X`, and its start is refused with this by the publisher's book, as it was then
 pub record IsRefusedStart (checked : CheckedOf) (frames : List Frame) (state : SqlState) : Type 0 where
   pub frame : Frame
   pub first : IsFirst frame frames
-  pub commits : ℕ
-  pub slots : List Slot
+  pub book : Book
+  pub is : IsBookFor checked book
   pub refusal : RefusalOf
   pub no_end : frame.kind == 88 ≡ false
-  pub refuses : begin_of (record { checked = checked; commits = commits }) slots frame.kind frame.body ≡ Refuses refusal
+  pub refuses : begin_with checked book frame ≡ Refuses refusal
   pub state_is : state_of refusal ≡ state
+
+-- this is the ErrorResponse of its refusal
+pub record IsAnsweredStart (checked : CheckedOf) (frames : List Frame) (state : SqlState) (response : List ℕ) : Type 0
+  where
+    pub refused : IsRefusedStart checked frames state
+    pub response_is : response ≡ error_response refused.refusal
+
+-- a start that is refused has this response
+abbrev pub IsAnswered : CheckedOf → List Frame → List ℕ → LinkFault → Type 0
+IsAnswered checked frames response (fault.BadStart state) = IsAnsweredStart checked frames state response
+IsAnswered checked frames response other = Unit {0}
 
 -- CopyData, `d`, with `r` and this status
 pub record IsStatus (frame : Frame) (status : Status) : Type 0 where
@@ -161,13 +179,14 @@ TellsStart was now (Ok heard) = heard.started ≡ start_told was now
 TellsStart was now (Err f) = Unit {0}
 
 -- with the piece the ear has heard these bytes: a stream that started stays so, one is started as its command requests
--- and reported, and the answer is explained by the bytes
+-- and reported, the answer is explained by the bytes, and a start that is refused has its response
 pub record HasHeardOn (checked : CheckedOf) (bytes : List ℕ) (old new : Ear) (before : Book) (sent : ℕ)
     (result : Result Heard LinkFault) : Type 0 where
   pub stays : (started : ℕ × ℕ) → ear_started old ≡ Some started → ear_started new ≡ Some started
   pub asks : AsksIfStarted checked (frames_in bytes) (ear_started new)
   pub tells : TellsStart (ear_started old) (ear_started new) result
   pub explains : Explains checked bytes new (reach_of old new before sent) result
+  pub answered : IfErr result (IsAnswered checked (frames_in bytes) (ear_refusal new))
 
 -- ---- laws
 
@@ -178,6 +197,7 @@ NothingIsHeard = (ear : Ear) → ear_phase ear ≡ phase.Open → ear_started ea
 abbrev pub PiecesAreHeard : Type 0
 PiecesAreHeard = (checked : CheckedOf) (bytes piece : List ℕ) (old new : Ear) (before after : Book) (sent : ℕ)
     (result : Result Heard LinkFault)
-    → HasHeard checked bytes old → Answers (λ heard. heard) told_fault (hear_answer old before piece sent) result
+    → HasHeard checked bytes old → IsBookFor checked before
+    → Answers (λ heard. heard) told_fault (hear_answer old before piece sent) result
     → HearLeaves (ear_phase old) old new before after piece sent result
     → HasHeardOn checked (bytes ++ piece) old new before sent result

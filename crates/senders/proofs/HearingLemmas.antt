@@ -1,13 +1,16 @@
 -- What a listener has heard, piece by piece.
-use Rattle.std.proofs.Common.{◌≡◌, ◌≤◌, ℕ, List, [], ◌++◌, length, refl, sym, ◌∙◌, ap, subst, append_assoc, append-nil, arith}
+use Rattle.std.proofs.Common.{◌≡◌, ◌≤◌, ℕ, min, List, [], ◌++◌, length, refl, sym, ◌∙◌, ap, subst, append_assoc, append-nil, arith}
 use Rattle.std.specs.Prelude.{Bool, true, Option, Some, None, Result, Ok, Err, IfErr, slice_get}
 use Rattle.std.proofs.Math.Nat.{le-max_left}
 use Rattle.std.proofs.KnownBytes.{Consumes-nil, Consumes-trans}
-use Rattle.shard_checker.specs.CheckedView.{CheckedOf}
-use Rattle.tables_log.specs.BookView.{book_log}
+use Rattle.shard_checker.specs.CheckedView.{CheckedOf, setting_in}
+use Rattle.table_changes.specs.Tables.{no_rows}
+use Rattle.tables_log.specs.Slots.{end_after}
+use Rattle.tables_log.specs.StandsFor.{AreAccepted}
 use Rattle.tables_log.specs.declared.book.Book.{Book}
-use Rattle.copy_both.specs.Ears.{ear_refusal, ear_started, IsAnsweredBy}
-use Rattle.copy_both.specs.HeardFrames.{AsksIfStarted, GoesOnOrEnds, HasHeard, Explains, frames_in, reach_of, sent_then, IsStartedBy}
+use Rattle.tables_log.proofs.StandLemmas.{each_is_logged}
+use Rattle.copy_both.specs.Ears.{ear_refusal, ear_started}
+use Rattle.copy_both.specs.HeardFrames.{AsksIfStarted, GoesOnOrEnds, HasFault, HasHeard, Explains, IsAnswered, IsBookFor, frames_in, reach_of, sent_then, IsStartedBy}
 use Rattle.copy_both.specs.declared.ear.Ear.{Ear}
 use Rattle.copy_both.specs.declared.heard.Heard.{Heard}
 use Rattle.copy_both.specs.declared.link_fault.LinkFault.{LinkFault}
@@ -34,18 +37,21 @@ sent_from None None sent from stays = tt
 sent_from None (Some started) sent from stays = omega arith
 
 explained : (checked : CheckedOf) (bytes : List ℕ) (old new : Ear) (book : Book) (sent : ℕ)
-    (heard : Result Heard LinkFault) → IsSentFrom (ear_started old) sent → StaysStarted old new
-    → IfErr heard (λ fault. IsAnsweredBy fault [] (ear_refusal new))
+    (heard : Result Heard LinkFault) → IsBookFor checked book → IsSentFrom (ear_started old) sent
+    → StaysStarted old new → IfErr heard (IsAnswered checked (frames_in bytes) (ear_refusal new))
     → Explains checked bytes new (reach_of old new book sent) heard → IsExplained checked bytes new heard
-explained checked bytes old new book sent (Ok heard) from stays refused explains = explains
-explained checked bytes old new book sent (Err fault) from stays refused explains = record {
+explained checked bytes old new book sent (Ok heard) is from stays answered explains = explains
+explained checked bytes old new book sent (Err fault) is from stays answered explains = record {
   holds = record {
+    transactions = is.transactions;
+    accepted = subst (λ (c : CheckedOf). AreAccepted (setting_in c) no_rows is.transactions) is.named is.stands.accepted;
     sent = sent_then (ear_started old) sent (ear_started new);
-    commits = length (book_log book);
     from = sent_from (ear_started old) (ear_started new) sent from stays;
-    has = explains;
+    has = subst (λ (n : ℕ). HasFault checked bytes
+        (min (sent_then (ear_started old) sent (ear_started new)) (end_after n)) fault)
+        (each_is_logged book is.transactions is.stands) explains;
   };
-  answered = refused;
+  answered = answered;
 }
 
 from_first : (first : ℕ) (wish : Option Wish) → first ≤ sent_after first wish
@@ -57,18 +63,18 @@ from_start None wishes = tt
 from_start (Some started) wishes = from_first (first_sent started.1) (slice_get wishes started.0)
 
 pub hears_piece : (checked : CheckedOf) (before after : Listener) (old new : Book) (wishes : List Wish)
-    (heard : Result Heard LinkFault) → HeardPiece before after old new wishes heard
+    (heard : Result Heard LinkFault) → IsBookFor checked old → HeardPiece before after old new wishes heard
     → HearsPiece checked (piece_of before) before.ear after.ear heard
-hears_piece checked before after old new wishes heard did = record {
+hears_piece checked before after old new wishes heard is did = record {
   each = λ bytes has.
       let sent : ℕ = sent_by (ear_started before.ear) wishes in
-      let on = pieces_are_heard checked bytes (piece_of before) before.ear after.ear old new sent heard has
+      let on = pieces_are_heard checked bytes (piece_of before) before.ear after.ear old new sent heard has is
       did.answer did.left in
       record {
         stays = on.stays;
         asks = on.asks;
-        explained = explained checked (bytes ++ piece_of before) before.ear after.ear old sent heard
-            (from_start (ear_started before.ear) wishes) on.stays did.refused on.explains;
+        explained = explained checked (bytes ++ piece_of before) before.ear after.ear old sent heard is
+            (from_start (ear_started before.ear) wishes) on.stays on.answered on.explains;
       };
 }
 

@@ -21,30 +21,27 @@ use Rattle.senders.specs.declared.listener.Listener.{Listener}
 use Rattle.senders.proofs.ServingLemmas.{heard_cause}
 
 -- what was written for this end
-record Answered (before after : Option (List ℕ)) (failed : Bool) (why : End) : Type 0 where
+record Answered (checked : CheckedOf) (bytes : List ℕ) (before after : Option (List ℕ)) (failed : Bool) (why : End) :
+    Type 0 where
   written : List ℕ
   put : Appends before after written
-  answer : IsAnswer written failed why
+  answer : IsAnswer checked (frames_in bytes) written failed why
 
 module _ (checked : CheckedOf) (bytes : List ℕ) (source_failed source_ended : Bool) (before after : Option (List ℕ))
     (failed : Bool) (response : List ℕ) where
   by_fault : (f : LinkFault) → EndsFor checked bytes None response source_failed source_ended (listener_end.Fault f)
       → AnswersAs (listener_end.Fault f) before after failed response
-      → Answered before after failed (end.Link f)
-  by_fault (fault.BadStart state) ends answers =
-      let is = ends.answered in
-      record {
-        written = answers.written;
-        put = answers.put;
-        answer = record {
-          refusal = is.refusal;
-          state_is = is.state_is;
-          rest = answers.rest;
-          bytes = answers.bytes_are
-              ∙ is.response_is;
-          all = answers.all;
-        };
-      }
+      → Answered checked bytes before after failed (end.Link f)
+  by_fault (fault.BadStart state) ends answers = record {
+    written = answers.written;
+    put = answers.put;
+    answer = record {
+      start = ends.answered.refused;
+      rest = answers.rest;
+      bytes = answers.bytes_are ∙ ends.answered.response_is;
+      all = answers.all;
+    };
+  }
   by_fault fault.FrameTooLong ends answers = record { written = []; put = answers; answer = refl }
   by_fault fault.BadLength ends answers = record { written = []; put = answers; answer = refl }
   by_fault (fault.Unexpected byte) ends answers = record { written = []; put = answers; answer = refl }
@@ -53,7 +50,7 @@ module _ (checked : CheckedOf) (bytes : List ℕ) (source_failed source_ended : 
   by_fault fault.OutOfMemory ends answers = record { written = []; put = answers; answer = refl }
 
   answered : (why : ListenerEnd) → EndsFor checked bytes None response source_failed source_ended why
-      → AnswersAs why before after failed response → Answered before after failed (cause_by why)
+      → AnswersAs why before after failed response → Answered checked bytes before after failed (cause_by why)
   answered listener_end.SourceFailed ends answers = record { written = []; put = answers; answer = refl }
   answered listener_end.SourceEnded ends answers = record { written = []; put = answers; answer = refl }
   answered (listener_end.Frame kind) ends answers = record { written = []; put = answers; answer = refl }
@@ -62,7 +59,7 @@ module _ (checked : CheckedOf) (bytes : List ℕ) (source_failed source_ended : 
 module _ (checked : CheckedOf) (bytes : List ℕ) (source_failed source_ended : Bool) (before after : Option (List ℕ))
     (failed : Bool) (served : Served) (no_slot : served.slot ≡ None)
     (no_start : served.start ≡ None) (none : served.taken.items ≡ []) where
-  unstarted : Answered before after failed served.end
+  unstarted : Answered checked bytes before after failed served.end
       → IsCause checked bytes None source_failed source_ended failed served.end
       → IsServedFor checked bytes source_failed source_ended before after failed served
   unstarted answer cause = record {
@@ -96,7 +93,7 @@ served_refused checked left now_left source_failed source_ended before after fai
       bytes = bytes;
       read = at.hears.read;
       served_for = unstarted checked bytes source_failed source_ended before after failed served no_slot no_start none
-          (subst (Answered before after failed) (sym same)
+          (subst (Answered checked bytes before after failed) (sym same)
           (answered checked bytes source_failed source_ended before after failed (ear_refusal new.ear) why ends
           answers))
           (subst (IsCause checked bytes None source_failed source_ended failed) (sym same)
@@ -112,8 +109,8 @@ served_nothing checked left source_failed source_ended before failed served no_s
   bytes = [];
   read = Consumes-nil left;
   served_for = unstarted checked [] source_failed source_ended before before failed served no_slot no_start none
-      (subst (Answered before before failed) (sym same)
+      (subst (Answered checked [] before before failed) (sym same)
       (record { written = []; put = Appends-nil before; answer = refl }))
       (subst (IsCause checked [] None source_failed source_ended failed) (sym same)
-      (record { sent = 0; commits = 0; from = tt; has = tt }));
+      (record { transactions = []; accepted = tt; sent = 0; from = tt; has = tt }));
 }

@@ -1,10 +1,12 @@
 -- What a connection has heard of all bytes that were read from it: PostgreSQL 15, 55.4. Streaming Replication
 -- Protocol, and 55.7. Message Formats.
-use Rattle.std.specs.Prelude.{◌≡◌, ◌≤◌, ℕ, max, min, List, [], ◌++◌, slice_get, Option, Some, None, Result, Ok, Err}
-use Rattle.shard_checker.specs.CheckedView.{CheckedOf}
+use Rattle.std.specs.Prelude.{◌≡◌, ◌≤◌, ℕ, max, min, List, ◌++◌, length, slice_get, Option, Some, None, Result, Ok, Err}
+use Rattle.shard_checker.specs.CheckedView.{CheckedOf, setting_in}
+use Rattle.table_changes.specs.Tables.{no_rows}
 use Rattle.tables_log.specs.Slots.{end_after}
-use Rattle.copy_both.specs.Ears.{ear_started, ear_refusal, IsAnsweredBy}
-use Rattle.copy_both.specs.HeardFrames.{frames_in, AsksIfStarted, GoesOnOrEnds, HasHeard, HasFault}
+use Rattle.tables_log.specs.StandsFor.{Transaction, AreAccepted}
+use Rattle.copy_both.specs.Ears.{ear_started, ear_refusal}
+use Rattle.copy_both.specs.HeardFrames.{frames_in, AsksIfStarted, GoesOnOrEnds, HasHeard, HasFault, IsAnswered}
 use Rattle.copy_both.specs.Hearing.{first_sent}
 use Rattle.copy_both.specs.declared.ear.Ear.{Ear}
 use Rattle.copy_both.specs.declared.heard.Heard.{Heard}
@@ -26,13 +28,14 @@ abbrev pub sent_by : Option (ℕ × ℕ) → List Wish → ℕ
 sent_by None wishes = 0
 sent_by (Some started) wishes = sent_after (first_sent started.1) (slice_get wishes started.0)
 
--- The bytes have this fault, if the log has some number of commits, and some position from the start on was sent.
+-- The bytes have this fault, where the log is that of these transactions, and some position from the start on was sent.
 pub record HoldsFault (checked : CheckedOf) (bytes : List ℕ) (started : Option (ℕ × ℕ)) (fault : LinkFault) : Type 0
   where
+    pub transactions : List Transaction
+    pub accepted : AreAccepted (setting_in checked) no_rows transactions
     pub sent : ℕ
-    pub commits : ℕ
     pub from : IsSentFrom started sent
-    pub has : HasFault checked bytes (min sent (end_after commits)) fault
+    pub has : HasFault checked bytes (min sent (end_after (length transactions))) fault
 
 -- What was started stays so.
 abbrev pub StaysStarted : Ear → Ear → Type 0
@@ -42,7 +45,7 @@ StaysStarted old new = (started : ℕ × ℕ) → ear_started old ≡ Some start
 pub record Faults (checked : CheckedOf) (bytes : List ℕ) (started : Option (ℕ × ℕ)) (response : List ℕ)
     (fault : LinkFault) : Type 0 where
   pub holds : HoldsFault checked bytes started fault
-  pub answered : IsAnsweredBy fault [] response
+  pub answered : IsAnswered checked (frames_in bytes) response fault
 
 -- an ear hears on, or a frame ended the connection, or there is a fault
 abbrev pub IsExplained : CheckedOf → List ℕ → Ear → Result Heard LinkFault → Type 0

@@ -1,10 +1,10 @@
 -- What a listener does with what it reads: PostgreSQL 15, 55.4. Streaming Replication Protocol.
-use Rattle.std.specs.Prelude.{◌≡◌, ℕ, Bool, true, List, [], ◌++◌, length, take, Option, Some, None, Result, Ok, Err, IfErr}
+use Rattle.std.specs.Prelude.{◌≡◌, ℕ, Bool, true, List, ◌++◌, length, take, Option, Some, None, Result, Ok, Err}
 use Rattle.std.specs.Io.KnownBytes.{Consumes}
 use Rattle.filter_tree.specs.Memory.{Answers}
 use Rattle.shard_checker.specs.CheckedView.{CheckedOf}
 use Rattle.tables_log.specs.declared.book.Book.{Book}
-use Rattle.copy_both.specs.Ears.{HearLeaves, IsAnsweredBy, ear_phase, ear_refusal, ear_started, hear_answer}
+use Rattle.copy_both.specs.Ears.{HearLeaves, ear_phase, ear_refusal, ear_started, hear_answer}
 use Rattle.copy_both.specs.HeardFrames.{frames_in, AsksIfStarted, HasEnd, HasHeard}
 use Rattle.copy_both.specs.Voices.{told_fault}
 use Rattle.copy_both.specs.declared.ear.Ear.{Ear}
@@ -32,7 +32,6 @@ pub record HeardPiece (before after : Listener) (old new : Book) (wishes : List 
     Type 0 where
   pub answer : Answers (λ heard. heard) told_fault
       (hear_answer before.ear old (piece_of before) (sent_by (ear_started before.ear) wishes)) heard
-  pub refused : IfErr heard (λ fault. IsAnsweredBy fault [] (ear_refusal after.ear))
   pub left : HearLeaves (ear_phase before.ear) before.ear after.ear old new (piece_of before)
       (sent_by (ear_started before.ear) wishes) heard
   pub room : length after.piece.items ≡ length before.piece.items

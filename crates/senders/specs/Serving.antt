@@ -7,8 +7,8 @@ use Rattle.shard_checker.specs.CheckedView.{CheckedOf}
 use Rattle.tables_log.specs.Commits.{CommitOf}
 use Rattle.copy_frames.specs.Contents.{copy_done}
 use Rattle.copy_frames.specs.declared.frame.Frame.{Frame}
-use Rattle.copy_both.specs.HeardFrames.{AsksFor, HasEnd, frames_in}
-use Rattle.copy_both.specs.Refusals.{RefusalOf, error_response, state_of}
+use Rattle.copy_both.specs.HeardFrames.{AsksFor, HasEnd, IsRefusedStart, frames_in}
+use Rattle.copy_both.specs.Refusals.{error_response}
 use Rattle.copy_both.specs.Streams.{Move, count_before, stream}
 use Rattle.copy_both.specs.Tellings.{telling_of}
 use Rattle.copy_both.specs.VoiceLaws.{AreAt, Follow, takes_in}
@@ -50,29 +50,30 @@ pub record IsStream (checked : CheckedOf) (frames : List Frame) (slot start : �
   pub all : failed ≡ false → why ≢ end.Link fault.OutOfMemory → rest ≡ []
   pub whole : why ≡ end.Finished → IsTail rest last
 
--- The first bytes of one ErrorResponse were written, all but where the sink failed.
-pub record IsResponse (state : SqlState) (written : List ℕ) (failed : Bool) : Type 0 where
-  pub refusal : RefusalOf
-  pub state_is : state_of refusal ≡ state
+-- The first bytes of the ErrorResponse to a start that was refused were written, all but where the sink failed.
+pub record IsResponse (checked : CheckedOf) (frames : List Frame) (state : SqlState) (written : List ℕ)
+    (failed : Bool) : Type 0 where
+  pub start : IsRefusedStart checked frames state
   pub rest : List ℕ
-  pub bytes : written ++ rest ≡ error_response refusal
+  pub bytes : written ++ rest ≡ error_response start.refusal
   pub all : failed ≡ false → rest ≡ []
 
 -- where no stream was started, nothing is written but the response to a start that was refused
-abbrev pub IsAnswer : List ℕ → Bool → End → Type 0
-IsAnswer written failed (end.Link (fault.BadStart state)) = IsResponse state written failed
-IsAnswer written failed end.Finished = ⊥
-IsAnswer written failed other = written ≡ []
+abbrev pub IsAnswer : CheckedOf → List Frame → List ℕ → Bool → End → Type 0
+IsAnswer checked frames written failed (end.Link (fault.BadStart state)) = IsResponse checked frames state written failed
+IsAnswer checked frames written failed end.Finished = ⊥
+IsAnswer checked frames written failed other = written ≡ []
 
-pub record IsUnstarted (taken : List CommitOf) (written : List ℕ) (failed : Bool) (why : End) : Type 0 where
+pub record IsUnstarted (checked : CheckedOf) (frames : List Frame) (taken : List CommitOf) (written : List ℕ)
+    (failed : Bool) (why : End) : Type 0 where
   pub none : taken ≡ []
-  pub answer : IsAnswer written failed why
+  pub answer : IsAnswer checked frames written failed why
 
 -- a slot is reported together with a start
 abbrev pub IsWritten : CheckedOf → List Frame → Option ℕ → Option ℕ → List CommitOf → List ℕ → Bool → End → Type 0
 IsWritten checked frames (Some slot) (Some start) taken written failed why =
     IsStream checked frames slot start taken written failed why
-IsWritten checked frames None None taken written failed why = IsUnstarted taken written failed why
+IsWritten checked frames None None taken written failed why = IsUnstarted checked frames taken written failed why
 IsWritten checked frames (Some slot) None taken written failed why = ⊥
 IsWritten checked frames None (Some start) taken written failed why = ⊥
 

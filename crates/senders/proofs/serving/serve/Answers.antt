@@ -1,10 +1,17 @@
 use Rattle.std.proofs.Common.{[], ◌∙◌, subst}
 use Rattle.shard_checker.specs.CheckedView.{CheckedOf}
 use Rattle.copy_both.specs.HeardFrames.{HasHeard}
-use Rattle.senders.proofs.RefusedLemmas.{served_refused}
+use Rattle.senders.proofs.RefusedLemmas.{served_nothing, served_refused}
 use Rattle.senders.proofs.ServingLemmas.{served_ended, served_started}
 use Rattle.senders.proofs.serving.serve.Goals.{in-Refused, in-Ended, in-Started}
 use Rattle.senders.proofs.serving.serve.Goals as goal
+
+pub returns-in_default : goal.returns-in_default
+returns-in_default g c =
+    served_nothing g.P.Publishing.checked (g.S.Source.left c.args.reader.now)
+    (g.S.Source.has_failed c.args.reader.now) (g.S.Source.has_ended c.args.reader.now)
+    (g.W.Sink.taken c.args.writer.now) (g.W.Sink.has_failed c.args.writer.now) c.unstarted.result
+    c.unstarted.ensures.slot c.unstarted.ensures.start c.unstarted.ensures.taken c.unstarted.ensures.end
 
 pub returns : goal.returns
 returns g c =
