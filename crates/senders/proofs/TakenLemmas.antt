@@ -26,6 +26,7 @@ module _ (log : List CommitOf) (served : Served) (count : ℕ) (first : count �
   unfolding at_first
   taken_whole at whole =
       record {
+        within = omega (arith, whole, first);
         at = at_first at;
         whole = λ finished. let long =
             length-map served.taken.items (λ commit. arc_value commit) in omega (arith, whole, first, long);

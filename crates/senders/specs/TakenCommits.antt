@@ -1,6 +1,6 @@
 -- The commits that were taken up for a connection, and those of the log: PostgreSQL 15, 55.4. Streaming Replication
 -- Protocol.
-use Rattle.std.specs.Prelude.{◌≡◌, ℕ, ◌+◌, List, length, map, unwrap_or}
+use Rattle.std.specs.Prelude.{◌≡◌, ◌≤◌, ℕ, ◌+◌, List, length, map, unwrap_or}
 use Rattle.std.specs.Arc.{arc_value}
 use Rattle.copy_both.specs.Streams.{count_before}
 use Rattle.copy_both.specs.VoiceLaws.{AreAt}
@@ -15,7 +15,9 @@ first_of served = count_before (unwrap_or served.start 0)
 abbrev pub taken_of : Served → List CommitOf
 taken_of served = map (λ commit. arc_value commit) served.taken.items
 
--- Its commits are those of the log from its start on, and reach the log's end where it was finished.
+-- Its start is not after the log's end. Its commits are those of the log from its start on, and reach the log's end
+-- where it was finished.
 pub record IsTaken (log : List CommitOf) (served : Served) : Type 0 where
+  pub within : first_of served ≤ length log
   pub at : AreAt log (first_of served) (taken_of served)
   pub whole : served.end ≡ Finished → first_of served + length (taken_of served) ≡ length log

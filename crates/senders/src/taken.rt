@@ -51,18 +51,23 @@ fn are_next(book: &Book, count: u64, commits: &[Arc<Commit, Global>]) -> bool
     true
 }
 
-/// Whether the connection took the log's commits from its start on, up to the log's end if it was finished.
+/// Whether the connection's start is in the log, and it took the log's commits from there on, up to the log's end if it
+/// was finished.
 fn is_taken(book: &Book, served: &Served) -> bool
     ensures { MatchBool result (IsTaken (book_log book.now) served.now) (¬ IsTaken (book_log book.now) served.now) }
 {
     let count = commits_before(served);
+    let commits = u64::from(book.log_len());
+    if commits < count {
+        return false;
+    }
     if !are_next(book, count, served.taken.as_slice()) {
         return false;
     }
     if served.end != End::Finished {
         return true;
     }
-    count + served.taken.len() as u64 == u64::from(book.log_len())
+    count + served.taken.len() as u64 == commits
 }
 
 /// Whether each connection did.

@@ -15,4 +15,4 @@ returns c =
     (map (λ commit. arc_value commit) commits)) c.as_slice.ensures.value c.if-not-are_next.ensures in
     whole_or_short (book_log c.args.book.now) c.args.served.now c.commits_before-count.result
     c.commits_before-count.ensures.is at (search rules)
-    c.len.result c.from.result (search rules) (search rules) _ refl
+    c.len.result c.from-commits.result (search rules) (search rules) _ refl
