@@ -93,7 +93,7 @@ THREADS = Theorem("threads", [
     clauses("publisher_desk", "publisher.rt", "commit"),
     clauses("publisher_desk", "publisher.rt", "read"),
     clauses("publisher_desk", "publisher.rt", "next_step"),
-    clauses("publisher_desk", "publisher.rt", "lend"),
+    clauses("publisher_desk", "publisher.rt", "with_slots"),
     clauses("senders", "closing.rt", "close"),
     clauses("senders", "laws.rt", "closed_publishers_were_followed"),
 ], most=2600, tokens={
@@ -111,7 +111,7 @@ THREADS = Theorem("threads", [
     trait("senders", "source.rt", "Source"),
     trait("senders", "sink.rt", "Sink"),
     trait("publisher_desk", "naming.rt", "Publishing"),
-    trait("publisher_desk", "slot_use.rt", "SlotUse"),
+    trait("publisher_desk", "slot_task.rt", "SlotTask"),
     trait("publisher_desk", "desk.rt", "Desk"),
 ])
 

@@ -14,13 +14,13 @@ use Rattle.publisher_desk.specs.contracts.desk.Desk.TheInside as DI
 use Rattle.publisher_desk.specs.contracts.moved.Moved as Mo
 use Rattle.publisher_desk.specs.contracts.publisher.Publisher as P
 use Rattle.publisher_desk.specs.contracts.publisher.Publisher.TheInside as PI
-use Rattle.publisher_desk.specs.contracts.wish.Wish as W
+use Rattle.publisher_desk.specs.contracts.connection_state.ConnectionState as W
 use Rattle.publisher_desk.specs.contracts.seat.Seat as Se
 use Rattle.publisher_desk.proofs.history.History.TheSendSync as HS
 use Rattle.publisher_desk.proofs.seat.Seat.TheSendSync as SeS
 
-wish_send : IsSend W.the_row
-wish_send = search sendable depth 60
+connection_send : IsSend W.the_row
+connection_send = search sendable depth 60
 
 moved_sync : IsSync Mo.the_field.row
 moved_sync = search (sendable, crosses) depth 200 fits 3000 parts 0
@@ -28,8 +28,13 @@ moved_sync = search (sendable, crosses) depth 200 fits 3000 parts 0
 module _ (Q : RattleType) (p : pub_.Ghosts Q.Denot) (l : led.Ghosts Q.Denot) where
   pub desk_send : IsSend (D.the_row Q p l)
   desk_send = view_send _ _ _ _ _ (recorded_send (DI.the_field Q p l).row _ _ (DI.the_type Q p l).to_one
-      (struct_send (shape (DI.the_type Q p l))
-      (book_field_send, (LB.the_send Q l, (Vec-send W.the_row wish_send, (search sendable, (HS.the_send Q p l, tt)))))))
+      (struct_send (shape (DI.the_type Q p l)) (
+        book_field_send,
+        (
+          LB.the_send Q l,
+          (Vec-send W.the_row connection_send, (search sendable, (HS.the_send Q p l, tt))),
+        ),
+      )))
 
   publisher_field_sync : IsSync (PI.the_field Q p l).row
   publisher_field_sync = struct_sync (shape (PI.the_type Q p l)) (

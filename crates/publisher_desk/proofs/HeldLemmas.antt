@@ -30,12 +30,13 @@ use Rattle.publisher_desk.specs.Receipts.{transactions_of}
 use Rattle.publisher_desk.specs.Sights.{Sees, view_of}
 use Rattle.publisher_desk.specs.declared.sight.Sight.{Sight}
 use Rattle.publisher_desk.specs.declared.sight.View.{View}
-use Rattle.publisher_desk.specs.declared.wish.Wish.{Wish}
+use Rattle.publisher_desk.specs.declared.connection_state.ConnectionState.{ConnectionState}
 
-sent_longer : (wishes : List Wish) (commits more : ℕ) → commits ≤ more
-    → All (λ (wish : Wish). wish.sent ≤ end_after commits) wishes
-    → All (λ (wish : Wish). wish.sent ≤ end_after more) wishes
-sent_longer wishes commits more longer sent place wish low = let one = sent place wish low in omega (arith, one)
+sent_longer : (connections : List ConnectionState) (commits more : ℕ) → commits ≤ more
+    → All (λ (connection : ConnectionState). connection.sent ≤ end_after commits) connections
+    → All (λ (connection : ConnectionState). connection.sent ≤ end_after more) connections
+sent_longer connections commits more longer sent place other low =
+    let one = sent place other low in omega (arith, one)
 
 -- ---- the book
 
@@ -45,11 +46,12 @@ log_of checked book transactions named stands =
     subst (λ (one : CheckedOf). IsLogOf one transactions (book_log book)) named
     (record { accepted = stands.accepted; entries = stands.log })
 
-pub new_held : (one checked : CheckedOf) (book : Book) (limit most total count : ℕ) (idle : Wish) (wishes : List Wish)
+pub new_held : (one checked : CheckedOf) (book : Book) (limit most total count : ℕ) (idle : ConnectionState)
+    (connections : List ConnectionState)
     (history : View) → IsNew book one limit → one ≡ checked → limit ≡ most → total ≡ 0
-    → idle.sent ≡ 0 → wishes ≡ replicate count idle → count ≡ length checked.catalog.subscriptions
-    → history ≡ view_of true [] [] → IsHeldFor checked most book total wishes history
-new_held one checked book limit most total count idle wishes history new same bound none unsent all long empty =
+    → idle.sent ≡ 0 → connections ≡ replicate count idle → count ≡ length checked.catalog.subscriptions
+    → history ≡ view_of true [] [] → IsHeldFor checked most book total connections history
+new_held one checked book limit most total count idle connections history new same bound none unsent all long empty =
     let stands : StandsFor book [] = new_stands book one limit new in
     record {
       is = record {
@@ -60,17 +62,18 @@ new_held one checked book limit most total count idle wishes history new same bo
       };
       counted = ap length new.log ∙ sym none;
       slots = ap length all ∙ length-replicate count idle ∙ long;
-      sent = subst (All (λ (wish : Wish). wish.sent ≤ end_after (length (book_log book)))) (sym all)
-          (All-replicate (λ (wish : Wish). wish.sent ≤ end_after (length (book_log book))) count idle
+      sent = subst (All (λ (c : ConnectionState). c.sent ≤ end_after (length (book_log book)))) (sym all)
+          (All-replicate (λ (c : ConnectionState). c.sent ≤ end_after (length (book_log book))) count idle
           (omega (arith, unsent)));
       told = subst (IsHistoryOf book) (sym empty) (record { stands = stands; idle = refl });
     }
 
 pub commit_held : (checked : CheckedOf) (limit : ℕ) (old new : Book) (commands : List Command)
-    (time number total more : ℕ) (wishes : List Wish) (history longer : View) → Commits old new commands time number
+    (time number total more : ℕ) (connections : List ConnectionState) (history longer : View)
+    → Commits old new commands time number
     → more ≡ total + 1 → IsHistoryOf new longer
-    → IsHeldFor checked limit old total wishes history → IsHeldFor checked limit new more wishes longer
-commit_held checked limit old new commands time number total more wishes history longer commits one told held =
+    → IsHeldFor checked limit old total connections history → IsHeldFor checked limit new more connections longer
+commit_held checked limit old new commands time number total more connections history longer commits one told held =
     let count : length (book_log new) ≡ length (book_log old) + 1 = ap length commits.log
     ∙ length-append (book_log old) _ in
     record {
@@ -82,14 +85,15 @@ commit_held checked limit old new commands time number total more wishes history
       };
       counted = omega (arith, count, held.counted, one);
       slots = held.slots;
-      sent = sent_longer wishes (length (book_log old)) (length (book_log new)) (omega (arith, count)) held.sent;
+      sent = sent_longer connections (length (book_log old)) (length (book_log new)) (omega (arith, count)) held.sent;
       told = told;
     }
 
-slots_held : (checked : CheckedOf) (limit : ℕ) (old new : Book) (slots : List Slot) (total : ℕ) (wishes : List Wish)
+slots_held : (checked : CheckedOf) (limit : ℕ) (old new : Book) (slots : List Slot) (total : ℕ)
+    (connections : List ConnectionState)
     (history : View) → ChangesSlots old new slots
-    → IsHeldFor checked limit old total wishes history → IsHeldFor checked limit new total wishes history
-slots_held checked limit old new slots total wishes history changes held = record {
+    → IsHeldFor checked limit old total connections history → IsHeldFor checked limit new total connections history
+slots_held checked limit old new slots total connections history changes held = record {
   is = record {
     named = changes.checked ∙ held.is.named;
     limited = changes.limit ∙ held.is.limited;
@@ -98,19 +102,20 @@ slots_held checked limit old new slots total wishes history changes held = recor
   };
   counted = ap length changes.log ∙ held.counted;
   slots = held.slots;
-  sent = subst (λ log. All (λ (wish : Wish). wish.sent ≤ end_after (length log)) wishes) (sym changes.log) held.sent;
+  sent = subst (λ log. All (λ (c : ConnectionState). c.sent ≤ end_after (length log)) connections) (sym changes.log)
+      held.sent;
   told = record {
     stands = slots_keep_it old new slots changes (transactions_of history.all) held.told.stands;
     idle = held.told.idle;
   };
 }
 
-pub kept_held : (checked : CheckedOf) (limit : ℕ) (old new : Book) (total more : ℕ) (wishes : List Wish)
-    (history : View) → IsKept old new → more ≡ total → IsHeldFor checked limit old total wishes history
-    → IsHeldFor checked limit new more wishes history
-kept_held checked limit old new total more wishes history kept same held =
-    subst (λ (n : ℕ). IsHeldFor checked limit new n wishes history) (sym same)
-    (slots_held checked limit old new (book_slots old) total wishes history kept held)
+pub kept_held : (checked : CheckedOf) (limit : ℕ) (old new : Book) (total more : ℕ) (connections : List ConnectionState)
+    (history : View) → IsKept old new → more ≡ total → IsHeldFor checked limit old total connections history
+    → IsHeldFor checked limit new more connections history
+kept_held checked limit old new total more connections history kept same held =
+    subst (λ (n : ℕ). IsHeldFor checked limit new n connections history) (sym same)
+    (slots_held checked limit old new (book_slots old) total connections history kept held)
 
 -- ---- answers
 

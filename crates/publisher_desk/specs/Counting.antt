@@ -8,7 +8,7 @@ abbrev pub total_receipts : List (List Note) → ℕ
 total_receipts [] = 0
 total_receipts (seat ∷ seats) = receipts seat + total_receipts seats
 
--- Of so many seats in all, `left` were never handed out and these are handed in. They are no more than all seats, and
+-- Of all seats, `left` belong to no session, and these are passed in. They are no more than all seats, and
 -- have no more receipts than the log has commits. If no seat is held back, they have exactly as many.
 pub record IsCounted (all left : ℕ) (seats : List (List Note)) (commits : ℕ) : Type 0 where
   pub few : left + length seats ≤ all

@@ -1,4 +1,4 @@
--- What is so of a publisher's book each time that its lock is got: PostgreSQL 15, 3.4. Transactions, and "Logical
+-- What holds of a publisher's book each time that its lock is acquired: PostgreSQL 15, 3.4. Transactions, and "Logical
 -- Replication", 31.1 Publication.
 use Rattle.std.specs.Prelude.{◌≡◌, ℕ, ◌+◌, ◌≤◌, List, [], ◌∷◌, ◌++◌, All, length}
 use Rattle.shard_checker.specs.CheckedView.{CheckedOf, setting_in}
@@ -11,18 +11,18 @@ use Rattle.tables_log.specs.StandsFor.{Transaction, AreAccepted, StandsFor, entr
 use Rattle.tables_log.specs.declared.book.Book.{Book}
 use Rattle.publisher_desk.specs.Logged.{IsHistoryOf}
 use Rattle.publisher_desk.specs.declared.sight.View.{View}
-use Rattle.publisher_desk.specs.declared.wish.Wish.{Wish}
+use Rattle.publisher_desk.specs.declared.connection_state.ConnectionState.{ConnectionState}
 
 -- No client was sent the log past this position.
-abbrev pub AreSentUpTo : ℕ → List Wish → Type 0
-AreSentUpTo end wishes = All (λ (wish : Wish). wish.sent ≤ end) wishes
+abbrev pub AreSentUpTo : ℕ → List ConnectionState → Type 0
+AreSentUpTo end connections = All (λ (connection : ConnectionState). connection.sent ≤ end) connections
 
 -- The log is that of these transactions, each of which was accepted after those before it.
 pub record IsLogOf (checked : CheckedOf) (transactions : List Transaction) (log : List CommitOf) : Type 0 where
   pub accepted : AreAccepted (setting_in checked) no_rows transactions
   pub entries : log ≡ entries_from (setting_in checked) no_rows 1 transactions
 
--- The log was that of some transactions, and is that of these and of the one that was handed in, whose number is that
+-- The log was that of some transactions, and is that of these and of the one that was passed in, whose number is that
 -- of all.
 pub record AddsEntry (checked : CheckedOf) (old new : List CommitOf) (commands : List Command) (time number : ℕ) :
     Type 0 where
@@ -40,10 +40,10 @@ pub record IsBookOf (checked : CheckedOf) (limit : ℕ) (book : Book) : Type 0 w
 
 -- So is the book; the total is the number of its commits, no slot's client was sent the log past its end, and the
 -- history tells its transactions.
-pub record IsHeldFor (checked : CheckedOf) (limit : ℕ) (book : Book) (total : ℕ) (wishes : List Wish)
+pub record IsHeldFor (checked : CheckedOf) (limit : ℕ) (book : Book) (total : ℕ) (connections : List ConnectionState)
     (history : View) : Type 0 where
   pub is : IsBookOf checked limit book
   pub counted : length (book_log book) ≡ total
-  pub slots : length wishes ≡ length checked.catalog.subscriptions
-  pub sent : AreSentUpTo (end_after (length (book_log book))) wishes
+  pub slots : length connections ≡ length checked.catalog.subscriptions
+  pub sent : AreSentUpTo (end_after (length (book_log book))) connections
   pub told : IsHistoryOf book history

@@ -21,33 +21,34 @@ use Rattle.publisher_desk.specs.declared.note.Note.{Note}
 use Rattle.publisher_desk.specs.declared.sight.Sight.{Sight}
 use Rattle.publisher_desk.specs.declared.step.Step.{Step}
 use Rattle.publisher_desk.specs.declared.step.Step.TheVariants.{Entry, Skip, Reply, Ended, Finished, OutOfMemory}
-use Rattle.publisher_desk.specs.declared.wish.Wish.{Wish}
+use Rattle.publisher_desk.specs.declared.connection_state.ConnectionState.{ConnectionState}
 
 -- A user was lent a book of the checked catalog and of some list of transactions. It changed its slots, and did what
 -- is said of it.
-pub record IsLent {U A : Type 0} (did : U → U → Book → Book → List Wish → List Wish → A → Type 0)
+pub record IsLent {U A : Type 0} (did : U → U → Book → Book → List ConnectionState → List ConnectionState → A → Type 0)
     (checked : CheckedOf) (before after : U) (answer : A) : Type 0 where
   pub old : Book
   pub new : Book
-  pub wishes : List Wish
-  pub left : List Wish
+  pub connections : List ConnectionState
+  pub left : List ConnectionState
   pub named : book_checked old ≡ checked
   pub transactions : List Transaction
   pub stands : StandsFor old transactions
   pub slots : ChangesSlots old new (book_slots new)
-  pub sent : AreSentUpTo (end_after (length (book_log old))) wishes
-  pub does : did before after old new wishes left answer
+  pub sent : AreSentUpTo (end_after (length (book_log old))) connections
+  pub does : did before after old new connections left answer
 
 -- A user was lent a book of a log that has these notes.
-pub record IsLentTo {U A : Type 0} (did : U → U → Book → Book → List Wish → List Wish → A → Type 0)
-    (checked : CheckedOf) (notes : List Note) (before after : U) (answer : A) : Type 0 where
+pub record IsLentTo {U A : Type 0}
+    (did : U → U → Book → Book → List ConnectionState → List ConnectionState → A → Type 0) (checked : CheckedOf)
+    (notes : List Note) (before after : U) (answer : A) : Type 0 where
   pub lent : IsLent did checked before after answer
   pub log : List ReceiptOf
   pub log_is : transactions_of log ≡ lent.transactions
   pub noted : AreNoted (setting_in checked) log notes
 
 -- A user was lent a book of a log that the seat has then seen.
-pub record LendsTo {U A : Type 0} (did : U → U → Book → Book → List Wish → List Wish → A → Type 0)
+pub record LendsTo {U A : Type 0} (did : U → U → Book → Book → List ConnectionState → List ConnectionState → A → Type 0)
     (checked : CheckedOf) (before after : U) (answer : A) (old new : Sight) : Type 0 where
   pub lent : IsLent did checked before after answer
   pub log : List ReceiptOf
@@ -63,7 +64,7 @@ commits_in Ended = 0
 commits_in Finished = 0
 commits_in OutOfMemory = 0
 
--- What a step says of the log, for the sender of this slot that has told of all commits before this number. It tells of
+-- What a step says of the log, for the sender of this slot that has sent all commits before this number. It sends
 -- the log's entry of this number only if the slot's subscriber gets something of it. Otherwise it passes over that entry
 -- and those after it, up to the first of which the subscriber gets something, and at most 64.
 abbrev pub IsStepOf : PlanOf → ℕ → List CommitOf → ℕ → Step → Type 0

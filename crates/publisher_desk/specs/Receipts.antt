@@ -4,7 +4,7 @@ use Rattle.table_changes.specs.Commands.{Command}
 use Rattle.tables_log.specs.StandsFor.{Transaction}
 
 pub record ReceiptOf : Type 0 where
-  -- the number that the commit got
+  -- the number of the commit
   pub number : ℕ
   pub commands : List Command
   -- in microseconds since 2000-01-01

@@ -1,4 +1,4 @@
--- What refusals say of what was handed in, whatever rows there are: PostgreSQL 15, 3.4. Transactions, and Chapter 6
+-- What refusals say of what was passed in, whatever rows there are: PostgreSQL 15, 3.4. Transactions, and Chapter 6
 -- Data Manipulation.
 use Rattle.std.specs.Prelude.{◌≡◌, ℕ, ◌<◌, ◌≤◌, List, [], length}
 use Rattle.shard_checker.specs.CheckedView.{CheckedOf}

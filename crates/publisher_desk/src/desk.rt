@@ -8,14 +8,14 @@ ghost use Rattle.tables_log.specs.Logs.{entry_at};
 ghost use Rattle.publisher_desk.specs.Lending.{IsNext, IsStepOf, commits_in};
 
 use crate::auditing::audit_all;
+use crate::connection_state::ConnectionState;
 use crate::history::{History, Token};
 use crate::naming::Publishing;
 use crate::note::copy_found;
 use crate::receipt::Receipt;
 use crate::seat::Seat;
-use crate::slot_use::SlotUse;
+use crate::slot_task::SlotTask;
 use crate::step::Step;
-use crate::wish::Wish;
 use filter_tree::Row;
 use row_owners::OwnerSet;
 use shard_checker::Checked;
@@ -29,13 +29,13 @@ use tables_log::{Book, CommitError};
 /// Every so many commits a sender that is as many behind is woken, so that none waits twice as many behind.
 const TOGETHER: u32 = 32;
 
-/// The book, the ledger's total of its commits, what is wanted of each slot's connection, whether no further commit comes,
-/// and the history, which tells the book's transactions. Contracts see the log.
+/// The book, the ledger's total of its commits, the state of each slot's connection, whether there will be no further
+/// commit, and the history, which has the book's transactions. Contracts see the log.
 #[derive(Drop)]
 pub(crate) struct Desk<P: Publishing> {
     book: Book,
     counted: ledger::Book<P>,
-    wishes: Vec<Wish>,
+    connections: Vec<ConnectionState>,
     is_finished: bool,
     history: History<P>,
 }
@@ -50,7 +50,7 @@ impl<P: Publishing> Model for Desk<P> {
 
     ghost view = { λ d. book_log d.book };
 
-    ghost invariant = { λ d. IsHeldFor P.checked P.limit d.book d.counted.total d.wishes.items d.history };
+    ghost invariant = { λ d. IsHeldFor P.checked P.limit d.book d.counted.total d.connections.items d.history };
 }
 
 /// Makes the commands one commit of the book, and counts it in the ledger.
@@ -82,7 +82,7 @@ fn make_commit<P: Publishing>(
     }
 }
 
-/// The number of commits, and a copy of the row that the key names after them. The only error is want of memory.
+/// The number of commits, and a copy of the row that the key names after them. The only error is out of memory.
 fn look_up(
     alloc: Global,
     book: &Book,
@@ -107,9 +107,8 @@ fn commit_number(number: u64) -> Option<u32>
     u32::try_from(number).ok()
 }
 
-/// What the sender of the slot is told of the log next, where it has told of all commits before this number, and the
-/// number of the last commit of that; none at the log's end. The only errors are want of memory, and that a commit is
-/// shared too often.
+/// The next step of the slot's sender, which has sent all commits before this number, and the number of the last commit
+/// in it; none at the log's end. It fails only if memory is refused or a commit is shared too often.
 fn next_commits(book: &Book, slot: usize, number: u32) -> Result<Option<(Step, u32)>, AllocError>
     requires few { slot < 32 }
     requires some { 1 ≤ number }
@@ -166,17 +165,17 @@ impl<P: Publishing> Desk<P> {
         requires within { limit ≤ 1000000000 }
         ensures { IfOk result (λ desk. desk ≡ []) }
     {
-        let idle = Wish {
+        let idle = ConnectionState {
             sent: 0,
             wants_reply: false,
             has_ended: false,
         };
-        let wishes = vec![in alloc; idle; checked.catalog().subscriptions.len()]?;
+        let connections = vec![in alloc; idle; checked.catalog().subscriptions.len()]?;
         let book = Book::new(alloc, checked, limit)?;
         Ok(Desk {
             book,
             counted,
-            wishes,
+            connections,
             is_finished: false,
             history,
         })
@@ -228,7 +227,7 @@ impl<P: Publishing> Desk<P> {
     }
 
     /// The number of commits, and a copy of the row that the key names after them; they are no fewer than the share
-    /// counts, and the seat's token then has seen them all. The only error is want of memory.
+    /// counts, and the seat's token then has seen them all. The only error is out of memory.
     pub(crate) fn look(
         &mut self,
         alloc: Global,
@@ -253,30 +252,30 @@ impl<P: Publishing> Desk<P> {
         Ok(found)
     }
 
-    /// What the sender of the slot does next, where it has told of all commits before this number; none where it waits,
-    /// and then the log has no commit of this number. A reply that is wanted goes before an end. Of a number that no log
-    /// has it ends.
+    /// The next step of the slot's sender, which has sent all commits before this number; none if it has to wait, and then
+    /// the log has no commit of this number. A reply that was requested comes before an end. For a number that no log
+    /// has, the sender ends.
     ///
-    /// It tells of the commit of this number where the slot's subscriber gets something of it. Otherwise it passes over
-    /// that commit and those after it, up to the first of which the subscriber gets something, and at most 64.
+    /// It sends the commit of this number if the slot's subscriber gets something of it. Otherwise it passes over that
+    /// commit and those after it, up to the first of which the subscriber gets something, and at most 64.
     pub(crate) fn step(&mut self, slot: usize, number: u64) -> Option<Step>
         ensures log { self.new ≡ self.old }
         ensures entry { IfSome result (IsStepOf P.checked.plan slot self.old number) }
         ensures next { IfSome result (IsNext P.checked.plan slot number) }
         ensures waits { IfNone result (entry_at self.old number ≡ None) }
     {
-        let Some(wish) = self.wishes.get(slot).copied() else {
+        let Some(connection) = self.connections.get(slot).copied() else {
             return Some(Step::Ended);
         };
-        if wish.wants_reply {
-            self.wishes[slot] = Wish {
-                sent: wish.sent,
+        if connection.wants_reply {
+            self.connections[slot] = ConnectionState {
+                sent: connection.sent,
                 wants_reply: false,
-                has_ended: wish.has_ended,
+                has_ended: connection.has_ended,
             };
             return Some(Step::Reply);
         }
-        if wish.has_ended {
+        if connection.has_ended {
             return Some(Step::Ended);
         }
         let Some(number) = commit_number(number) else {
@@ -291,7 +290,7 @@ impl<P: Publishing> Desk<P> {
             }
             return None;
         };
-        self.wishes[slot] = Wish {
+        self.connections[slot] = ConnectionState {
             sent: 64 * u64::from(last) + 64,
             wants_reply: false,
             has_ended: false,
@@ -314,9 +313,9 @@ impl<P: Publishing> Desk<P> {
             return slots;
         }
         let end = 64 * u64::from(number) + 64;
-        for (slot, wish) in self.wishes.iter().enumerate() {
+        for (slot, connection) in self.connections.iter().enumerate() {
             if slot < 32 {
-                let commits = end.saturating_sub(wish.sent) / 64;
+                let commits = end.saturating_sub(connection.sent) / 64;
                 slots.put(slot, commits >= u64::from(TOGETHER));
             }
         }
@@ -326,24 +325,24 @@ impl<P: Publishing> Desk<P> {
     /// The slots whose sender has something to do beside commits.
     pub(crate) fn wanted(&self) -> OwnerSet {
         let mut slots = OwnerSet::none();
-        for (slot, wish) in self.wishes.iter().enumerate() {
+        for (slot, connection) in self.connections.iter().enumerate() {
             if slot < 32 {
-                slots.put(slot, wish.wants_reply || wish.has_ended);
+                slots.put(slot, connection.wants_reply || connection.has_ended);
             }
         }
         slots
     }
 
-    /// Lends the book, and what is wanted of each slot's connection.
-    pub(crate) fn lend<U: SlotUse>(&mut self, user: &mut U) -> U::Answer
+    /// Lets a task use the book and the state of each slot's connection.
+    pub(crate) fn with_slots<U: SlotTask>(&mut self, user: &mut U) -> U::Answer
         ensures log { self.new ≡ self.old }
         ensures lent { IsLent U.did P.checked user.old user.new result }
     {
-        user.use_slots(&mut self.book, self.wishes.as_mut_slice())
+        user.use_slots(&mut self.book, self.connections.as_mut_slice())
     }
 
-    /// Lends the book as `lend` does. The seat's token has then seen the whole history.
-    pub(crate) fn lend_to<U: SlotUse>(
+    /// Does what `with_slots` does. The seat's token has then seen the whole history.
+    pub(crate) fn with_slots_for<U: SlotTask>(
         &mut self,
         token: &mut Option<Token<P>>,
         user: &mut U,
@@ -351,12 +350,12 @@ impl<P: Publishing> Desk<P> {
         ensures log { self.new ≡ self.old }
         ensures lent { LendsTo U.did P.checked user.old user.new result (sight_of token.old) (sight_of token.new) }
     {
-        let answer = user.use_slots(&mut self.book, self.wishes.as_mut_slice());
+        let answer = user.use_slots(&mut self.book, self.connections.as_mut_slice());
         self.history.look(token);
         answer
     }
 
-    /// No further commit comes.
+    /// There will be no further commit.
     pub(crate) fn finish(&mut self)
         ensures { self.new ≡ self.old }
     {
@@ -364,7 +363,7 @@ impl<P: Publishing> Desk<P> {
     }
 
     /// The book, whose commits the ledger compares with the receipts of the seats, and whose transactions the history
-    /// compares with what the seats know. `rest` has the parts of the ledger of the seats that were never handed out.
+    /// compares with what the seats know. `rest` has the parts of the ledger of the seats that no session has.
     #[tactic(auto, using(crate::proofs::LoggedLemmas::logged_seats))]
     pub(crate) fn into_counted(self, rest: Share<P>, seats: &mut [Seat<P>]) -> Book
         requires none { rest.amount ≡ 0 }
@@ -376,7 +375,7 @@ impl<P: Publishing> Desk<P> {
         let Desk {
             book,
             mut counted,
-            wishes: _,
+            connections: _,
             is_finished: _,
             mut history,
         } = self;

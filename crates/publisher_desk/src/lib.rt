@@ -3,6 +3,7 @@
 #![tactic(auto)]
 
 mod auditing;
+mod connection_state;
 mod desk;
 mod history;
 mod laws;
@@ -16,10 +17,10 @@ mod receipt;
 mod seat;
 mod seats;
 mod sight;
-mod slot_use;
+mod slot_task;
 mod step;
-mod wish;
 
+pub use connection_state::ConnectionState;
 pub use laws::threads_share_publishers;
 pub use naming::Publishing;
 pub use note::{Note, Reading};
@@ -29,6 +30,5 @@ pub use read_fault::ReadFault;
 pub use receipt::Receipt;
 pub use seat::Seat;
 pub use seats::Seats;
-pub use slot_use::SlotUse;
+pub use slot_task::SlotTask;
 pub use step::Step;
-pub use wish::Wish;

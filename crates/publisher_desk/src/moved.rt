@@ -11,7 +11,7 @@ pub(crate) struct Moved {
 }
 
 impl Moved {
-    /// For so many senders. The only error is want of memory.
+    /// For this number of senders. The only error is out of memory.
     pub(crate) fn new(alloc: Global, senders: usize) -> Result<Moved, AllocError> {
         let mut slots = Vec::with_capacity(alloc, senders)?;
         for _ in 0..senders {
@@ -20,12 +20,12 @@ impl Moved {
         Ok(Moved { slots })
     }
 
-    /// What the sender of this slot waits for; none of a slot that isn't there.
+    /// What the sender of this slot waits for; none if there is no such slot.
     pub(crate) fn of(&self, slot: usize) -> Option<&Condvar> {
         self.slots.get(slot)
     }
 
-    /// Wakes the senders of these slots, where they wait.
+    /// Wakes the senders of these slots that wait.
     pub(crate) fn wake(&self, set: OwnerSet) {
         for (slot, moved) in self.slots.iter().enumerate() {
             if slot < 32 && set.has(slot) {

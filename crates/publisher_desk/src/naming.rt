@@ -1,4 +1,4 @@
-//! What contracts name a publisher by.
+//! How contracts name a publisher.
 
 ghost use Rattle.std.specs.Prelude.{ℕ};
 ghost use Rattle.shard_checker.specs.CheckedView.{CheckedOf};

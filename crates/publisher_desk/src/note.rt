@@ -23,7 +23,7 @@ pub enum Note {
     Looked(Reading),
 }
 
-/// A copy of the row, if there is one. The only error is want of memory.
+/// A copy of the row, if there is one. The only error is out of memory.
 pub(crate) fn copy_found(alloc: Global, found: Option<&Row>) -> Result<Option<Row>, AllocError>
     ensures { IfOk result (λ copy. copy ≡ option_map (λ row. row.now) found.entry) }
 {
@@ -34,7 +34,7 @@ pub(crate) fn copy_found(alloc: Global, found: Option<&Row>) -> Result<Option<Ro
 }
 
 impl Reading {
-    /// An equal reading, whose memory is taken from `alloc`. The only error is want of memory.
+    /// An equal reading, whose memory is taken from `alloc`. The only error is out of memory.
     pub fn copy(&self, alloc: Global) -> Result<Reading, AllocError>
         ensures { IfOk result (λ copy. copy ≡ self.now) }
     {

@@ -1,4 +1,4 @@
-//! What a publisher is made with.
+//! What a publisher is created from.
 
 ghost use Rattle.std.specs.Prelude.{◌≡◌, IfOk};
 
@@ -32,7 +32,7 @@ impl Model for Opening {
 }
 
 impl Opening {
-    /// A ledger without commits, and a history without receipts. The only error is want of memory.
+    /// A ledger without commits, and a history without receipts. The only error is out of memory.
     pub fn new(alloc: Global) -> Result<Opening, AllocError>
         ensures { IfOk result (λ opening. opening.parts ≡ 1000) }
     {

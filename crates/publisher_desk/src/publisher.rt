@@ -11,7 +11,7 @@ use crate::opening::Opening;
 use crate::read_fault::ReadFault;
 use crate::seat::Seat;
 use crate::seats::Seats;
-use crate::slot_use::SlotUse;
+use crate::slot_task::SlotTask;
 use crate::step::Step;
 use filter_tree::Row;
 use shard_checker::Checked;
@@ -63,7 +63,7 @@ impl<P: Publishing> Publisher<P> {
     ghost use Rattle.publisher_desk.specs.declared.note.Note.TheVariants.{Committed, Looked};
 
     /// A publisher without commits, whose log may have so many, and the seats of its sessions, 1,000. `opening` has the
-    /// ledger that counts the commits, and the history. The only error is want of memory.
+    /// ledger that counts the commits, and the history. The only error is out of memory.
     pub fn new(
         alloc: Global,
         opening: Opening,
@@ -206,12 +206,12 @@ impl<P: Publishing> Publisher<P> {
         &self.checked
     }
 
-    /// What the sender of the slot does next, where it has told of all commits before this number. It waits until there
-    /// is something to do. A reply that is wanted goes before an end. Of a slot that isn't there, and of a number that
-    /// no log has, it ends.
+    /// The next step of the slot's sender, which has sent all commits before this number. Waits until there is something
+    /// to do. A reply that was requested comes before an end. For a slot that does not exist, and for a number that no log
+    /// has, the sender ends.
     ///
-    /// It tells of the commit of this number where the slot's subscriber gets something of it. Otherwise it passes over
-    /// that commit and those after it, up to the first of which the subscriber gets something, and at most 64.
+    /// It sends the commit of this number if the slot's subscriber gets something of it. Otherwise it passes over that
+    /// commit and those after it, up to the first of which the subscriber gets something, and at most 64.
     pub fn next_step<R: Wait>(&self, rt: &R, slot: usize, number: u64) -> Step
         ensures { IsNext P.checked.plan slot number result }
     {
@@ -228,29 +228,29 @@ impl<P: Publishing> Publisher<P> {
         unreachable!()
     }
 
-    /// What the sender of the slot does next, as `next_step` says, if there is something to do now.
+    /// The next step of the slot's sender, as `next_step` says, if there is something to do now.
     pub fn step_now<R: Wait>(&self, rt: &R, slot: usize, number: u64) -> Option<Step>
         ensures { IfSome result (IsNext P.checked.plan slot number) }
     {
         self.desk.lock(rt).step(slot, number)
     }
 
-    /// Lends the book under the lock, and what is wanted of each slot's connection. The book is of the checked catalog,
-    /// and of some list of transactions.
-    pub fn lend<U: SlotUse, R: Wait>(&self, rt: &R, user: &mut U) -> U::Answer
+    /// Lets a task use the book and the state of each slot's connection, under the lock. The book is of the checked
+    /// catalog and of some list of transactions.
+    pub fn with_slots<U: SlotTask, R: Wait>(&self, rt: &R, user: &mut U) -> U::Answer
         ensures { IsLent U.did P.checked user.old user.new result }
     {
         let mut desk = self.desk.lock(rt);
-        let answer = desk.lend(user);
+        let answer = desk.with_slots(user);
         let wanted = desk.wanted();
         drop(desk);
         self.moved.wake(wanted);
         answer
     }
 
-    /// Lends the book under the lock, as `lend` does. Its log has all commits of the seat, and is no shorter than any that
-    /// the seat has read.
-    pub fn lend_to<U: SlotUse, R: Wait>(
+    /// Does what `with_slots` does, for a session. The book's log has all commits of the seat, and is no shorter than any
+    /// that the seat has read.
+    pub fn with_slots_for<U: SlotTask, R: Wait>(
         &self,
         rt: &R,
         seat: &mut Seat<P>,
@@ -266,21 +266,21 @@ impl<P: Publishing> Publisher<P> {
             token,
         } = seat;
         let mut desk = self.desk.lock(rt);
-        let answer = desk.lend_to(token, user);
+        let answer = desk.with_slots_for(token, user);
         let wanted = desk.wanted();
         drop(desk);
         self.moved.wake(wanted);
         answer
     }
 
-    /// No further commit comes: senders end when they have told of all.
+    /// There will be no further commit: senders end when they have sent all.
     pub fn finish<R: Wait>(&self, rt: &R) {
         self.desk.lock(rt).finish();
         self.moved.wake_all();
     }
 
     /// The book, when the sessions are over: it is of the checked catalog and of some list of transactions. `rest` are
-    /// the seats that were never handed out, and `seats` those that come back. The log has no fewer commits than these
+    /// the seats that no session has, and `seats` those of the sessions. The log has no fewer commits than these
     /// have receipts, and exactly as many if no seat is held back: the ledger of commits says so. Each receipt stands in
     /// the log at its number, no two have one number, and each reading is right: the history says so. It takes time for
     /// the notes of the seats.

@@ -7,7 +7,7 @@ ghost use Rattle.publisher_desk.specs.Receipts.{receipt_of};
 use std::marker::Model;
 use table_changes::Command;
 
-/// A receipt of a commit: the number that it got, and the commands and the time that were handed in.
+/// A receipt of a commit: its number, its commands and its time.
 #[derive(Debug, Drop)]
 pub struct Receipt {
     number: u32,

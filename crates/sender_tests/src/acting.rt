@@ -3,7 +3,7 @@
 use crate::board::{Board, TURNS, rest};
 use crate::rounds::Act;
 use crate::work::{Work, row_of};
-use publisher_desk::{SlotUse, Wish};
+use publisher_desk::{ConnectionState, SlotTask};
 use senders::{Publisher, Publishing, Seat};
 use std::alloc::{AllocError, Global};
 use std::sync::Wait;
@@ -21,14 +21,14 @@ struct HasEnded {
     slot: usize,
 }
 
-impl SlotUse for HasEnded {
+impl SlotTask for HasEnded {
     type Answer = bool;
 
     ghost did = { λ _ _ _ _ _ _ _. Unit {0} };
 
-    fn use_slots(&mut self, _book: &mut Book, wishes: &mut [Wish]) -> bool {
-        match wishes.get(self.slot) {
-            Some(wish) => wish.has_ended,
+    fn use_slots(&mut self, _book: &mut Book, connections: &mut [ConnectionState]) -> bool {
+        match connections.get(self.slot) {
+            Some(connection) => connection.has_ended,
             None => false,
         }
     }
@@ -42,7 +42,7 @@ fn ends<P: Publishing, R: Wait + Clock>(
     slot: usize,
 ) -> bool {
     for turn in 0..TURNS {
-        if publisher.lend(rt, &mut HasEnded { slot }) {
+        if publisher.with_slots(rt, &mut HasEnded { slot }) {
             return true;
         }
         if !board.is_fine() {

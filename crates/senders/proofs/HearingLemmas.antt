@@ -16,7 +16,7 @@ use Rattle.copy_both.specs.declared.heard.Heard.{Heard}
 use Rattle.copy_both.specs.declared.link_fault.LinkFault.{LinkFault}
 use Rattle.copy_both.proofs.PiecesHeard.{pieces_are_heard}
 use Rattle.copy_both.specs.Hearing.{first_sent}
-use Rattle.publisher_desk.specs.declared.wish.Wish.{Wish}
+use Rattle.publisher_desk.specs.declared.connection_state.ConnectionState.{ConnectionState}
 use Rattle.senders.specs.Hearing.{HearsPiece, IsExplained, IsSentFrom, StaysStarted, sent_after, sent_by}
 use Rattle.senders.specs.Listening.{EndsOf, HeardPiece, HearsLast, HearsMore, HearsNext, next_by, next_by_end, piece_of}
 use Rattle.senders.specs.declared.failed.Failed.{Failed}
@@ -44,7 +44,8 @@ explained checked bytes old new book sent (Ok heard) is from stays answered expl
 explained checked bytes old new book sent (Err fault) is from stays answered explains = record {
   holds = record {
     transactions = is.transactions;
-    accepted = subst (λ (c : CheckedOf). AreAccepted (setting_in c) no_rows is.transactions) is.named is.stands.accepted;
+    accepted = subst (λ (c : CheckedOf). AreAccepted (setting_in c) no_rows is.transactions) is.named
+        is.stands.accepted;
     sent = sent_then (ear_started old) sent (ear_started new);
     from = sent_from (ear_started old) (ear_started new) sent from stays;
     has = subst (λ (n : ℕ). HasFault checked bytes
@@ -54,27 +55,28 @@ explained checked bytes old new book sent (Err fault) is from stays answered exp
   answered = answered;
 }
 
-from_first : (first : ℕ) (wish : Option Wish) → first ≤ sent_after first wish
+from_first : (first : ℕ) (connection : Option ConnectionState) → first ≤ sent_after first connection
 from_first first None = omega arith
-from_first first (Some wish) = le-max_left first wish.sent
+from_first first (Some connection) = le-max_left first connection.sent
 
-from_start : (started : Option (ℕ × ℕ)) (wishes : List Wish) → IsSentFrom started (sent_by started wishes)
-from_start None wishes = tt
-from_start (Some started) wishes = from_first (first_sent started.1) (slice_get wishes started.0)
+from_start : (started : Option (ℕ × ℕ)) (connections : List ConnectionState)
+    → IsSentFrom started (sent_by started connections)
+from_start None connections = tt
+from_start (Some started) connections = from_first (first_sent started.1) (slice_get connections started.0)
 
-pub hears_piece : (checked : CheckedOf) (before after : Listener) (old new : Book) (wishes : List Wish)
-    (heard : Result Heard LinkFault) → IsBookFor checked old → HeardPiece before after old new wishes heard
+pub hears_piece : (checked : CheckedOf) (before after : Listener) (old new : Book) (connections : List ConnectionState)
+    (heard : Result Heard LinkFault) → IsBookFor checked old → HeardPiece before after old new connections heard
     → HearsPiece checked (piece_of before) before.ear after.ear heard
-hears_piece checked before after old new wishes heard is did = record {
+hears_piece checked before after old new connections heard is did = record {
   each = λ bytes has.
-      let sent : ℕ = sent_by (ear_started before.ear) wishes in
+      let sent : ℕ = sent_by (ear_started before.ear) connections in
       let on = pieces_are_heard checked bytes (piece_of before) before.ear after.ear old new sent heard has is
       did.answer did.left in
       record {
         stays = on.stays;
         asks = on.asks;
         explained = explained checked (bytes ++ piece_of before) before.ear after.ear old sent heard is
-            (from_start (ear_started before.ear) wishes) on.stays on.answered on.explains;
+            (from_start (ear_started before.ear) connections) on.stays on.answered on.explains;
       };
 }
 

@@ -11,7 +11,7 @@ use Rattle.copy_both.specs.Hearing.{first_sent}
 use Rattle.copy_both.specs.declared.ear.Ear.{Ear}
 use Rattle.copy_both.specs.declared.heard.Heard.{Heard}
 use Rattle.copy_both.specs.declared.link_fault.LinkFault.{LinkFault}
-use Rattle.publisher_desk.specs.declared.wish.Wish.{Wish}
+use Rattle.publisher_desk.specs.declared.connection_state.ConnectionState.{ConnectionState}
 
 -- A sent position is not before the start of the stream, which is 64 for a start at 0.
 abbrev pub IsSentFrom : Option (ℕ × ℕ) → ℕ → Type 0
@@ -20,13 +20,13 @@ IsSentFrom (Some started) sent = first_sent started.1 ≤ sent
 
 -- the sent position that statuses are compared with: that up to which the slot's client was sent the log, by what its
 -- sender was given, or the first position of the stream if that is greater
-abbrev pub sent_after : ℕ → Option Wish → ℕ
+abbrev pub sent_after : ℕ → Option ConnectionState → ℕ
 sent_after first None = first
-sent_after first (Some wish) = max first wish.sent
+sent_after first (Some connection) = max first connection.sent
 
-abbrev pub sent_by : Option (ℕ × ℕ) → List Wish → ℕ
-sent_by None wishes = 0
-sent_by (Some started) wishes = sent_after (first_sent started.1) (slice_get wishes started.0)
+abbrev pub sent_by : Option (ℕ × ℕ) → List ConnectionState → ℕ
+sent_by None connections = 0
+sent_by (Some started) connections = sent_after (first_sent started.1) (slice_get connections started.0)
 
 -- The bytes have this fault, where the log is that of these transactions, and some position from the start on was sent.
 pub record HoldsFault (checked : CheckedOf) (bytes : List ℕ) (started : Option (ℕ × ℕ)) (fault : LinkFault) : Type 0

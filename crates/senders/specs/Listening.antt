@@ -10,7 +10,7 @@ use Rattle.copy_both.specs.Voices.{told_fault}
 use Rattle.copy_both.specs.declared.ear.Ear.{Ear}
 use Rattle.copy_both.specs.declared.heard.Heard.{Heard}
 use Rattle.copy_both.specs.declared.link_fault.LinkFault.{LinkFault}
-use Rattle.publisher_desk.specs.declared.wish.Wish.{Wish}
+use Rattle.publisher_desk.specs.declared.connection_state.ConnectionState.{ConnectionState}
 use Rattle.senders.specs.Hearing.{Faults, StaysStarted, sent_by}
 use Rattle.senders.specs.declared.stream_start.StreamStart.{StreamStart}
 use Rattle.senders.specs.declared.stream_start.StreamStart.TheVariants as stream_start
@@ -27,13 +27,13 @@ use Rattle.senders.specs.declared.next.Next.TheVariants as next
 abbrev pub piece_of : Listener → List ℕ
 piece_of listener = take listener.filled listener.piece.items
 
--- The ear heard the piece, with the sent position that the wishes have.
-pub record HeardPiece (before after : Listener) (old new : Book) (wishes : List Wish) (heard : Result Heard LinkFault) :
-    Type 0 where
+-- The ear heard the piece, with the sent position of the slot's connection.
+pub record HeardPiece (before after : Listener) (old new : Book) (connections : List ConnectionState)
+    (heard : Result Heard LinkFault) : Type 0 where
   pub answer : Answers (λ heard. heard) told_fault
-      (hear_answer before.ear old (piece_of before) (sent_by (ear_started before.ear) wishes)) heard
+      (hear_answer before.ear old (piece_of before) (sent_by (ear_started before.ear) connections)) heard
   pub left : HearLeaves (ear_phase before.ear) before.ear after.ear old new (piece_of before)
-      (sent_by (ear_started before.ear) wishes) heard
+      (sent_by (ear_started before.ear) connections) heard
   pub room : length after.piece.items ≡ length before.piece.items
 
 -- ---- outside of it

@@ -7,7 +7,7 @@ ghost use Rattle.senders.specs.Hearing.{sent_by};
 use crate::failed::Failed;
 use crate::source::Source;
 use copy_both::{Ear, Heard, LinkFault};
-use publisher_desk::{Publisher, Publishing, SlotUse, Wish};
+use publisher_desk::{ConnectionState, Publisher, Publishing, SlotTask};
 use shard_checker::Checked;
 use std::alloc::{AllocError, Global};
 use std::sync::Arc;
@@ -41,21 +41,25 @@ fn first_position(start: u64) -> u64
 
 /// The sent position that statuses are compared with: that up to which the slot's client was sent the log, or the
 /// stream's first position if that is greater.
-fn sent_position(started: Option<(usize, u64)>, wishes: &[Wish]) -> u64
-    ensures { result ≡ sent_by started wishes.now }
+fn sent_position(started: Option<(usize, u64)>, connections: &[ConnectionState]) -> u64
+    ensures { result ≡ sent_by started connections.now }
 {
     let Some((slot, start)) = started else {
         return 0;
     };
     let first = first_position(start);
-    match wishes.get(slot) {
+    match connections.get(slot) {
         None => first,
-        Some(wish) => first.max(wish.sent),
+        Some(connection) => first.max(connection.sent),
     }
 }
 
 /// The state of a connection after a piece was heard, which may have started its stream, and may have ended it.
-fn wish_after(old: Wish, begins: bool, heard: &Result<Heard, LinkFault>) -> Wish
+fn connection_after(
+    old: ConnectionState,
+    begins: bool,
+    heard: &Result<Heard, LinkFault>,
+) -> ConnectionState
     ensures { result.sent ≤ old.sent }
 {
     let (wants_reply, ends) = match heard {
@@ -63,13 +67,13 @@ fn wish_after(old: Wish, begins: bool, heard: &Result<Heard, LinkFault>) -> Wish
         Err(_) => (false, true),
     };
     if begins {
-        return Wish {
+        return ConnectionState {
             sent: 0,
             wants_reply,
             has_ended: ends,
         };
     }
-    Wish {
+    ConnectionState {
         sent: old.sent,
         wants_reply: old.wants_reply || wants_reply,
         has_ended: old.has_ended || ends,
@@ -140,22 +144,23 @@ impl Listener {
     }
 }
 
-impl SlotUse for Listener {
+impl SlotTask for Listener {
     ghost use Rattle.senders.specs.Listening.{HeardPiece};
 
     type Answer = Listened;
 
-    ghost did = { λ before after old new wishes left listened. HeardPiece before after old new wishes listened.heard };
+    ghost did = { λ before after old new connections left listened.
+        HeardPiece before after old new connections listened.heard };
 
-    fn use_slots(&mut self, book: &mut Book, wishes: &mut [Wish]) -> Listened {
+    fn use_slots(&mut self, book: &mut Book, connections: &mut [ConnectionState]) -> Listened {
         let was_started = self.ear.started().is_some();
-        let sent = sent_position(self.ear.started(), wishes);
+        let sent = sent_position(self.ear.started(), connections);
         let heard = self.ear.hear(&self.piece[..self.filled], book, sent);
         let mut was_over = false;
         if let Some((slot, _)) = self.ear.started() {
-            if let Some(wish) = wishes.get(slot).copied() {
-                was_over = was_started && wish.has_ended;
-                wishes[slot] = wish_after(wish, !was_started, &heard);
+            if let Some(connection) = connections.get(slot).copied() {
+                was_over = was_started && connection.has_ended;
+                connections[slot] = connection_after(connection, !was_started, &heard);
             }
         }
         Listened { heard, was_over }

@@ -21,7 +21,7 @@ fn hear_piece<P: Publishing, R: Wait>(
     ensures hears { HearsPiece P.checked (piece_of listener.old) listener.old.ear listener.new.ear result.heard }
     ensures room { length listener.new.piece.items ≡ length listener.old.piece.items }
 {
-    publisher.lend(rt, listener)
+    publisher.with_slots(rt, listener)
 }
 
 /// What follows from a piece.

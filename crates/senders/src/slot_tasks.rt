@@ -1,7 +1,7 @@
 //! How connections end and release their slots.
 
 use crate::listener::Listener;
-use publisher_desk::{Publisher, Publishing, SlotUse, Wish};
+use publisher_desk::{ConnectionState, Publisher, Publishing, SlotTask};
 use std::sync::Wait;
 use tables_log::Book;
 
@@ -11,21 +11,21 @@ struct EndConnection {
     slot: usize,
 }
 
-impl SlotUse for EndConnection {
+impl SlotTask for EndConnection {
     type Answer = bool;
 
-    ghost did = { λ before after old new wishes left answer. Unit {0} };
+    ghost did = { λ before after old new connections left answer. Unit {0} };
 
-    fn use_slots(&mut self, _book: &mut Book, wishes: &mut [Wish]) -> bool {
-        let Some(wish) = wishes.get(self.slot).copied() else {
+    fn use_slots(&mut self, _book: &mut Book, connections: &mut [ConnectionState]) -> bool {
+        let Some(connection) = connections.get(self.slot).copied() else {
             return false;
         };
-        wishes[self.slot] = Wish {
-            sent: wish.sent,
-            wants_reply: wish.wants_reply,
+        connections[self.slot] = ConnectionState {
+            sent: connection.sent,
+            wants_reply: connection.wants_reply,
             has_ended: true,
         };
-        !wish.has_ended
+        !connection.has_ended
     }
 }
 
@@ -34,14 +34,14 @@ struct ReleaseSlot {
     listener: Option<Listener>,
 }
 
-impl SlotUse for ReleaseSlot {
+impl SlotTask for ReleaseSlot {
     ghost use Rattle.senders.specs.Releasing.{GivesBack};
 
     type Answer = ();
 
-    ghost did = { λ before after old new wishes left answer. GivesBack before.listener after.listener old new };
+    ghost did = { λ before after old new connections left answer. GivesBack before.listener after.listener old new };
 
-    fn use_slots(&mut self, book: &mut Book, _wishes: &mut [Wish]) {
+    fn use_slots(&mut self, book: &mut Book, _connections: &mut [ConnectionState]) {
         if let Some(listener) = self.listener.take() {
             listener.lose(book);
         }
@@ -54,7 +54,7 @@ pub(crate) fn end_connection<P: Publishing, R: Wait>(
     publisher: &Publisher<P>,
     slot: usize,
 ) -> bool {
-    publisher.lend(rt, &mut EndConnection { slot })
+    publisher.with_slots(rt, &mut EndConnection { slot })
 }
 
 /// Releases the slot that the listener started, if it started one.
@@ -66,7 +66,7 @@ pub(crate) fn release_slot<P: Publishing, R: Wait>(
     let mut task = ReleaseSlot {
         listener: Some(listener),
     };
-    publisher.lend(rt, &mut task);
+    publisher.with_slots(rt, &mut task);
     let ReleaseSlot { listener: left } = task;
     match left {
         None => {}

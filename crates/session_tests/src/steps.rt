@@ -6,7 +6,7 @@ use crate::calls::{commit, put};
 use crate::checks::same;
 use crate::sharding::accepted;
 use crate::threads::WHOLE;
-use publisher_desk::{Opening, Publisher, Publishing, Seat, SlotUse, Step, Wish};
+use publisher_desk::{ConnectionState, Opening, Publisher, Publishing, Seat, SlotTask, Step};
 use shard_checker::Checked;
 use std::alloc::Global;
 use std::marker::Brand;
@@ -18,13 +18,13 @@ use tables_log::Book;
 #[derive(Drop)]
 struct Count;
 
-impl SlotUse for Count {
+impl SlotTask for Count {
     type Answer = usize;
 
     ghost did = { λ _ _ _ _ _ _ _. Unit {0} };
 
-    fn use_slots(&mut self, _book: &mut Book, wishes: &mut [Wish]) -> usize {
-        wishes.len()
+    fn use_slots(&mut self, _book: &mut Book, connections: &mut [ConnectionState]) -> usize {
+        connections.len()
     }
 }
 
@@ -34,14 +34,14 @@ struct SentTo {
     slot: usize,
 }
 
-impl SlotUse for SentTo {
+impl SlotTask for SentTo {
     type Answer = u64;
 
     ghost did = { λ _ _ _ _ _ _ _. Unit {0} };
 
-    fn use_slots(&mut self, _book: &mut Book, wishes: &mut [Wish]) -> u64 {
-        match wishes.get(self.slot) {
-            Some(wish) => wish.sent,
+    fn use_slots(&mut self, _book: &mut Book, connections: &mut [ConnectionState]) -> u64 {
+        match connections.get(self.slot) {
+            Some(connection) => connection.sent,
             None => 0,
         }
     }
@@ -49,7 +49,7 @@ impl SlotUse for SentTo {
 
 /// Up to which position the client of the slot was sent the log.
 fn sent_to<P: Publishing, R: Wait>(rt: &R, publisher: &Publisher<P>, slot: usize) -> u64 {
-    publisher.lend(rt, &mut SentTo { slot })
+    publisher.with_slots(rt, &mut SentTo { slot })
 }
 
 /// A code for a step: the number of its commit, 2,000 and the number of commits that it passes over, or 1,000 and more
@@ -102,7 +102,7 @@ fn steps<P: Publishing, R: Wait>(
     publisher.finish(rt);
     let last = code(publisher.next_step(rt, 0, 2));
     let beside = code(publisher.next_step(rt, 1, 1));
-    let slots = publisher.lend(rt, &mut Count);
+    let slots = publisher.with_slots(rt, &mut Count);
     Ok(((first, last, beside), (now, later), slots))
 }
 

@@ -4,7 +4,7 @@ ghost use Rattle.std.specs.Prelude.{ℕ};
 ghost use Rattle.publisher_desk.specs.Held.{AreSentUpTo};
 
 use crate::publish::hall::Hall;
-use publisher_desk::{SlotUse, Wish};
+use publisher_desk::{ConnectionState, SlotTask};
 use senders::{Publisher, Publishing};
 use std::sync::Wait;
 use std::thread;
@@ -22,38 +22,38 @@ const TICKS: u64 = 1_000 / TICK;
 struct Reminding;
 
 /// Requests a keepalive for the client of a slot, unless its stream has ended.
-fn remind(wishes: &mut [Wish], slot: usize)
-    ensures { (most : ℕ) → AreSentUpTo most wishes.old → AreSentUpTo most wishes.new }
+fn remind(connections: &mut [ConnectionState], slot: usize)
+    ensures { (most : ℕ) → AreSentUpTo most connections.old → AreSentUpTo most connections.new }
 {
-    let Some(wish) = wishes.get(slot).copied() else {
+    let Some(connection) = connections.get(slot).copied() else {
         return;
     };
-    if wish.has_ended {
+    if connection.has_ended {
         return;
     }
-    wishes[slot] = Wish {
-        sent: wish.sent,
+    connections[slot] = ConnectionState {
+        sent: connection.sent,
         wants_reply: true,
         has_ended: false,
     };
 }
 
 /// Requests a keepalive for the client of each slot whose stream has not ended.
-fn remind_all(wishes: &mut [Wish])
-    ensures { (most : ℕ) → AreSentUpTo most wishes.old → AreSentUpTo most wishes.new }
+fn remind_all(connections: &mut [ConnectionState])
+    ensures { (most : ℕ) → AreSentUpTo most connections.old → AreSentUpTo most connections.new }
 {
-    for slot in 0..wishes.len() {
-        remind(wishes, slot);
+    for slot in 0..connections.len() {
+        remind(connections, slot);
     }
 }
 
-impl SlotUse for Reminding {
+impl SlotTask for Reminding {
     type Answer = ();
 
-    ghost did = { λ before after old new wishes left answer. Unit {0} };
+    ghost did = { λ before after old new connections left answer. Unit {0} };
 
-    fn use_slots(&mut self, _book: &mut Book, wishes: &mut [Wish]) {
-        remind_all(wishes);
+    fn use_slots(&mut self, _book: &mut Book, connections: &mut [ConnectionState]) {
+        remind_all(connections);
     }
 }
 
@@ -72,7 +72,7 @@ pub(crate) fn keep_alive<P: Publishing, R: Wait + Clock>(
         thread::sleep(rt, Duration::from_millis(TICK));
         left = left.saturating_sub(1);
         if left == 0 {
-            publisher.lend(rt, &mut Reminding);
+            publisher.with_slots(rt, &mut Reminding);
             left = between;
         }
     }

@@ -4,7 +4,7 @@ ghost use Rattle.std.specs.Prelude.{ℕ};
 ghost use Rattle.publisher_desk.specs.Held.{AreSentUpTo};
 
 use crate::publish::hall::Hall;
-use publisher_desk::{SlotUse, Wish};
+use publisher_desk::{ConnectionState, SlotTask};
 use senders::{Publisher, Publishing};
 use std::sync::Wait;
 use std::thread;
@@ -25,33 +25,33 @@ const COMMIT: u64 = 64;
 struct Asking;
 
 /// Whether the client of a slot is connected and has not confirmed the whole log. If so, requests a keepalive for it.
-fn ask(wishes: &mut [Wish], slot: usize, confirmed: u64, end: u64) -> bool
-    ensures { (most : ℕ) → AreSentUpTo most wishes.old → AreSentUpTo most wishes.new }
+fn ask(connections: &mut [ConnectionState], slot: usize, confirmed: u64, end: u64) -> bool
+    ensures { (most : ℕ) → AreSentUpTo most connections.old → AreSentUpTo most connections.new }
 {
-    let Some(wish) = wishes.get(slot).copied() else {
+    let Some(connection) = connections.get(slot).copied() else {
         return false;
     };
-    if wish.has_ended || wish.sent == 0 || end <= confirmed {
+    if connection.has_ended || connection.sent == 0 || end <= confirmed {
         return false;
     }
-    wishes[slot] = Wish {
-        sent: wish.sent,
+    connections[slot] = ConnectionState {
+        sent: connection.sent,
         wants_reply: true,
         has_ended: false,
     };
     true
 }
 
-impl SlotUse for Asking {
+impl SlotTask for Asking {
     type Answer = bool;
 
-    ghost did = { λ before after old new wishes left answer. Unit {0} };
+    ghost did = { λ before after old new connections left answer. Unit {0} };
 
-    fn use_slots(&mut self, book: &mut Book, wishes: &mut [Wish]) -> bool {
+    fn use_slots(&mut self, book: &mut Book, connections: &mut [ConnectionState]) -> bool {
         let end = u64::from(book.log_len()) * COMMIT + COMMIT;
         let mut is_asked = false;
-        for slot in 0..wishes.len() {
-            if ask(wishes, slot, book.confirmed(slot), end) {
+        for slot in 0..connections.len() {
+            if ask(connections, slot, book.confirmed(slot), end) {
                 is_asked = true;
             }
         }
@@ -63,7 +63,7 @@ impl SlotUse for Asking {
 fn await_confirmed<P: Publishing, R: Wait + Clock>(rt: &R, publisher: &Publisher<P>) {
     for _ in 0..LOOKS {
         thread::sleep(rt, Duration::from_millis(LOOK));
-        if !publisher.lend(rt, &mut Asking) {
+        if !publisher.with_slots(rt, &mut Asking) {
             return;
         }
     }

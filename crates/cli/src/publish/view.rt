@@ -13,7 +13,7 @@ ghost use Rattle.cli.specs.Views.{IsViewText, progress_lines};
 use commands::{push_position, push_tables, subscriber_name};
 use filter_tree::Row;
 use pub_catalog::Catalog;
-use publisher_desk::{SlotUse, Wish};
+use publisher_desk::{ConnectionState, SlotTask};
 use senders::{Publisher, Publishing, Seat};
 use std::alloc::{AllocError, Global};
 use std::sync::Wait;
@@ -58,9 +58,9 @@ fn is_taken(book: &mut Book, slot: usize) -> bool
 }
 
 /// The position up to which the client of a slot was sent the log; 0 if there is no such slot.
-fn sent_to(wishes: &[Wish], slot: usize) -> u64 {
-    match wishes.get(slot) {
-        Some(wish) => wish.sent,
+fn sent_to(connections: &[ConnectionState], slot: usize) -> u64 {
+    match connections.get(slot) {
+        Some(connection) => connection.sent,
         None => 0,
     }
 }
@@ -69,7 +69,7 @@ fn sent_to(wishes: &[Wish], slot: usize) -> u64 {
 fn progress_in(
     alloc: Global,
     book: &mut Book,
-    wishes: &[Wish],
+    connections: &[ConnectionState],
     subscriptions: usize,
 ) -> Result<Vec<Progress>, AllocError>
     ensures slots { ChangesSlots book.old book.new (book_slots book.new) }
@@ -80,7 +80,7 @@ fn progress_in(
         let is_connected = is_taken(book, slot);
         progress.push(Progress {
             confirmed: book.confirmed(slot),
-            sent: sent_to(wishes, slot),
+            sent: sent_to(connections, slot),
             is_connected,
         })?;
     }
@@ -100,18 +100,23 @@ fn rows_in(alloc: Global, book: &Book, tables: usize) -> Result<Vec<Vec<Row>>, A
     Ok(rows)
 }
 
-impl SlotUse for Viewing {
+impl SlotTask for Viewing {
     ghost use Rattle.std.specs.Prelude.{IfOk};
     ghost use Rattle.cli.specs.Views.{IsSeen};
 
     type Answer = Result<View, AllocError>;
 
-    ghost did = { λ before after old new wishes left answer. IfOk answer (IsSeen old before.tables before.subscriptions) };
+    ghost did = { λ before after old new connections left answer.
+        IfOk answer (IsSeen old before.tables before.subscriptions) };
 
-    fn use_slots(&mut self, book: &mut Book, wishes: &mut [Wish]) -> Result<View, AllocError> {
+    fn use_slots(
+        &mut self,
+        book: &mut Book,
+        connections: &mut [ConnectionState],
+    ) -> Result<View, AllocError> {
         let log = book.log_len();
         let rows = rows_in(self.alloc, book, self.tables)?;
-        let progress = progress_in(self.alloc, book, wishes, self.subscriptions)?;
+        let progress = progress_in(self.alloc, book, connections, self.subscriptions)?;
         Ok(View {
             log,
             rows,
@@ -196,6 +201,6 @@ pub(crate) fn view_text<P: Publishing, R: Wait>(
         tables: catalog.tables.len(),
         subscriptions: catalog.subscriptions.len(),
     };
-    let view = publisher.lend_to(rt, seat, &mut viewing)?;
+    let view = publisher.with_slots_for(rt, seat, &mut viewing)?;
     shown_text(alloc, catalog, &view)
 }

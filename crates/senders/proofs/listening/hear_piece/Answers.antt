@@ -3,10 +3,11 @@ use Rattle.senders.proofs.listening.hear_piece.Goals as goal
 
 pub returns-clause-hears : goal.returns-clause-hears
 returns-clause-hears g c =
-    hears_piece g.P.Publishing.checked c.args.listener.now c.lend.new.user c.lend.ensures.old c.lend.ensures.new
-    c.lend.ensures.wishes c.lend.result.heard
+    let lent = c.with_slots.ensures in
+    hears_piece g.P.Publishing.checked c.args.listener.now c.with_slots.new.user lent.old lent.new lent.connections
+    c.with_slots.result.heard
     (record {
-      named = c.lend.ensures.named;
-      transactions = c.lend.ensures.transactions;
-      stands = c.lend.ensures.stands;
-    }) c.lend.ensures.does
+      named = lent.named;
+      transactions = lent.transactions;
+      stands = lent.stands;
+    }) lent.does

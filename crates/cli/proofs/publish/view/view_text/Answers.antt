@@ -12,7 +12,7 @@ pub returns-clause-text : goal.returns-clause-text
 returns-clause-text g c =
     let checked = g.P.Publishing.checked in
     let view = c.in_ok-view.view in
-    let lends = c.lend_to.ensures.lent in
+    let lends = c.with_slots_for.ensures.lent in
     let lent = lends.lent in
     let same : catalog_view c.catalog-catalog.result.now ≡ checked.catalog = search rules in
     let shown_tables : c.len.result ≡ length (catalog_view c.catalog-catalog.result.now).tables = search rules in

@@ -9,7 +9,7 @@ pub invariant_of-result : goal.invariant_of-result
 invariant_of-result g c =
     new_held (checked_view (arc_value c.args.checked)) g.P.Publishing.checked c.in_ok-book.book c.args.limit
     g.P.Publishing.limit c.args.counted.total c.len.result
-    (record { sent = 0; wants_reply = false; has_ended = false }) c.in_ok-wishes.wishes.items c.args.history
+    (record { sent = 0; wants_reply = false; has_ended = false }) c.in_ok-connections.connections.items c.args.history
     c.in_ok-book.ensures
     c.requires.checked c.requires.limit c.requires.total refl (search rules) (search rules)
     c.requires.history

@@ -2,21 +2,21 @@ use Rattle.std.proofs.Common.{List, length, subst, sym}
 use Rattle.tables_log.specs.BookView.{book_log}
 use Rattle.tables_log.specs.Slots.{end_after}
 use Rattle.publisher_desk.specs.Held.{AreSentUpTo}
-use Rattle.publisher_desk.specs.declared.wish.Wish.{Wish}
-use Rattle.publisher_desk.proofs.desk.Desk.lend.Goals as goal
+use Rattle.publisher_desk.specs.declared.connection_state.ConnectionState.{ConnectionState}
+use Rattle.publisher_desk.proofs.desk.Desk.with_slots.Goals as goal
 
 -- what was lent is what the lock holds
 pub returns-clause-lent : goal.returns-clause-lent
 returns-clause-lent g c = record {
   old = c.self.inside.book;
   new = c.use_slots.new.book;
-  wishes = c.as_mut_slice.result.now;
-  left = c.use_slots.new.wishes;
+  connections = c.as_mut_slice.result.now;
+  left = c.use_slots.new.connections;
   named = c.self.invariant.is.named;
   transactions = c.self.invariant.is.transactions;
   stands = c.self.invariant.is.stands;
   slots = c.use_slots.ensures.slots;
-  sent = subst (λ (wishes : List Wish). AreSentUpTo (end_after (length (book_log c.self.inside.book))) wishes)
+  sent = subst (λ (all : List ConnectionState). AreSentUpTo (end_after (length (book_log c.self.inside.book))) all)
       (sym c.as_mut_slice.ensures.value) c.self.invariant.sent;
   does = c.use_slots.ensures.did;
 }
