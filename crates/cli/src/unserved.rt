@@ -4,18 +4,16 @@ use commands::{push_position, subscriber_name};
 use pub_catalog::Catalog;
 use senders::{Closed, End, Publishing, Served};
 use std::alloc::{AllocError, Global};
-
-/// How many bytes of the log a commit takes.
-const COMMIT: u64 = 64;
+use tables_log::Lsn;
 
 /// How many commits of the log end at or before a position.
 fn commits_to(position: u64) -> u64 {
-    position.saturating_sub(1) / COMMIT
+    Lsn::new(position).commits_before()
 }
 
-/// The position after this many commits.
+/// The position after this many commits, of which no log has more than a number of 32 bits.
 fn end_of(commits: u64) -> u64 {
-    commits.saturating_mul(COMMIT).saturating_add(COMMIT)
+    Lsn::end_of_commit(u32::try_from(commits).unwrap_or(u32::MAX)).to_u64()
 }
 
 /// How many commits a client of the slot has or was sent: those before its start, and those that followed, unless a

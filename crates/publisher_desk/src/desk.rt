@@ -24,7 +24,7 @@ use std::marker::Model;
 use std::sync::ledger::Share;
 use std::sync::{Arc, ledger};
 use table_changes::Command;
-use tables_log::{Book, CommitError};
+use tables_log::{Book, CommitError, Lsn};
 
 /// Every so many commits a sender that is as many behind is woken, so that none waits twice as many behind.
 const TOGETHER: u32 = 32;
@@ -291,7 +291,7 @@ impl<P: Publishing> Desk<P> {
             return None;
         };
         self.connections[slot] = ConnectionState {
-            sent: 64 * u64::from(last) + 64,
+            sent: Lsn::end_of_commit(last).to_u64(),
             wants_reply: false,
             has_ended: false,
         };
@@ -312,11 +312,11 @@ impl<P: Publishing> Desk<P> {
         if number % TOGETHER != 0 {
             return slots;
         }
-        let end = 64 * u64::from(number) + 64;
         for (slot, connection) in self.connections.iter().enumerate() {
             if slot < 32 {
-                let commits = end.saturating_sub(connection.sent) / 64;
-                slots.put(slot, commits >= u64::from(TOGETHER));
+                let sent = Lsn::new(connection.sent).commits_before();
+                let behind = u64::from(number).saturating_sub(sent);
+                slots.put(slot, behind >= u64::from(TOGETHER));
             }
         }
         slots

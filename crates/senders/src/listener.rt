@@ -1,12 +1,11 @@
 //! What hears a connection.
 
 ghost use Rattle.std.specs.Prelude.{◌≡◌, ◌≤◌, length};
-ghost use Rattle.copy_both.specs.Hearing.{first_sent};
 ghost use Rattle.senders.specs.Hearing.{sent_by};
 
 use crate::failed::Failed;
 use crate::source::Source;
-use copy_both::{Ear, Heard, LinkFault};
+use copy_both::{Ear, Heard, LinkFault, first_sent};
 use publisher_desk::{ConnectionState, Publisher, Publishing, SlotTask};
 use shard_checker::Checked;
 use std::alloc::{AllocError, Global};
@@ -32,13 +31,6 @@ pub struct Listened {
     pub was_over: bool,
 }
 
-/// The first position of a stream that starts here, which is at least 64.
-fn first_position(start: u64) -> u64
-    ensures { result ≡ first_sent start }
-{
-    if start == 0 { 64 } else { start }
-}
-
 /// The sent position that statuses are compared with: that up to which the slot's client was sent the log, or the
 /// stream's first position if that is greater.
 fn sent_position(started: Option<(usize, u64)>, connections: &[ConnectionState]) -> u64
@@ -47,7 +39,7 @@ fn sent_position(started: Option<(usize, u64)>, connections: &[ConnectionState])
     let Some((slot, start)) = started else {
         return 0;
     };
-    let first = first_position(start);
+    let first = first_sent(start);
     match connections.get(slot) {
         None => first,
         Some(connection) => first.max(connection.sent),

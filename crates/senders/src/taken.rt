@@ -10,7 +10,7 @@ use crate::end::End;
 use crate::served::Served;
 use std::alloc::Global;
 use std::sync::Arc;
-use tables_log::{Book, Commit};
+use tables_log::{Book, Commit, Lsn};
 
 /// How many commits of the log begin before the connection's start.
 fn commits_before(served: &Served) -> u64
@@ -19,7 +19,7 @@ fn commits_before(served: &Served) -> u64
 {
     match served.start {
         None => 0,
-        Some(start) => start.saturating_sub(1) / 64,
+        Some(start) => Lsn::new(start).commits_before(),
     }
 }
 

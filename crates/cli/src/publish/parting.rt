@@ -9,16 +9,13 @@ use senders::{Publisher, Publishing};
 use std::sync::Wait;
 use std::thread;
 use std::time::{Clock, Duration};
-use tables_log::Book;
+use tables_log::{Book, Lsn};
 
 /// The milliseconds between two looks at whether all is confirmed.
 const LOOK: u64 = 50;
 
 /// How often this is looked at.
 const LOOKS: u32 = 200;
-
-/// How many bytes of the log a commit takes.
-const COMMIT: u64 = 64;
 
 /// Looks whether a connected client has not confirmed the log yet, and requests a keepalive for each such client.
 #[derive(Drop)]
@@ -48,7 +45,7 @@ impl SlotTask for Asking {
     ghost did = { λ before after old new connections left answer. Unit {0} };
 
     fn use_slots(&mut self, book: &mut Book, connections: &mut [ConnectionState]) -> bool {
-        let end = u64::from(book.log_len()) * COMMIT + COMMIT;
+        let end = Lsn::end_of_commit(book.log_len()).to_u64();
         let mut is_asked = false;
         for slot in 0..connections.len() {
             if ask(connections, slot, book.confirmed(slot), end) {

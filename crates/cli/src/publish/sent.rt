@@ -3,9 +3,7 @@
 use commands::{push_position, subscriber_name};
 use senders::{Publisher, Publishing, Served};
 use std::alloc::{AllocError, Global};
-
-/// How many bytes of the log a commit takes.
-const COMMIT: u64 = 64;
+use tables_log::Lsn;
 
 /// The subscription whose stream a connection started, and which part of the log it was sent.
 #[derive(Debug, Drop)]
@@ -26,7 +24,7 @@ fn position_text(alloc: Global, position: u64) -> Result<String, AllocError> {
 fn reached(served: &Served, start: u64) -> u64 {
     match served.taken.last() {
         None => start,
-        Some(commit) => u64::from(commit.number()) * COMMIT + COMMIT,
+        Some(commit) => Lsn::end_of_commit(commit.number()).to_u64(),
     }
 }
 
