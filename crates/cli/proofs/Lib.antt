@@ -1,4 +1,5 @@
 pub mod Answering
+pub mod Berths
 pub mod Callers
 pub mod Crossing
 pub mod Exits

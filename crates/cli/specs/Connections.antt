@@ -1,5 +1,6 @@
--- The results of the connections of `serve`: PostgreSQL 15, 55.4. Streaming Replication Protocol.
-use Rattle.std.specs.Prelude.{◌≢◌, ℕ, Bool, List, Option}
+-- The results of the connections of `serve` and of `publish`: PostgreSQL 15, 55.4. Streaming Replication Protocol.
+use Rattle.std.specs.Prelude.{◌≢◌, ℕ, All, Bool, List, Option}
+use Rattle.std.specs.List.{flat_map}
 use Rattle.shard_checker.specs.CheckedView.{CheckedOf}
 use Rattle.copy_both.specs.declared.link_fault.LinkFault.TheVariants.{OutOfMemory}
 use Rattle.senders.specs.Serving.{IsServed}
@@ -7,6 +8,7 @@ use Rattle.senders.specs.declared.end.End.TheVariants.{Link}
 use Rattle.senders.specs.declared.served.Served.{Served}
 use Rattle.cli.specs.declared.connections.Place.{Place}
 use Rattle.cli.specs.declared.connections.Place.TheVariants as p
+use Rattle.cli.specs.declared.publish.places.Berth.{Berth}
 
 -- This is the result of a connection that was served to its end. Nothing is known of the bytes of a socket.
 pub record WasServed (checked : CheckedOf) (served : Served) : Type 0 where
@@ -24,6 +26,14 @@ abbrev pub IsFilled : CheckedOf → Place → Type 0
 IsFilled checked p.Open = ⊥
 IsFilled checked (p.Ended served) = WasServed checked served
 IsFilled checked p.Failed = Unit {0}
+
+-- the results of the connections of all places of `publish`
+abbrev pub served_at : List Berth → List Served
+served_at berths = flat_map (λ (berth : Berth). berth.served.items) berths
+
+-- if all results so far are those of connections that were served, so are these
+abbrev pub StayServed : CheckedOf → List Served → List Served → Type 0
+StayServed checked before after = All (WasServed checked) before → All (WasServed checked) after
 
 -- the connection was refused neither memory nor a thread
 abbrev pub HadMemory : Served → Type 0

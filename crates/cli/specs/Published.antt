@@ -1,7 +1,7 @@
 -- What `publish` answers: its input has the lines of a catalog, those of the certificates of its tables, and those of
 -- commands, each of which is answered when it has arrived, while the subscribers are served. The format is this
 -- program's own.
-use Rattle.std.specs.Prelude.{◌≡◌, ◌⊎◌, ℕ, Bool, List, [], ◌∷◌, ◌++◌, is_none, true, false, length, Option, Some, None, Ok, Result, codes}
+use Rattle.std.specs.Prelude.{◌≡◌, ◌⊎◌, ℕ, All, Bool, List, [], ◌∷◌, ◌++◌, is_none, true, false, length, Option, Some, None, Ok, Result, codes}
 use Rattle.std.specs.Io.KnownBytes.{Appends}
 use Rattle.std.specs.Option.{option_map}
 use Rattle.filter_tree.specs.Expr.{Expr}
@@ -31,6 +31,7 @@ use Rattle.commands.specs.declared.failure.InputFault.{InputFault}
 use Rattle.commands.specs.declared.failure.InputFault.TheVariants as i
 use Rattle.commands.specs.declared.failure.Status.{Status}
 use Rattle.commands.specs.declared.failure.Status.TheVariants.{Done, Refused}
+use Rattle.cli.specs.Connections.{WasServed}
 use Rattle.cli.specs.Lines.{LineParts, ended_lines, parts_of}
 use Rattle.cli.specs.Serving.{IsRefusal}
 use Rattle.cli.specs.Talks.{AreAnswered, AreLastFor, AreNotes, Conversation}
@@ -42,11 +43,12 @@ use Rattle.cli.specs.declared.requests.Feed.{Feed}
 
 module _ (checked : CheckedOf) (limit : ℕ) (notes : List Note) where
   -- The last line: the publisher was closed with the session's seat, one of 1,000, which has these notes, and with the
-  -- results of the connections; or why it was not.
+  -- results of the connections, each of which was served to its end; or why it was not.
   pub data IsLast : List ℕ → Status → Type 0 where
-    Closed : (served : List Served) (book : Book) → IsClosed checked limit (notes ∷ []) served book
+    Closed : (served : List Served) (book : Book) → All (WasServed checked) served
+        → IsClosed checked limit (notes ∷ []) served book
         → IsLast (closed_line (length (book_log book)) (length served)) Done
-    Differs : (served : List Served) (error : CloseError) (name : List ℕ)
+    Differs : (served : List Served) (error : CloseError) (name : List ℕ) → All (WasServed checked) served
         → RefusedClose checked limit 1000 999 (notes ∷ []) served error → name_of error ≡ Some name
         → IsLast (codes "close " ++ name) Refused
 

@@ -5,6 +5,7 @@ ghost use Rattle.std.specs.Prelude.{◌≡◌, None, IfErr, OnOk};
 ghost use Rattle.std.specs.Arc.{arc_value};
 ghost use Rattle.commands.specs.Simulate.Limits.{IsWithin};
 ghost use Rattle.shard_checker.specs.CheckedView.{checked_view};
+ghost use Rattle.cli.specs.Connections.{StayServed, served_at};
 ghost use Rattle.cli.specs.Incoming.{coming};
 ghost use Rattle.cli.specs.Published.{Serves, callers_at};
 ghost use Rattle.cli.specs.Requests.{AnswersReader};
@@ -153,13 +154,16 @@ fn run_both<
     ensures err { IfErr result (IsCutOff P.checked P.limit (callers_at doors.now.callers)
         (coming I.remaining lines.old) (coming I.remaining lines.new) (W.contents writer.old) (W.contents writer.new)
         seat.old seat.new) }
+    ensures served { StayServed P.checked (served_at berths.old) (served_at berths.new) }
 {
     let hall = Hall::new(feed);
     let shared = &hall;
     let listener = &doors.clients.listener;
     let ((), answered) = join_mut(
         rt,
-        &mut || attend_all(rt, publisher, shared, listener, berths),
+        &mut ||
+            ensures { StayServed P.checked (served_at berths.entry.now) (served_at berths.exit.now) }
+        { attend_all(rt, publisher, shared, listener, berths) },
         &mut || -> Result<(), Failure<'_>>
             ensures ok { OnOk result (HasAnswered P.checked P.limit (callers_at doors.entry.now.callers) I.may_fail
                 (coming I.remaining lines.entry.now) (coming I.remaining lines.exit.now) (W.contents writer.entry.now)

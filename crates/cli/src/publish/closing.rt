@@ -1,9 +1,10 @@
 //! How `publish` ends.
 
-ghost use Rattle.std.specs.Prelude.{ℕ, List, ◌≡◌};
+ghost use Rattle.std.specs.Prelude.{ℕ, All, List, ◌≡◌};
 ghost use Rattle.commands.specs.declared.failure.Status.TheVariants.{Done};
 ghost use Rattle.publisher_desk.specs.declared.note.Note.{Note};
 ghost use Rattle.shard_checker.specs.CheckedView.{CheckedOf};
+ghost use Rattle.cli.specs.Connections.{WasServed};
 ghost use Rattle.cli.specs.Published.{Closes, IsLast, IsLastOf};
 ghost use Rattle.cli.specs.Telling.{closed_line};
 
@@ -53,6 +54,7 @@ pub(crate) fn close_session<'a, P: Publishing, W: Writer>(
 ) -> Result<Status, Failure<'a>>
     requires parts { P.parts ≡ 1000 }
     requires rest { rest ≡ 999 }
+    requires served { All (WasServed P.checked) served.items }
     ensures { Closes P.checked P.limit seat (W.contents writer.old) (W.contents writer.new) result }
 {
     let seats = vec![in alloc; seat]?;

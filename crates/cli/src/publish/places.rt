@@ -1,5 +1,9 @@
 //! Places in which clients are served, one after another.
 
+ghost use Rattle.std.specs.Prelude.{◌≡◌, ◌++◌, [], IfOk, OnOk};
+ghost use Rattle.cli.specs.Connections.{StayServed, WasServed};
+ghost use Rattle.cli.specs.Connections as spec;
+
 use crate::publish::hall::Hall;
 use crate::publish::keepalives::keep_alive;
 use crate::publish::notices::{tell_busy, tell_end, tell_start};
@@ -27,7 +31,10 @@ pub(crate) struct Berth {
 }
 
 /// The places for the clients of this many subscriptions.
-pub(crate) fn free_berths(alloc: Global, subscriptions: usize) -> Result<Vec<Berth>, AllocError> {
+#[tactic(auto, using(crate::proofs::Berths::served_more))]
+pub(crate) fn free_berths(alloc: Global, subscriptions: usize) -> Result<Vec<Berth>, AllocError>
+    ensures { IfOk result (λ berths. spec.served_at berths.items ≡ []) }
+{
     let count = subscriptions.saturating_add(SPARE);
     let mut berths = Vec::new(alloc);
     for _ in 0..count {
@@ -38,13 +45,23 @@ pub(crate) fn free_berths(alloc: Global, subscriptions: usize) -> Result<Vec<Ber
     Ok(berths)
 }
 
+/// Adds the results of the connections of a place.
+fn add_served(all: &mut Vec<Served>, berth: Berth) -> Result<(), AllocError>
+    ensures { OnOk result (all.new.items ≡ all.old.items ++ berth.served.items) }
+{
+    for served in berth.served {
+        all.push(served)?;
+    }
+    Ok(())
+}
+
 /// The results of the connections of all places.
-pub(crate) fn served_at(alloc: Global, berths: Vec<Berth>) -> Result<Vec<Served>, AllocError> {
+pub(crate) fn served_at(alloc: Global, berths: Vec<Berth>) -> Result<Vec<Served>, AllocError>
+    ensures { IfOk result (λ served. served.items ≡ spec.served_at berths.items) }
+{
     let mut all = Vec::new(alloc);
     for berth in berths {
-        for served in berth.served {
-            all.push(served)?;
-        }
+        add_served(&mut all, berth)?;
     }
     Ok(all)
 }
@@ -55,7 +72,9 @@ fn serve_stream<P: Publishing + Sync, R: Threads + Wait + Clock + Sync>(
     publisher: &Publisher<P>,
     hall: &Hall,
     stream: &TcpStream,
-) -> Served {
+) -> Served
+    ensures { WasServed P.checked result }
+{
     let writes = Writes::new();
     let _ = stream.set_nodelay(true);
     let mut reader = FromRead::new(PatientRead::new(hall, stream, &writes));
@@ -102,13 +121,16 @@ fn next_stream<R: Clock + Eprint>(
 }
 
 /// Serves one client after another, until the door is closed.
+#[tactic(auto, using(crate::proofs::Berths::stay_pushed))]
 fn attend<P: Publishing + Sync, R: Threads + Wait + Clock + Eprint + Sync>(
     rt: &R,
     publisher: &Publisher<P>,
     hall: &Hall,
     listener: &TcpListener,
     berth: &mut Berth,
-) {
+)
+    ensures { StayServed P.checked berth.old.served.items berth.new.served.items }
+{
     for _ in rt.forever() {
         if hall.is_closed() {
             return;
@@ -138,7 +160,9 @@ fn attend_berths<P: Publishing + Sync, R: Threads + Wait + Clock + Eprint + Sync
     hall: &Hall,
     listener: &TcpListener,
     berths: &mut [Berth],
-) {
+)
+    ensures { StayServed P.checked (spec.served_at berths.old) (spec.served_at berths.new) }
+{
     if berths.is_empty() {
         return;
     }
@@ -147,7 +171,9 @@ fn attend_berths<P: Publishing + Sync, R: Threads + Wait + Clock + Eprint + Sync
         rt,
         berths,
         count,
-        &|_, berth| attend(rt, publisher, hall, listener, berth),
+        &|_, berth: &mut Berth|
+            ensures { StayServed P.checked berth.old.served.items berth.new.served.items }
+        { attend(rt, publisher, hall, listener, berth) },
     );
 }
 
@@ -158,10 +184,14 @@ pub(crate) fn attend_all<P: Publishing + Sync, R: Threads + Wait + Clock + Eprin
     hall: &Hall,
     listener: &TcpListener,
     berths: &mut [Berth],
-) {
+)
+    ensures { StayServed P.checked (spec.served_at berths.old) (spec.served_at berths.new) }
+{
     join_mut(
         rt,
         &mut || keep_alive(rt, publisher, hall),
-        &mut || attend_berths(rt, publisher, hall, listener, berths),
+        &mut ||
+            ensures { StayServed P.checked (spec.served_at berths.entry.now) (spec.served_at berths.exit.now) }
+        { attend_berths(rt, publisher, hall, listener, berths) },
     );
 }

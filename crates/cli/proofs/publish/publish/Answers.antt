@@ -1,5 +1,8 @@
-use Rattle.std.proofs.Common.{ℕ, subst, sym}
+use Rattle.std.proofs.Common.{ℕ, All, ap, subst, sym, ◌∙◌}
+use Rattle.std.proofs.lemmas.List.{with_items_is}
+use Rattle.std.proofs.lemmas.List.Elements.{All-nil}
 use Rattle.cli.proofs.Published.{closes_after, cut_off_returned, no_memory, unopened_returned}
+use Rattle.cli.specs.Connections.{WasServed, served_at}
 use Rattle.cli.specs.Incoming.{coming}
 use Rattle.cli.specs.Published.{callers_at}
 use Rattle.cli.specs.Talks.{IsCutOff}
@@ -49,3 +52,13 @@ returns g c =
     (written c.open_doors.new.writer) c.in_ok-doors.ensures.opens (written c.run_both-answered.new.writer)
     (written c.close_session.new.writer) g.P.Publishing.limit c.close_session.result c.requires.limit
     c.in-Some.ensures.new c.in_ok-answered.ensures.ok c.close_session.ensures
+
+pub close_session-requires-clause-served : goal.close_session-requires-clause-served
+close_session-requires-clause-served g c =
+    let is = WasServed g.P.Publishing.checked in
+    let berths = c.in_ok-berths.berths in
+    let left = c.run_both-answered.new.berths in
+    subst (All is) (sym (c.in_ok-served.ensures ∙ ap served_at
+    (with_items_is berths left (c.run_both-answered.auto.berths ∙ c.as_mut_slice.ensures.len))))
+    (c.run_both-answered.ensures.served
+    (subst (All is) (sym (ap served_at c.as_mut_slice.ensures.value ∙ c.in_ok-berths.ensures)) (All-nil is)))

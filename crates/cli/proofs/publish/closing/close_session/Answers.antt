@@ -22,7 +22,7 @@ returns-in-Ok g c =
     c.tell_closed.ensures checked limit c.args.seat
     (subst (λ (n : ℕ). IsLast checked limit c.args.seat (closed_line n c.len.result) Done) (sym commits)
     (subst (λ (m : ℕ). IsLast checked limit c.args.seat (closed_line (length (book_log book)) m) Done) (sym many)
-    (Closed served book is)))
+    (Closed served book c.requires.served is)))
 
 pub returns-in-Err : goal.returns-in-Err
 returns-in-Err g c =
@@ -36,4 +36,5 @@ returns-in-Err g c =
     (subst (λ (n : ℕ). RefusedClose checked limit g.P.Ledger.parts n (c.args.seat ∷ []) served error) c.requires.rest
     (subst (λ (s : List (List Note)). RefusedClose checked limit g.P.Ledger.parts c.args.rest s served error) seats
     c.in-Err.ensures.refused)) in
-    c.tell_error.ensures checked limit c.args.seat (λ name named. Differs served error name refused named)
+    c.tell_error.ensures checked limit c.args.seat
+    (λ name named. Differs served error name c.requires.served refused named)

@@ -1,6 +1,9 @@
+use Rattle.std.proofs.Common.{slice_index_or, subst}
 use denote.Param.{param}
-use denote.Param.Send.{sendable}
 use Rattle.publisher_desk.proofs.Crossing.{publisher_sync}
+use Rattle.cli.specs.Connections.{StayServed}
+use Rattle.cli.specs.declared.publish.places.Berth.{Berth}
+use Rattle.cli.proofs.Berths.{stay_served}
 use Rattle.cli.proofs.Crossing.{hall_sync, listener_sync}
 use Rattle.cli.proofs.publish.places.attend_berths.Goals as goal
 
@@ -23,3 +26,13 @@ for_each_mut-requires-sync-F g c κs within =
         λ q. tt,
       );
     }
+
+pub returns : goal.returns
+returns g c =
+    let checked = g.P.Publishing.checked in
+    stay_served checked c.args.berths.now c.for_each_mut.new.s (search)
+    (λ place other below. let at = (c.for_each_mut.ensures place other below).1 in
+    let first = slice_index_or c.args.berths.now place other in
+    subst (λ (after : Berth). StayServed checked first.served.items after.served.items) at.left
+    (subst (λ (before : Berth). StayServed checked before.served.items at.after_call.now.served.items)
+    at.argument_is at.call))
