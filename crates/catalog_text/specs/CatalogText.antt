@@ -16,7 +16,7 @@ use Rattle.filter_tree.specs.declared.table.UniqueIndex.{UniqueIndex}
 use Rattle.pub_catalog.specs.Catalogs.{EntryOf, PublicationOf, CatalogOf}
 use Rattle.pub_catalog.specs.declared.catalog.Operations.{Operations}
 use Rattle.pub_catalog.specs.declared.catalog.Subscription.{Subscription}
-use Rattle.catalog_text.specs.FilterText.{text_if, text_by, name_text, column_name, expr_text}
+use Rattle.catalog_text.specs.FilterText.{text_if, text_by, name_text, column_sql, expr_text}
 use Rattle.catalog_text.specs.declared.level.Level.TheVariants as level
 
 -- ---- tables
@@ -34,19 +34,19 @@ column_text column =
 
 -- a list of columns, by their numbers
 unfoldable pub columns_text : List Column → List ℕ → List ℕ
-columns_text columns numbers = codes " (" ++ (join_by (column_name columns) (codes ", ") numbers ++ codes ")")
+columns_text columns numbers = codes " (" ++ (join_by (column_sql columns) (codes ", ") numbers ++ codes ")")
 
-unfoldable pub table_name : Table → List ℕ
-table_name table = name_text table.schema ++ (codes "." ++ name_text table.name)
+unfoldable pub table_sql : Table → List ℕ
+table_sql table = name_text table.schema ++ (codes "." ++ name_text table.name)
 
 unfoldable pub create_text : Table → List ℕ
 create_text table =
-    codes "CREATE TABLE " ++ (table_name table ++ (codes " (" ++ (flat_map column_text table.columns
+    codes "CREATE TABLE " ++ (table_sql table ++ (codes " (" ++ (flat_map column_text table.columns
     ++ (codes "PRIMARY KEY" ++ (columns_text table.columns table.key ++ codes ");\n")))))
 
 unfoldable pub index_text : Table → UniqueIndex → List ℕ
 index_text table index =
-    codes "CREATE UNIQUE INDEX " ++ (name_text index.name ++ (codes " ON " ++ (table_name table
+    codes "CREATE UNIQUE INDEX " ++ (name_text index.name ++ (codes " ON " ++ (table_sql table
     ++ (columns_text table.columns index.columns ++ codes ";\n"))))
 
 abbrev pub index_name : List UniqueIndex → ℕ → List ℕ
@@ -60,7 +60,7 @@ identity_text indexes Nothing = codes "NOTHING"
 
 unfoldable pub alter_text : Table → List ℕ
 alter_text table =
-    codes "ALTER TABLE " ++ (table_name table ++ (codes " REPLICA IDENTITY "
+    codes "ALTER TABLE " ++ (table_sql table ++ (codes " REPLICA IDENTITY "
     ++ (identity_text table.indexes table.identity ++ codes ";\n")))
 
 -- each table is followed directly by its indexes and its identity
@@ -88,7 +88,7 @@ where_text columns filter = text_by (λ it. codes " WHERE (" ++ (expr_text colum
 
 -- a table that is named, with its filter
 abbrev pub named_text : Option Expr → Table → List ℕ
-named_text filter table = codes "TABLE " ++ (table_name table ++ where_text table.columns filter)
+named_text filter table = codes "TABLE " ++ (table_sql table ++ where_text table.columns filter)
 
 unfoldable pub object_text : List Table → EntryOf Expr → List ℕ
 object_text tables entry = text_by (named_text entry.filter) (slice_get tables entry.table)
@@ -122,14 +122,14 @@ abbrev pub are_whole : List (EntryOf Expr) → Bool
 are_whole entries = list_all (λ entry. not (is_some entry.filter)) entries
 
 -- the table of this number and schema has an entry, or no table of the schema has one
-abbrev pub is_listed : List Table → List (EntryOf Expr) → ℕ → List ℕ → Bool
-is_listed tables entries number schema = not (has_schema tables entries schema) || has_entry number entries
+abbrev pub is_listed_whole : List Table → List (EntryOf Expr) → ℕ → List ℕ → Bool
+is_listed_whole tables entries number schema = not (has_schema tables entries schema) || has_entry number entries
 
 -- whether each of these tables has an entry if a table of its schema has one; the first of these tables has this number
 abbrev pub have_entries : List Table → List (EntryOf Expr) → ℕ → List Table → Bool
 have_entries all entries number [] = true
 have_entries all entries number (table ∷ tables) =
-    is_listed all entries number table.schema && have_entries all entries (number + 1) tables
+    is_listed_whole all entries number table.schema && have_entries all entries (number + 1) tables
 
 abbrev pub are_schemas : List Table → List (EntryOf Expr) → Bool
 are_schemas tables entries =
@@ -182,15 +182,15 @@ publication_text tables publication =
 
 -- ---- subscriptions
 
-abbrev pub publication_name : List (PublicationOf Expr) → ℕ → List ℕ
-publication_name publications number =
+abbrev pub publication_sql : List (PublicationOf Expr) → ℕ → List ℕ
+publication_sql publications number =
     text_by (λ publication. name_text publication.name) (slice_get publications number)
 
 -- how it connects is unknown
 unfoldable pub subscription_text : List (PublicationOf Expr) → Subscription → List ℕ
 subscription_text publications subscription =
     codes "CREATE SUBSCRIPTION " ++ (name_text subscription.name ++ (codes " CONNECTION '' PUBLICATION "
-    ++ (join_by (publication_name publications) (codes ", ") subscription.publications ++ codes ";\n")))
+    ++ (join_by (publication_sql publications) (codes ", ") subscription.publications ++ codes ";\n")))
 
 -- ---- the catalog
 

@@ -33,8 +33,8 @@ abbrev pub name_text : List ℕ → List ℕ
 name_text name = in_quotes 34 name
 
 -- the name of the column of this number
-abbrev pub column_name : List Column → ℕ → List ℕ
-column_name columns number = text_by (λ column. name_text column.name) (slice_get columns number)
+abbrev pub column_sql : List Column → ℕ → List ℕ
+column_sql columns number = text_by (λ column. name_text column.name) (slice_get columns number)
 
 abbrev pub truth_text : Bool → List ℕ
 truth_text true = codes "TRUE"
@@ -46,8 +46,8 @@ constant_text (Truth known) = truth_text known
 constant_text (Bytes text) = in_quotes 39 text
 
 abbrev pub term_text : List Column → Term → List ℕ
-term_text columns (Col column) = column_name columns column
-term_text columns (Mod column divisor) = column_name columns column ++ (codes " % " ++ signed_decimal divisor)
+term_text columns (Col column) = column_sql columns column
+term_text columns (Mod column divisor) = column_sql columns column ++ (codes " % " ++ signed_decimal divisor)
 
 abbrev pub op_text : Op → List ℕ
 op_text Eq = codes " = "
@@ -69,15 +69,15 @@ test_text Unknown = codes " UNKNOWN"
 
 -- how tightly a part binds: OR binds least tightly, then AND, NOT and the IS tests; comparisons and constants bind most
 -- tightly
-abbrev pub rank_of : Level → ℕ
-rank_of level.Or = 0
-rank_of level.And = 1
-rank_of level.Not = 2
-rank_of level.Test = 3
-rank_of level.Operand = 4
+abbrev pub level_rank : Level → ℕ
+level_rank level.Or = 0
+level_rank level.And = 1
+level_rank level.Not = 2
+level_rank level.Test = 3
+level_rank level.Operand = 4
 
 abbrev pub is_below : Level → Level → Bool
-is_below one other = nat_lt (rank_of one) (rank_of other)
+is_below one other = nat_lt (level_rank one) (level_rank other)
 
 -- a part of one level where another level is required: in parentheses, if it binds less tightly
 abbrev pub at_level : Level → Level → List ℕ → List ℕ
@@ -96,7 +96,7 @@ abbrev pub atom_text : List Column → Level → Bool → AtomOf → List ℕ
 atom_text columns wanted negated (Cmp term op constant) =
     signed wanted negated level.Operand (term_text columns term ++ (op_text op ++ constant_text constant))
 atom_text columns wanted negated (IsNull column) =
-    at_level wanted level.Test (column_name columns column ++ (codes " IS" ++ (not_text negated ++ codes " NULL")))
+    at_level wanted level.Test (column_sql columns column ++ (codes " IS" ++ (not_text negated ++ codes " NULL")))
 atom_text columns wanted negated (In term constants) =
     term_text columns term ++ (not_text negated ++ (codes " IN ("
     ++ (join_by constant_text (codes ", ") constants ++ codes ")")))

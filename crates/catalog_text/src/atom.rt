@@ -35,7 +35,7 @@ fn write_null_test(
     negated: bool,
     text: &mut String,
 ) -> Result<(), AllocError>
-    ensures { OnOk result (string_bytes text.new ≡ string_bytes text.old ++ (spec.column_name columns.now column
+    ensures { OnOk result (string_bytes text.new ≡ string_bytes text.old ++ (spec.column_sql columns.now column
         ++ (codes " IS" ++ (spec.not_text negated ++ codes " NULL")))) }
 {
     write_column_name(columns, column, text)?;

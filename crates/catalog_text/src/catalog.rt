@@ -96,7 +96,7 @@ fn write_publication_name(
     text: &mut String,
 ) -> Result<(), AllocError>
     ensures { OnOk result (string_bytes text.new ≡ string_bytes text.old
-        ++ spec.publication_name (map publication_view publications.now) number) }
+        ++ spec.publication_sql (map publication_view publications.now) number) }
 {
     match publications.get(number) {
         Some(publication) => write_name(publication.name.as_str(), text),
@@ -111,7 +111,7 @@ fn write_publication_names(
     text: &mut String,
 ) -> Result<(), AllocError>
     ensures { OnOk result (string_bytes text.new ≡ string_bytes text.old
-        ++ join_by (spec.publication_name (map publication_view publications.now)) (codes ", ") numbers.now) }
+        ++ join_by (spec.publication_sql (map publication_view publications.now)) (codes ", ") numbers.now) }
 {
     if let [first, others @ ..] = numbers {
         write_publication_name(publications, *first, text)?;

@@ -19,7 +19,7 @@ pub(crate) enum Level {
 
 impl Level {
     fn rank(self) -> u8
-        ensures { result ≡ spec.rank_of self }
+        ensures { result ≡ spec.level_rank self }
     {
         match self {
             Level::Or => 0,

@@ -91,7 +91,7 @@ fn are_ascending(entries: &[Entry]) -> bool
 
 /// Whether the table of this number and schema has an entry, or no table of the schema has one.
 fn is_listed(tables: &[Table], entries: &[Entry], number: usize, schema: &str) -> bool
-    ensures { result ≡ spec.is_listed tables.now (map entry_view entries.now) number schema.now }
+    ensures { result ≡ spec.is_listed_whole tables.now (map entry_view entries.now) number schema.now }
 {
     !has_schema(tables, entries, schema) || has_table(entries, number)
 }

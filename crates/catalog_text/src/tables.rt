@@ -4,7 +4,7 @@ ghost use Rattle.std.specs.Prelude.{◌≡◌, ◌++◌, OnOk, codes};
 ghost use Rattle.std.specs.List.{flat_map, join_by};
 ghost use Rattle.std.specs.String.{string_bytes};
 ghost use Rattle.catalog_text.specs.CatalogText as spec;
-ghost use Rattle.catalog_text.specs.FilterText.{column_name};
+ghost use Rattle.catalog_text.specs.FilterText.{column_sql};
 
 use crate::words::{text_if, write_column_name, write_name};
 use filter_tree::{ColType, Column, Identity, Table, UniqueIndex};
@@ -48,7 +48,7 @@ fn write_column_names(
     text: &mut String,
 ) -> Result<(), AllocError>
     ensures { OnOk result (string_bytes text.new
-        ≡ string_bytes text.old ++ join_by (column_name columns.now) (codes ", ") numbers.now) }
+        ≡ string_bytes text.old ++ join_by (column_sql columns.now) (codes ", ") numbers.now) }
 {
     if let [first, others @ ..] = numbers {
         write_column_name(columns, *first, text)?;
@@ -74,9 +74,9 @@ fn write_column_list(
     text.push(')')
 }
 
-#[tactic(auto, unfolding(crate::specs::CatalogText::table_name))]
+#[tactic(auto, unfolding(crate::specs::CatalogText::table_sql))]
 pub(crate) fn write_table_name(table: &Table, text: &mut String) -> Result<(), AllocError>
-    ensures { OnOk result (string_bytes text.new ≡ string_bytes text.old ++ spec.table_name table.now) }
+    ensures { OnOk result (string_bytes text.new ≡ string_bytes text.old ++ spec.table_sql table.now) }
 {
     write_name(table.schema.as_str(), text)?;
     text.push('.')?;

@@ -45,7 +45,7 @@ pub(crate) fn write_column_name(
     number: usize,
     text: &mut String,
 ) -> Result<(), AllocError>
-    ensures { OnOk result (string_bytes text.new ≡ string_bytes text.old ++ spec.column_name columns.now number) }
+    ensures { OnOk result (string_bytes text.new ≡ string_bytes text.old ++ spec.column_sql columns.now number) }
 {
     match columns.get(number) {
         Some(column) => write_name(column.name.as_str(), text),

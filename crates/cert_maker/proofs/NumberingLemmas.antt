@@ -7,11 +7,11 @@ use Rattle.filter_tree.specs.declared.filter.Term.{Term}
 use Rattle.filter_tree.specs.declared.table.Table.{Table}
 use Rattle.filter_tree.specs.declared.tri.Tri.TheVariants.{True, False, Null}
 use Rattle.replica_identity.specs.Shares.{ShareOf}
-use Rattle.shard_checker.specs.Emptiness.{Test}
+use Rattle.shard_checker.specs.Emptiness.{EmptyTest}
 use Rattle.shard_checker.specs.Facts.{is_never_null}
 use Rattle.shard_checker.specs.Numbering.{numbered_atoms, numbered_terms}
 use Rattle.shard_checker.specs.Owners.{must_take, second_owner}
-use Rattle.shard_checker.specs.Refusal.{Subject, first_of, first_refusal, refusal, second_refusal, others_refusal, owner_refusal, empty_refusal, never_null_refusal, split_refusal, numbered_subject, later}
+use Rattle.shard_checker.specs.Refusal.{Subject, earliest, first_refusal, refusal, second_refusal, others_refusal, owner_refusal, empty_refusal, never_null_refusal, split_refusal, numbered_subject, later}
 use Rattle.shard_checker.specs.declared.error.CheckError.{CheckError}
 use Rattle.shard_checker.specs.declared.error.CheckError.TheVariants.{NotOwner, NotEmpty, MayBeNull}
 use Rattle.split_cert.specs.Tree.{Tree, Split, Owner, Empty, NeverNull, nodes}
@@ -22,7 +22,7 @@ if_none : (b : Bool) (x y : Option CheckError) (e f : CheckError) → (x ≡ Non
 if_none true x y e f step h = step h
 if_none false x y e f step h = absurd cc
 
-both_none : (one next : Option CheckError) → one ≡ None → next ≡ None → first_of one next ≡ None
+both_none : (one next : Option CheckError) → one ≡ None → next ≡ None → earliest one next ≡ None
 both_none None next e h = h
 both_none (Some error) next e h = absurd cc
 
@@ -45,7 +45,7 @@ owner_none number subject path node owner (Some share) h =
     (NotOwner number node)
     (second_none number subject node (second_owner owner 0 subject.shares path)) h
 
-empty_none : (is_empty : Test) (number : ℕ) (subject : Subject) (path : Path) (node : ℕ) (found : Option Term)
+empty_none : (is_empty : EmptyTest) (number : ℕ) (subject : Subject) (path : Path) (node : ℕ) (found : Option Term)
     → empty_refusal is_empty subject path node found ≡ None
     → empty_refusal is_empty (renumbered number subject) path node found ≡ None
 empty_none is_empty number subject path node None h = absurd cc
@@ -62,11 +62,11 @@ never_null_none number subject path node (Some atom) h =
     (λ e. e) h
 
 three_none : (a b c d e f : Option CheckError) → (a ≡ None → d ≡ None) → (b ≡ None → e ≡ None) → (c ≡ None → f ≡ None)
-    → first_of a (first_of b c) ≡ None → first_of d (first_of e f) ≡ None
+    → earliest a (earliest b c) ≡ None → earliest d (earliest e f) ≡ None
 three_none a b c d e f one two three h =
-    let outer = first_none a (first_of b c) h in
+    let outer = first_none a (earliest b c) h in
     let inner = first_none b c outer.1 in
-    both_none d (first_of e f) (one outer.0) (both_none e f (two inner.0) (three inner.1))
+    both_none d (earliest e f) (one outer.0) (both_none e f (two inner.0) (three inner.1))
 
 abbrev Refused : Type 0
 Refused = Path → Option CheckError
@@ -82,7 +82,7 @@ split_none number subject path node (Some atom) a b c d e f one two three h =
     (d (path ++ (atom, True) ∷ [])) (e (path ++ (atom, False) ∷ [])) (f (path ++ (atom, Null) ∷ []))
     (one (path ++ (atom, True) ∷ [])) (two (path ++ (atom, False) ∷ [])) (three (path ++ (atom, Null) ∷ [])) h
 
-none_renumbered : (is_empty : Test) (number : ℕ) (subject : Subject) (tree : Tree) (path : Path) (node : ℕ)
+none_renumbered : (is_empty : EmptyTest) (number : ℕ) (subject : Subject) (tree : Tree) (path : Path) (node : ℕ)
     → refusal is_empty subject tree path node ≡ None
     → refusal is_empty (renumbered number subject) tree path node ≡ None
 none_renumbered is_empty number subject (Split index if_true if_false if_null) path node h =
@@ -106,7 +106,7 @@ none_renumbered is_empty number subject (Empty term) path node h =
 none_renumbered is_empty number subject (NeverNull index) path node h =
     never_null_none number subject path node (slice_get subject.atoms index) h
 
-pub accepted_anyhow : (test : Test) (one other : ℕ) (table : Table) (shares : List ShareOf) (tree : Tree)
+pub accepted_anyhow : (test : EmptyTest) (one other : ℕ) (table : Table) (shares : List ShareOf) (tree : Tree)
     → first_refusal test one table shares tree ≡ None → first_refusal test other table shares tree ≡ None
 accepted_anyhow test one other table shares tree h =
     none_renumbered test other

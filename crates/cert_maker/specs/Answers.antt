@@ -10,7 +10,7 @@ use Rattle.pub_catalog.specs.declared.catalog.Subscription.{Subscription}
 use Rattle.replica_identity.specs.Passes.{passes}
 use Rattle.replica_identity.specs.Plans.{PlanOf, plan_of}
 use Rattle.shard_checker.specs.CatalogRefusal.{table_shares}
-use Rattle.shard_checker.specs.Emptiness.{Test, IsEmptiness}
+use Rattle.shard_checker.specs.Emptiness.{EmptyTest, IsEmptiness}
 use Rattle.shard_checker.specs.Refusal.{first_refusal}
 use Rattle.split_cert.specs.Tree.{Tree, IsWithinLimits}
 use Rattle.split_cert.specs.Where.{tree_view}
@@ -36,11 +36,11 @@ IfCounter OutOfMemory Fact = Unit {0}
 -- the certificate is within the limits on certificates that are read, and the check accepts it for the table of this
 -- number, with the shares that the plan gives to the subscribers, whatever number the check uses for the table in its
 -- refusals
-pub record IsAccepted (catalog : CatalogOf Expr) (plan : PlanOf) (number : ℕ) (tree : Tree) : Type 0 where
+pub record IsAcceptedCert (catalog : CatalogOf Expr) (plan : PlanOf) (number : ℕ) (tree : Tree) : Type 0 where
   pub table : Table
   pub there : slice_get catalog.tables number ≡ Some table
   pub limits : IsWithinLimits tree
-  pub accepted : (test : Test) → IsEmptiness test → (any : ℕ)
+  pub accepted : (test : EmptyTest) → IsEmptiness test → (any : ℕ)
       → first_refusal test any table (table_shares plan number 0 catalog.subscriptions) tree ≡ None
 
 -- the numbers of subscribers, the first of which has this number
@@ -65,5 +65,5 @@ pub record IsCounter (catalog : CatalogOf Expr) (plan : PlanOf) (number : ℕ) (
 
 -- what the result for the table of this number means is true
 pub record IsAnswer (catalog : CatalogOf Expr) (plan : PlanOf) (number : ℕ) (made : Made) : Type 0 where
-  pub cert : IfCert made (IsAccepted catalog plan number)
+  pub cert : IfCert made (IsAcceptedCert catalog plan number)
   pub counter : IfCounter made (IsCounter catalog plan number)

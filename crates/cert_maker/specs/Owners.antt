@@ -4,7 +4,7 @@ use Rattle.filter_tree.specs.Datum.{Datum}
 use Rattle.filter_tree.specs.Valid.{IsValid}
 use Rattle.filter_tree.specs.declared.table.Table.{Table}
 use Rattle.replica_identity.specs.Shares.{ShareOf}
-use Rattle.shard_checker.specs.Emptiness.{Test, IsEmptiness}
+use Rattle.shard_checker.specs.Emptiness.{EmptyTest, IsEmptiness}
 use Rattle.shard_checker.specs.Refusal.{first_refusal}
 use Rattle.split_cert.specs.Tree.{Tree, IsWithinLimits}
 use Rattle.cert_search.specs.Owners.{owners_from}
@@ -20,7 +20,7 @@ pub record IsCounterOf (table : Table) (shares : List ShareOf) (row : List Datum
 -- the certificate is within the limits on certificates that are read, and the check accepts it
 pub record IsCertOf (table : Table) (shares : List ShareOf) (tree : Tree) : Type 0 where
   pub limits : IsWithinLimits tree
-  pub accepted : (test : Test) → IsEmptiness test → first_refusal test 0 table shares tree ≡ None
+  pub accepted : (test : EmptyTest) → IsEmptiness test → first_refusal test 0 table shares tree ≡ None
 
 -- what the result means for the table with these shares is true
 pub record IsRight (table : Table) (shares : List ShareOf) (made : Made) : Type 0 where

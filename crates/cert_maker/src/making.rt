@@ -5,7 +5,7 @@ ghost use Rattle.pub_catalog.specs.CatalogView.{catalog_view};
 ghost use Rattle.replica_identity.specs.Plans.{plan_view};
 ghost use Rattle.shard_checker.specs.CatalogRefusal.{table_shares};
 ghost use Rattle.shard_checker.specs.Owners.{shares_view};
-ghost use Rattle.cert_maker.specs.Answers.{IfCert, IfCounter, IsAccepted, IsCounter};
+ghost use Rattle.cert_maker.specs.Answers.{IfCert, IfCounter, IsAcceptedCert, IsCounter};
 ghost use Rattle.cert_maker.specs.Owners.{IsRight};
 ghost use Rattle.cert_maker.specs.declared.made.Made.TheVariants.{Unknown};
 
@@ -115,7 +115,7 @@ pub fn make<'b>(
     table: usize,
 ) -> Made<'b>
     ensures absent { length catalog.now.tables.items ≤ table → result ≡ Unknown }
-    ensures cert { IfCert result (IsAccepted (catalog_view catalog.now) (plan_view plan.now) table) }
+    ensures cert { IfCert result (IsAcceptedCert (catalog_view catalog.now) (plan_view plan.now) table) }
     ensures counter { IfCounter result (IsCounter (catalog_view catalog.now) (plan_view plan.now) table) }
 {
     match catalog.tables.get(table) {

@@ -6,8 +6,8 @@ use Rattle.cli.proofs.Exits as exits
 use Rattle.cli.proofs.RequestLemmas.{can_serve, somebody_serves}
 use Rattle.cli.specs.CommandLine.{AsksHelp, IsOfWords, IsRequest}
 use Rattle.cli.specs.Courses.{IsToServe, IsUnserved}
-use Rattle.cli.specs.Requests.{AnswersReader, CanServe, IsAsked, IsAnswer, IsBegun, IsFault, EndsRequest}
-use Rattle.cli.specs.Runs.{asking, IsEnding}
+use Rattle.cli.specs.Requests.{AnswersReader, CanServe, IsAsked, IsAnswer, IsBegunAnswer, IsRequestFault, EndsRequest}
+use Rattle.cli.specs.Runs.{asked_of_words, IsEnding}
 use Rattle.cli.specs.declared.requests.Request.{Request}
 use Rattle.cli.specs.declared.requests.Request.TheVariants.{Eval, Show, Check, Make, Simulate, Serve, Publish}
 use Rattle.commands.specs.Inputs.{IsOfReading}
@@ -20,7 +20,7 @@ use Rattle.commands.specs.declared.failure.Status.{Status}
 use Rattle.commands.specs.declared.failure.Status.TheVariants.{Done}
 
 -- what is answered of an input was read
-is_read : (request : Request) (input : List ℕ) → IsFault request input i.Unread → ⊥
+is_read : (request : Request) (input : List ℕ) → IsRequestFault request input i.Unread → ⊥
 is_read (Eval table wanted) input there = there
 is_read Show input there = there
 is_read (Check shows) input there = there
@@ -35,8 +35,8 @@ module _ (serves : Bool) (words : List (List ℕ)) (may_fail : Bool) (known : Op
       → IsAsked serves words known request input
       → EndsRequest may_fail request input old new result → IsEnding serves words may_fail known old new result
   answered request input old new result asked ends =
-      exits.answered (asking serves words may_fail known) (IsAnswer may_fail request input) (IsBegun request input)
-      (IsFault request input)
+      exits.answered (asked_of_words serves words may_fail known) (IsAnswer may_fail request input)
+      (IsBegunAnswer request input) (IsRequestFault request input)
       (λ lines status whole. record { request = request; input = input; asked = asked; answer = whole })
       (λ lines begun. record { request = request; input = input; asked = asked; begun = begun })
       (λ fault there. record { request = request; input = input; asked = asked; is = there }) (is_read request input)
@@ -50,7 +50,8 @@ module _ (serves : Bool) (words : List (List ℕ)) (may_fail : Bool) (known : Op
         → IsEnding serves words may_fail known old new (Err failure)
     unread_told old new (f.Input i.Unread) is same =
         (record { request = request; asks = asks; can = can; unread = is }, same)
-    unread_told old new f.OutOfMemory is same = exits.out_of_memory (asking serves words may_fail known) old new same
+    unread_told old new f.OutOfMemory is same =
+        exits.out_of_memory (asked_of_words serves words may_fail known) old new same
     unread_told old new (f.CommandLine why) is same = absurd is
     unread_told old new f.Output is same = absurd is
     unread_told old new (f.Input i.Parts) is same = absurd is
@@ -81,15 +82,15 @@ module _ (serves : Bool) (words : List (List ℕ)) (may_fail : Bool) (known : Op
       → IfErr result (StopsText (ended text) old new) → IsEnding serves words may_fail known old new result
   help_ends text old new (Ok status) asks same appends stops =
       subst (λ (s : Status). IsEnding serves words may_fail known old new (Ok s)) (sym same)
-      (exits.help_written (asking serves words may_fail known) text old new asks appends)
+      (exits.help_written (asked_of_words serves words may_fail known) text old new asks appends)
   help_ends text old new (Err failure) asks same appends stops =
-      exits.help_stopped (asking serves words may_fail known) text old new failure asks stops
+      exits.help_stopped (asked_of_words serves words may_fail known) text old new failure asks stops
 
   -- the arguments are a usage error
   pub words_end : (old : Option (List ℕ)) (failure : Failure) → IsOfWords words failure
       → IsEnding serves words may_fail known old old (Err failure)
   words_end old (f.CommandLine why) is = (inl is, refl)
-  words_end old f.OutOfMemory is = exits.out_of_memory (asking serves words may_fail known) old old refl
+  words_end old f.OutOfMemory is = exits.out_of_memory (asked_of_words serves words may_fail known) old old refl
   words_end old (f.Input fault) is = absurd is
   words_end old f.Output is = absurd is
 
@@ -120,7 +121,7 @@ pub unserved_ends : {I : Type 0} (words : List (List ℕ)) (may_fail : Bool) (kn
 unserved_ends words may_fail known input left old mid request (f.CommandLine why) is told =
     (inr (refl, record { request = request; asks = is.asks; needs = is.needs }), is.unwritten)
 unserved_ends words may_fail known input left old mid request f.OutOfMemory is told =
-    exits.out_of_memory (asking false words may_fail known) old mid is.unwritten
+    exits.out_of_memory (asked_of_words false words may_fail known) old mid is.unwritten
 unserved_ends words may_fail known input left old mid request (f.Input fault) is told = absurd told
 unserved_ends words may_fail known input left old mid request f.Output is told = absurd told
 

@@ -6,7 +6,7 @@ use denote.Enum.Declared.{tag_of}
 use Rattle.std.proofs.KnownBytes.{Appends-kept, Appends-trans}
 use Rattle.commands.proofs.Reports.{number_is}
 use Rattle.commands.proofs.Writing.{first_after, first_kept, first_of_longer, first_whole, text_of-more, unwritten}
-use Rattle.commands.specs.Failures.{failure_lines, number_of}
+use Rattle.commands.specs.Failures.{failure_lines, exit_status}
 use Rattle.cli.specs.Outcomes.{Asked, NumberSaysFault, IsReason, IsOutput, Answered, Shown, Misworded, Rejected, CutShort, WritesOutput, WritesFirstOutput, IsOutcome, IsRun, WritesCutShort, IsEnding}
 use Rattle.commands.specs.Output.{Ends, SaysFault, StopsText, WritesFirst, ended, text_of}
 use Rattle.commands.specs.Reporting.{IsReport}
@@ -224,7 +224,7 @@ module _ (asked : Asked) where
 -- ---- whether the writer fails
 
 -- the number of a status says it as the status does
-number_says : (status : Status) (number : ℕ) (old new : Bool) → number ≡ number_of status → SaysFault old new status
+number_says : (status : Status) (number : ℕ) (old new : Bool) → number ≡ exit_status status → SaysFault old new status
     → NumberSaysFault old new number
 number_says Done number old new is says = (λ four. absurd (omega (arith, is, four)), λ other. says)
 number_says Refused number old new is says = (λ four. absurd (omega (arith, is, four)), λ other. says)

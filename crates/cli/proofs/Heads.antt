@@ -13,7 +13,7 @@ use Rattle.shard_checker.specs.Sound.{IsSound}
 use Rattle.shard_checker.specs.Texts.{text_fault, trees_in}
 use Rattle.shard_checker.specs.declared.error.CheckError.{CheckError}
 use Rattle.split_cert.specs.Tree.{Tree}
-use Rattle.sql_reader.specs.Reading.{Tells as TellsFault, told}
+use Rattle.sql_reader.specs.Reading.{Tells as TellsFault, read_fault}
 use Rattle.sql_reader.specs.Written.{as_filter}
 use Rattle.sql_reader.specs.declared.error.ReadError.{ReadError}
 use Rattle.commands.proofs.Writing.{text_of-one, unwritten}
@@ -31,7 +31,7 @@ use Rattle.commands.specs.declared.failure.Status.{Status}
 use Rattle.commands.specs.declared.failure.Status.TheVariants.{Refused}
 use Rattle.cli.proofs.LineLemmas.{at_end_of_all, ended_lines-line, ended_lines-plain, ended_lines-text, lines_of-text, no_first_part, no_second_part, parts_there, quit_plain, whole_unread}
 use Rattle.cli.specs.Lines.{AreLast, Ends, Fails, Quits, LacksPart, LineParts, ReadsPart, StopsPart, ended_lines, parts_of}
-use Rattle.cli.specs.Published.{AfterQuit, AreUnanswered, AreUnansweredFor, EndsPublishing, MayFail, NoneLeft, HasClosed, HasSaid, HasToldFirst, IsBegun, IsHead, IsPublished, IsTalk, Serves}
+use Rattle.cli.specs.Published.{AfterQuit, AreUnanswered, AreUnansweredFor, EndsPublishing, MayFail, NoneLeft, HasClosed, HasSaid, HasToldFirst, IsBegunPublishing, IsPublishHead, IsPublishing, IsTalk, Serves}
 use Rattle.cli.specs.Requests.{AnswersReader}
 use Rattle.cli.specs.Talks.{AreLastFor, Conversation}
 use Rattle.cli.specs.declared.requests.Feed.{Feed}
@@ -172,7 +172,7 @@ module _ (may_fail : Bool) (feed : Feed) (known old : Option (List ℕ)) where
     -- ---- the first part is no catalog
 
     module _ (error : ReadError) (tells : TellsFault error (catalog_by as_filter text)) where
-      catalog_told : (is_memory : Bool) → is_none (told error) ≡ is_memory
+      catalog_told : (is_memory : Bool) → is_none (read_fault error) ≡ is_memory
           → AnswersReader (Publish feed) may_fail known old old
           (Err (if is_memory then f.OutOfMemory else f.Input (i.Catalog error)))
       catalog_told true e = unread f.OutOfMemory tt
@@ -193,7 +193,8 @@ module _ (may_fail : Bool) (feed : Feed) (known old : Option (List ℕ)) where
       pub catalog_returned : (result : Result Status Failure)
           → IsErrAnd result (λ failed. failed ≡ failure_of_read error)
           → AnswersReader (Publish feed) may_fail known old old result
-      catalog_returned result is = returned (failure_of_read error) result (catalog_told (is_none (told error)) refl) is
+      catalog_returned result is =
+          returned (failure_of_read error) result (catalog_told (is_none (read_fault error)) refl) is
 
     -- ---- it is one
 
@@ -232,7 +233,7 @@ module _ (may_fail : Bool) (feed : Feed) (known old : Option (List ℕ)) where
       certificate_returned failure result is same = returned failure result (certificate_told failure is) same
 
       module _ (faultless : text_fault 1 (lines_of certificates) ≡ None) where
-        is_head : (tail : List ℕ) → IsHead (input_with tail) catalog (parts_with tail)
+        is_head : (tail : List ℕ) → IsPublishHead (input_with tail) catalog (parts_with tail)
         is_head tail = record {
           parts_are = parts_are tail;
           reads = reads_lines;
@@ -244,7 +245,7 @@ module _ (may_fail : Bool) (feed : Feed) (known old : Option (List ℕ)) where
         refusal_line : (error : CheckError) → IsFirstRefusal catalog (trees_in (lines_of certificates)) (Some error)
             → ShardingIsWrong catalog (plan_of catalog) (trees_in (lines_of certificates)) error
             → (status : Status) → status ≡ Refused
-            → IsPublished may_fail feed (input_with given.0) (refused_line catalog error ∷ []) status
+            → IsPublishing may_fail feed (input_with given.0) (refused_line catalog error ∷ []) status
         refusal_line error refusal wrong status is = record {
           catalog = catalog;
           parts = parts_with given.0;
@@ -341,7 +342,7 @@ module _ (may_fail : Bool) (feed : Feed) (known old : Option (List ℕ)) where
           }
 
           listened : (lines : List (List ℕ)) (said : HasSaid feed (checked_by catalog) left later lines)
-              → IsBegun feed (input_with (tail_of said.answers said.own said.conversation).0) lines
+              → IsBegunPublishing feed (input_with (tail_of said.answers said.own said.conversation).0) lines
           listened lines said =
               let tail = (tail_of said.answers said.own said.conversation).0 in
               inr (record {
@@ -381,7 +382,7 @@ module _ (may_fail : Bool) (feed : Feed) (known old : Option (List ℕ)) where
 
           closed : (lines : List (List ℕ)) (status : Status)
               (all : HasClosed feed (checked_by catalog) left later may_fail lines status)
-              → IsPublished may_fail feed
+              → IsPublishing may_fail feed
               (input_with (tail_of all.said.answers all.said.own all.said.conversation).0) lines status
           closed lines status all =
               let tail = (tail_of all.said.answers all.said.own all.said.conversation).0 in

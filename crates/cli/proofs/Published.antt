@@ -13,24 +13,24 @@ use Rattle.commands.specs.Output.{StopsText, Writes, WritesFirst, ended, text_of
 use Rattle.commands.specs.declared.failure.Failure.{Failure}
 use Rattle.commands.specs.declared.failure.Failure.TheVariants as f
 use Rattle.commands.specs.declared.failure.Status.{Status}
-use Rattle.cli.specs.Published.{AreCallersAt, Closes, HasClosed, IsClosing, IsLast, HasSaid, IsPortFor, MayHaveSaid, Opens, Serves, StopsTelling}
+use Rattle.cli.specs.Published.{AreCallersAt, Closes, HasClosed, IsClosing, IsLastLine, HasSaid, IsPortFor, MayHaveSaid, Opens, Serves, StopsTelling}
 use Rattle.cli.specs.Talks.{AreNotes, Conversation, HasAnswered, IsCutOff, Nobody, Nothing}
 use Rattle.cli.specs.Lines.{IsPlain}
-use Rattle.cli.specs.Telling.{IsStop, Says, first_lines}
+use Rattle.cli.specs.Telling.{IsStop, WritesLine, first_lines}
 use Rattle.cli.specs.declared.requests.Feed.{Feed}
 
 -- ---- the last line
 
 module _ (checked : CheckedOf) (limit : ℕ) (notes : List Note) where
   pub closes : (line : List ℕ) (status : Status) (old new : Option (List ℕ)) (result : Result Status Failure)
-      → IsLast checked limit notes line status → Says line status old new result
+      → IsLastLine checked limit notes line status → WritesLine line status old new result
       → Closes checked limit notes old new result
   closes line status old new (Ok told) last says = record {
     lines = says.lines;
     whole = record {
       line = line;
       are = says.whole.0;
-      last = subst (λ (s : Status). IsLast checked limit notes line s) (sym says.whole.1) last;
+      last = subst (λ (s : Status). IsLastLine checked limit notes line s) (sym says.whole.1) last;
     };
     appends = says.appends;
   }
@@ -45,7 +45,7 @@ module _ (checked : CheckedOf) (limit : ℕ) (notes : List Note) where
         record {
           line = line;
           are = w.1.0;
-          last = subst (λ (s : Status). IsLast checked limit notes line s) (sym w.1.1) last;
+          last = subst (λ (s : Status). IsLastLine checked limit notes line s) (sym w.1.1) last;
         },
       )
     ];

@@ -2,13 +2,13 @@
 use Rattle.std.proofs.Common.{ℕ, Bool, true, false, refl, List, arith, codes}
 use Rattle.std.specs.Prelude.{Option, Some, None}
 use Rattle.clap.specs.Words.{Text, first_of}
-use Rattle.commands.specs.Simulate.Limits.{IsWithin}
+use Rattle.commands.specs.Simulate.Limits.{IsLogLimit}
 use Rattle.cli.specs.CommandLine.{CanDo, IsLimit, IsRequest}
 use Rattle.cli.specs.Requests.{CanServe}
 use Rattle.cli.specs.declared.requests.Request.{Request}
 use Rattle.cli.specs.declared.requests.Request.TheVariants.{Eval, Show, Check, Make, Simulate, Serve, Publish}
 
-limit_within : (word : Option Text) (limit : ℕ) → IsLimit word limit → IsWithin limit
+limit_within : (word : Option Text) (limit : ℕ) → IsLimit word limit → IsLogLimit limit
 limit_within None limit is = record { some = omega (arith, is); most = omega (arith, is) }
 limit_within (Some word) limit is = is.within
 

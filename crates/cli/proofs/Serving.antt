@@ -10,7 +10,7 @@ use Rattle.shard_checker.specs.CatalogTruth.{ShardingIsWrong}
 use Rattle.shard_checker.specs.Sound.{IsSound}
 use Rattle.shard_checker.specs.Texts.{text_fault, trees_in}
 use Rattle.shard_checker.specs.declared.error.CheckError.{CheckError}
-use Rattle.sql_reader.specs.Reading.{Tells as TellsFault, told}
+use Rattle.sql_reader.specs.Reading.{Tells as TellsFault, read_fault}
 use Rattle.sql_reader.specs.Written.{as_filter}
 use Rattle.sql_reader.specs.declared.error.ReadError.{ReadError}
 use Rattle.table_changes.specs.Commands.{Command}
@@ -26,9 +26,9 @@ use Rattle.commands.specs.declared.failure.Failure.TheVariants as f
 use Rattle.commands.specs.declared.failure.InputFault.TheVariants as i
 use Rattle.commands.specs.declared.failure.Status.{Status}
 use Rattle.commands.specs.declared.failure.Status.TheVariants.{Refused}
-use Rattle.cli.specs.Scripts.{Commits, IsOfScript}
-use Rattle.cli.specs.Serving.{EndsService, IsBegun, IsFault, IsServing}
-use Rattle.cli.specs.Telling.{IsBegun as MayListen, IsTold, Tells, service_of}
+use Rattle.cli.specs.Scripts.{OnlyCommits, IsOfScript}
+use Rattle.cli.specs.Serving.{EndsService, IsBegunServing, IsServeFault, IsServing}
+use Rattle.cli.specs.Telling.{IsBegun as MayListen, IsServeTold, WritesServeLines, service_of}
 use Rattle.cli.specs.declared.requests.Service.{Service}
 
 pub out_of_memory : (service : Service) (input : List ℕ) (old new : Option (List ℕ)) → new ≡ old
@@ -46,7 +46,7 @@ memory_returned service input old (Err failed) is =
 -- the first part is no catalog
 module _ (service : Service) (input : List ℕ) (cut : CutTwice) (parts : three_parts input ≡ Some cut)
     (old : Option (List ℕ)) (error : ReadError) (tells : TellsFault error (catalog_by as_filter cut.first)) where
-  catalog_told : (is_memory : Bool) → is_none (told error) ≡ is_memory
+  catalog_told : (is_memory : Bool) → is_none (read_fault error) ≡ is_memory
       → EndsService service input old old (Err (if is_memory then f.OutOfMemory else f.Input (i.Catalog error)))
   catalog_told true e = out_of_memory service input old old refl
   catalog_told false e = (inl (record { cut = cut; parts = parts; tells = tells; known = e }), refl)
@@ -57,7 +57,7 @@ module _ (service : Service) (input : List ℕ) (cut : CutTwice) (parts : three_
   catalog_returned (Ok status) is = absurd is
   catalog_returned (Err failed) is =
       subst (λ (failure : Failure). EndsService service input old old (Err failure)) (sym is)
-      (catalog_told (is_none (told error)) refl)
+      (catalog_told (is_none (read_fault error)) refl)
 
 module _ (service : Service) (input : List ℕ) (cut : CutTwice) (catalog : CatalogOf Expr)
     (parts : three_parts input ≡ Some cut) (reads : catalog_by as_filter cut.first ≡ Ok catalog) where
@@ -130,16 +130,16 @@ module _ (service : Service) (input : List ℕ) (cut : CutTwice) (catalog : Cata
 
     -- ---- what is answered
 
-    module _ (lists : List (List Command)) (script : Commits catalog.tables cut.third lists) where
+    module _ (lists : List (List Command)) (script : OnlyCommits catalog.tables cut.third lists) where
       -- the subscribers are served, as far as memory, sockets and the writer go
       pub served : (old new : Option (List ℕ)) (result : Result Status Failure) → IsSound catalog
           → IsFirstRefusal catalog (trees_in (lines_of cut.second)) None
-          → Tells (service_of service (checked_by catalog) lists) old new result
+          → WritesServeLines (service_of service (checked_by catalog) lists) old new result
           → EndsService service input old new result
       served old new result sound unrefused tells =
-          ends_as (IsTold (service_of service (checked_by catalog) lists)) (IsServing service input)
-          (MayListen service.port) (IsBegun service input)
-          (IsFault input)
+          ends_as (IsServeTold (service_of service (checked_by catalog) lists)) (IsServing service input)
+          (MayListen service.port) (IsBegunServing service input)
+          (IsServeFault input)
           (λ lines status told. record {
             cut = cut;
             catalog = catalog;

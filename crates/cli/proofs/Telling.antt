@@ -8,12 +8,12 @@ use Rattle.commands.specs.Output.{StopsText, WritesFirst, ended, text_of}
 use Rattle.commands.specs.declared.failure.Failure.{Failure}
 use Rattle.commands.specs.declared.failure.Failure.TheVariants as f
 use Rattle.commands.specs.declared.failure.Status.{Status}
-use Rattle.cli.specs.Telling.{Closes, IsBegun, IsClosing, IsLast, IsStop, IsTold, Says, ServiceOf, Tells, listening_line}
+use Rattle.cli.specs.Telling.{Closes, IsBegun, IsClosing, IsLast, IsStop, IsServeTold, WritesLine, ServiceOf, WritesServeLines, listening_line}
 
 -- ---- a line alone
 
 pub said : (line : List ℕ) (status : Status) (old new : Option (List ℕ)) → Appends old new (ended line)
-    → Says line status old new (Ok status)
+    → WritesLine line status old new (Ok status)
 said line status old new appends = record {
   lines = line ∷ [];
   whole = (refl, refl);
@@ -21,7 +21,7 @@ said line status old new appends = record {
 }
 
 pub unsaid : (line : List ℕ) (status : Status) (old new : Option (List ℕ)) (failure : Failure)
-    → StopsText (ended line) old new failure → Says line status old new (Err failure)
+    → StopsText (ended line) old new failure → WritesLine line status old new (Err failure)
 unsaid line status old new (f.CommandLine why) stops = absurd stops
 unsaid line status old new (f.Input fault) stops = absurd stops
 unsaid line status old new f.OutOfMemory stops = record { lines = []; begun = refl; appends = unwritten old new stops }
@@ -35,7 +35,7 @@ unsaid line status old new f.Output stops = record {
 
 module _ (service : ServiceOf) where
   pub closes : (line : List ℕ) (status : Status) (old new : Option (List ℕ)) (result : Result Status Failure)
-      → IsLast service line status → Says line status old new result → Closes service old new result
+      → IsLast service line status → WritesLine line status old new result → Closes service old new result
   closes line status old new (Ok told) last says = record {
     lines = says.lines;
     whole = record {
@@ -79,7 +79,7 @@ module _ (service : ServiceOf) where
 
   -- it stops before the first line
   pub unheard : (old new : Option (List ℕ)) (failure : Failure)
-      → StopsText (ended (listening_line service.port)) old new failure → Tells service old new (Err failure)
+      → StopsText (ended (listening_line service.port)) old new failure → WritesServeLines service old new (Err failure)
   unheard old new (f.CommandLine why) stops = absurd stops
   unheard old new (f.Input fault) stops = absurd stops
   unheard old new f.OutOfMemory stops = record { lines = []; begun = inl refl; appends = unwritten old new stops }
@@ -91,7 +91,7 @@ module _ (service : ServiceOf) where
 
   -- it stops after the first line
   stopped_after : (old new : Option (List ℕ)) (failure : Failure) → Appends old new (ended (listening_line service.port))
-      → IsStop failure → Tells service old new (Err failure)
+      → IsStop failure → WritesServeLines service old new (Err failure)
   stopped_after old new (f.CommandLine why) appends stop = absurd stop
   stopped_after old new (f.Input fault) appends stop = absurd stop
   stopped_after old new f.OutOfMemory appends stop = record {
@@ -109,24 +109,25 @@ module _ (service : ServiceOf) where
   -- the same of what a `?` gives
   pub unheard_returned : (old new : Option (List ℕ)) (failure : Failure) (result : Result Status Failure)
       → StopsText (ended (listening_line service.port)) old new failure → IsErrAnd result (λ failed. failed ≡ failure)
-      → Tells service old new result
+      → WritesServeLines service old new result
   unheard_returned old new failure (Ok told) stops is = absurd is
   unheard_returned old new failure (Err failed) stops is =
-      subst (λ (f : Failure). Tells service old new (Err f)) (sym is) (unheard old new failure stops)
+      subst (λ (f : Failure). WritesServeLines service old new (Err f)) (sym is) (unheard old new failure stops)
 
   pub stopped_returned : (old new : Option (List ℕ)) (failure : Failure) (result : Result Status Failure)
       → Appends old new (ended (listening_line service.port)) → IsStop failure → IsErrAnd result (λ failed. failed ≡ failure)
-      → Tells service old new result
+      → WritesServeLines service old new result
   stopped_returned old new failure (Ok told) appends stop is = absurd is
   stopped_returned old new failure (Err failed) appends stop is =
-      subst (λ (f : Failure). Tells service old new (Err f)) (sym is) (stopped_after old new failure appends stop)
+      subst (λ (f : Failure). WritesServeLines service old new (Err f)) (sym is)
+      (stopped_after old new failure appends stop)
 
   two_lines : (last : List (List ℕ))
       → text_of (listening_line service.port ∷ last) ≡ ended (listening_line service.port) ++ text_of last
   two_lines last = refl
 
   told : (lines : List (List ℕ)) (status : Status) → IsClosing service lines status
-      → IsTold service (listening_line service.port ∷ lines) status
+      → IsServeTold service (listening_line service.port ∷ lines) status
   told lines status closing =
       record { line = closing.line; are = ap (λ l. listening_line service.port ∷ l) closing.are; last = closing.last }
 
@@ -135,7 +136,8 @@ module _ (service : ServiceOf) where
 
   -- the last line comes after the first one
   pub tells : (old mid new : Option (List ℕ)) (result : Result Status Failure)
-      → Appends old mid (ended (listening_line service.port)) → Closes service mid new result → Tells service old new result
+      → Appends old mid (ended (listening_line service.port)) → Closes service mid new result
+      → WritesServeLines service old new result
   tells old mid new (Ok status) appends closing = record {
     lines = listening_line service.port ∷ closing.lines;
     whole = told closing.lines status closing.whole;

@@ -14,7 +14,7 @@ use Rattle.tables_log.proofs.StandLemmas.{each_is_logged}
 use Rattle.publisher_desk.specs.Logged.{AreNoted}
 use Rattle.publisher_desk.specs.Receipts.{ReceiptOf, transactions_of}
 use Rattle.publisher_desk.specs.declared.note.Note.{Note}
-use Rattle.cli.specs.Views.{IsSeen, IsView, lines_of, view_lines}
+use Rattle.cli.specs.Views.{IsSeen, IsView, shown_lines, view_lines}
 use Rattle.cli.specs.declared.publish.view.View.{View}
 
 -- tests of what a list is made into
@@ -59,6 +59,6 @@ module _ (checked : CheckedOf) (book : Book) (transactions : List Transaction) (
             found.in_order)
             seen.rows);
         count = seen.count ∙ all_slots;
-        are = ap (λ (log : ℕ). lines_of checked.catalog log rows view.progress.items)
+        are = ap (λ (log : ℕ). shown_lines checked.catalog log rows view.progress.items)
             (seen.log_is ∙ each_is_logged book transactions stands);
       }

@@ -20,7 +20,7 @@ use Rattle.cli.specs.declared.requests.Feed.{Feed}
 use Rattle.cli.specs.declared.requests.LogFormat.{LogFormat}
 use Rattle.cli.specs.declared.requests.LogFormat.TheVariants.{Text as TextLines, Json}
 use Rattle.cli.specs.declared.requests.Service.{Service}
-use Rattle.commands.specs.Simulate.Limits.{IsWithin}
+use Rattle.commands.specs.Simulate.Limits.{IsLogLimit}
 use Rattle.commands.specs.declared.failure.Failure.{Failure}
 use Rattle.commands.specs.declared.failure.Failure.TheVariants as f
 
@@ -32,26 +32,26 @@ table_rule = record (new_rule (codes "TABLE")) { required = true; action = Some 
 abbrev pub insert_rule : Rule
 insert_rule = record (new_rule (codes "insert")) { long = Some (codes "insert"); action = Some SetTrue }
 
-abbrev pub eval : App
-eval = with_rule (with_rule (new_app (codes "eval")) table_rule) insert_rule
+abbrev pub eval_command : App
+eval_command = with_rule (with_rule (new_app (codes "eval")) table_rule) insert_rule
 
-abbrev pub show : App
-show = new_app (codes "show")
+abbrev pub show_command : App
+show_command = new_app (codes "show")
 
 abbrev pub show_rule : Rule
 show_rule = record (new_rule (codes "show")) { long = Some (codes "show"); action = Some SetTrue }
 
-abbrev pub check : App
-check = with_rule (new_app (codes "check")) show_rule
+abbrev pub check_command : App
+check_command = with_rule (new_app (codes "check")) show_rule
 
-abbrev pub make : App
-make = new_app (codes "make")
+abbrev pub make_command : App
+make_command = new_app (codes "make")
 
 abbrev pub limit_rule : Rule
 limit_rule = record (new_rule (codes "limit")) { long = Some (codes "limit"); value_names = 1; action = Some Set }
 
-abbrev pub simulate : App
-simulate = with_rule (new_app (codes "simulate")) limit_rule
+abbrev pub simulate_command : App
+simulate_command = with_rule (new_app (codes "simulate")) limit_rule
 
 abbrev pub port_rule : Rule
 port_rule = record (new_rule (codes "port"))
@@ -61,8 +61,8 @@ abbrev pub connections_rule : Rule
 connections_rule = record (new_rule (codes "connections"))
     { long = Some (codes "connections"); value_names = 1; action = Some Set }
 
-abbrev pub serve : App
-serve = with_rule (with_rule (with_rule (new_app (codes "serve")) port_rule) limit_rule) connections_rule
+abbrev pub serve_command : App
+serve_command = with_rule (with_rule (with_rule (new_app (codes "serve")) port_rule) limit_rule) connections_rule
 
 abbrev pub port_file_rule : Rule
 port_file_rule = record (new_rule (codes "port-file"))
@@ -90,8 +90,8 @@ timeout_rule = record (new_rule (codes "timeout")) { long = Some (codes "timeout
 abbrev pub log_rule : Rule
 log_rule = record (new_rule (codes "log")) { long = Some (codes "log"); value_names = 1; action = Some Set }
 
-abbrev pub publish : App
-publish = with_rule (with_rule (with_rule (with_rule (with_rule (with_rule (with_rule (with_rule (with_rule
+abbrev pub publish_command : App
+publish_command = with_rule (with_rule (with_rule (with_rule (with_rule (with_rule (with_rule (with_rule (with_rule
     (new_app (codes "publish")) port_rule) port_file_rule) commands_rule) limit_rule) start_timeout_rule)
     write_timeout_rule) keepalive_rule) timeout_rule) log_rule
 
@@ -103,7 +103,8 @@ bare = on_top (λ top. record top { has_version = true; propagate_version = true
 abbrev pub pgshard : App
 pgshard = with_subcommand (with_subcommand (with_subcommand (with_subcommand (with_subcommand (with_subcommand
     (with_subcommand bare
-    eval.top) show.top) check.top) make.top) simulate.top) serve.top) publish.top
+    eval_command.top) show_command.top) check_command.top) make_command.top) simulate_command.top) serve_command.top)
+    publish_command.top
 
 -- ---- requests
 
@@ -140,7 +141,7 @@ IsCheck found (Publish feed) = ⊥
 pub record SpellsLimit (word : Text) (limit : ℕ) : Type 0 where
   pub numeral : IsNumeral 10 (without_leading_plus word)
   pub is : limit ≡ digits_value 10 (without_leading_plus word)
-  pub within : IsWithin limit
+  pub within : IsLogLimit limit
 
 -- if no word is given, it is 1,000,000
 abbrev pub IsLimit : Option Text → ℕ → Type 0
@@ -250,9 +251,9 @@ CanDo (Eval table wanted) = Unit {0}
 CanDo Show = Unit {0}
 CanDo (Check shows) = Unit {0}
 CanDo Make = Unit {0}
-CanDo (Simulate limit) = IsWithin limit
-CanDo (Serve service) = IsWithin service.limit
-CanDo (Publish feed) = IsWithin feed.limit
+CanDo (Simulate limit) = IsLogLimit limit
+CanDo (Serve service) = IsLogLimit service.limit
+CanDo (Publish feed) = IsLogLimit feed.limit
 
 -- what clap parses is `eval` with its arguments
 pub record TakesEval (taken : Option (Text × List Row)) (word : Text) (wanted : RowOutput) : Type 0 where
@@ -289,19 +290,19 @@ pub record TakesPublish (taken : Option (Text × List Row)) (feed : Feed) : Type
   pub is : taken ≡ Some (codes "publish", found)
   pub arguments : IsFeed found feed
 
-abbrev pub IsTaken : Option (Text × List Row) → Request → Type 0
-IsTaken taken (Eval table wanted) = TakesEval taken table.now wanted
-IsTaken taken Show = Takes taken (codes "show")
-IsTaken taken (Check shows) = TakesCheck taken shows
-IsTaken taken Make = Takes taken (codes "make")
-IsTaken taken (Simulate limit) = TakesSimulate taken limit
-IsTaken taken (Serve service) = TakesServe taken service
-IsTaken taken (Publish feed) = TakesPublish taken feed
+abbrev pub IsSubcommand : Option (Text × List Row) → Request → Type 0
+IsSubcommand taken (Eval table wanted) = TakesEval taken table.now wanted
+IsSubcommand taken Show = Takes taken (codes "show")
+IsSubcommand taken (Check shows) = TakesCheck taken shows
+IsSubcommand taken Make = Takes taken (codes "make")
+IsSubcommand taken (Simulate limit) = TakesSimulate taken limit
+IsSubcommand taken (Serve service) = TakesServe taken service
+IsSubcommand taken (Publish feed) = TakesPublish taken feed
 
 -- clap finds no fault in the arguments, and what it parses is the request
 pub record IsRequest (words : List Text) (request : Request) : Type 0 where
   pub faultless : fault_of pgshard words ≡ []
-  pub taken : IsTaken (subcommand_of pgshard words) request
+  pub taken : IsSubcommand (subcommand_of pgshard words) request
 
 -- ---- what else the words may be
 
@@ -321,10 +322,10 @@ pub record IsFaulty (words : List Text) : Type 0 where
 -- clap finds no fault in the arguments, and they request nothing that can be answered
 pub record AsksNothing (words : List Text) : Type 0 where
   pub faultless : fault_of pgshard words ≡ []
-  pub nothing : (request : Request) → IsTaken (subcommand_of pgshard words) request → ⊥
+  pub nothing : (request : Request) → IsSubcommand (subcommand_of pgshard words) request → ⊥
 
-abbrev pub IsMisworded : List Text → Type 0
-IsMisworded words = IsFaulty words ⊎ AsksNothing words
+abbrev pub IsUsageError : List Text → Type 0
+IsUsageError words = IsFaulty words ⊎ AsksNothing words
 
 abbrev pub IsAsking : List Text → Invocation → Type 0
 IsAsking words (Help text) = AsksHelp words
@@ -332,7 +333,7 @@ IsAsking words (Answer request) = IsRequest words request
 
 -- parsing fails because the arguments are a usage error, or memory ran out
 abbrev pub IsOfWords : List Text → Failure → Type 0
-IsOfWords words (f.CommandLine text) = IsMisworded words
+IsOfWords words (f.CommandLine text) = IsUsageError words
 IsOfWords words f.OutOfMemory = Unit {0}
 IsOfWords words _ = ⊥
 

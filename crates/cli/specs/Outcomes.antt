@@ -2,7 +2,7 @@
 -- write fails. The format is this program's own.
 use Rattle.std.specs.Prelude.{◌≡◌, ◌≢◌, ℕ, ◌⊎◌, Bool, true, List, [], ◌∷◌, ◌++◌, Option, Result, Ok, Err, codes}
 use Rattle.std.specs.Io.KnownBytes.{Appends}
-use Rattle.commands.specs.Failures.{fault_line, number_of}
+use Rattle.commands.specs.Failures.{fault_line, exit_status}
 use Rattle.commands.specs.Output.{WritesFirst, text_of}
 use Rattle.commands.specs.declared.failure.Failure.{Failure}
 use Rattle.commands.specs.declared.failure.Failure.TheVariants as f
@@ -73,7 +73,7 @@ module _ (asked : Asked) where
   -- the same of the number of a status
   pub record IsRun (old new : Option (List ℕ)) (number : ℕ) : Type 0 where
     pub status : Status
-    pub numbered : number ≡ number_of status
+    pub numbered : number ≡ exit_status status
     pub outcome : IsOutcome old new status
 
   -- ---- before a failure is reported

@@ -14,7 +14,7 @@ use Rattle.senders.specs.declared.close_error.CloseError.{CloseError}
 use Rattle.senders.specs.declared.served.Served.{Served}
 use Rattle.tables_log.specs.BookView.{book_log}
 use Rattle.tables_log.specs.declared.book.Book.{Book}
-use Rattle.sql_reader.specs.Reading.{Tells, told}
+use Rattle.sql_reader.specs.Reading.{Tells, read_fault}
 use Rattle.sql_reader.specs.Written.{as_filter}
 use Rattle.sql_reader.specs.declared.error.ReadError.{ReadError}
 use Rattle.shard_checker.specs.CheckedView.{CheckedOf}
@@ -44,23 +44,23 @@ use Rattle.cli.specs.declared.requests.Feed.{Feed}
 module _ (checked : CheckedOf) (limit : ℕ) (notes : List Note) where
   -- The last line: the publisher was closed with the session's seat, one of 1,000, which has these notes, and with the
   -- results of the connections, each of which was served to its end; or why it was not.
-  pub data IsLast : List ℕ → Status → Type 0 where
+  pub data IsLastLine : List ℕ → Status → Type 0 where
     Closed : (served : List Served) (book : Book) → All (WasServed checked) served
         → IsClosed checked limit (notes ∷ []) served book
-        → IsLast (closed_line (length (book_log book)) (length served)) Done
+        → IsLastLine (closed_line (length (book_log book)) (length served)) Done
     Differs : (served : List Served) (error : CloseError) (name : List ℕ) → All (WasServed checked) served
         → RefusedClose checked limit 1000 999 (notes ∷ []) served error → name_of error ≡ Some name
-        → IsLast (codes "close " ++ name) Refused
+        → IsLastLine (codes "close " ++ name) Refused
 
   -- whatever name the error has, the line with it is a last line
-  abbrev pub IsLastOf : CloseError → Type 0
-  IsLastOf error = (name : List ℕ) → name_of error ≡ Some name → IsLast (codes "close " ++ name) Refused
+  abbrev pub IsLastLineOf : CloseError → Type 0
+  IsLastLineOf error = (name : List ℕ) → name_of error ≡ Some name → IsLastLine (codes "close " ++ name) Refused
 
   -- the lines are a last line alone
   pub record IsClosing (lines : List (List ℕ)) (status : Status) : Type 0 where
     pub line : List ℕ
     pub are : lines ≡ line ∷ []
-    pub last : IsLast line status
+    pub last : IsLastLine line status
 
   abbrev pub Closes : Option (List ℕ) → Option (List ℕ) → Result Status Failure → Type 0
   Closes old new result = Writes IsClosing (λ lines. lines ≡ []) old new result
@@ -122,73 +122,73 @@ pub record HasTold (may_fail : Bool) (feed : Feed) (catalog : CatalogOf Expr) (c
   pub line : List ℕ
   pub first : HasToldFirst feed catalog commands earlier
   pub unanswered : AreUnansweredFor first.callers may_fail first.talk.unsaid
-  pub last : IsLast (checked_by catalog) feed.limit first.notes line status
+  pub last : IsLastLine (checked_by catalog) feed.limit first.notes line status
   pub are : lines ≡ earlier ++ line ∷ []
 
 -- ---- what is answered
 
 -- there is no reason to refuse the sharding, it is sound, and the subscribers are served while the commands are
 -- answered
-pub record IsServed (may_fail : Bool) (feed : Feed) (catalog : CatalogOf Expr) (trees : List Tree)
+pub record IsPublishServed (may_fail : Bool) (feed : Feed) (catalog : CatalogOf Expr) (trees : List Tree)
     (commands : List (List ℕ)) (lines : List (List ℕ)) (status : Status) : Type 0 where
   pub sound : IsSound catalog
   pub unrefused : IsFirstRefusal catalog trees None
   pub told : HasTold may_fail feed catalog commands lines status
 
 -- the input has three parts, the first is a catalog, and each line of the second is a certificate
-pub record IsHead (input : List ℕ) (catalog : CatalogOf Expr) (parts : LineParts) : Type 0 where
+pub record IsPublishHead (input : List ℕ) (catalog : CatalogOf Expr) (parts : LineParts) : Type 0 where
   pub parts_are : parts_of (ended_lines input) ≡ Some parts
   pub reads : catalog_by as_filter (text_of parts.catalog) ≡ Ok catalog
   pub certificates : text_fault 1 parts.certificates ≡ None
 
-pub record IsPublished (may_fail : Bool) (feed : Feed) (input : List ℕ) (lines : List (List ℕ)) (status : Status) :
+pub record IsPublishing (may_fail : Bool) (feed : Feed) (input : List ℕ) (lines : List (List ℕ)) (status : Status) :
     Type 0 where
   pub catalog : CatalogOf Expr
   pub parts : LineParts
-  pub head : IsHead input catalog parts
-  pub result : IsServed may_fail feed catalog (trees_in parts.certificates) parts.commands lines status
+  pub head : IsPublishHead input catalog parts
+  pub result : IsPublishServed may_fail feed catalog (trees_in parts.certificates) parts.commands lines status
       ⊎ IsRefusal catalog (trees_in parts.certificates) lines status
 
 -- the sharding is sound, and the first lines of such an answer are written
-pub record HasListened (feed : Feed) (input : List ℕ) (lines : List (List ℕ)) : Type 0 where
+pub record HasListenedToPublish (feed : Feed) (input : List ℕ) (lines : List (List ℕ)) : Type 0 where
   pub catalog : CatalogOf Expr
   pub parts : LineParts
-  pub head : IsHead input catalog parts
+  pub head : IsPublishHead input catalog parts
   pub sound : IsSound catalog
   pub unrefused : IsFirstRefusal catalog (trees_in parts.certificates) None
   pub first : HasToldFirst feed catalog parts.commands lines
 
-abbrev pub IsBegun : Feed → List ℕ → List (List ℕ) → Type 0
-IsBegun feed input lines = (lines ≡ []) ⊎ HasListened feed input lines
+abbrev pub IsBegunPublishing : Feed → List ℕ → List (List ℕ) → Type 0
+IsBegunPublishing feed input lines = (lines ≡ []) ⊎ HasListenedToPublish feed input lines
 
 -- ---- faults of the input
 
-pub record IsBadCatalog (input : List ℕ) (error : ReadError) : Type 0 where
+pub record IsBadPublishCatalog (input : List ℕ) (error : ReadError) : Type 0 where
   pub parts : LineParts
   pub parts_are : parts_of (ended_lines input) ≡ Some parts
   pub tells : Tells error (catalog_by as_filter (text_of parts.catalog))
-  pub known : is_none (told error) ≡ false
+  pub known : is_none (read_fault error) ≡ false
 
-pub record IsBadCertificate (input : List ℕ) (number : ℕ) (error : CertError) : Type 0 where
+pub record IsBadPublishCertificate (input : List ℕ) (number : ℕ) (error : CertError) : Type 0 where
   pub parts : LineParts
   pub catalog : CatalogOf Expr
   pub parts_are : parts_of (ended_lines input) ≡ Some parts
   pub reads : catalog_by as_filter (text_of parts.catalog) ≡ Ok catalog
   pub first : text_fault 1 parts.certificates ≡ Some (Text number error)
 
-abbrev pub IsFault : List ℕ → InputFault → Type 0
-IsFault input i.Unread = ⊥
-IsFault input i.Parts = parts_of (ended_lines input) ≡ None
-IsFault input (i.Catalog error) = IsBadCatalog input error
-IsFault input (i.Table name) = ⊥
-IsFault input (i.Certificate number error) = IsBadCertificate input number error
-IsFault input (i.Script error) = ⊥
+abbrev pub IsPublishFault : List ℕ → InputFault → Type 0
+IsPublishFault input i.Unread = ⊥
+IsPublishFault input i.Parts = parts_of (ended_lines input) ≡ None
+IsPublishFault input (i.Catalog error) = IsBadPublishCatalog input error
+IsPublishFault input (i.Table name) = ⊥
+IsPublishFault input (i.Certificate number error) = IsBadPublishCertificate input number error
+IsPublishFault input (i.Script error) = ⊥
 
 -- ---- what is written
 
 abbrev pub EndsPublishing : Bool → Feed → List ℕ → Option (List ℕ) → Option (List ℕ) → Result Status Failure → Type 0
 EndsPublishing may_fail feed input old new result =
-    Ends (IsPublished may_fail feed input) (IsBegun feed input) (IsFault input) old new result
+    Ends (IsPublishing may_fail feed input) (IsBegunPublishing feed input) (IsPublishFault input) old new result
 
 -- ---- what is served of a reader
 
@@ -212,7 +212,7 @@ module _ (feed : Feed) (checked : CheckedOf) (before after : Option (List ℕ)) 
     pub line : List ℕ
     pub said : HasSaid earlier
     pub all : AreLastFor said.callers may_fail before after said.conversation.more
-    pub last : IsLast checked feed.limit said.notes line status
+    pub last : IsLastLine checked feed.limit said.notes line status
     pub are : lines ≡ earlier ++ line ∷ []
 
   abbrev pub MayHaveSaid : List (List ℕ) → Type 0

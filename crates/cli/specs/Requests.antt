@@ -1,7 +1,7 @@
 -- What the arguments of a command line request, and which lines answer it.
 use Rattle.std.specs.Prelude.{◌≡◌, ℕ, ◌⊎◌, Bool, true, false, List, [], Option, IsErrAnd, Result}
 use Rattle.commands.specs.Check.Checking as checking
-use Rattle.cli.specs.CommandLine.{IsMisworded as IsMiswordedFor, IsRequest}
+use Rattle.cli.specs.CommandLine.{IsUsageError as IsMiswordedFor, IsRequest}
 use Rattle.cli.specs.Published as published
 use Rattle.cli.specs.Serving as serving
 use Rattle.commands.specs.Eval.Evaluation as evaluation
@@ -27,33 +27,33 @@ IsAnswer may_fail (Check shows) input lines status = checking.IsCheck shows inpu
 IsAnswer may_fail Make input lines status = making.IsMaking input 0 lines status
 IsAnswer may_fail (Simulate limit) input lines status = simulation.IsSimulation limit input [] lines status
 IsAnswer may_fail (Serve service) input lines status = serving.IsServing service input lines status
-IsAnswer may_fail (Publish feed) input lines status = published.IsPublished may_fail feed input lines status
+IsAnswer may_fail (Publish feed) input lines status = published.IsPublishing may_fail feed input lines status
 
 -- there is no line yet, and nothing is said of the input; or the lines are the first of an answer
-abbrev pub IsBegun : Request → List ℕ → List (List ℕ) → Type 0
-IsBegun (Eval table wanted) input lines = (lines ≡ []) ⊎ evaluation.IsBegunEvaluation wanted input table.now lines
-IsBegun Show input lines = lines ≡ []
-IsBegun (Check shows) input lines = lines ≡ []
-IsBegun Make input lines = (lines ≡ []) ⊎ making.IsBegunMaking input lines
-IsBegun (Simulate limit) input lines = (lines ≡ []) ⊎ simulation.IsBegunSimulation limit input lines
-IsBegun (Serve service) input lines = serving.IsBegun service input lines
-IsBegun (Publish feed) input lines = published.IsBegun feed input lines
+abbrev pub IsBegunAnswer : Request → List ℕ → List (List ℕ) → Type 0
+IsBegunAnswer (Eval table wanted) input lines = (lines ≡ []) ⊎ evaluation.IsBegunEvaluation wanted input table.now lines
+IsBegunAnswer Show input lines = lines ≡ []
+IsBegunAnswer (Check shows) input lines = lines ≡ []
+IsBegunAnswer Make input lines = (lines ≡ []) ⊎ making.IsBegunMaking input lines
+IsBegunAnswer (Simulate limit) input lines = (lines ≡ []) ⊎ simulation.IsBegunSimulation limit input lines
+IsBegunAnswer (Serve service) input lines = serving.IsBegunServing service input lines
+IsBegunAnswer (Publish feed) input lines = published.IsBegunPublishing feed input lines
 
 -- the input has this fault
-abbrev pub IsFault : Request → List ℕ → InputFault → Type 0
-IsFault (Eval table wanted) input fault = evaluation.IsFault input table.now fault
-IsFault Show input fault = making.IsFault input fault
-IsFault (Check shows) input fault = checking.IsFault input fault
-IsFault Make input fault = making.IsFault input fault
-IsFault (Simulate limit) input fault = simulation.IsFault input fault
-IsFault (Serve service) input fault = serving.IsFault input fault
-IsFault (Publish feed) input fault = published.IsFault input fault
+abbrev pub IsRequestFault : Request → List ℕ → InputFault → Type 0
+IsRequestFault (Eval table wanted) input fault = evaluation.IsEvalFault input table.now fault
+IsRequestFault Show input fault = making.IsMakeFault input fault
+IsRequestFault (Check shows) input fault = checking.IsCheckFault input fault
+IsRequestFault Make input fault = making.IsMakeFault input fault
+IsRequestFault (Simulate limit) input fault = simulation.IsSimulateFault input fault
+IsRequestFault (Serve service) input fault = serving.IsServeFault input fault
+IsRequestFault (Publish feed) input fault = published.IsPublishFault input fault
 
 -- the request is answered of this input, as far as memory and the writer go, or the input has a fault and nothing is
 -- written
 abbrev pub EndsRequest : Bool → Request → List ℕ → Option (List ℕ) → Option (List ℕ) → Result Status Failure → Type 0
 EndsRequest may_fail request input old new result =
-    Ends (IsAnswer may_fail request input) (IsBegun request input) (IsFault request input) old new result
+    Ends (IsAnswer may_fail request input) (IsBegunAnswer request input) (IsRequestFault request input) old new result
 
 -- ---- whether it can be served
 
@@ -105,14 +105,14 @@ module _ (serves : Bool) (words : List (List ℕ)) (known : Option (List ℕ)) w
     pub request : Request
     pub input : List ℕ
     pub asked : IsAsked request input
-    pub begun : IsBegun request input lines
+    pub begun : IsBegunAnswer request input lines
 
   -- the input has this fault
-  pub record HasFault (fault : InputFault) : Type 0 where
+  pub record HasInputFault (fault : InputFault) : Type 0 where
     pub request : Request
     pub input : List ℕ
     pub asked : IsAsked request input
-    pub is : IsFault request input fault
+    pub is : IsRequestFault request input fault
 
 -- the arguments request something of an input, and the reader's input cannot be read
 pub record LacksInput (serves : Bool) (words : List (List ℕ)) (may_fail : Bool) (known : Option (List ℕ)) : Type 0 where

@@ -37,14 +37,14 @@ abbrev pub list_view : Vec d.Command → List Command
 list_view commands = map command_view commands.items
 
 -- the text is a script of these tables, each step is COMMIT, and these are the lists of commands
-pub record Commits (tables : List Table) (text : List ℕ) (lists : List (List Command)) : Type 0 where
+pub record OnlyCommits (tables : List Table) (text : List ℕ) (lists : List (List Command)) : Type 0 where
   pub steps : List LineOf
   pub reads : script_by tables text ≡ Ok steps
   pub none : first_other steps ≡ None
   pub lists_are : lists ≡ lists_of steps
 
 -- it is a script, and the error is that of the first step that is not COMMIT: `Expected`, at its first word
-pub record HasOther (tables : List Table) (text : List ℕ) (error : ReadError) : Type 0 where
+pub record HasOtherStep (tables : List Table) (text : List ℕ) (error : ReadError) : Type 0 where
   pub steps : List LineOf
   pub reads : script_by tables text ≡ Ok steps
   pub place : first_other steps ≡ Some error.place
@@ -53,6 +53,6 @@ pub record HasOther (tables : List Table) (text : List ℕ) (error : ReadError) 
 -- reading the script stops for its fault, a step other than COMMIT, or because memory ran out
 abbrev pub IsOfScript : List Table → List ℕ → Failure → Type 0
 IsOfScript tables text (f.Input (i.Script error)) =
-    TellsScript (script_by tables text) error ⊎ HasOther tables text error
+    TellsScript (script_by tables text) error ⊎ HasOtherStep tables text error
 IsOfScript tables text f.OutOfMemory = Unit {0}
 IsOfScript tables text _ = ⊥

@@ -11,7 +11,7 @@ use Rattle.shard_checker.specs.Sound.{IsSound}
 use Rattle.shard_checker.specs.Texts.{text_fault, trees_in}
 use Rattle.split_cert.specs.Tree.{Tree}
 use Rattle.table_changes.specs.Commands.{Command}
-use Rattle.commands.specs.Verdicts.{IsFirstRefusal, IsRefused, checked_by}
+use Rattle.commands.specs.Verdicts.{IsFirstRefusal, SaysRefused, checked_by}
 use Rattle.commands.specs.Output.{Ends}
 use Rattle.commands.specs.Parts.{CutTwice, lines_of, three_parts}
 use Rattle.commands.specs.Simulate.Simulation as simulation
@@ -20,7 +20,7 @@ use Rattle.commands.specs.declared.failure.InputFault.{InputFault}
 use Rattle.commands.specs.declared.failure.InputFault.TheVariants as i
 use Rattle.commands.specs.declared.failure.Status.{Status}
 use Rattle.commands.specs.declared.failure.Status.TheVariants.{Refused}
-use Rattle.cli.specs.Scripts.{Commits, HasOther}
+use Rattle.cli.specs.Scripts.{OnlyCommits, HasOtherStep}
 use Rattle.cli.specs.Telling as telling
 use Rattle.cli.specs.declared.requests.Service.{Service}
 
@@ -30,12 +30,12 @@ pub record AreServed (service : Service) (catalog : CatalogOf Expr) (trees : Lis
     (lines : List (List ℕ)) (status : Status) : Type 0 where
   pub sound : IsSound catalog
   pub unrefused : IsFirstRefusal catalog trees None
-  pub told : telling.IsTold (telling.service_of service (checked_by catalog) lists) lines status
+  pub told : telling.IsServeTold (telling.service_of service (checked_by catalog) lists) lines status
 
 -- the line of the sharding's refusal
 pub record IsRefusal (catalog : CatalogOf Expr) (trees : List Tree) (lines : List (List ℕ)) (status : Status) : Type 0
   where
-    pub refused : IsRefused catalog trees lines
+    pub refused : SaysRefused catalog trees lines
     pub is : status ≡ Refused
 
 -- The input has three parts, the first is a catalog, each line of the second is a certificate, and the third is a
@@ -47,7 +47,7 @@ pub record IsServing (service : Service) (input : List ℕ) (lines : List (List 
   pub reads : catalog_by as_filter cut.first ≡ Ok catalog
   pub certificates : text_fault 1 (lines_of cut.second) ≡ None
   pub lists : List (List Command)
-  pub script : Commits catalog.tables cut.third lists
+  pub script : OnlyCommits catalog.tables cut.third lists
   pub result : AreServed service catalog (trees_in (lines_of cut.second)) lists lines status ⊎ IsRefusal catalog
       (trees_in (lines_of cut.second)) lines status
 
@@ -59,13 +59,13 @@ pub record HasListened (service : Service) (input : List ℕ) (lines : List (Lis
   pub reads : catalog_by as_filter cut.first ≡ Ok catalog
   pub certificates : text_fault 1 (lines_of cut.second) ≡ None
   pub lists : List (List Command)
-  pub script : Commits catalog.tables cut.third lists
+  pub script : OnlyCommits catalog.tables cut.third lists
   pub sound : IsSound catalog
   pub unrefused : IsFirstRefusal catalog (trees_in (lines_of cut.second)) None
   pub are : lines ≡ telling.listening_line service.port ∷ []
 
-abbrev pub IsBegun : Service → List ℕ → List (List ℕ) → Type 0
-IsBegun service input lines = (lines ≡ []) ⊎ HasListened service input lines
+abbrev pub IsBegunServing : Service → List ℕ → List (List ℕ) → Type 0
+IsBegunServing service input lines = (lines ≡ []) ⊎ HasListened service input lines
 
 -- the first is a catalog, each line of the second is a certificate, and the third is a script of its tables, whose
 -- first step that is not COMMIT is at this place
@@ -75,7 +75,7 @@ pub record IsOtherStep (input : List ℕ) (error : ReadError) : Type 0 where
   pub parts : three_parts input ≡ Some cut
   pub reads : catalog_by as_filter cut.first ≡ Ok catalog
   pub certificates : text_fault 1 (lines_of cut.second) ≡ None
-  pub script : HasOther catalog.tables cut.third error
+  pub script : HasOtherStep catalog.tables cut.third error
 
 -- a step is not COMMIT
 abbrev pub IsOther : List ℕ → InputFault → Type 0
@@ -83,9 +83,9 @@ IsOther input (i.Script error) = IsOtherStep input error
 IsOther input _ = ⊥
 
 -- the input has this fault: one that it has for `simulate`, or a step that is not COMMIT
-abbrev pub IsFault : List ℕ → InputFault → Type 0
-IsFault input fault = simulation.IsFault input fault ⊎ IsOther input fault
+abbrev pub IsServeFault : List ℕ → InputFault → Type 0
+IsServeFault input fault = simulation.IsSimulateFault input fault ⊎ IsOther input fault
 
 abbrev pub EndsService : Service → List ℕ → Option (List ℕ) → Option (List ℕ) → Result Status Failure → Type 0
 EndsService service input old new result =
-    Ends (IsServing service input) (IsBegun service input) (IsFault input) old new result
+    Ends (IsServing service input) (IsBegunServing service input) (IsServeFault input) old new result

@@ -59,18 +59,18 @@ module _ (checked : CheckedOf) (limit : ℕ) where
   -- Commands are answered with the number of the commit that they are, of which the session keeps a receipt. Or they
   -- are answered with the reason why they are refused after a log that has all of the session's notes, and it keeps
   -- nothing.
-  pub data IsAnswered (had : List Note) (commands : List Command) : Answer → List Note → Type 0 where
+  pub data IsTalkAnswered (had : List Note) (commands : List Command) : Answer → List Note → Type 0 where
     Made : (number time : ℕ) → IsMade checked limit commands time number
-        → IsAnswered had commands (a.Committed number) (n.Committed (receipt_of number commands time) ∷ [])
+        → IsTalkAnswered had commands (a.Committed number) (n.Committed (receipt_of number commands time) ∷ [])
     Refused : (error : CommitError) → IsRefused checked limit had commands error
-        → HasFault (setting_in checked) commands error → IsAnswered had commands (a.Refused error) []
+        → HasFault (setting_in checked) commands error → IsTalkAnswered had commands (a.Refused error) []
 
   -- A step is answered with these lines, and the session keeps these notes, after those that it had. VIEW shows a log
   -- that has all of them.
-  pub data IsTold (had : List Note) : StepOf → List (List ℕ) → List Note → Type 0 where
+  pub data IsTalkTold (had : List Note) : StepOf → List (List ℕ) → List Note → Type 0 where
     Committing : (commands : List Command) (answer : Answer) (notes : List Note)
-        → IsAnswered had commands answer notes → IsTold had (Commit commands) (answer_line answer ∷ []) notes
-    Viewing : (lines : List (List ℕ)) → IsView checked had lines → IsTold had View lines []
+        → IsTalkAnswered had commands answer notes → IsTalkTold had (Commit commands) (answer_line answer ∷ []) notes
+    Viewing : (lines : List (List ℕ)) → IsView checked had lines → IsTalkTold had View lines []
 
   -- A line is answered with these lines, and the session keeps these notes, after those that it had.
   pub data IsAnswer (had : List Note) (line : List ℕ) : List (List ℕ) → List Note → Type 0 where
@@ -82,7 +82,7 @@ module _ (checked : CheckedOf) (limit : ℕ) where
         → IsAnswer had line (fault_line (i.Script error) ∷ []) []
     Empty : script_by checked.catalog.tables line ≡ Ok [] → IsAnswer had line [] []
     OneStep : (step : LineOf) (lines : List (List ℕ)) (notes : List Note)
-        → script_by checked.catalog.tables line ≡ Ok (step ∷ []) → IsTold had step.step lines notes
+        → script_by checked.catalog.tables line ≡ Ok (step ∷ []) → IsTalkTold had step.step lines notes
         → IsAnswer had line lines notes
 
   -- Lines other than `QUIT;` are answered one after another, and the session keeps these notes, after those that it had.
@@ -112,14 +112,14 @@ module _ (checked : CheckedOf) (limit : ℕ) where
   -- commands are answered so
   pub record Replies (commands : List Command) (before after : List Note) (answer : Answer) : Type 0 where
     pub notes : List Note
-    pub is : IsAnswered before commands answer notes
+    pub is : IsTalkAnswered before commands answer notes
     pub kept : after ≡ before ++ notes
 
   -- a step is answered by a text
   pub record Tells (step : StepOf) (before after : List Note) (text : List ℕ) : Type 0 where
     pub lines : List (List ℕ)
     pub notes : List Note
-    pub is : IsTold before step lines notes
+    pub is : IsTalkTold before step lines notes
     pub text_is : text ≡ text_of lines
     pub kept : after ≡ before ++ notes
 

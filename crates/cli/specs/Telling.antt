@@ -88,8 +88,8 @@ pub record IsFor (service : ServiceOf) (checked : CheckedOf) (limit : ℕ) : Typ
   pub limit_is : service.limit ≡ limit
 
 -- this line alone is written, with this status
-abbrev pub Says : List ℕ → Status → Option (List ℕ) → Option (List ℕ) → Result Status Failure → Type 0
-Says line status old new result =
+abbrev pub WritesLine : List ℕ → Status → Option (List ℕ) → Option (List ℕ) → Result Status Failure → Type 0
+WritesLine line status old new result =
     Writes (λ lines told. (lines ≡ line ∷ []) × (told ≡ status)) (λ lines. lines ≡ []) old new result
 
 -- the lines are a last line alone
@@ -102,7 +102,7 @@ abbrev pub Closes : ServiceOf → Option (List ℕ) → Option (List ℕ) → Re
 Closes service old new result = Writes (IsClosing service) (λ lines. lines ≡ []) old new result
 
 -- the lines are the first line, with this port, and a last line
-pub record IsTold (service : ServiceOf) (lines : List (List ℕ)) (status : Status) : Type 0 where
+pub record IsServeTold (service : ServiceOf) (lines : List (List ℕ)) (status : Status) : Type 0 where
   pub line : List ℕ
   pub are : lines ≡ listening_line service.port ∷ line ∷ []
   pub last : IsLast service line status
@@ -111,8 +111,8 @@ pub record IsTold (service : ServiceOf) (lines : List (List ℕ)) (status : Stat
 abbrev pub IsBegun : ℕ → List (List ℕ) → Type 0
 IsBegun port lines = (lines ≡ []) ⊎ (lines ≡ listening_line port ∷ [])
 
-abbrev pub Tells : ServiceOf → Option (List ℕ) → Option (List ℕ) → Result Status Failure → Type 0
-Tells service old new result = Writes (IsTold service) (IsBegun service.port) old new result
+abbrev pub WritesServeLines : ServiceOf → Option (List ℕ) → Option (List ℕ) → Result Status Failure → Type 0
+WritesServeLines service old new result = Writes (IsServeTold service) (IsBegun service.port) old new result
 
 -- it stops because the listening socket or the writer failed, or memory ran out
 abbrev pub IsStop : Failure → Type 0

@@ -42,12 +42,12 @@ progress_lines catalog number (progress ∷ later) =
 -- ---- all
 
 -- the log's length, the rows of each table, and each subscriber
-abbrev pub lines_of : CatalogOf Expr → ℕ → List (List (List Datum)) → List Progress → List (List ℕ)
-lines_of catalog log rows progress =
+abbrev pub shown_lines : CatalogOf Expr → ℕ → List (List (List Datum)) → List Progress → List (List ℕ)
+shown_lines catalog log rows progress =
     counted (codes "log") log ∷ (rows_lines [] catalog.tables 0 rows ++ progress_lines catalog 0 progress)
 
 abbrev pub view_lines : CatalogOf Expr → View → List (List ℕ)
-view_lines catalog view = lines_of catalog view.log (map (λ rows. rows.items) view.rows.items) view.progress.items
+view_lines catalog view = shown_lines catalog view.log (map (λ rows. rows.items) view.rows.items) view.progress.items
 
 -- what was seen of a book with these numbers of tables and subscriptions
 pub record IsSeen (book : Book) (tables subscriptions : ℕ) (view : View) : Type 0 where
@@ -71,7 +71,7 @@ pub record IsView (checked : CheckedOf) (notes : List Note) (lines : List (List 
   pub are_rows : AllAt (λ table rows. AreRows
       (holds (setting_in checked).keys (after (setting_in checked) transactions) table) rows) rows
   pub count : length progress ≡ length checked.catalog.subscriptions
-  pub are : lines ≡ lines_of checked.catalog (length transactions) rows progress
+  pub are : lines ≡ shown_lines checked.catalog (length transactions) rows progress
 
 -- the text has such lines
 pub record IsViewText (checked : CheckedOf) (notes : List Note) (text : List ℕ) : Type 0 where

@@ -6,7 +6,7 @@ ghost use Rattle.std.specs.String.{string_bytes};
 ghost use Rattle.commands.specs.declared.failure.Status.TheVariants.{Done};
 ghost use Rattle.cli.specs.Connections.{HadMemory};
 ghost use Rattle.cli.specs.Telling as spec;
-ghost use Rattle.cli.specs.Telling.{Closes, IsFor, IsLast, IsLastOf, IsOver, IsStop, Says, ServiceOf, closed_line};
+ghost use Rattle.cli.specs.Telling.{Closes, IsFor, IsLast, IsLastOf, IsOver, IsStop, WritesLine, ServiceOf, closed_line};
 ghost use Rattle.cli.specs.declared.connections.Place.TheVariants.{Ended};
 
 use crate::connections::Place;
@@ -60,7 +60,7 @@ pub(crate) fn say<'a, W: Writer>(
     status: Status,
     writer: &mut W,
 ) -> Result<Status, Failure<'a>>
-    ensures { Says (string_bytes line) status (W.contents writer.old) (W.contents writer.new) result }
+    ensures { WritesLine (string_bytes line) status (W.contents writer.old) (W.contents writer.new) result }
 {
     match write_line(&mut line, writer) {
         Ok(()) => Ok(status),

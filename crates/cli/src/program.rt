@@ -6,7 +6,7 @@ ghost use Rattle.std.specs.String.{string_bytes};
 ghost use Rattle.commands.specs.Output.{EndsByFault, StopsText, ended};
 ghost use Rattle.commands.specs.declared.failure.Status.TheVariants.{Done};
 ghost use Rattle.cli.specs.CommandLine.{CanDo};
-ghost use Rattle.commands.specs.Simulate.Limits.{IsWithin};
+ghost use Rattle.commands.specs.Simulate.Limits.{IsLogLimit};
 ghost use Rattle.cli.specs.Courses.{Concludes, ConcludesFault, CourseSaysFault, Finishes, FinishesFault, IsCourse, IsUnserved};
 ghost use Rattle.cli.specs.Outcomes.{NumberSaysFault};
 ghost use Rattle.cli.specs.Requests.{AnswersReader, AsksSockets, CanServe, EndsRequest};
@@ -193,7 +193,7 @@ fn serve_script<
         + Net<Listener = TcpListener, Stream = TcpStream>
         + Sync,
 >(rt: &R, service: Service, input: I, writer: &mut W) -> Result<Status, Failure<'a>>
-    requires { IsWithin service.limit }
+    requires { IsLogLimit service.limit }
     ensures { AnswersReader (Serve service) I.may_fail (I.remaining input) (W.contents writer.old)
         (W.contents writer.new) result }
 {

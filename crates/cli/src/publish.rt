@@ -3,7 +3,7 @@
 
 ghost use Rattle.std.specs.Prelude.{◌≡◌, None, IfErr, OnOk};
 ghost use Rattle.std.specs.Arc.{arc_value};
-ghost use Rattle.commands.specs.Simulate.Limits.{IsWithin};
+ghost use Rattle.commands.specs.Simulate.Limits.{IsLogLimit};
 ghost use Rattle.shard_checker.specs.CheckedView.{checked_view};
 ghost use Rattle.cli.specs.Connections.{StayServed, served_at};
 ghost use Rattle.cli.specs.Incoming.{coming};
@@ -204,7 +204,7 @@ fn publish<
     requires history { opening.history ≡ P.history }
     requires checked { checked_view (arc_value checked) ≡ P.checked }
     requires limit { feed.limit ≡ P.limit }
-    requires within { IsWithin feed.limit }
+    requires within { IsLogLimit feed.limit }
     ensures { Serves feed.entry P.checked (coming I.remaining lines.old) (coming I.remaining lines.new) I.may_fail
         (W.contents writer.old) (W.contents writer.new) result }
 {
@@ -243,7 +243,7 @@ pub(crate) fn publish_input<
         + Net<Listener = TcpListener, Stream = TcpStream>
         + Sync,
 >(rt: &R, alloc: Global, feed: Feed<'_>, input: I, writer: &mut W) -> Result<Status, Failure<'a>>
-    requires { IsWithin feed.limit }
+    requires { IsLogLimit feed.limit }
     ensures { AnswersReader (Publish feed.entry) I.may_fail (I.remaining input) (W.contents writer.old)
         (W.contents writer.new) result }
 {

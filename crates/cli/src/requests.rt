@@ -5,7 +5,7 @@ ghost use Rattle.std.specs.Option.{option_map};
 ghost use Rattle.clap.specs.Words.{first_of, found_of, rows_of, subcommand_rows_of};
 ghost use Rattle.cli.specs.CommandLine as spec;
 ghost use Rattle.cli.specs.CommandLine.{AreConnections, HasLimit, IsCheck, IsEval, IsLimit, IsPort, IsServe, IsService, IsSimulate};
-ghost use Rattle.cli.specs.CommandLine.{AreCommandsAt, AreSeconds, IsFeed, IsLogFormat, IsPortOrAny, IsPublish, IsTaken};
+ghost use Rattle.cli.specs.CommandLine.{AreCommandsAt, AreSeconds, IsFeed, IsLogFormat, IsPortOrAny, IsPublish, IsSubcommand};
 ghost use Rattle.cli.specs.declared.requests.Feed.{Feed as FeedType};
 ghost use Rattle.cli.specs.declared.requests.LogFormat.{LogFormat as LogFormatType};
 ghost use Rattle.cli.specs.declared.requests.Request.{Request as RequestType};
@@ -321,8 +321,8 @@ fn publish_request<'a>(publish: &ArgMatches<'a>) -> Option<Request<'a>>
 
 /// What the subcommand that the arguments name requests.
 pub fn request_of<'a>(matches: &ArgMatches<'a>) -> Option<Request<'a>>
-    ensures some { IfSome result (IsTaken (subcommand_rows_of matches.now)) }
-    ensures none { result ≡ None → (request : RequestType) → IsTaken (subcommand_rows_of matches.now) request → ⊥ }
+    ensures some { IfSome result (IsSubcommand (subcommand_rows_of matches.now)) }
+    ensures none { result ≡ None → (request : RequestType) → IsSubcommand (subcommand_rows_of matches.now) request → ⊥ }
 {
     if let Some(eval) = matches.subcommand_matches("eval") {
         return eval_request(eval);

@@ -5,7 +5,7 @@ ghost use Rattle.pub_catalog.specs.CatalogView.{catalog_view};
 ghost use Rattle.pub_reader.specs.ScriptView.{line_view};
 ghost use Rattle.pub_reader.specs.StepView.{step_view};
 ghost use Rattle.cli.specs.Scripts as spec;
-ghost use Rattle.cli.specs.Scripts.{Commits, IsOfScript, list_view};
+ghost use Rattle.cli.specs.Scripts.{OnlyCommits, IsOfScript, list_view};
 
 use commands::{Failure, InputFault, read_steps};
 use pub_catalog::Catalog;
@@ -56,7 +56,7 @@ pub fn read_lists<'a>(
     catalog: &Catalog,
     script: &str,
 ) -> Result<Vec<Vec<Command>>, Failure<'a>>
-    ensures ok { IfOk result (λ lists. Commits (catalog_view catalog.now).tables script.now
+    ensures ok { IfOk result (λ lists. OnlyCommits (catalog_view catalog.now).tables script.now
         (map list_view lists.items)) }
     ensures few { IfOk result (λ lists. length lists.items ≤ 100000) }
     ensures err { IfErr result (IsOfScript (catalog_view catalog.now).tables script.now) }

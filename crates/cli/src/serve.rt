@@ -3,10 +3,10 @@
 ghost use Rattle.std.specs.Prelude.{◌≡◌, ◌≤◌, length, map};
 ghost use Rattle.std.specs.Arc.{arc_value};
 ghost use Rattle.shard_checker.specs.CheckedView.{checked_view};
-ghost use Rattle.commands.specs.Simulate.Limits.{IsWithin};
+ghost use Rattle.commands.specs.Simulate.Limits.{IsLogLimit};
 ghost use Rattle.cli.specs.Scripts.{list_view};
 ghost use Rattle.cli.specs.Serving.{EndsService};
-ghost use Rattle.cli.specs.Telling.{Tells, service_of};
+ghost use Rattle.cli.specs.Telling.{WritesServeLines, service_of};
 
 use crate::closing::{close_and_tell, served_in};
 use crate::connections::open_places;
@@ -49,9 +49,9 @@ fn publish<
     requires history { opening.history ≡ P.history }
     requires checked { checked_view (arc_value checked) ≡ P.checked }
     requires limit { service.limit ≡ P.limit }
-    requires within { IsWithin service.limit }
+    requires within { IsLogLimit service.limit }
     requires few { length lists.items ≤ 100000 }
-    ensures { Tells (service_of service P.checked (map list_view lists.items)) (W.contents writer.old)
+    ensures { WritesServeLines (service_of service P.checked (map list_view lists.items)) (W.contents writer.old)
         (W.contents writer.new) result }
 {
     let subscriptions = checked.catalog().subscriptions.len();
@@ -81,7 +81,7 @@ pub fn serve_input<
     input: &str,
     writer: &mut W,
 ) -> Result<Status, Failure<'a>>
-    requires { IsWithin service.limit }
+    requires { IsLogLimit service.limit }
     ensures { EndsService service input.now (W.contents writer.old) (W.contents writer.new) result }
 {
     let (text, certificates, script) = three_parts(input).ok_or(InputFault::Parts)?;

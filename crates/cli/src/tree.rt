@@ -68,7 +68,7 @@ Exit status:
   5  out of memory";
 
 fn eval_command<'a>(alloc: Global) -> Result<Command<'a>, AllocError>
-    ensures shape { IfOk result (λ command. app_of command ≡ spec.eval) }
+    ensures shape { IfOk result (λ command. app_of command ≡ spec.eval_command) }
     ensures local { IfOk result (λ command. (out-Command command).has_globals ≡ false) }
 {
     let table = Arg::new(alloc, "TABLE")
@@ -86,7 +86,7 @@ fn eval_command<'a>(alloc: Global) -> Result<Command<'a>, AllocError>
 }
 
 fn check_command<'a>(alloc: Global) -> Result<Command<'a>, AllocError>
-    ensures shape { IfOk result (λ command. app_of command ≡ spec.check) }
+    ensures shape { IfOk result (λ command. app_of command ≡ spec.check_command) }
     ensures local { IfOk result (λ command. (out-Command command).has_globals ≡ false) }
 {
     let show = Arg::new(alloc, "show")
@@ -112,7 +112,7 @@ fn limit_argument<'a>(alloc: Global) -> Arg<'a>
 }
 
 fn simulate_command<'a>(alloc: Global) -> Result<Command<'a>, AllocError>
-    ensures shape { IfOk result (λ command. app_of command ≡ spec.simulate) }
+    ensures shape { IfOk result (λ command. app_of command ≡ spec.simulate_command) }
     ensures local { IfOk result (λ command. (out-Command command).has_globals ≡ false) }
 {
     let limit = limit_argument(alloc);
@@ -147,7 +147,7 @@ fn connections_argument<'a>(alloc: Global) -> Arg<'a>
 }
 
 fn serve_command<'a>(alloc: Global) -> Result<Command<'a>, AllocError>
-    ensures shape { IfOk result (λ command. app_of command ≡ spec.serve) }
+    ensures shape { IfOk result (λ command. app_of command ≡ spec.serve_command) }
     ensures local { IfOk result (λ command. (out-Command command).has_globals ≡ false) }
 {
     let port = port_argument(alloc, "the port of 127.0.0.1 to listen on: 1 to 65535");
@@ -243,7 +243,7 @@ fn log_argument<'a>(alloc: Global) -> Arg<'a>
 }
 
 fn publish_command<'a>(alloc: Global) -> Result<Command<'a>, AllocError>
-    ensures shape { IfOk result (λ command. app_of command ≡ spec.publish) }
+    ensures shape { IfOk result (λ command. app_of command ≡ spec.publish_command) }
     ensures local { IfOk result (λ command. (out-Command command).has_globals ≡ false) }
 {
     let port = port_argument(

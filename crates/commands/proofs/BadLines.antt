@@ -12,7 +12,7 @@ use Rattle.sql_reader.specs.Rows.{row_of}
 use Rattle.sql_reader.specs.ErrorKinds.{ErrorKindOf, wrong_of}
 use Rattle.sql_reader.specs.declared.error.ReadError.{ReadError}
 use Rattle.commands.specs.Eval.BadRows.{IsReading, bad_line, is_out_of_memory}
-use Rattle.commands.specs.Eval.Evaluation.{IsLine, IsLineOf, line_by, told}
+use Rattle.commands.specs.Eval.Evaluation.{IsLine, IsLineOf, line_by, row_said}
 use Rattle.commands.specs.declared.eval.row_output.RowOutput.{RowOutput}
 use Rattle.commands.specs.declared.eval.bad_row.BadRow.{BadRow}
 use Rattle.commands.specs.declared.eval.bad_row.BadRow.TheVariants.{Unreadable, Invalid}
@@ -32,7 +32,7 @@ module _ (wanted : RowOutput) (number : ℕ) (carriers : List CarrierOf) (column
       → line ≡ bad_line (Invalid wrong) → IsLineOf wanted number carriers columns outcome line
   invalid_line row wrong outcome line read bad same =
       subst (λ (o : Result (List Datum) Fault). IsLineOf wanted number carriers columns o line) (sym read)
-      (same ∙ sym (ap (λ (f : Option RowFault). line_by f (told wanted number row carriers)) bad))
+      (same ∙ sym (ap (λ (f : Option RowFault). line_by f (row_said wanted number row carriers)) bad))
 
   -- a row that has no answer has the line of its fault
   pub bad_told : (text line : List ℕ) (bad : BadRow) → IsReading columns text (Err bad) → is_out_of_memory bad ≡ false

@@ -17,8 +17,8 @@ use Rattle.commands.proofs.Writing.{line_ends, text_of-one}
 use Rattle.commands.specs.Verdicts.{IsFirstRefusal}
 use Rattle.commands.specs.Refusals.{refused_line}
 use Rattle.commands.specs.Output.{StopsText, ended, text_of}
-use Rattle.commands.specs.Parts.{Cut, lines_of, two_parts}
-use Rattle.commands.specs.Check.Checking.{EndsCheck, IsCheck, IsFault}
+use Rattle.commands.specs.Parts.{CutOnce, lines_of, two_parts}
+use Rattle.commands.specs.Check.Checking.{EndsCheck, IsCheck, IsCheckFault}
 use Rattle.commands.specs.declared.failure.Failure.{Failure}
 use Rattle.commands.specs.declared.failure.Status.{Status}
 use Rattle.commands.specs.declared.failure.Status.TheVariants.{Done, Refused}
@@ -29,7 +29,7 @@ after text line =
     text_of-one (text ++ line) ∙ append_assoc text line (10 ∷ [])
     ∙ ap (λ (bytes : List ℕ). text ++ bytes) (sym (text_of-one line))
 
-module _ (shows : Bool) (input : List ℕ) (cut : Cut) (catalog : CatalogOf Expr) (parts : two_parts input ≡ Some cut)
+module _ (shows : Bool) (input : List ℕ) (cut : CutOnce) (catalog : CatalogOf Expr) (parts : two_parts input ≡ Some cut)
     (reads : catalog_by as_filter cut.part ≡ Ok catalog) (certificates : text_fault 1 (lines_of cut.rest) ≡ None)
     (text : List ℕ) (shown : text ≡ text_if shows (catalog_text catalog))
   where
@@ -38,7 +38,7 @@ module _ (shows : Bool) (input : List ℕ) (cut : Cut) (catalog : CatalogOf Expr
         → OnOk result (Appends old new (ended (text ++ codes "accepted")))
         → IfErr result (StopsText (ended (text ++ codes "accepted")) old new) → EndsCheck shows input old new result
     accepted old new result sound unrefused same appends stops =
-        line_ends (IsCheck shows input) (λ lines. lines ≡ []) (IsFault input) refl (text ++ codes "accepted") Done
+        line_ends (IsCheck shows input) (λ lines. lines ≡ []) (IsCheckFault input) refl (text ++ codes "accepted") Done
         old new result
         (record {
           cut = cut;
@@ -62,7 +62,8 @@ module _ (shows : Bool) (input : List ℕ) (cut : Cut) (catalog : CatalogOf Expr
         → IfErr result (StopsText (ended (text ++ refused_line catalog error)) old new)
         → EndsCheck shows input old new result
     refused error old new result refusal wrong same appends stops =
-        line_ends (IsCheck shows input) (λ lines. lines ≡ []) (IsFault input) refl (text ++ refused_line catalog error)
+        line_ends (IsCheck shows input) (λ lines. lines ≡ []) (IsCheckFault input) refl
+        (text ++ refused_line catalog error)
         Refused old new result
         (record {
           cut = cut;

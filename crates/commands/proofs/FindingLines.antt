@@ -5,9 +5,9 @@ use Rattle.std.specs.Prelude.{Err, IsErrAnd, Ok, Result, None}
 use Rattle.pub_reader.specs.Statements.{catalog_by}
 use Rattle.sql_reader.specs.Written.{as_filter}
 use Rattle.commands.proofs.Writing.{ends_as}
-use Rattle.commands.specs.Make.Making.{EndsMaking, IsBegunMaking, IsFault, IsMaking, finding_view, IsTrueOf, is_certificate, line_for, status_for, AreLines, NoTable, OneMore, AreFirstLines, AreSomeLines, WritesTable, StopsTable, WritesTables}
+use Rattle.commands.specs.Make.Making.{EndsMaking, IsBegunMaking, IsMakeFault, IsMaking, finding_view, IsTrueOf, is_certificate, line_for, status_for, AreLines, NoTable, OneMore, AreFirstLines, AreSomeLines, WritesTable, StopsTable, WritesTables}
 use Rattle.commands.specs.Parts.{cut_of}
-use Rattle.cert_maker.specs.Answers.{IfCert, IfCounter, IsAccepted, IsCounter}
+use Rattle.cert_maker.specs.Answers.{IfCert, IfCounter, IsAcceptedCert, IsCounter}
 use Rattle.cert_maker.specs.declared.made.Made.{Made}
 use Rattle.cert_maker.specs.declared.made.Made.TheVariants.{Cert, Counter, Unknown, TooLarge, OutOfMemory}
 use Rattle.filter_tree.specs.Expr.{Expr}
@@ -25,10 +25,10 @@ use Rattle.commands.specs.declared.failure.Status.{Status}
 
 -- what the maker answers is so
 finding_is_true : (catalog : CatalogOf Expr) (plan : PlanOf) (number : ℕ) (made : Made) → plan ≡ plan_of catalog
-    → IfCert made (IsAccepted catalog plan number) → IfCounter made (IsCounter catalog plan number)
+    → IfCert made (IsAcceptedCert catalog plan number) → IfCounter made (IsCounter catalog plan number)
     → IsTrueOf catalog number (finding_view made)
 finding_is_true catalog plan number (Cert cert) own accepted counter =
-    subst (λ (p : PlanOf). IsAccepted catalog p number (tree_view cert)) own accepted
+    subst (λ (p : PlanOf). IsAcceptedCert catalog p number (tree_view cert)) own accepted
 finding_is_true catalog plan number (Counter row owners) own accepted counter =
     subst (λ (p : PlanOf). IsCounter catalog p number row owners.items) own counter
 finding_is_true catalog plan number Unknown own accepted counter = tt
@@ -37,7 +37,7 @@ finding_is_true catalog plan number OutOfMemory own accepted counter = tt
 
 pub table_written : (catalog : CatalogOf Expr) (plan : PlanOf) (number : ℕ) (made : Made) (certified : Bool)
     (old new : Option (List ℕ)) → plan ≡ plan_of catalog
-    → IfCert made (IsAccepted catalog plan number) → IfCounter made (IsCounter catalog plan number)
+    → IfCert made (IsAcceptedCert catalog plan number) → IfCounter made (IsCounter catalog plan number)
     → certified ≡ is_certificate (finding_view made)
     → Appends old new (ended (line_for catalog number (finding_view made)))
     → WritesTable catalog number old new certified
@@ -50,7 +50,7 @@ table_written catalog plan number made certified old new own accepted counter is
 
 pub table_stopped : (catalog : CatalogOf Expr) (plan : PlanOf) (number : ℕ) (made : Made) (old new : Option (List ℕ))
     (failure : Failure) → plan ≡ plan_of catalog
-    → IfCert made (IsAccepted catalog plan number) → IfCounter made (IsCounter catalog plan number)
+    → IfCert made (IsAcceptedCert catalog plan number) → IfCounter made (IsCounter catalog plan number)
     → StopsText (ended (line_for catalog number (finding_view made))) old new failure
     → StopsTable catalog number old new failure
 table_stopped catalog plan number made old new failure own accepted counter stops = record {
@@ -157,7 +157,7 @@ made input old new catalog whole reads result writes =
     → IsMaking input left lines status =
     λ left lines status first. record { catalog = catalog; whole = whole; reads = reads; tables = first } in
     ends_as (AreFirstLines catalog 0) (IsMaking input 0) (AreSomeLines catalog)
-    (λ lines. (lines ≡ []) ⊎ IsBegunMaking input lines) (IsFault input)
+    (λ lines. (lines ≡ []) ⊎ IsBegunMaking input lines) (IsMakeFault input)
     (of_tables 0)
     (λ lines some. inr (record {
       later = some.later;

@@ -4,7 +4,7 @@ use Rattle.std.proofs.lemmas.List.{take-append-drop}
 use Rattle.std.specs.Option.{option_map}
 use Rattle.std.specs.List.{list_any, position_or_len}
 use Rattle.filter_tree.proofs.Tests.{by_test}
-use Rattle.commands.specs.Parts.{is_newline, first_line, after_line, onto_line, lines_of, Cut, onto_part, is_separator, cut_from, cut_of}
+use Rattle.commands.specs.Parts.{is_newline, first_line, after_line, onto_line, lines_of, CutOnce, onto_part, is_separator, cut_from, cut_of}
 
 -- ---- the first newline
 
@@ -52,10 +52,10 @@ lines_of-some (byte ∷ text) some = lines_of-first byte text
 
 -- ---- cuts
 
-abbrev pub onto_parts : List ℕ → Cut → Cut
+abbrev pub onto_parts : List ℕ → CutOnce → CutOnce
 onto_parts front cut = record { part = front ++ cut.part; rest = cut.rest }
 
-option_map-twice : (byte : ℕ) (front : List ℕ) (cut : Option Cut)
+option_map-twice : (byte : ℕ) (front : List ℕ) (cut : Option CutOnce)
     → option_map (onto_part byte) (option_map (onto_parts front) cut) ≡ option_map (onto_parts (byte ∷ front)) cut
 option_map-twice byte front None = refl
 option_map-twice byte front (Some cut) = refl
@@ -71,7 +71,7 @@ whole_line-other byte text e =
     omega (arith, position-other byte text e) in
     ap (λ k. take k (byte ∷ text)) n
 
-onto_one : (byte : ℕ) (cut : Option Cut) → option_map (onto_part byte) cut ≡ option_map (onto_parts (byte ∷ [])) cut
+onto_one : (byte : ℕ) (cut : Option CutOnce) → option_map (onto_part byte) cut ≡ option_map (onto_parts (byte ∷ [])) cut
 onto_one byte None = refl
 onto_one byte (Some cut) = refl
 
@@ -89,7 +89,7 @@ cut_from-inside : (text : List ℕ)
 cut_from-inside [] = refl
 cut_from-inside (byte ∷ text) = inside_step byte text (is_newline byte) refl (cut_from-inside text)
 
-onto_parts-twice : (front line : List ℕ) (cut : Option Cut)
+onto_parts-twice : (front line : List ℕ) (cut : Option CutOnce)
     → option_map (onto_parts front) (option_map (onto_parts line) cut) ≡ option_map (onto_parts (front ++ line)) cut
 onto_parts-twice front line None = refl
 onto_parts-twice front line (Some cut) =

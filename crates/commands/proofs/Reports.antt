@@ -1,7 +1,7 @@
 -- The number of a status, and what is written when a failure is reported.
 use Rattle.std.proofs.Common.{◌≡◌, ℕ, inl, List, Option, refl, sym, subst}
 use denote.Enum.Declared.{tag_of}
-use Rattle.commands.specs.Failures.{failure_lines, number_of, status_of_failure}
+use Rattle.commands.specs.Failures.{failure_lines, exit_status, status_of_failure}
 use Rattle.commands.specs.Output.{text_of}
 use Rattle.commands.specs.Reporting.{IsReport, IsWritten}
 use Rattle.commands.specs.contracts.failure.Status.{the_type}
@@ -10,7 +10,7 @@ use Rattle.commands.specs.declared.failure.Failure.TheVariants as f
 use Rattle.commands.specs.declared.failure.Status.{Status}
 use Rattle.commands.specs.declared.failure.Status.TheVariants.{Done, Refused, CommandLine, Input, Output, OutOfMemory}
 
-pub number_is : (status : Status) → tag_of the_type status ≡ number_of status
+pub number_is : (status : Status) → tag_of the_type status ≡ exit_status status
 number_is Done = refl
 number_is Refused = refl
 number_is CommandLine = refl

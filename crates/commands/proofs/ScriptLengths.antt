@@ -16,7 +16,7 @@ use Rattle.pub_reader.specs.declared.script.Line.{Line}
 use Rattle.pub_reader.specs.declared.step_word.StepWord.{StepWord}
 use Rattle.pub_reader.specs.Scripts.{LineOf, next_line, one_line, lines, script_by}
 use Rattle.pub_reader.specs.ScriptView.{line_view}
-use Rattle.pub_reader.specs.Steps.{counted, counted_word, step_ahead, step_body}
+use Rattle.pub_reader.specs.Steps.{step_counted, counted_word, step_ahead, step_body}
 
 counted_by : (count : ℕ) (word : StepWord) (ts : Items) (full : Bool) → nat_le 100000 count ≡ full
     → Gives (λ (u : StepWord). count < 100000) ((if full then refuse_as (w.TooMany Steps) else advance >> pure word) ts)
@@ -24,7 +24,7 @@ counted_by count word ts true is = tt
 counted_by count word ts false is = below 100000 count is
 
 counted-gives : (count : ℕ) (word : Option StepWord) (ts : Items)
-    → Gives (λ (u : StepWord). count < 100000) (counted count word ts)
+    → Gives (λ (u : StepWord). count < 100000) (step_counted count word ts)
 counted-gives count None ts = tt
 counted-gives count (Some word) ts = counted_by count word ts (nat_le 100000 count) refl
 

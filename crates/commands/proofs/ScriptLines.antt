@@ -16,7 +16,7 @@ use Rattle.shard_world.specs.declared.world.World.{World}
 use Rattle.commands.proofs.Writing.{first_after, unwritten}
 use Rattle.commands.specs.Output.{StopsText, WritesFirst, ended, text_of}
 use Rattle.commands.specs.Simulate.Steps.{IsStep, AreSteps, NoStep, OneMore, AreSomeSteps}
-use Rattle.commands.specs.Simulate.WorldSteps.{AreAllLines, AreBegunLines, MakesInto, MakesOn, StopsStep, WritesStep, WritesSteps}
+use Rattle.commands.specs.Simulate.WorldSteps.{AreAllLines, AreBegunLines, DoesFrom, DoesFromEach, StopsStep, WritesStep, WritesSteps}
 use Rattle.commands.specs.declared.failure.Failure.{Failure}
 use Rattle.commands.specs.declared.failure.Failure.TheVariants as f
 use Rattle.commands.specs.declared.failure.Status.{Status}
@@ -25,7 +25,7 @@ use Rattle.commands.specs.declared.failure.Status.TheVariants.{Done}
 -- ---- the text of one step
 
 module _ (before after : World) (now : ℕ) (step : StepOf) (text : List ℕ) (old new : Option (List ℕ))
-    (makes : MakesOn before after now step text) where
+    (makes : DoesFromEach before after now step text) where
   stopped : (failure : Failure) → StopsText text old new failure → StopsStep before after now step old new failure
   stopped f.Output stops = record { text = text; makes = makes; first = stops }
   stopped f.OutOfMemory stops = stops
@@ -107,11 +107,11 @@ module _ (checked : CheckedOf) (most : ℕ) where
 
   made_after : (steps left : List LineOf) (count : ℕ) (before after : World) (old new : Option (List ℕ))
       (step : LineOf) (text : List ℕ)
-      → (now : IsSoFar steps left count before old new) → MakesOn before after (count + 1) step.step text
+      → (now : IsSoFar steps left count before old new) → DoesFromEach before after (count + 1) step.step text
       → count < 100000
       → IsMade now.first now.lines now.world before after now.events step text
   made_after steps left count before after old new step text now makes room =
-      let into : MakesInto before after most now.events now.world (count + 1) step.step text =
+      let into : DoesFrom before after most now.events now.world (count + 1) step.step text =
       makes most now.events now.world now.is_world in
       let is_step : IsStep checked most (length now.first + 1) step.step now.world into.lines into.next =
       subst (λ (c : CheckedOf). IsStep c most (length now.first + 1) step.step now.world into.lines into.next) now.same

@@ -9,7 +9,7 @@ use Rattle.pub_reader.specs.Statements.{catalog_by}
 use Rattle.sql_reader.specs.Written.{as_filter}
 use Rattle.commands.proofs.ShownLines.{catalog_lines}
 use Rattle.commands.proofs.Writing.{text_ends}
-use Rattle.commands.specs.Make.Making.{IsFault}
+use Rattle.commands.specs.Make.Making.{IsMakeFault}
 use Rattle.commands.specs.Output.{StopsText}
 use Rattle.commands.specs.Parts.{cut_of}
 use Rattle.commands.specs.Show.Showing.{EndsShowing, IsShowing}
@@ -23,6 +23,6 @@ pub shown : (input : List ℕ) (catalog : CatalogOf Expr) → cut_of input ≡ N
     → EndsShowing input old new result
 shown input catalog whole reads text is old new result same appends stops =
     let are = catalog_lines catalog in
-    text_ends (IsShowing input) (λ lines. lines ≡ []) (IsFault input) refl text are.0 (are.1 ∙ sym is) Done
+    text_ends (IsShowing input) (λ lines. lines ≡ []) (IsMakeFault input) refl text are.0 (are.1 ∙ sym is) Done
     old new result
     (record { catalog = catalog; whole = whole; reads = reads; text = are.1; done = refl }) same appends stops

@@ -9,7 +9,7 @@ use Rattle.filter_tree.specs.declared.table.UniqueIndex.{UniqueIndex}
 use Rattle.pub_catalog.specs.Catalogs.{PublicationOf, CatalogOf}
 use Rattle.pub_catalog.specs.declared.catalog.Subscription.{Subscription}
 use Rattle.catalog_text.specs.FilterText.{text_if, name_text}
-use Rattle.catalog_text.specs.CatalogText.{alter_text, catalog_text, column_text, columns_text, create_text, for_text, identity_text, index_text, is_made, made_text, operation_words, publication_name, publication_text, subscription_text, table_name, table_text, tables_from}
+use Rattle.catalog_text.specs.CatalogText.{alter_text, catalog_text, column_text, columns_text, create_text, for_text, identity_text, index_text, is_made, made_text, operation_words, publication_sql, publication_text, subscription_text, table_sql, table_text, tables_from}
 use Rattle.commands.specs.Output.{ended, text_of}
 use Rattle.commands.proofs.Writing.{text_of-one}
 
@@ -55,21 +55,21 @@ create_lines : (table : Table) → AreLines (create_text table)
 unfolding create_text
 create_lines table =
     one _ (ends_line
-    (codes "CREATE TABLE " ∷ table_name table ∷ codes " (" ∷ flat_map column_text table.columns ∷ codes "PRIMARY KEY"
+    (codes "CREATE TABLE " ∷ table_sql table ∷ codes " (" ∷ flat_map column_text table.columns ∷ codes "PRIMARY KEY"
     ∷ columns_text table.columns table.key ∷ []) (codes ");"))
 
 index_lines : (table : Table) (index : UniqueIndex) → AreLines (index_text table index)
 unfolding index_text
 index_lines table index =
     one _ (ends_line
-    (codes "CREATE UNIQUE INDEX " ∷ name_text index.name ∷ codes " ON " ∷ table_name table
+    (codes "CREATE UNIQUE INDEX " ∷ name_text index.name ∷ codes " ON " ∷ table_sql table
     ∷ columns_text table.columns index.columns ∷ []) (codes ";"))
 
 alter_lines : (table : Table) → AreLines (alter_text table)
 unfolding alter_text
 alter_lines table =
     one _ (ends_line
-    (codes "ALTER TABLE " ∷ table_name table ∷ codes " REPLICA IDENTITY "
+    (codes "ALTER TABLE " ∷ table_sql table ∷ codes " REPLICA IDENTITY "
     ∷ identity_text table.indexes table.identity ∷ []) (codes ";"))
 
 table_lines : (table : Table) → AreLines (table_text table)
@@ -107,7 +107,7 @@ unfolding subscription_text
 subscription_lines publications subscription =
     one _ (ends_line
     (codes "CREATE SUBSCRIPTION " ∷ name_text subscription.name ∷ codes " CONNECTION '' PUBLICATION "
-    ∷ join_by (publication_name publications) (codes ", ") subscription.publications ∷ []) (codes ";"))
+    ∷ join_by (publication_sql publications) (codes ", ") subscription.publications ∷ []) (codes ";"))
 
 pub catalog_lines : (catalog : CatalogOf Expr) → AreLines (catalog_text catalog)
 unfolding catalog_text

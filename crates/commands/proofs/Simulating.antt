@@ -15,7 +15,7 @@ use Rattle.shard_checker.specs.Sound.{IsSound}
 use Rattle.shard_checker.specs.Texts.{text_fault, trees_in}
 use Rattle.shard_checker.specs.declared.checked.Checked.{Checked}
 use Rattle.shard_checker.specs.declared.error.CheckError.{CheckError}
-use Rattle.sql_reader.specs.Reading.{Tells, told}
+use Rattle.sql_reader.specs.Reading.{Tells, read_fault}
 use Rattle.sql_reader.specs.Written.{as_filter}
 use Rattle.sql_reader.specs.declared.error.ReadError.{ReadError}
 use Rattle.commands.proofs.Writing.{ends_as, line_ends, memory_ends}
@@ -26,7 +26,7 @@ use Rattle.commands.specs.Output.{StopsText, ended}
 use Rattle.commands.specs.Parts.{CutTwice, lines_of, three_parts}
 use Rattle.commands.specs.Verdicts.{IsFirstRefusal, checked_by}
 use Rattle.commands.specs.Simulate.Givings.{Gives, HasVerdict, IsOfInput, IsOfParts}
-use Rattle.commands.specs.Simulate.Simulation.{EndsSimulation, IsBegunSimulation, IsFault, IsOfScript, IsResult, IsSimulation}
+use Rattle.commands.specs.Simulate.Simulation.{EndsSimulation, IsBegunSimulation, IsSimulateFault, IsOfScript, IsResult, IsSimulation}
 use Rattle.commands.specs.Simulate.Steps.{AreFirstSteps}
 use Rattle.commands.specs.Simulate.WorldSteps.{AreAllLines, AreBegunLines, WritesSteps}
 use Rattle.commands.specs.declared.failure.Failure.{Failure}
@@ -65,7 +65,7 @@ verdict_has catalog text texts (Err error) same read sound kept unrefused refuse
 
 -- the first part is no catalog
 module _ (cut : CutTwice) (error : ReadError) (tells : Tells error (catalog_by as_filter cut.first)) where
-  catalog_told : (is_memory : Bool) → is_none (told error) ≡ is_memory
+  catalog_told : (is_memory : Bool) → is_none (read_fault error) ≡ is_memory
       → IsOfParts cut (if is_memory then f.OutOfMemory else f.Input (i.Catalog error))
   catalog_told true e = λ input parts. tt
   catalog_told false e = λ input parts. record { cut = cut; parts = parts; tells = tells; known = e }
@@ -75,7 +75,7 @@ module _ (cut : CutTwice) (error : ReadError) (tells : Tells error (catalog_by a
       → IsErrAnd result (λ failed. failed ≡ failure_of_read error) → IfErr result (IsOfParts cut)
   catalog_stops (Ok given) is = tt
   catalog_stops (Err failed) is =
-      subst (λ (failure : Failure). IsOfParts cut failure) (sym is) (catalog_told (is_none (told error)) refl)
+      subst (λ (failure : Failure). IsOfParts cut failure) (sym is) (catalog_told (is_none (read_fault error)) refl)
 
 module _ (cut : CutTwice) (catalog : CatalogOf Expr) (reads : catalog_by as_filter cut.first ≡ Ok catalog) where
   certificate_told : (failure : Failure) → IsOfLines (lines_of cut.second) failure → IsOfParts cut failure
@@ -132,7 +132,7 @@ module _ (limit : ℕ) (input : List ℕ) (old : Option (List ℕ)) where
   none_told (f.Input fault) is = (is, refl)
   none_told f.OutOfMemory is =
       memory_ends (IsSimulation limit input []) (λ lines. (lines ≡ []) ⊎ IsBegunSimulation limit input lines)
-      (IsFault input) (inl refl) old old refl
+      (IsSimulateFault input) (inl refl) old old refl
   none_told (f.CommandLine why) is = absurd is
   none_told f.Output is = absurd is
 
@@ -175,7 +175,7 @@ module _ (limit : ℕ) (input : List ℕ) (cut : CutTwice) (parts : three_parts 
       λ left told first. answered (Ok checked) lines given left told Done
       (record { sound = given.has.is.sound; unrefused = given.has.is.unrefused; first = first }) in
       ends_as (AreAllLines made limit steps) (IsSimulation limit input []) (AreBegunLines made limit steps)
-      (λ told. (told ≡ []) ⊎ IsBegunSimulation limit input told) (IsFault input)
+      (λ told. (told ≡ []) ⊎ IsBegunSimulation limit input told) (IsSimulateFault input)
       (λ told status all. subst (λ (s : Status). IsSimulation limit input [] told s) (sym all.0)
       (of_steps [] told all.1))
       (λ told begun. elim begun [
@@ -195,7 +195,7 @@ module _ (limit : ℕ) (input : List ℕ) (cut : CutTwice) (parts : three_parts 
       → EndsSimulation limit input old new result
   sharding_refused error lines again old new result given same status appends stops =
       line_ends (IsSimulation limit input []) (λ told. (told ≡ []) ⊎ IsBegunSimulation limit input told)
-      (IsFault input) (inl refl) (refused_line given.catalog error) Refused old new result
+      (IsSimulateFault input) (inl refl) (refused_line given.catalog error) Refused old new result
       (answered (Err error) lines given [] (refused_line given.catalog error ∷ []) Refused
       (record { error = error; refusal = given.has.is.refusal; wrong = given.has.is.wrong; are = refl }))
       status

@@ -4,10 +4,10 @@ use Rattle.filter_tree.specs.Expr.{Expr}
 use Rattle.pub_catalog.specs.Catalogs.{CatalogOf}
 use Rattle.pub_reader.specs.Steps.{StepOf}
 use Rattle.shard_checker.specs.CheckedView.{CheckedOf}
-use Rattle.shard_world.specs.Pumping.{on_clock, pump_events, IsEndOfLog, IsPosition, PumpsAll, PumpsOn, PumpsSome, WantsMemory, Pumped, Ended}
+use Rattle.shard_world.specs.Pumping.{on_clock, pump_events, IsEndOfLog, IsPosition, PumpsAll, PumpsFromEach, PumpsSome, WantsMemory, Pumped, Ended}
 use Rattle.shard_world.specs.ViewMeaning.{ShowsWorld}
 use Rattle.shard_world.specs.World as w
-use Rattle.shard_world.specs.WorldCalls.{IsWorld, StepsOn, world_checked}
+use Rattle.shard_world.specs.WorldCalls.{IsWorld, StepsFromEach, world_checked}
 use Rattle.shard_world.specs.declared.answer.Answer.{Answer}
 use Rattle.shard_world.specs.declared.answer.Answer.TheVariants.{At}
 use Rattle.shard_world.specs.declared.view.View.{View}
@@ -18,7 +18,7 @@ use Rattle.commands.specs.Simulate.StepActions as a
 use Rattle.commands.specs.Simulate.StepActions.{StepActionOf, action_of}
 use Rattle.commands.specs.Simulate.Steps.{IsDone}
 use Rattle.commands.specs.Simulate.Views.{view_lines}
-use Rattle.commands.specs.Simulate.WorldSteps.{MakesOn}
+use Rattle.commands.specs.Simulate.WorldSteps.{DoesFromEach}
 
 -- ---- a step
 
@@ -30,8 +30,8 @@ module _ (before after : World) (now : ℕ) (step : StepOf) (text : List ℕ) wh
       subst (λ (a : StepActionOf). IsDone (world_checked before) most now a world lines next) is done
 
   pub event_made : (event : w.Event) (answer : Answer) → a.Event event ≡ action_of now step
-      → StepsOn before after now event answer → text ≡ text_of (answer_line answer ∷ [])
-      → MakesOn before after now step text
+      → StepsFromEach before after now event answer → text ≡ text_of (answer_line answer ∷ [])
+      → DoesFromEach before after now step text
   event_made event answer is steps text_is = λ most events world stands.
       let into = steps most events world stands in
       record {
@@ -48,7 +48,7 @@ module _ (before after : World) (now : ℕ) (step : StepOf) (text : List ℕ) wh
   all_pumped : (subscriber position : ℕ) → a.Pump subscriber ≡ action_of now step
       → PumpsAll before after now subscriber → IsPosition after subscriber position
       → IsEndOfLog before subscriber position → text ≡ text_of (answer_line (At position) ∷ [])
-      → MakesOn before after now step text
+      → DoesFromEach before after now step text
   all_pumped subscriber position is pumps at end text_is = λ most events world stands.
       let asked : List (ℕ × w.Event) = map (on_clock now subscriber) (pump_events pumps.takes) in
       let into = pumps.all.runs most events world stands in
@@ -78,7 +78,7 @@ module _ (before after : World) (now : ℕ) (step : StepOf) (text : List ℕ) wh
   part_pumped : (subscriber : ℕ) (answer : Answer) → a.Pump subscriber ≡ action_of now step
       → PumpsSome before after now subscriber answer
       → WantsMemory before subscriber answer → text ≡ text_of (answer_line answer ∷ [])
-      → MakesOn before after now step text
+      → DoesFromEach before after now step text
   part_pumped subscriber answer is pumps refused text_is = λ most events world stands.
       let part = pumps.some in
       let asked : List (ℕ × w.Event) = map (on_clock now subscriber) part.done in
@@ -107,8 +107,8 @@ module _ (before after : World) (now : ℕ) (step : StepOf) (text : List ℕ) wh
       }
 
   pub pump_made : (subscriber : ℕ) (answer : Answer) → a.Pump subscriber ≡ action_of now step
-      → PumpsOn before after now subscriber answer → text ≡ text_of (answer_line answer ∷ [])
-      → MakesOn before after now step text
+      → PumpsFromEach before after now subscriber answer → text ≡ text_of (answer_line answer ∷ [])
+      → DoesFromEach before after now step text
   pump_made subscriber answer is (Pumped position all at end) text_is =
       all_pumped subscriber position is all at end text_is
   pump_made subscriber answer is (Ended told some refused) text_is = part_pumped subscriber told is some refused text_is
@@ -117,7 +117,7 @@ pub view_made : (code : World) (now : ℕ) (step : StepOf) (catalog : CatalogOf 
     → a.View ≡ action_of now step → catalog ≡ (world_checked code).catalog
     → ((most : ℕ) (events : List (ℕ × w.Event)) (world : w.World) → IsWorld code most events world
     → ShowsWorld (world_checked code) world view)
-    → text ≡ text_of (view_lines catalog view) → MakesOn code code now step text
+    → text ≡ text_of (view_lines catalog view) → DoesFromEach code code now step text
 view_made code now step catalog view text is named shows text_is = λ most events world stands.
     let lines : List (List ℕ) = view_lines (world_checked code).catalog view in
     record {

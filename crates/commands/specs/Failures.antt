@@ -3,7 +3,7 @@ use Rattle.std.specs.Prelude.{ℕ, if◌then◌else◌, List, [], ◌∷◌, ◌
 use Rattle.std.specs.String.{string_bytes}
 use Rattle.split_cert.specs.ErrorNames.{error_name}
 use Rattle.sql_reader.specs.KindNames.{kind_name}
-use Rattle.sql_reader.specs.Reading.{told}
+use Rattle.sql_reader.specs.Reading.{read_fault}
 use Rattle.sql_reader.specs.declared.error.ReadError.{ReadError}
 use Rattle.commands.specs.Names.{counted}
 use Rattle.commands.specs.declared.failure.Failure.{Failure}
@@ -15,13 +15,13 @@ use Rattle.commands.specs.declared.failure.Status.TheVariants as s
 
 -- ---- exit statuses
 
-abbrev pub number_of : Status → ℕ
-number_of s.Done = 0
-number_of s.Refused = 1
-number_of s.CommandLine = 2
-number_of s.Input = 3
-number_of s.Output = 4
-number_of s.OutOfMemory = 5
+abbrev pub exit_status : Status → ℕ
+exit_status s.Done = 0
+exit_status s.Refused = 1
+exit_status s.CommandLine = 2
+exit_status s.Input = 3
+exit_status s.Output = 4
+exit_status s.OutOfMemory = 5
 
 abbrev pub status_of_failure : Failure → Status
 status_of_failure (f.CommandLine text) = s.CommandLine
@@ -48,4 +48,4 @@ failure_lines f.OutOfMemory = codes "out of memory" ∷ []
 
 -- the failure for an error of read_catalog: the catalog's fault, or out of memory
 abbrev pub failure_of_read : ReadError → Failure
-failure_of_read error = if is_none (told error) then f.OutOfMemory else f.Input (i.Catalog error)
+failure_of_read error = if is_none (read_fault error) then f.OutOfMemory else f.Input (i.Catalog error)

@@ -17,8 +17,8 @@ abbrev pub publication_named : Option (PublicationOf Expr) → List ℕ
 publication_named None = []
 publication_named (Some publication) = publication.name
 
-abbrev pub publication_name : List (PublicationOf Expr) → ℕ → List ℕ
-publication_name publications number = publication_named (slice_get publications number)
+abbrev pub plain_publication : List (PublicationOf Expr) → ℕ → List ℕ
+plain_publication publications number = publication_named (slice_get publications number)
 
 abbrev pub subscriber_named : Option Subscription → List ℕ
 subscriber_named None = []
@@ -29,12 +29,12 @@ abbrev pub subscriber_name : List Subscription → ℕ → List ℕ
 subscriber_name subscriptions number = subscriber_named (slice_get subscriptions number)
 
 -- `schema.name`
-abbrev pub table_named : Option Table → List ℕ
-table_named None = []
-table_named (Some table) = table.schema ++ 46 ∷ table.name
+abbrev pub dotted_name : Option Table → List ℕ
+dotted_name None = []
+dotted_name (Some table) = table.schema ++ 46 ∷ table.name
 
-abbrev pub table_name : List Table → ℕ → List ℕ
-table_name tables number = table_named (slice_get tables number)
+abbrev pub plain_table : List Table → ℕ → List ℕ
+plain_table tables number = dotted_name (slice_get tables number)
 
 abbrev pub column_named : Option Column → List ℕ
 column_named None = []
@@ -44,8 +44,8 @@ abbrev pub column_in : Option Table → ℕ → List ℕ
 column_in None number = []
 column_in (Some table) number = column_named (slice_get table.columns number)
 
-abbrev pub column_name : List Table → ℕ → ℕ → List ℕ
-column_name tables table number = column_in (slice_get tables table) number
+abbrev pub plain_column : List Table → ℕ → ℕ → List ℕ
+plain_column tables table number = column_in (slice_get tables table) number
 
 -- ---- words of a line
 

@@ -32,34 +32,34 @@ abbrev pub lines_left : Lines → List (List ℕ)
 lines_left lines = lines_of lines.rest.now
 
 -- a text cut in two: the part before a separator, and the text after it
-pub record Cut : Type 0 where
+pub record CutOnce : Type 0 where
   pub part : List ℕ
   pub rest : List ℕ
 
-abbrev pub onto_part : ℕ → Cut → Cut
+abbrev pub onto_part : ℕ → CutOnce → CutOnce
 onto_part byte cut = record { part = byte ∷ cut.part; rest = cut.rest }
 
 abbrev pub is_separator : List ℕ → Bool
 is_separator line = bytes_eq line (codes "%%")
 
 -- the cut at the first line that is `%%`; `starts` says that a line starts here
-abbrev pub cut_from : Bool → List ℕ → Option Cut
+abbrev pub cut_from : Bool → List ℕ → Option CutOnce
 cut_from starts [] = None
 cut_from starts (byte ∷ text) =
     if starts && is_separator (first_line (byte ∷ text)) then
     Some (record { part = []; rest = after_line (byte ∷ text) })
     else option_map (onto_part byte) (cut_from (is_newline byte) text)
 
-abbrev pub cut_of : List ℕ → Option Cut
+abbrev pub cut_of : List ℕ → Option CutOnce
 cut_of text = cut_from true text
 
 -- a cut after which there is no other
-abbrev pub only_cut : Option Cut → Option Cut
+abbrev pub only_cut : Option CutOnce → Option CutOnce
 only_cut None = None
 only_cut (Some cut) = if is_none (cut_of cut.rest) then Some cut else None
 
 -- the parts of a text that has two
-abbrev pub two_parts : List ℕ → Option Cut
+abbrev pub two_parts : List ℕ → Option CutOnce
 two_parts text = only_cut (cut_of text)
 
 -- ---- three parts
@@ -69,12 +69,12 @@ pub record CutTwice : Type 0 where
   pub second : List ℕ
   pub third : List ℕ
 
-abbrev pub after_part : List ℕ → Option Cut → Option CutTwice
+abbrev pub after_part : List ℕ → Option CutOnce → Option CutTwice
 after_part first None = None
 after_part first (Some cut) = Some (record { first = first; second = cut.part; third = cut.rest })
 
 -- a cut whose rest has two parts
-abbrev pub cut_again : Option Cut → Option CutTwice
+abbrev pub cut_again : Option CutOnce → Option CutTwice
 cut_again None = None
 cut_again (Some cut) = after_part cut.part (two_parts cut.rest)
 

@@ -9,7 +9,7 @@ use Rattle.shard_checker.specs.declared.error.CheckError.{CheckError}
 use Rattle.shard_checker.specs.declared.error.CheckError.TheVariants as e
 use Rattle.shard_checker.specs.declared.error.Operation.{Operation}
 use Rattle.shard_checker.specs.declared.error.Operation.TheVariants as o
-use Rattle.commands.specs.Names.{column_name, publication_name, spaced, subscriber_name, table_name}
+use Rattle.commands.specs.Names.{plain_column, plain_publication, spaced, subscriber_name, plain_table}
 
 -- ---- words
 
@@ -33,7 +33,7 @@ refusal_name e.OutOfMemory = codes "OutOfMemory"
 
 -- a table, and the number of a node of its certificate
 abbrev pub node_words : List Table → ℕ → ℕ → List (List ℕ)
-node_words tables table node = table_name tables table ∷ decimal node ∷ []
+node_words tables table node = plain_table tables table ∷ decimal node ∷ []
 
 -- and a subscriber that it gives rows to
 abbrev pub owner_words : CatalogOf Expr → ℕ → ℕ → ℕ → List (List ℕ)
@@ -43,14 +43,14 @@ owner_words catalog table node subscriber =
 -- a publication, and a table that it carries
 abbrev pub entry_words : CatalogOf Expr → ℕ → ℕ → List (List ℕ)
 entry_words catalog publication table =
-    publication_name catalog.publications publication ∷ table_name catalog.tables table ∷ []
+    plain_publication catalog.publications publication ∷ plain_table catalog.tables table ∷ []
 
 abbrev pub arguments_of : CatalogOf Expr → CheckError → List (List ℕ)
 arguments_of catalog (e.PublishMissing publication operation) =
-    publication_name catalog.publications publication ∷ operation_word operation ∷ []
-arguments_of catalog (e.NoIdentity table) = table_name catalog.tables table ∷ []
+    plain_publication catalog.publications publication ∷ operation_word operation ∷ []
+arguments_of catalog (e.NoIdentity table) = plain_table catalog.tables table ∷ []
 arguments_of catalog (e.NotCovered publication table column) =
-    entry_words catalog publication table ++ column_name catalog.tables table column ∷ []
+    entry_words catalog publication table ++ plain_column catalog.tables table column ∷ []
 arguments_of catalog e.CertCount = []
 arguments_of catalog (e.BadIndex table node) = node_words catalog.tables table node
 arguments_of catalog (e.NotEmpty table node) = node_words catalog.tables table node

@@ -12,7 +12,7 @@ use std::alloc::AllocError;
 
 /// The name of the publication of this number.
 pub fn publication_name(publications: &[Publication], number: usize) -> &str
-    ensures { result.now ≡ spec.publication_name (map publication_view publications.now) number }
+    ensures { result.now ≡ spec.plain_publication (map publication_view publications.now) number }
 {
     match publications.get(number) {
         None => "",
@@ -41,7 +41,7 @@ fn column_named(columns: &[Column], number: usize) -> &str
 
 /// The name of a column of the table of this number.
 pub fn column_name(tables: &[Table], table: usize, number: usize) -> &str
-    ensures { result.now ≡ spec.column_name tables.now table number }
+    ensures { result.now ≡ spec.plain_column tables.now table number }
 {
     match tables.get(table) {
         None => "",
@@ -59,7 +59,7 @@ pub fn push_word(line: &mut String, word: &str) -> Result<(), AllocError>
 
 /// Writes the name of a table after that of its schema.
 fn push_named(line: &mut String, table: &Table) -> Result<(), AllocError>
-    ensures { OnOk result (string_bytes line.new ≡ string_bytes line.old ++ spec.table_named (Some table.now)) }
+    ensures { OnOk result (string_bytes line.new ≡ string_bytes line.old ++ spec.dotted_name (Some table.now)) }
 {
     line.push_str(table.schema.as_str())?;
     line.push('.')?;
@@ -68,7 +68,7 @@ fn push_named(line: &mut String, table: &Table) -> Result<(), AllocError>
 
 /// Writes the name of the table of this number.
 pub fn push_table_name(line: &mut String, tables: &[Table], number: usize) -> Result<(), AllocError>
-    ensures { OnOk result (string_bytes line.new ≡ string_bytes line.old ++ spec.table_name tables.now number) }
+    ensures { OnOk result (string_bytes line.new ≡ string_bytes line.old ++ spec.plain_table tables.now number) }
 {
     match tables.get(number) {
         None => Ok(()),
@@ -79,7 +79,7 @@ pub fn push_table_name(line: &mut String, tables: &[Table], number: usize) -> Re
 /// Writes a space, and the name of the table of this number.
 pub fn push_table(line: &mut String, tables: &[Table], number: usize) -> Result<(), AllocError>
     ensures { OnOk result (string_bytes line.new ≡ string_bytes line.old ++ spec.spaced
-        (spec.table_name tables.now number ∷ [])) }
+        (spec.plain_table tables.now number ∷ [])) }
 {
     line.push(' ')?;
     push_table_name(line, tables, number)

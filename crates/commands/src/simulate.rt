@@ -13,9 +13,9 @@ ghost use Rattle.commands.specs.Output.{EndsByFault, TellsFault};
 ghost use Rattle.commands.specs.Parts as parts;
 ghost use Rattle.commands.specs.Simulate.Givings.{Gives, HasVerdict, IsOfParts};
 ghost use Rattle.commands.specs.Simulate.StepActions.{action_of, action_view};
-ghost use Rattle.commands.specs.Simulate.Limits.{IsWithin};
+ghost use Rattle.commands.specs.Simulate.Limits.{IsLogLimit};
 ghost use Rattle.commands.specs.Simulate.Simulation.{EndsSimulation, IsOfScript};
-ghost use Rattle.commands.specs.Simulate.WorldSteps.{MakesOn, StopsStep, WritesStep, WritesSteps};
+ghost use Rattle.commands.specs.Simulate.WorldSteps.{DoesFromEach, StopsStep, WritesStep, WritesSteps};
 
 pub mod answers;
 pub mod views;
@@ -69,7 +69,7 @@ fn step_text(
     now: u64,
 ) -> Result<String, AllocError>
     requires { catalog_view catalog.now ≡ (world_checked world.old).catalog }
-    ensures { IfOk result (λ text. MakesOn world.old world.new now (step_view step) (string_bytes text)) }
+    ensures { IfOk result (λ text. DoesFromEach world.old world.new now (step_view step) (string_bytes text)) }
 {
     match action_at(step, now) {
         StepAction::Event(event) => answer_text(alloc, world.step(now, &event)),
@@ -107,7 +107,7 @@ fn write_steps<'a, W: Writer>(
     lines: Vec<Line>,
     writer: &mut W,
 ) -> Result<Status, Failure<'a>>
-    requires within { IsWithin limit }
+    requires within { IsLogLimit limit }
     requires few { length lines.items ≤ 100000 }
     ensures written { WritesSteps (checked_view checked) limit (map line_view lines.items) (W.contents writer.old)
         (W.contents writer.new) result }
@@ -188,7 +188,7 @@ pub fn simulate_input<'a, W: Writer>(
     input: &str,
     writer: &mut W,
 ) -> Result<Status, Failure<'a>>
-    requires { IsWithin limit }
+    requires { IsLogLimit limit }
     ensures ends { EndsSimulation limit input.now (W.contents writer.old) (W.contents writer.new) result }
     ensures failed { EndsByFault (W.has_failed writer.old) (W.has_failed writer.new) result }
 {

@@ -5,7 +5,7 @@ use Rattle.std.specs.Prelude.{if◌then◌else◌, Option, None}
 use Rattle.copy_both.specs.declared.start_command.StartCommand.{StartCommand}
 use Rattle.copy_both.specs.declared.start_command.StartOption.{StartOption}
 use Rattle.copy_both.specs.declared.token.Token.{Token}
-use Rattle.copy_both.specs.CommandTokens.{name_in, position_in}
+use Rattle.copy_both.specs.CommandTokens.{name_in, token_position}
 use Rattle.copy_both.specs.CommandText.{has_keywords, options_in, command_with, command_in}
 
 five : (tokens : List Token) (a b c d e : Token) → 5 ≤ length tokens
@@ -23,13 +23,13 @@ pub command_is : (tokens : List Token) (start slot name logical place : Token) �
     → start ≡ get_or tokens 0 start → slot ≡ get_or tokens 1 slot → name ≡ get_or tokens 2 name
     → logical ≡ get_or tokens 3 logical → place ≡ get_or tokens 4 place
     → has_keywords start slot logical ≡ true
-    → command_in tokens ≡ command_with (name_in name) (position_in place)
+    → command_in tokens ≡ command_with (name_in name) (token_position place)
     (options_in (take (length tokens - 5) (drop 5 tokens)))
 command_is tokens start slot name logical place long e0 e1 e2 e3 e4 keywords =
     ap command_in (five tokens start slot name logical place long e0 e1 e2 e3 e4)
-    ∙ ap (λ b. if b then command_with (name_in name) (position_in place) (options_in (drop 5 tokens)) else None)
+    ∙ ap (λ b. if b then command_with (name_in name) (token_position place) (options_in (drop 5 tokens)) else None)
     keywords
-    ∙ ap (λ rest. command_with (name_in name) (position_in place) (options_in rest))
+    ∙ ap (λ rest. command_with (name_in name) (token_position place) (options_in rest))
     (sym (take_all (length tokens - 5) (drop 5 tokens) (omega (arith, length-drop 5 tokens))))
 
 pub command_read : (found command : Option StartCommand) (slot name : Option (List ℕ)) (position place : Option ℕ)

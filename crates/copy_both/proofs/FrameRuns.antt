@@ -12,9 +12,9 @@ use Rattle.copy_frames.specs.declared.frame.Frame.{Frame}
 use Rattle.copy_frames.specs.declared.status.Status.{Status}
 use Rattle.copy_both.specs.Events.{read_event, status_event, headed_event, data_event, is_end, event_of}
 use Rattle.copy_both.specs.HeardFrames.{IsFirst, IsAmong, IsLater, IsBookFor, begin_with, AsksFor, AsksIfStarted, IsStartedBy, HasEnd, Terminates, Ends, HasBadFrame, IsRefusedStart, IsAnsweredStart, IsStatus, HasStatusAhead, sent_then}
-use Rattle.copy_both.specs.Hearing.{HearingOf, Served, BeginOf, Begins, Refuses, begin_by, begin_of, begun, confirmed_by, ended_by, event_heard, frame_heard, frames_heard, is_over, is_over_by, next_heard, offer_in, unless_over, with_fault}
+use Rattle.copy_both.specs.Hearing.{HearingOf, ServedFrom, BeginOf, Begins, Refuses, begin_by, begin_of, begun, confirmed_by, ended_by, event_heard, frame_heard, frames_heard, is_over, is_over_by, next_heard, offer_in, unless_over, with_fault}
 use Rattle.copy_both.specs.Refusals.{ExpectedQuery, error_response, state_of}
-use Rattle.copy_both.specs.StartAnswers.{Refused, asked_in, asked_of, text_in}
+use Rattle.copy_both.specs.StartAnswers.{Refused, asked_in, asked_of, text_of_query}
 use Rattle.copy_both.specs.declared.event.Event.{Event}
 use Rattle.copy_both.specs.declared.event.Event.TheVariants as event
 use Rattle.copy_both.specs.declared.link_fault.LinkFault.{LinkFault}
@@ -199,7 +199,8 @@ later_more reach before frames last (Ended kind ends none is) =
       ends = ends.ends;
     }) none is
 
-module _ (served : Served) (slot : ℕ) (frame : Frame) (frames : List Frame) (h : HearingOf) (going : is_over h ≡ false)
+module _ (served : ServedFrom) (slot : ℕ) (frame : Frame) (frames : List Frame) (h : HearingOf)
+    (going : is_over h ≡ false)
     (runs : (next : HearingOf) → next.started ≡ h.started → is_over next ≡ false → next.sent ≡ h.sent
     → Later (min h.sent (end_after served.commits)) frames (frames_heard served next frames)) where
   abbrev reach : ℕ
@@ -233,7 +234,7 @@ module _ (served : Served) (slot : ℕ) (frame : Frame) (frames : List Frame) (h
   by_event (Ok (event.Status status)) is =
       by_ahead status (status_event_is frame status is) (nat_lt reach status.flushed) refl
 
-pub later_runs : (served : Served) (slot start : ℕ) (frames : List Frame) (h : HearingOf)
+pub later_runs : (served : ServedFrom) (slot start : ℕ) (frames : List Frame) (h : HearingOf)
     → h.started ≡ Some (slot, start) → is_over h ≡ false
     → Later (min h.sent (end_after served.commits)) frames (frames_heard served h frames)
 unfolding frames_heard
@@ -253,14 +254,14 @@ later_runs served slot start (frame ∷ frames) h is going =
 -- ---- the first frame
 
 -- a stream starts by a Query
-query_of : (served : Served) (slots : List Slot) (kind : ℕ) (body : List ℕ) (slot start : ℕ)
+query_of : (served : ServedFrom) (slots : List Slot) (kind : ℕ) (body : List ℕ) (slot start : ℕ)
     → begin_of served slots kind body ≡ Begins slot start → kind ≡ 81
 unfolding begin_of asked_of
 query_of served slots kind body slot start is = by_test (kind == 81)
     (λ yes. eqb-true kind 81 yes)
     (λ no. absurd (let wrong : Refuses ExpectedQuery ≡ Begins slot start =
     sym (ap (λ b. begin_by served slots
-    (if b then asked_in (offer_in served) (text_in body) else Refused ExpectedQuery)) no) ∙ is in cc))
+    (if b then asked_in (offer_in served) (text_of_query body) else Refused ExpectedQuery)) no) ∙ is in cc))
 
 -- the result of all frames
 pub data Comes (checked : CheckedOf) (frames : List Frame) (reach : ℕ) (last : HearingOf) : Type 0 where
@@ -341,7 +342,7 @@ is_first : (frame : Frame) (frames : List Frame) → IsFirst frame (frame ∷ fr
 is_first frame frames = record { others = frames; frames_are = refl }
 
 module _ (checked : CheckedOf) (book : Book) (is_for : IsBookFor checked book) where
-  abbrev lent : Served
+  abbrev lent : ServedFrom
   lent = record { checked = checked; commits = length (book_log book) }
 
   abbrev RanFrom : List Frame → Option (ℕ × ℕ) → ℕ → HearingOf → Type 0

@@ -10,7 +10,7 @@ use Rattle.copy_frames.specs.declared.xlog_data.XLogData.{XLogData}
 use Rattle.pgoutput_msgs.specs.Ranges.{HasTexts, IsMaybeOldText}
 use Rattle.pgoutput_msgs.specs.Sinks.{Takes}
 use Rattle.pgoutput_msgs.specs.Spelling.{spelling_of, maybe_delete_spelling}
-use Rattle.pgoutput_msgs.specs.Telling.{begin_of, commit_of, enclosed, oid_of, old_of, maybe_old_of, message_of, named_in}
+use Rattle.pgoutput_msgs.specs.Telling.{begin_msg, commit_msg, enclosed, oid_of, old_of, maybe_old_of, message_of, named_in}
 use Rattle.pgoutput_msgs.specs.declared.message.Msg.{Msg}
 use Rattle.pgoutput_msgs.specs.declared.message.Msg.TheVariants as m
 use Rattle.pgoutput_msgs.proofs.SentLemmas.{plain_delete}
@@ -213,17 +213,17 @@ none_framed commit begin filled (message ∷ messages) took same =
 
 -- otherwise all its messages are in frames
 pub commit_framed : (commit : CommitOf) (new begin filled ended : Frames) (said : List Msg)
-    → AddsFrame new begin (begin_of commit)
+    → AddsFrame new begin (begin_msg commit)
     → Takes AddsFrame begin filled said → (length filled.bytes.items ≡ length begin.bytes.items → ⊥)
-    → AddsFrame filled ended (commit_of commit)
+    → AddsFrame filled ended (commit_msg commit)
     → AddsFrames new ended (enclosed commit said)
 commit_framed commit new begin filled ended [] one took more last =
     absurd (more (ap (λ (frames : Frames). length frames.bytes.items) took))
 commit_framed commit new begin filled ended (message ∷ messages) one took more last =
-    all_framed new ended (begin_of commit ∷ (message ∷ messages) ++ commit_of commit ∷ []) (
+    all_framed new ended (begin_msg commit ∷ (message ∷ messages) ++ commit_msg commit ∷ []) (
       begin,
       one,
-      takes_both AddsFrame begin filled ended (message ∷ messages) (commit_of commit ∷ []) took
+      takes_both AddsFrame begin filled ended (message ∷ messages) (commit_msg commit ∷ []) took
           (ended, last, refl),
     )
 

@@ -14,13 +14,13 @@ use Rattle.copy_frames.specs.declared.status.Status.{Status}
 use Rattle.copy_both.specs.Ears.{ear_phase, ear_started, ear_heard, answer_in, HearLeaves, EarCloses}
 use Rattle.copy_both.specs.Events.{event_of}
 use Rattle.copy_both.specs.ConnectionStates.{Waits, Streams, IsOver, streams_by, heard_state, said_state}
-use Rattle.copy_both.specs.Hearing.{HeardOf, HearingOf, heard_told, Served, is_over, unless_over, with_fault, confirmed_by, event_heard, next_heard, frame_heard, frames_heard, then_fault, link_fault}
+use Rattle.copy_both.specs.Hearing.{HeardOf, HearingOf, heard_told, ServedFrom, is_over, unless_over, with_fault, confirmed_by, event_heard, next_heard, frame_heard, frames_heard, then_fault, link_fault}
 use Rattle.copy_both.specs.Links.{begun_stage, ended_stage, stage_by}
 use Rattle.copy_both.specs.Listening.{silence, held_frames, fed, piece_heard, part_heard, Leaves}
 use Rattle.copy_both.specs.Phases.{phase_by, phase_closed}
 use Rattle.copy_both.specs.Sessions.{served_by, hearing_view}
 use Rattle.copy_both.specs.Voices as voices
-use Rattle.copy_both.specs.Voices.{StageOf, Says, Closes, voice_stage}
+use Rattle.copy_both.specs.Voices.{StageOf, Sends, Closes, voice_stage}
 use Rattle.copy_both.specs.declared.ear.Ear.{Ear}
 use Rattle.copy_both.specs.declared.event.Event.{Event}
 use Rattle.copy_both.specs.declared.event.Event.TheVariants as event
@@ -40,7 +40,7 @@ confirmed_started : (ahead : Bool) (slot : ℕ) (status : Status) (h : HearingOf
 confirmed_started true slot status h = refl
 confirmed_started false slot status h = refl
 
-event_started : (served : Served) (slot : ℕ) (e : Result Event LinkFault) (h : HearingOf)
+event_started : (served : ServedFrom) (slot : ℕ) (e : Result Event LinkFault) (h : HearingOf)
     → (event_heard served slot e h).started ≡ h.started
 event_started served slot (Err fault) h = refl
 event_started served slot (Ok (event.End kind)) h = refl
@@ -52,7 +52,7 @@ over_started : (over : Bool) (h next : HearingOf) → next.started ≡ h.started
 over_started true h next same = refl
 over_started false h next same = same
 
-pub frame_started : (served : Served) (h : HearingOf) (frame : Frame) (s : ℕ × ℕ) → h.started ≡ Some s
+pub frame_started : (served : ServedFrom) (h : HearingOf) (frame : Frame) (s : ℕ × ℕ) → h.started ≡ Some s
     → (frame_heard served h frame).started ≡ Some s
 frame_started served h frame s is =
     over_started (is_over h) h (next_heard served frame h.started h)
@@ -60,7 +60,7 @@ frame_started served h frame s is =
     ∙ event_started served s.0 (event_of frame.kind frame.body) h)
     ∙ is
 
-pub frames_started : (served : Served) (h : HearingOf) (frames : List Frame) (s : ℕ × ℕ) → h.started ≡ Some s
+pub frames_started : (served : ServedFrom) (h : HearingOf) (frames : List Frame) (s : ℕ × ℕ) → h.started ≡ Some s
     → (frames_heard served h frames).started ≡ Some s
 unfolding frames_heard
 frames_started served h [] s is = is
@@ -75,7 +75,7 @@ pub stays_started : (session : Session) (book : Book) (inbox : Inbox) (piece : L
     → session.started ≡ Some s
     → (piece_heard session book inbox piece sent).started ≡ Some s
 stays_started session book inbox piece sent s is =
-    let served : Served = served_by session book in
+    let served : ServedFrom = served_by session book in
     let start : HearingOf = hearing_view session (silence sent) book in
     let frames : List Frame = frames_of (cut inbox.limit (inbox.bytes ++ piece)) in
     fault_started (fault_in inbox.limit (inbox.bytes ++ piece)) (frames_heard served start frames)
@@ -123,7 +123,7 @@ pub all_is_part : (old new : Session) (before after : Book) (inbox : Inbox) (pie
     → Leaves old new before after (piece_heard old before inbox piece sent)
     → (count : ℕ) × Leaves old new before after (part_heard count old before inbox piece sent)
 all_is_part old new before after inbox piece sent leaves =
-    let served : Served = served_by old before in
+    let served : ServedFrom = served_by old before in
     let start : HearingOf = hearing_view old (silence sent) before in
     let frames : List Frame = held_frames (fed inbox piece) in (
       length frames,
@@ -209,7 +209,7 @@ over_after phase.Lost old new before after piece sent f is left =
 
 -- the voice is closed, whether memory for the response was refused or not
 pub refused_closed : {E : Type 0} (result : Result (Unit {0}) E) (old new : Voice) (bytes : List ℕ)
-    → OnOk result (Says old new bytes voices.Closed) → OnErr result (Closes old new)
+    → OnOk result (Sends old new bytes voices.Closed) → OnErr result (Closes old new)
     → voice_stage new ≡ voices.Closed
 refused_closed (Ok done) old new bytes says closes = says.stage_is
 refused_closed (Err error) old new bytes says closes = closes.stage_is

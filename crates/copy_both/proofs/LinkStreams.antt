@@ -8,9 +8,9 @@ use Rattle.shard_checker.specs.CheckedView.{CheckedOf}
 use Rattle.tables_log.specs.Commits.{CommitOf}
 use Rattle.copy_frames.specs.Contents.{copy_both_response}
 use Rattle.copy_both.specs.Hearing.{HeardOf, HearingOf}
-use Rattle.copy_both.specs.LinkLaws.{Run, stream_of, with_moves, IsStreaming, replied, started_at, first_run, Goes, Goes_on, Starts, took, LinkHears, LinkEnds, LinkBreaks, LinkStops, LinkTakes, LinkKeeps, LinkPassesOn, LinkRestPassesOn, LinkFrontPassesOn, LogGrows}
+use Rattle.copy_both.specs.LinkLaws.{Run, stream_of, with_moves, IsStreaming, replied, started_at, first_run, Goes, Goes_on, Starts, take_moves, LinkHears, LinkEnds, LinkBreaks, LinkStops, LinkTakes, LinkKeeps, LinkPassesOn, LinkRestPassesOn, LinkFrontPassesOn, LogGrows}
 use Rattle.copy_both.specs.Links.{link_checked, link_stage, link_output, frames_by, stage_by, frames_said, closing, ended_stage, next_bytes, next_stage, stage_said}
-use Rattle.copy_both.specs.StreamLaws.{Start, Speaks, first_state}
+use Rattle.copy_both.specs.StreamLaws.{Start, HasSent, first_state}
 use Rattle.copy_both.specs.Streams.{spelled, Telling, StreamStateOf, Move, Take, Keep, keep_bytes, take_items, taken_state, move_items, moved}
 use Rattle.copy_both.specs.Tellings.{telling_of}
 use Rattle.copy_both.specs.Voices as voices
@@ -22,22 +22,22 @@ use Rattle.copy_both.proofs.StreamLemmas.{starts, takes, keeps, passes, grows}
 
 speaks_more : (telling : Telling CommitOf) (log : List CommitOf) (start : Start) (moves : List Move)
     (passed output : List ℕ) (state : StreamStateOf) (clock n : ℕ)
-    → Speaks telling log start moves passed output state
-    → Speaks telling log start (moves ++ replicate n (Keep clock false)) passed
+    → HasSent telling log start moves passed output state
+    → HasSent telling log start (moves ++ replicate n (Keep clock false)) passed
     (output ++ concat (replicate n (keep_bytes state clock false))) state
 speaks_more telling log start moves passed output state clock zero speaks =
-    subst (λ (m : List Move). Speaks telling log start m passed (output ++ []) state) (sym (append-nil moves))
-    (subst (λ (o : List ℕ). Speaks telling log start moves passed o state) (sym (append-nil output)) speaks)
+    subst (λ (m : List Move). HasSent telling log start m passed (output ++ []) state) (sym (append-nil moves))
+    (subst (λ (o : List ℕ). HasSent telling log start moves passed o state) (sym (append-nil output)) speaks)
 speaks_more telling log start moves passed output state clock (suc n) speaks =
     let keep : Move = Keep clock false in
     let said : List ℕ = keep_bytes state clock false in
-    let on : Speaks telling log start ((moves ++ keep ∷ []) ++ replicate n keep) passed
+    let on : HasSent telling log start ((moves ++ keep ∷ []) ++ replicate n keep) passed
     ((output ++ said) ++ concat (replicate n said)) state =
     speaks_more telling log start (moves ++ keep ∷ []) passed (output ++ said) state clock n
     (keeps telling log start moves passed output state clock false speaks) in
-    subst (λ (m : List Move). Speaks telling log start m passed (output ++ (said ++ concat (replicate n said))) state)
+    subst (λ (m : List Move). HasSent telling log start m passed (output ++ (said ++ concat (replicate n said))) state)
     (append_assoc moves (keep ∷ []) (replicate n keep))
-    (subst (λ (o : List ℕ). Speaks telling log start ((moves ++ keep ∷ []) ++ replicate n keep) passed o state)
+    (subst (λ (o : List ℕ). HasSent telling log start ((moves ++ keep ∷ []) ++ replicate n keep) passed o state)
     (append_assoc output said (concat (replicate n said))) on)
 
 concat_last : (xss : List (List ℕ)) (xs : List ℕ) → concat (xss ++ xs ∷ []) ≡ concat xss ++ xs
@@ -55,7 +55,7 @@ said_on checked state started heard clock =
 -- with these bytes it would be at this place, and what is sent comes after them
 record IsOpened (old : Link) (h : HearingOf) (clock : ℕ) (run : Run) (state : StreamStateOf) : Type 0 where
   output : List ℕ
-  speaks : Speaks (telling_of run.checked) run.log run.start run.moves run.passed output state
+  speaks : HasSent (telling_of run.checked) run.log run.start run.moves run.passed output state
   checked_is : link_checked old ≡ run.checked
   said : link_output old ++ concat (frames_said (link_checked old) (link_stage old) h clock)
       ≡ output ++ (concat (replicate h.heard.replies (keep_bytes state clock false))
@@ -110,7 +110,7 @@ opened old run state h clock (Starts started at) =
 
 more_said : (old : Link) (run : Run) (state : StreamStateOf) (h : HearingOf) (clock : ℕ)
     (o : IsOpened old h clock run state)
-    → Speaks (telling_of run.checked) run.log run.start (run.moves ++ replied h clock) run.passed
+    → HasSent (telling_of run.checked) run.log run.start (run.moves ++ replied h clock) run.passed
     (o.output ++ concat (replicate h.heard.replies (keep_bytes state clock false))) state
 more_said old run state h clock o =
     speaks_more (telling_of run.checked) run.log run.start run.moves run.passed o.output state clock h.heard.replies
@@ -128,7 +128,7 @@ hears old new run state h heard clock goes none says =
       checked_is = says.checked ∙ o.checked_is;
       stage_is = says.stage_is ∙ o.stage_is ∙ ap (λ (e : Option ℕ). ended_stage e (voices.Started state)) none;
       says =
-          subst (λ (x : List ℕ). Speaks (telling_of run.checked) run.log run.start (run.moves ++ replied h clock)
+          subst (λ (x : List ℕ). HasSent (telling_of run.checked) run.log run.start (run.moves ++ replied h clock)
           run.passed x state) (sym output_is)
           (more_said old run state h clock o);
     }
@@ -182,14 +182,14 @@ stops old new run state streams closes = record {
 
 takes_by : (found : Option CommitOf) (run : Run) (output : List ℕ) (state : StreamStateOf) (clock : ℕ)
     → slice_get run.log state.done ≡ found
-    → Speaks (telling_of run.checked) run.log run.start run.moves run.passed output state
-    → Speaks (telling_of run.checked) run.log run.start (run.moves ++ took found clock) run.passed
+    → HasSent (telling_of run.checked) run.log run.start run.moves run.passed output state
+    → HasSent (telling_of run.checked) run.log run.start (run.moves ++ take_moves found clock) run.passed
     (output ++ flat_map spelled (take_items (telling_of run.checked) state found clock))
     (taken_state (telling_of run.checked) state found)
 takes_by None run output state clock is speaks =
-    subst (λ (m : List Move). Speaks (telling_of run.checked) run.log run.start m run.passed (output ++ []) state)
+    subst (λ (m : List Move). HasSent (telling_of run.checked) run.log run.start m run.passed (output ++ []) state)
     (sym (append-nil run.moves))
-    (subst (λ (o : List ℕ). Speaks (telling_of run.checked) run.log run.start run.moves run.passed o state)
+    (subst (λ (o : List ℕ). HasSent (telling_of run.checked) run.log run.start run.moves run.passed o state)
     (sym (append-nil output)) speaks)
 takes_by (Some commit) run output state clock is speaks =
     takes (telling_of run.checked) run.log run.start run.moves run.passed output state commit clock speaks is
@@ -211,7 +211,7 @@ takes_on old new run state clock streams says =
           ∙ ap (λ (k : CheckedOf). voices.Started (moved (telling_of k) run.log state (Take clock))) streams.checked_is;
       says =
           subst (λ (o : List ℕ).
-          Speaks telling run.log run.start (run.moves ++ took (slice_get run.log state.done) clock) run.passed o
+          HasSent telling run.log run.start (run.moves ++ take_moves (slice_get run.log state.done) clock) run.passed o
           (moved telling run.log state (Take clock)))
           (sym output_is) (takes_by (slice_get run.log state.done) run (link_output old) state clock refl streams.says);
     }
@@ -225,7 +225,7 @@ keeps_on old new run state clock want streams says =
       checked_is = says.voice.checked ∙ streams.checked_is;
       stage_is = says.voice.stage_is ∙ streams.stage_is;
       says =
-          subst (λ (o : List ℕ). Speaks telling run.log run.start (run.moves ++ Keep clock want ∷ []) run.passed o
+          subst (λ (o : List ℕ). HasSent telling run.log run.start (run.moves ++ Keep clock want ∷ []) run.passed o
           state) (sym output_is)
           (keeps telling run.log run.start run.moves run.passed (link_output old) state clock want streams.says);
     }
@@ -237,7 +237,7 @@ passes_on old new run state count streams says =
       checked_is = says.voice.checked ∙ streams.checked_is;
       stage_is = says.voice.stage_is ∙ streams.stage_is;
       says =
-          subst (λ (o : List ℕ). Speaks telling run.log run.start run.moves
+          subst (λ (o : List ℕ). HasSent telling run.log run.start run.moves
           (run.passed ++ take count (link_output old)) o state) (sym says.voice.output)
           (passes telling run.log run.start run.moves run.passed (link_output old) state count streams.says);
     }

@@ -6,12 +6,12 @@ use Rattle.tables_log.specs.BookView.{book_log, book_slots}
 use Rattle.tables_log.specs.Commits.{CommitOf}
 use Rattle.tables_log.specs.Committing.{ChangesSlots}
 use Rattle.tables_log.specs.declared.book.Book.{Book}
-use Rattle.copy_frames.specs.Frames.{Cut, Rest, Bad, Then, cut, framed, frames_of, rest_of}
+use Rattle.copy_frames.specs.Frames.{FrameCut, Rest, Bad, Then, cut, framed, frames_of, rest_of}
 use Rattle.copy_frames.specs.Inboxes.{Inbox, Gives, GivesFrame, has_frame}
 use Rattle.copy_frames.specs.declared.fault.FrameFault.{FrameFault}
 use Rattle.copy_frames.specs.declared.frame.Frame.{Frame}
 use Rattle.copy_frames.proofs.InboxLemmas.{rest_left, gives_none}
-use Rattle.copy_both.specs.Hearing.{HearingOf, Served, is_over, is_over_by, unless_over, with_fault, next_heard, frames_heard}
+use Rattle.copy_both.specs.Hearing.{HearingOf, ServedFrom, is_over, is_over_by, unless_over, with_fault, next_heard, frames_heard}
 use Rattle.copy_both.specs.Listening.{silence, held_frames, FramesHeard, resting, part_heard, Leaves}
 use Rattle.copy_both.specs.Sessions.{session_checked, served_by, hearing_view, FailsBy, KeepsRest}
 use Rattle.copy_both.specs.declared.link_fault.LinkFault.{LinkFault}
@@ -21,7 +21,7 @@ use Rattle.copy_both.proofs.HearingLemmas.{over_stays, heard_none, HeardSome, he
 
 -- ---- what is cut
 
-no_frames : (c : Cut) → has_frame c ≡ false → frames_of c ≡ []
+no_frames : (c : FrameCut) → has_frame c ≡ false → frames_of c ≡ []
 no_frames (Rest bytes) none = refl
 no_frames (Bad fault bytes) none = refl
 no_frames (Then frame more) none = absurd (let clash : true ≡ false = none in cc)
@@ -64,13 +64,14 @@ keeps_all session book = record {
 -- ---- frame by frame
 
 -- the first of the frames that were held at first were heard, and the others are held
-pub record IsListening (served : Served) (start now : HearingOf) (first held : Inbox) : Type 0 where
+pub record IsListening (served : ServedFrom) (start now : HearingOf) (first held : Inbox) : Type 0 where
   pub some : HeardSome served start now (held_frames first) (held_frames held)
   pub rest : rest_of (cut held.limit held.bytes) ≡ rest_of (cut first.limit first.bytes)
   pub limit : held.limit ≡ first.limit
   pub fault : held.fault ≡ first.fault
 
-pub listens_first : (served : Served) (start : HearingOf) (inbox : Inbox) → IsListening served start start inbox inbox
+pub listens_first : (served : ServedFrom) (start : HearingOf) (inbox : Inbox)
+    → IsListening served start start inbox inbox
 listens_first served start inbox = record {
   some = (0, record { now_is = sym (heard_none served start); left_is = refl });
   rest = refl;
@@ -78,7 +79,7 @@ listens_first served start inbox = record {
   fault = refl;
 }
 
-pub listens_on : (served : Served) (start now new : HearingOf) (first held next : Inbox) (frame : Frame)
+pub listens_on : (served : ServedFrom) (start now new : HearingOf) (first held next : Inbox) (frame : Frame)
     → IsListening served start now first held
     → is_over now ≡ false → GivesFrame held frame next → new ≡ next_heard served frame now.started now
     → IsListening served start new first next
@@ -95,14 +96,14 @@ listens_on served start now new first held next frame listens going gives is =
     }
 
 -- no further frame is whole
-pub heard_whole : (served : Served) (start now : HearingOf) (first held : Inbox)
+pub heard_whole : (served : ServedFrom) (start now : HearingOf) (first held : Inbox)
     → IsListening served start now first held
     → has_frame (cut held.limit held.bytes) ≡ false → now ≡ frames_heard served start (held_frames first)
 heard_whole served start now first held listens none =
     sym (all_heard served start now (held_frames first) (held_frames held) listens.some
     ∙ ap (frames_heard served now) (no_frames (cut held.limit held.bytes) none) ∙ heard_none served now)
 
-pub rests : (served : Served) (start now : HearingOf) (first held : Inbox) → IsListening served start now first held
+pub rests : (served : ServedFrom) (start now : HearingOf) (first held : Inbox) → IsListening served start now first held
     → has_frame (cut held.limit held.bytes) ≡ false → held ≡ resting first
 rests served start now first held listens none =
     let bytes_are : held.bytes ≡ rest_of (cut first.limit first.bytes) = sym (rest_left held.limit held.bytes none)
@@ -114,7 +115,7 @@ rests served start now first held listens none =
     { limit = first.limit; bytes = rest_of (cut first.limit first.bytes); fault = fault }) listens.fault
 
 -- an end came
-pub heard_over : (served : Served) (start now : HearingOf) (first held : Inbox)
+pub heard_over : (served : ServedFrom) (start now : HearingOf) (first held : Inbox)
     → IsListening served start now first held
     → is_over now ≡ true → now ≡ frames_heard served start (held_frames first)
 heard_over served start now first held listens over =
@@ -122,12 +123,12 @@ heard_over served start now first held listens over =
     ∙ over_stays served now (held_frames held) over)
 
 -- memory was refused
-pub heard_part : (served : Served) (start now : HearingOf) (first held : Inbox)
+pub heard_part : (served : ServedFrom) (start now : HearingOf) (first held : Inbox)
     → IsListening served start now first held
     → FramesHeard served start now (held_frames first) (Err fault.OutOfMemory)
 heard_part served start now first held listens = (listens.some.0, listens.some.1.now_is)
 
-failed_by : (served : Served) (start now new : HearingOf) (first held next : Inbox) (frame : Frame) (f : LinkFault)
+failed_by : (served : ServedFrom) (start now new : HearingOf) (first held next : Inbox) (frame : Frame) (f : LinkFault)
     → IsListening served start now first held → is_over now ≡ false → GivesFrame held frame next
     → next_heard served frame now.started now ≡ with_fault f new
     → frames_heard served start (held_frames first) ≡ with_fault f new
@@ -138,7 +139,7 @@ failed_by served start now new first held next frame f listens going gives is =
     (ap (λ b. unless_over b now (next_heard served frame now.started now)) going ∙ is) refl
 
 -- the next frame has a fault, or memory was refused
-pub heard_fault : (f : LinkFault) (served : Served) (start now new : HearingOf) (first held next : Inbox)
+pub heard_fault : (f : LinkFault) (served : ServedFrom) (start now new : HearingOf) (first held next : Inbox)
     (frame : Frame)
     → IsListening served start now first held → is_over now ≡ false → GivesFrame held frame next
     → FailsBy f (next_heard served frame now.started now) now new
@@ -160,14 +161,14 @@ heard_fault fault.Closed served start now new first held next frame listens goin
 
 -- ---- what `next` returns
 
-pub no_more : (served : Served) (start now : HearingOf) (first held : Inbox) (found : Option Frame) (next : Inbox)
+pub no_more : (served : ServedFrom) (start now : HearingOf) (first held : Inbox) (found : Option Frame) (next : Inbox)
     → IsListening served start now first held
     → ((frame : Frame) → found ≡ Some frame → ⊥) → Gives held found next
     → now ≡ frames_heard served start (held_frames first)
 no_more served start now first held found next listens never gives =
     heard_whole served start now first held listens (gives_none held found next never gives).1
 
-pub no_more_rests : (served : Served) (start now : HearingOf) (first held : Inbox) (found : Option Frame)
+pub no_more_rests : (served : ServedFrom) (start now : HearingOf) (first held : Inbox) (found : Option Frame)
     (next : Inbox) → IsListening served start now first held
     → ((frame : Frame) → found ≡ Some frame → ⊥) → Gives held found next → next ≡ resting first
 no_more_rests served start now first held found next listens never gives =
@@ -179,16 +180,16 @@ gives_some : (found : Option Frame) (frame : Frame) (old new : Inbox) → found 
 gives_some found frame old new is gives = subst (λ (x : Option Frame). Gives old x new) is gives
 
 -- a frame was heard, and what was agreed before it is what was agreed at first
-pub goes_on : (served other : Served) (start now new : HearingOf) (first held next : Inbox) (found : Option Frame)
+pub goes_on : (served other : ServedFrom) (start now new : HearingOf) (first held next : Inbox) (found : Option Frame)
     (frame : Frame)
     → IsListening served start now first held → other ≡ served → is_over now ≡ false → found ≡ Some frame
     → Gives held found next
     → new ≡ next_heard other frame now.started now → IsListening served start new first next
 goes_on served other start now new first held next found frame listens same going is gives heard =
     listens_on served start now new first held next frame listens going (gives_some found frame held next is gives)
-    (heard ∙ ap (λ (s : Served). next_heard s frame now.started now) same)
+    (heard ∙ ap (λ (s : ServedFrom). next_heard s frame now.started now) same)
 
-pub stops_at : (f : LinkFault) (served other : Served) (start now new : HearingOf) (first held next : Inbox)
+pub stops_at : (f : LinkFault) (served other : ServedFrom) (start now new : HearingOf) (first held next : Inbox)
     (found : Option Frame) (frame : Frame)
     → IsListening served start now first held → other ≡ served → is_over now ≡ false → found ≡ Some frame
     → Gives held found next
@@ -196,7 +197,7 @@ pub stops_at : (f : LinkFault) (served other : Served) (start now new : HearingO
     → FramesHeard served start new (held_frames first) (Err f)
 stops_at f served other start now new first held next found frame listens same going is gives fails =
     heard_fault f served start now new first held next frame listens going (gives_some found frame held next is gives)
-    (subst (λ (s : Served). FailsBy f (next_heard s frame now.started now) now new) same fails)
+    (subst (λ (s : ServedFrom). FailsBy f (next_heard s frame now.started now) now new) same fails)
 
 -- each reply that is wanted was in a frame of its own, so that with the bytes that are held they are no more than
 -- were held at first

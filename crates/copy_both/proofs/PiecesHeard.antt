@@ -7,14 +7,14 @@ use Rattle.shard_checker.specs.CheckedView.{CheckedOf}
 use Rattle.tables_log.specs.BookView.{book_log}
 use Rattle.tables_log.specs.Slots.{end_after}
 use Rattle.tables_log.specs.declared.book.Book.{Book}
-use Rattle.copy_frames.specs.Frames.{Cut, cut, after_frames, fault_of, frames_of, rest_of, fault_in}
+use Rattle.copy_frames.specs.Frames.{FrameCut, cut, after_frames, cut_fault, frames_of, rest_of, fault_in}
 use Rattle.copy_frames.specs.declared.fault.FrameFault.{FrameFault}
 use Rattle.copy_frames.specs.declared.fault.FrameFault.TheVariants as frame
 use Rattle.copy_frames.specs.declared.frame.Frame.{Frame}
 use Rattle.copy_frames.proofs.PieceLemmas.{cut_more, more_after, rest_after}
 use Rattle.copy_both.specs.Ears.{ear_checked, ear_refusal, ear_started, ear_heard, answer_in, HearLeaves, HearsPiece, Holds}
-use Rattle.copy_both.specs.HeardFrames.{TellsStart, start_told, frames_in, IsAnswered, IsBookFor, AsksIfStarted, IsStartedBy, HasHeard, HasEnd, HasBadFrame, HasFault, sent_then, reach_of, GoesOnOrEnds, Explains, HasHeardOn, NothingIsHeard, PiecesAreHeard}
-use Rattle.copy_both.specs.Hearing.{HearingOf, Served, answer_by, answer_of, frames_heard, heard_told, is_over, is_over_by, link_fault, then_fault, unless_over, with_fault}
+use Rattle.copy_both.specs.HeardFrames.{TellsStart, start_told, frames_in, IsAnswered, IsBookFor, AsksIfStarted, IsStartedBy, HasHeard, HasEnd, HasBadFrame, HasLinkFault, sent_then, reach_of, GoesOnOrEnds, Explains, HasHeardOn, NothingIsHeard, PiecesAreHeard}
+use Rattle.copy_both.specs.Hearing.{HearingOf, ServedFrom, answer_by, answer_of, frames_heard, heard_told, is_over, is_over_by, link_fault, then_fault, unless_over, with_fault}
 use Rattle.copy_both.specs.Listening.{silence, Leaves, fed, resting, part_heard}
 use Rattle.copy_both.specs.Phases.{IsReady, phase_after, phase_by}
 use Rattle.copy_both.specs.Sessions.{served_by, hearing_view}
@@ -30,11 +30,11 @@ use Rattle.copy_both.proofs.StartsTold.{all_told}
 
 -- ---- more bytes
 
-frames_after : (frames : List Frame) (last : Cut) → frames_of (after_frames frames last) ≡ frames ++ frames_of last
+frames_after : (frames : List Frame) (last : FrameCut) → frames_of (after_frames frames last) ≡ frames ++ frames_of last
 frames_after [] last = refl
 frames_after (first ∷ frames) last = ap (λ (x : List Frame). first ∷ x) (frames_after frames last)
 
-fault_after : (frames : List Frame) (last : Cut) → fault_of (after_frames frames last) ≡ fault_of last
+fault_after : (frames : List Frame) (last : FrameCut) → cut_fault (after_frames frames last) ≡ cut_fault last
 fault_after [] last = refl
 fault_after (first ∷ frames) last = fault_after frames last
 
@@ -107,12 +107,12 @@ module _ (checked : CheckedOf) (frames : List Frame) (reach : ℕ) (last : Heari
       Answered_end kind ends (sym (ap (λ (x : Heard). x.ended) same) ∙ some)
 
 module _ (checked : CheckedOf) (bytes : List ℕ) (reach : ℕ) (last : HearingOf) where
-  by_length : (f : FrameFault) → fault_in 65536 bytes ≡ Some f → HasFault checked bytes reach (link_fault f)
+  by_length : (f : FrameFault) → fault_in 65536 bytes ≡ Some f → HasLinkFault checked bytes reach (link_fault f)
   by_length frame.BadLength is = inl is
   by_length frame.FrameTooLong is = is
   by_length frame.OutOfMemory is = tt
 
-  by_frame : (g : LinkFault) → IsEventFault g → HasBadFrame (frames_in bytes) g → HasFault checked bytes reach g
+  by_frame : (g : LinkFault) → IsEventFault g → HasBadFrame (frames_in bytes) g → HasLinkFault checked bytes reach g
   by_frame fault.FrameTooLong so bad = absurd so
   by_frame fault.BadLength so bad = inr bad
   by_frame (fault.Unexpected byte) so bad = bad
@@ -125,27 +125,27 @@ module _ (checked : CheckedOf) (bytes : List ℕ) (reach : ℕ) (last : HearingO
   same_fault f one other first second = let both : Some one ≡ Some other = sym first ∙ second in cc
 
   err_on : (f : Option FrameFault) (g : LinkFault) → fault_in 65536 bytes ≡ f → is_over last ≡ false
-      → (then_fault f last).fault ≡ Some g → HasFault checked bytes reach g
+      → (then_fault f last).fault ≡ Some g → HasLinkFault checked bytes reach g
   err_on None g is going some = absurd (some_is last.fault g some (fault_over last.fault last.heard.ended going))
   err_on (Some f) g is going some =
-      subst (HasFault checked bytes reach)
+      subst (HasLinkFault checked bytes reach)
       (same_fault (then_fault (Some f) last).fault (link_fault f) g (length_fault f last going) some)
       (by_length f is)
 
   err_comes : (f : Option FrameFault) (g : LinkFault) → fault_in 65536 bytes ≡ f
       → Comes checked (frames_in bytes) reach last → (then_fault f last).fault ≡ Some g
-      → HasFault checked bytes reach g
+      → HasLinkFault checked bytes reach g
   err_comes f g is (Comes_on going started) some = err_on f g is going some
   err_comes f g is (Comes_bad other bad fails) some =
-      subst (HasFault checked bytes reach)
+      subst (HasLinkFault checked bytes reach)
       (same_fault (then_fault f last).fault other g (fault_stays f last other fails) some)
       (by_frame other (event_fault bad.frame other bad.fails) bad)
   err_comes f g is (Comes_refused state answered fails) some =
-      subst (HasFault checked bytes reach)
+      subst (HasLinkFault checked bytes reach)
       (same_fault (then_fault f last).fault (fault.BadStart state) g
       (fault_stays f last (fault.BadStart state) fails) some) answered.refused
   err_comes f g is (Comes_ahead says fails) some =
-      subst (HasFault checked bytes reach)
+      subst (HasLinkFault checked bytes reach)
       (same_fault (then_fault f last).fault fault.StatusAhead g (fault_stays f last fault.StatusAhead fails) some)
       says
   err_comes f g is (Comes_ended kind ends none so) some =
@@ -210,7 +210,7 @@ module _ (bytes piece : List ℕ) (old new : Ear) (before after : Book) (sent : 
   abbrev limit : ℕ
   limit = old.frames.limit
 
-  abbrev whole : Cut
+  abbrev whole : FrameCut
   whole = cut limit (old.frames.bytes ++ piece)
 
   ready : IsReady old.frames old.session.response.items
@@ -225,10 +225,10 @@ module _ (bytes piece : List ℕ) (old new : Ear) (before after : Book) (sent : 
   all_frames : frames_in all ≡ frames_in bytes ++ frames_of whole
   all_frames = ap frames_of cut_is ∙ frames_after (frames_in bytes) whole
 
-  all_fault : fault_in 65536 all ≡ fault_of whole
-  all_fault = ap fault_of cut_is ∙ fault_after (frames_in bytes) whole
+  all_fault : fault_in 65536 all ≡ cut_fault whole
+  all_fault = ap cut_fault cut_is ∙ fault_after (frames_in bytes) whole
 
-  abbrev served : Served
+  abbrev served : ServedFrom
   served = served_by old.session before
 
   abbrev start : HearingOf
@@ -246,10 +246,10 @@ module _ (bytes piece : List ℕ) (old new : Ear) (before after : Book) (sent : 
       has.started)
 
   total_started : (ear_heard old before piece sent).started ≡ last.started
-  total_started = fault_started (fault_of whole) last
+  total_started = fault_started (cut_fault whole) last
 
   hears_on : (heard : Heard) → HearsPiece old new before after piece sent (Ok heard) → heard.ended ≡ None
-      → fault_of whole ≡ None
+      → cut_fault whole ≡ None
       → IsStartedBy (ear_checked old) (frames_in all) last.started → HasHeard (ear_checked old) all new
   hears_on heard left none good started =
       let opens : phase_after (Ok heard) ≡ phase.Open = ap phase_by none in
@@ -264,7 +264,7 @@ module _ (bytes piece : List ℕ) (old new : Ear) (before after : Book) (sent : 
       }
 
   ok_explained : (heard : Heard) → HearsPiece old new before after piece sent (Ok heard)
-      → Answered (ear_checked old) (frames_in all) (fault_of whole) last heard.ended
+      → Answered (ear_checked old) (frames_in all) (cut_fault whole) last heard.ended
       → GoesOnOrEnds (ear_checked old) all new heard.ended
   ok_explained heard left (Answered_on good started none) =
       subst (GoesOnOrEnds (ear_checked old) all new) (sym none) (hears_on heard left none good started)
@@ -290,7 +290,7 @@ module _ (bytes piece : List ℕ) (old new : Ear) (before after : Book) (sent : 
   ok_tells heard is answer =
       let total : HearingOf = ear_heard old before piece sent in
       sym (ap (λ (x : Heard). x.started) (ok_faultless total.fault (heard_told total.heard) heard answer).1)
-      ∙ all_told served (frames_of whole) start (fault_of whole) refl refl ∙ sym (ap (start_told (ear_started old)) is)
+      ∙ all_told served (frames_of whole) start (cut_fault whole) refl refl ∙ sym (ap (start_told (ear_started old)) is)
 
   reach_is : ear_started new ≡ last.started → reached last.started ≡ reach_of old new before sent
   reach_is is = ap reached (sym is)
@@ -300,14 +300,15 @@ module _ (bytes piece : List ℕ) (old new : Ear) (before after : Book) (sent : 
       → HasHeardOn (ear_checked old) all old new before sent (Err g)
   err_whole g leaves is =
       let same : ear_started new ≡ last.started = leaves.started ∙ total_started in
-      let some : (then_fault (fault_of whole) last).fault ≡ Some g =
-      err_faulty (then_fault (fault_of whole) last).fault (heard_told (then_fault (fault_of whole) last).heard) g is in
+      let some : (then_fault (cut_fault whole) last).fault ≡ Some g =
+      err_faulty (then_fault (cut_fault whole) last).fault (heard_told (then_fault (cut_fault whole) last).heard) g is
+      in
       by_whole same (Err g) tt
-      (subst (λ (n : ℕ). HasFault (ear_checked old) all n g) (reach_is same)
-      (err_comes (ear_checked old) all (reached last.started) last (fault_of whole) g all_fault ran.comes some))
+      (subst (λ (n : ℕ). HasLinkFault (ear_checked old) all n g) (reach_is same)
+      (err_comes (ear_checked old) all (reached last.started) last (cut_fault whole) g all_fault ran.comes some))
       (subst (λ (x : List ℕ). IsAnswered (ear_checked old) (frames_in all) x g)
-      (sym (leaves.response ∙ fault_response (fault_of whole) last))
-      (answered_comes (ear_checked old) all (reached last.started) last (fault_of whole) g ran.comes some))
+      (sym (leaves.response ∙ fault_response (cut_fault whole) last))
+      (answered_comes (ear_checked old) all (reached last.started) last (cut_fault whole) g ran.comes some))
 
   -- memory was refused after the first few frames
   err_memory : (count : ℕ)
@@ -341,7 +342,7 @@ module _ (bytes piece : List ℕ) (old new : Ear) (before after : Book) (sent : 
       by_whole (left.leaves.started ∙ total_started) (Ok heard)
       (ok_tells heard (left.leaves.started ∙ total_started) is)
       (ok_explained heard left
-      (ok_comes (ear_checked old) (frames_in all) (reached last.started) last (fault_of whole) heard ran.comes
+      (ok_comes (ear_checked old) (frames_in all) (reached last.started) last (cut_fault whole) heard ran.comes
       is)) tt
   by_result (Err fault.OutOfMemory) is left = err_memory left.leaves
   by_result (Err fault.FrameTooLong) is left = err_whole fault.FrameTooLong left.leaves is

@@ -5,7 +5,7 @@ use Rattle.tables_log.specs.Slots.{end_after}
 use Rattle.copy_frames.specs.declared.frame.Frame.{Frame}
 use Rattle.copy_frames.specs.declared.status.Status.{Status}
 use Rattle.copy_both.specs.Events.{event_of}
-use Rattle.copy_both.specs.Hearing.{BeginOf, Begins, Refuses, begin_of, begun, ended_by, confirmed_by, event_heard, next_heard, HearingOf, Served, is_over, is_over_by, unless_over, frame_heard, frames_heard}
+use Rattle.copy_both.specs.Hearing.{BeginOf, Begins, Refuses, begin_of, begun, ended_by, confirmed_by, event_heard, next_heard, HearingOf, ServedFrom, is_over, is_over_by, unless_over, frame_heard, frames_heard}
 use Rattle.copy_both.specs.declared.event.Event.{Event}
 use Rattle.copy_both.specs.declared.event.Event.TheVariants as event
 use Rattle.copy_both.specs.declared.link_fault.LinkFault.{LinkFault}
@@ -28,14 +28,14 @@ quiet_confirmed : (b : Bool) (slot : ℕ) (status : Status) (h : HearingOf)
 quiet_confirmed true slot status h = refl
 quiet_confirmed false slot status h = refl
 
-quiet_event : (served : Served) (slot : ℕ) (e : Result Event LinkFault) (h : HearingOf)
+quiet_event : (served : ServedFrom) (slot : ℕ) (e : Result Event LinkFault) (h : HearingOf)
     → (event_heard served slot e h).response ≡ h.response
 quiet_event served slot (Err fault) h = refl
 quiet_event served slot (Ok (event.End kind)) h = refl
 quiet_event served slot (Ok (event.Status status)) h =
     quiet_confirmed (nat_lt (min h.sent (end_after served.commits)) status.flushed) slot status h
 
-quiet_next : (served : Served) (frame : Frame) (started : Option (ℕ × ℕ)) (h : HearingOf)
+quiet_next : (served : ServedFrom) (frame : Frame) (started : Option (ℕ × ℕ)) (h : HearingOf)
     → IsQuiet h (next_heard served frame started h)
 quiet_next served frame None h =
     quiet_if (frame.kind == 88) h (ended_by 88 h) (begun (begin_of served h.slots frame.kind frame.body) h)
@@ -46,19 +46,19 @@ quiet_over : (b : Bool) (h next : HearingOf) → IsQuiet h next → IsQuiet h (u
 quiet_over true h next quiet none = refl
 quiet_over false h next quiet none = quiet none
 
-pub quiet_frame : (served : Served) (h : HearingOf) (frame : Frame) → IsQuiet h (frame_heard served h frame)
+pub quiet_frame : (served : ServedFrom) (h : HearingOf) (frame : Frame) → IsQuiet h (frame_heard served h frame)
 quiet_frame served h frame =
     quiet_over (is_over h) h (next_heard served frame h.started h) (quiet_next served frame h.started h)
 
 -- a fault stays
-before_by : (f : Option LinkFault) (served : Served) (h : HearingOf) (frames : List Frame) → h.fault ≡ f
+before_by : (f : Option LinkFault) (served : ServedFrom) (h : HearingOf) (frames : List Frame) → h.fault ≡ f
     → (frames_heard served h frames).fault ≡ None → h.fault ≡ None
 before_by None served h frames is none = is
 before_by (Some f) served h frames is none =
     let over : is_over h ≡ true = ap (λ (x : Option LinkFault). is_over_by x h.heard.ended) is in
     sym (ap (λ (x : HearingOf). x.fault) (over_stays served h frames over)) ∙ none
 
-quiet_frames : (served : Served) (h : HearingOf) (frames : List Frame) → IsQuiet h (frames_heard served h frames)
+quiet_frames : (served : ServedFrom) (h : HearingOf) (frames : List Frame) → IsQuiet h (frames_heard served h frames)
 unfolding frames_heard
 quiet_frames served h [] none = refl
 quiet_frames served h (frame ∷ frames) none =
@@ -66,7 +66,7 @@ quiet_frames served h (frame ∷ frames) none =
     ∙ quiet_frame served h frame
     (before_by (frame_heard served h frame).fault served (frame_heard served h frame) frames refl none)
 
-pub quiet_after : (served : Served) (start now : HearingOf) (frames : List Frame)
+pub quiet_after : (served : ServedFrom) (start now : HearingOf) (frames : List Frame)
     → now ≡ frames_heard served start frames → now.fault ≡ None → now.response ≡ start.response
 quiet_after served start now frames is none =
     ap (λ (h : HearingOf). h.response) is

@@ -6,7 +6,7 @@ use Rattle.copy_frames.specs.declared.frame.Frame.{Frame}
 use Rattle.copy_frames.specs.declared.status.Status.{Status}
 use Rattle.copy_both.specs.Ears.{IsResponse, IsAnsweredBy}
 use Rattle.copy_both.specs.Events.{event_of}
-use Rattle.copy_both.specs.Hearing.{BeginOf, Begins, Refuses, begin_of, begun, confirmed_by, ended_by, event_heard, next_heard, HearingOf, Served, is_over, is_over_by, unless_over, frame_heard, frames_heard}
+use Rattle.copy_both.specs.Hearing.{BeginOf, Begins, Refuses, begin_of, begun, confirmed_by, ended_by, event_heard, next_heard, HearingOf, ServedFrom, is_over, is_over_by, unless_over, frame_heard, frames_heard}
 use Rattle.copy_both.specs.Listening.{FramesHeard}
 use Rattle.copy_both.specs.declared.event.Event.{Event}
 use Rattle.copy_both.specs.declared.event.Event.TheVariants as event
@@ -35,7 +35,7 @@ module _ (h : HearingOf) (state : SqlState) (good : h.fault ≡ None) where
       absurd (let clash : Some fault.StatusAhead ≡ Some (fault.BadStart state) = is in cc)
   confirmed_refused false slot status is = absurd (not_refused h.fault state good is)
 
-  event_refused : (served : Served) (slot : ℕ) (frame : Frame) (e : Result Event LinkFault)
+  event_refused : (served : ServedFrom) (slot : ℕ) (frame : Frame) (e : Result Event LinkFault)
       → event_of frame.kind frame.body ≡ e
       → Refused state h (event_heard served slot e h)
   event_refused served slot frame (Err f) of is =
@@ -50,7 +50,7 @@ module _ (h : HearingOf) (state : SqlState) (good : h.fault ≡ None) where
   if_refused true one other first second is = first is
   if_refused false one other first second is = second is
 
-  next_refused : (served : Served) (frame : Frame) (started : Option (ℕ × ℕ))
+  next_refused : (served : ServedFrom) (frame : Frame) (started : Option (ℕ × ℕ))
       → Refused state h (next_heard served frame started h)
   next_refused served frame None =
       if_refused (frame.kind == 88) (ended_by 88 h) (begun (begin_of served h.slots frame.kind frame.body) h)
@@ -61,13 +61,13 @@ module _ (h : HearingOf) (state : SqlState) (good : h.fault ≡ None) where
   over_refused true next refused is = absurd (not_refused h.fault state good is)
   over_refused false next refused is = refused is
 
-  frame_refused : (served : Served) (frame : Frame) → Refused state h (frame_heard served h frame)
+  frame_refused : (served : ServedFrom) (frame : Frame) → Refused state h (frame_heard served h frame)
   frame_refused served frame =
       over_refused (is_over h) (next_heard served frame h.started h) (next_refused served frame h.started)
 
 -- the frames after one that has this fault, or none
-refused_then : (served : Served) (h next : HearingOf) (frames : List Frame) (state : SqlState) (f : Option LinkFault)
-    → next.fault ≡ f
+refused_then : (served : ServedFrom) (h next : HearingOf) (frames : List Frame) (state : SqlState)
+    (f : Option LinkFault) → next.fault ≡ f
     → (next.fault ≡ None → next.response ≡ h.response) → Refused state h next
     → (next.fault ≡ None → Refused state next (frames_heard served next frames))
     → Refused state h (frames_heard served next frames)
@@ -80,7 +80,7 @@ refused_then served h next frames state (Some f) some quiet own later is =
     subst (λ (last : HearingOf). IsResponse state h.response last.response) (sym stays)
     (own (sym (ap (λ (x : HearingOf). x.fault) stays) ∙ is))
 
-frames_refused : (served : Served) (frames : List Frame) (h : HearingOf) (state : SqlState) → h.fault ≡ None
+frames_refused : (served : ServedFrom) (frames : List Frame) (h : HearingOf) (state : SqlState) → h.fault ≡ None
     → Refused state h (frames_heard served h frames)
 unfolding frames_heard
 frames_refused served [] h state good is = absurd (not_refused h.fault state good is)
@@ -90,7 +90,7 @@ frames_refused served (frame ∷ frames) h state good is =
     (frame_refused h state good served frame) (frames_refused served frames (frame_heard served h frame) state) is
 
 -- what the frames of a piece leave
-pub frames_answered : (f : LinkFault) (served : Served) (start now : HearingOf) (frames : List Frame)
+pub frames_answered : (f : LinkFault) (served : ServedFrom) (start now : HearingOf) (frames : List Frame)
     → start.fault ≡ None
     → FramesHeard served start now frames (Err f) → IsAnsweredBy f start.response now.response
 frames_answered (fault.BadStart state) served start now frames good heard =

@@ -5,8 +5,8 @@ use Rattle.std.specs.List.{concat}
 use Rattle.std.proofs.lemmas.List.{append-nil, replicate_more, replicate-append-replicate}
 use Rattle.std.proofs.lemmas.List.Folds.{concat-append}
 use Rattle.copy_both.specs.Hearing.{HeardOf}
-use Rattle.copy_both.specs.Links.{SaysFirst, opening, begun_stage, replies, closing, frames_by, stage_by, ended_stage}
-use Rattle.copy_both.specs.Voices.{StageOf, Says, Closes, voice_checked, voice_stage, voice_output, kept_bytes}
+use Rattle.copy_both.specs.Links.{SendsFirst, opening, begun_stage, replies, closing, frames_by, stage_by, ended_stage}
+use Rattle.copy_both.specs.Voices.{StageOf, Sends, Closes, voice_checked, voice_stage, voice_output, kept_bytes}
 use Rattle.copy_both.specs.declared.voice.Voice.{Voice}
 
 concat_one : (xs : List ℕ) → concat (xs ∷ []) ≡ xs
@@ -19,13 +19,13 @@ concat_more n k =
 
 -- ---- keepalives
 
-pub no_replies : (voice : Voice) (k : List ℕ) → Says voice voice (concat (replicate 0 k)) (voice_stage voice)
+pub no_replies : (voice : Voice) (k : List ℕ) → Sends voice voice (concat (replicate 0 k)) (voice_stage voice)
 no_replies voice k = record { checked = refl; stage_is = refl; output = sym (append-nil (voice_output voice)) }
 
 pub one_reply : (first now next : Voice) (stage : StageOf) (clock n : ℕ)
-    → Says first now (concat (replies stage n clock)) stage
-    → Says now next (kept_bytes (voice_stage now) clock false) (voice_stage now)
-    → Says first next (concat (replies stage (n + 1) clock)) stage
+    → Sends first now (concat (replies stage n clock)) stage
+    → Sends now next (kept_bytes (voice_stage now) clock false) (voice_stage now)
+    → Sends first next (concat (replies stage (n + 1) clock)) stage
 one_reply first now next stage clock n so_far says =
     let k : List ℕ = kept_bytes stage clock false in
     record {
@@ -40,8 +40,8 @@ one_reply first now next stage clock n so_far says =
     }
 
 pub reply_fails : (first now next : Voice) (stage : StageOf) (clock n count : ℕ)
-    → Says first now (concat (replies stage n clock)) stage
-    → Closes now next → n ≤ count → SaysFirst first next (replies stage count clock)
+    → Sends first now (concat (replies stage n clock)) stage
+    → Closes now next → n ≤ count → SendsFirst first next (replies stage count clock)
 reply_fails first now next stage clock n count so_far closes few =
     let k : List ℕ = kept_bytes stage clock false in
     let sum : n + (count - n) ≡ count = omega arith in
@@ -70,11 +70,11 @@ joined first opening closing between =
     ∙ ap (λ (x : List ℕ). first ++ (opening ++ x)) (sym (concat-append between (closing ∷ [])))
 
 pub all_said : (first opened replied last : Voice) (started : Option (ℕ × ℕ)) (heard : HeardOf) (clock : ℕ)
-    → Says first opened (opening (voice_stage first) started)
+    → Sends first opened (opening (voice_stage first) started)
     (begun_stage (voice_checked first) (voice_stage first) started)
-    → Says opened replied (concat (replies (voice_stage opened) heard.replies clock)) (voice_stage opened)
-    → Says replied last (closing (voice_stage replied) heard.ended) (ended_stage heard.ended (voice_stage replied))
-    → Says first last (concat (frames_by (voice_checked first) (voice_stage first) started heard clock))
+    → Sends opened replied (concat (replies (voice_stage opened) heard.replies clock)) (voice_stage opened)
+    → Sends replied last (closing (voice_stage replied) heard.ended) (ended_stage heard.ended (voice_stage replied))
+    → Sends first last (concat (frames_by (voice_checked first) (voice_stage first) started heard clock))
     (stage_by (voice_checked first) (voice_stage first) started heard)
 all_said first opened replied last started heard clock opens answers ends =
     let begun : StageOf = begun_stage (voice_checked first) (voice_stage first) started in
@@ -94,7 +94,7 @@ all_said first opened replied last started heard clock opens answers ends =
           (replies begun heard.replies clock);
     }
 
-pub not_opened : (first opened : Voice) (frames : List (List ℕ)) → Closes first opened → SaysFirst first opened frames
+pub not_opened : (first opened : Voice) (frames : List (List ℕ)) → Closes first opened → SendsFirst first opened frames
 not_opened first opened frames closes = record {
   said = [];
   others = frames;
@@ -108,10 +108,10 @@ not_opened first opened frames closes = record {
 }
 
 pub not_replied : (first opened replied : Voice) (started : Option (ℕ × ℕ)) (heard : HeardOf) (clock : ℕ)
-    → Says first opened (opening (voice_stage first) started)
+    → Sends first opened (opening (voice_stage first) started)
     (begun_stage (voice_checked first) (voice_stage first) started)
-    → SaysFirst opened replied (replies (voice_stage opened) heard.replies clock)
-    → SaysFirst first replied (frames_by (voice_checked first) (voice_stage first) started heard clock)
+    → SendsFirst opened replied (replies (voice_stage opened) heard.replies clock)
+    → SendsFirst first replied (frames_by (voice_checked first) (voice_stage first) started heard clock)
 not_replied first opened replied started heard clock opens some =
     let begun : StageOf = begun_stage (voice_checked first) (voice_stage first) started in
     let start : List ℕ = opening (voice_stage first) started in
@@ -133,11 +133,11 @@ not_replied first opened replied started heard clock opens some =
     }
 
 pub not_ended : (first opened replied last : Voice) (started : Option (ℕ × ℕ)) (heard : HeardOf) (clock : ℕ)
-    → Says first opened (opening (voice_stage first) started)
+    → Sends first opened (opening (voice_stage first) started)
     (begun_stage (voice_checked first) (voice_stage first) started)
-    → Says opened replied (concat (replies (voice_stage opened) heard.replies clock)) (voice_stage opened)
+    → Sends opened replied (concat (replies (voice_stage opened) heard.replies clock)) (voice_stage opened)
     → Closes replied last
-    → SaysFirst first last (frames_by (voice_checked first) (voice_stage first) started heard clock)
+    → SendsFirst first last (frames_by (voice_checked first) (voice_stage first) started heard clock)
 not_ended first opened replied last started heard clock opens answers closes =
     let begun : StageOf = begun_stage (voice_checked first) (voice_stage first) started in
     let start : List ℕ = opening (voice_stage first) started in

@@ -13,7 +13,7 @@ use Rattle.pgoutput_msgs.specs.Telling.{told_after}
 use Rattle.pgoutput_msgs.specs.Transactions.{AreNamed, TellsTransaction}
 use Rattle.pgoutput_msgs.proofs.TransactionLemmas.{commits_tell_transactions}
 use Rattle.copy_both.specs.SeenStreams.{Reached, reached_at, seen_next, next_told, reached_next, move_told, moves_told, StreamsTellTransactions}
-use Rattle.copy_both.specs.Streams.{Item, Response, Carries, spelled, StreamStateOf, Move, Take, Keep, head_of, take_items, taken_state, all_items}
+use Rattle.copy_both.specs.Streams.{StreamItem, Response, Carries, spelled, StreamStateOf, Move, Take, Keep, head_of, take_items, taken_state, all_items}
 use Rattle.copy_both.specs.Tellings.{telling_of}
 
 -- ---- entries of a log
@@ -138,13 +138,13 @@ module _ (checked : CheckedOf) (covered : Covered (setting_in checked)) (transac
       (option_map (entry at.done) found)
       clock ++ all_items (telling_of checked) log state moves)
       (state_next at sent found)
-      ∙ ap (λ (items : List Item). items
+      ∙ ap (λ (items : List StreamItem). items
       ++ all_items (telling_of checked) log (state_by next (sent_next sent at found)) moves)
       (items_next at sent found clock named refl)
-      ∙ ap (λ (items : List Item). next_told checked transactions subscriber at found clock ++ items)
+      ∙ ap (λ (items : List StreamItem). next_told checked transactions subscriber at found clock ++ items)
       (moves_as next (sent_next sent at found) (named_next at sent found named refl) moves)
   moves_as at sent named (Keep clock want ∷ moves) =
-      ap (λ (items : List Item). move_told checked transactions subscriber at (Keep clock want) ++ items)
+      ap (λ (items : List StreamItem). move_told checked transactions subscriber at (Keep clock want) ++ items)
       (moves_as at sent named moves)
 
 -- ---- the law
@@ -156,6 +156,6 @@ length-replicate (suc count) = ap suc (length-replicate count)
 pub streams_tell_transactions : StreamsTellTransactions
 streams_tell_transactions checked covered transactions accepted subscriber position moves =
     let tables = length checked.catalog.tables in
-    ap (λ (items : List Item). flat_map spelled (Response ∷ items))
+    ap (λ (items : List StreamItem). flat_map spelled (Response ∷ items))
     (moves_as checked covered transactions accepted subscriber (reached_at position) (replicate tables false)
     (record { long = length-replicate tables; each = λ number within. none_named tables number }) moves)

@@ -13,11 +13,11 @@ use Rattle.copy_both.specs.declared.start_command.StartOption.{StartOption}
 use Rattle.copy_both.specs.declared.token.Token.{Token}
 use Rattle.copy_both.specs.declared.token.Token.TheVariants.{Word, QuotedName, Value, Position, Open, Close, Comma, Semicolon}
 use Rattle.copy_both.specs.CommandText.{named_option, option_in, ends, listed_until, no_options, options_in, command_with, has_keywords, command_in, command_with_tokens, command_of}
-use Rattle.copy_both.specs.CommandTokens.{as_name, name_in, position_in, is_comma, is_close, all_of, lone_name, names_in, tokens_of}
+use Rattle.copy_both.specs.CommandTokens.{as_name, name_in, token_position, is_comma, is_close, all_of, lone_name, names_in, tokens_of}
 use Rattle.copy_both.specs.OptionValues.{version, without_zeros, is_off, publications, publications_in, names_or_wrong, is_left_out, off, given, option_value}
 use Rattle.copy_both.specs.Refusals.{RefusalOf, ExpectedQuery, Unreadable, NoSlot, WrongOption, UnsupportedOption, MissingOption, NoPublication, OtherPublications, Ahead, InUse, CanBeSent}
 use Rattle.copy_both.specs.ShortNames.{IsShort, AreShort, HasShortValue, IsShortOption, AreShortOptions, IsShortCommand}
-use Rattle.copy_both.specs.StartOrder.{OfferOf, or_else, refused, is_wrong, is_named, is_unsupported, has_publications, option_refusal, options_refusal, missing_refusal, names_of, names_in as names_given, unknown_refusal, same_publications, is_taken, slot_refusal}
+use Rattle.copy_both.specs.StartOrder.{OfferOf, or_else, refused, is_wrong, is_named, is_unsupported, has_publications, option_refusal, options_refusal, missing_refusal, names_of, names_in as names_given, unknown_refusal, same_publications, is_in_use, slot_refusal}
 use Rattle.filter_tree.proofs.Tests.{by_test}
 
 chosen : {X : Type 0} (b : Bool) (x y : X) (P : X → Type 0) → P x → P y → P (if b then x else y)
@@ -144,7 +144,7 @@ command_with_short None position options short later = tt
 command_in_short : (tokens : List Token) → Holds IsShortCommand (command_in tokens)
 command_in_short (start ∷ slot ∷ name ∷ logical ∷ place ∷ options) =
     chosen (has_keywords start slot logical) _ None (Holds IsShortCommand)
-    (command_with_short (name_in name) (position_in place) (options_in options) (token_is_short name)
+    (command_with_short (name_in name) (token_position place) (options_in options) (token_is_short name)
     (options_are_short options)) tt
 command_in_short _ = tt
 
@@ -247,7 +247,7 @@ slot_short offer command slot taken short =
     (or_else_short (refused (not (same_publications offer.publications (names_given command.options) taken))
     (OtherPublications command.slot)) _ (refused_short _ (OtherPublications command.slot) short.slot)
     (or_else_short (refused (nat_lt offer.log_end command.position) Ahead) _ (refused_short _ Ahead tt)
-    (refused_short (is_taken offer.in_use slot) (InUse command.slot) short.slot)))))
+    (refused_short (is_in_use offer.in_use slot) (InUse command.slot) short.slot)))))
 
 pub refusal_is_sent : (offer : OfferOf) (command : StartCommand) (slot : ℕ) (taken : List ℕ) (refusal : RefusalOf)
     → IsShortCommand command → Some refusal ≡ slot_refusal offer command slot taken → CanBeSent refusal

@@ -14,7 +14,7 @@ use Rattle.copy_both.specs.Streams as streams
 use Rattle.copy_both.specs.Streams.{StreamStateOf, Carries, head_of, state_after, spelled, take_bytes}
 use Rattle.copy_both.specs.Tellings.{telling_of}
 use Rattle.copy_both.specs.Voices as voices
-use Rattle.copy_both.specs.Voices.{Says, StageOf, entry_bytes, entry_stage, state_past, voice_checked, voice_output, voice_stage}
+use Rattle.copy_both.specs.Voices.{Sends, StageOf, entry_bytes, entry_stage, state_past, voice_checked, voice_output, voice_stage}
 use Rattle.copy_both.specs.declared.voice.Voice.{Voice}
 
 abbrev past_with : StreamStateOf → ℕ → List Bool → StreamStateOf
@@ -40,7 +40,7 @@ pub skips : (old new : Voice) (state : StreamStateOf) (commit : CommitOf) (clock
     → concerns (voice_checked old).plan commit.changes state.slot ≡ false
     → voice_checked new ≡ voice_checked old → voice_output new ≡ voice_output old
     → voice_stage new ≡ voices.Started (state_past state commit.number)
-    → Says old new (entry_bytes (voice_checked old) (voice_stage old) commit clock)
+    → Sends old new (entry_bytes (voice_checked old) (voice_stage old) commit clock)
     (entry_stage (voice_checked old) (voice_stage old) commit)
 skips old new state commit clock runs quiet checked output stage = record {
   checked = checked;

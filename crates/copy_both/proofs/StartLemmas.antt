@@ -14,11 +14,11 @@ use Rattle.tables_log.specs.declared.error.StartError.{StartError}
 use Rattle.tables_log.specs.declared.error.StartError.TheVariants as error
 use Rattle.tables_log.specs.declared.slots.Slot.{Slot}
 use Rattle.copy_both.specs.Hearing as h
-use Rattle.copy_both.specs.Hearing.{Served, begin_of, begin_by, unless_fault, offer_in}
+use Rattle.copy_both.specs.Hearing.{ServedFrom, begin_of, begin_by, unless_fault, offer_in}
 use Rattle.copy_both.specs.Refusals.{RefusalOf, CanBeSent, state_of, error_response}
 use Rattle.copy_both.specs.Sessions.{TakesSlot, IsRefused, refusal_fault, response_after}
 use Rattle.copy_both.specs.ShortNames.{IsShort}
-use Rattle.copy_both.specs.StartAnswers.{StartAnswerOf, Stream, Refused, asked_of, told, sent_after}
+use Rattle.copy_both.specs.StartAnswers.{StartAnswerOf, Stream, Refused, asked_of, start_reported, sent_after}
 use Rattle.copy_both.specs.StartOrder.{OfferOf, slot_name, book_refusal}
 use Rattle.copy_both.specs.declared.answer.StartAnswer.TheVariants as code
 use Rattle.copy_both.specs.declared.link_fault.LinkFault.TheVariants as fault
@@ -35,7 +35,7 @@ abbrev offer : List (List ℕ) → List Subscription → ℕ → OfferOf
 offer publications subscriptions end =
     record { publications = publications; subscriptions = subscriptions; log_end = end; in_use = [] }
 
-pub offer_is : (catalog : Catalog) (served : Served) (publications : List Publication)
+pub offer_is : (catalog : Catalog) (served : ServedFrom) (publications : List Publication)
     (subscriptions : List Subscription) (end : ℕ)
     → publications ≡ catalog.publications.items → subscriptions ≡ catalog.subscriptions.items
     → end ≡ end_after served.commits → catalog_view catalog ≡ served.checked.catalog
@@ -55,17 +55,17 @@ offer_is catalog served publications subscriptions end of_publications of_subscr
 
 -- ---- a start by what was requested
 
-refused_by : (served : Served) (slots : List Slot) (asked : StartAnswerOf) (state : SqlState) (old new : List ℕ)
-    → code.Refused state ≡ told asked → new ≡ sent_after old asked
+refused_by : (served : ServedFrom) (slots : List Slot) (asked : StartAnswerOf) (state : SqlState) (old new : List ℕ)
+    → code.Refused state ≡ start_reported asked → new ≡ sent_after old asked
     → IsRefused (begin_by served slots asked) slots slots old new (fault.BadStart state)
 refused_by served slots (Stream slot position) state old new is sent = absurd cc
 refused_by served slots (Refused refusal) state old new is sent =
     let same : state_of refusal ≡ state = cc in
     record { fault_is = ap (λ s. Some (fault.BadStart s)) same; slots = refl; response = sent }
 
-pub refused_begin : (served : Served) (slots : List Slot) (kind : ℕ) (body : List ℕ) (state : SqlState)
+pub refused_begin : (served : ServedFrom) (slots : List Slot) (kind : ℕ) (body : List ℕ) (state : SqlState)
     (old new : List ℕ)
-    → code.Refused state ≡ told (asked_of (offer_in served) kind body)
+    → code.Refused state ≡ start_reported (asked_of (offer_in served) kind body)
     → new ≡ sent_after old (asked_of (offer_in served) kind body)
     → IsRefused (begin_of served slots kind body) slots slots old new (fault.BadStart state)
 unfolding begin_of
@@ -73,7 +73,7 @@ refused_begin served slots kind body state old new is sent =
     refused_by served slots (asked_of (offer_in served) kind body) state old new is sent
 
 -- what was requested is this stream
-stream_of : (asked : StartAnswerOf) (slot position : ℕ) → code.Stream slot position ≡ told asked
+stream_of : (asked : StartAnswerOf) (slot position : ℕ) → code.Stream slot position ≡ start_reported asked
     → asked ≡ Stream slot position
 stream_of (Refused refusal) slot position is = absurd cc
 stream_of (Stream s p) slot position is =
@@ -81,9 +81,9 @@ stream_of (Stream s p) slot position is =
     let ep : p ≡ position = cc in
     ap (λ x. Stream x p) es ∙ ap (Stream slot) ep
 
-begins_by : (served : Served) (slots : List Slot) (kind : ℕ) (body : List ℕ) (slot position : ℕ)
+begins_by : (served : ServedFrom) (slots : List Slot) (kind : ℕ) (body : List ℕ) (slot position : ℕ)
     (fault : Option StartError)
-    → code.Stream slot position ≡ told (asked_of (offer_in served) kind body)
+    → code.Stream slot position ≡ start_reported (asked_of (offer_in served) kind body)
     → start_fault slots (end_after served.commits) slot position ≡ fault
     → begin_of served slots kind body
     ≡ unless_fault fault slot (max position (confirmed_at slots slot))
@@ -94,13 +94,13 @@ begins_by served slots kind body slot position fault is found =
     ∙ ap (λ (f : Option StartError). unless_fault f slot (max position (confirmed_at slots slot))
     (slot_name served.checked.catalog.subscriptions slot)) found
 
-pub sent_stream : (asked : StartAnswerOf) (slot position : ℕ) (old : List ℕ) → code.Stream slot position ≡ told asked
-    → sent_after old asked ≡ old
+pub sent_stream : (asked : StartAnswerOf) (slot position : ℕ) (old : List ℕ)
+    → code.Stream slot position ≡ start_reported asked → sent_after old asked ≡ old
 sent_stream asked slot position old is = ap (sent_after old) (stream_of asked slot position is)
 
-pub taken_begin : (served : Served) (slots after : List Slot) (kind : ℕ) (body : List ℕ) (slot position start : ℕ)
+pub taken_begin : (served : ServedFrom) (slots after : List Slot) (kind : ℕ) (body : List ℕ) (slot position start : ℕ)
     (old new : List ℕ)
-    → code.Stream slot position ≡ told (asked_of (offer_in served) kind body)
+    → code.Stream slot position ≡ start_reported (asked_of (offer_in served) kind body)
     → start_fault slots (end_after served.commits) slot position ≡ None
     → start ≡ max position (confirmed_at slots slot) → after ≡ started slots slot
     → new ≡ sent_after old (asked_of (offer_in served) kind body)
@@ -112,9 +112,9 @@ taken_begin served slots after kind body slot position start old new is none at 
 }
 
 -- the book refuses it
-pub refused_start : (served : Served) (slots after : List Slot) (kind : ℕ) (body : List ℕ) (slot position : ℕ)
+pub refused_start : (served : ServedFrom) (slots after : List Slot) (kind : ℕ) (body : List ℕ) (slot position : ℕ)
     (error : StartError) (state : SqlState) (old middle new : List ℕ)
-    → code.Stream slot position ≡ told (asked_of (offer_in served) kind body)
+    → code.Stream slot position ≡ start_reported (asked_of (offer_in served) kind body)
     → start_fault slots (end_after served.commits) slot position ≡ Some error
     → after ≡ slots → middle ≡ sent_after old (asked_of (offer_in served) kind body)
     → state ≡ state_of (book_refusal (slot_name served.checked.catalog.subscriptions slot) error)

@@ -7,7 +7,7 @@ use Rattle.copy_frames.specs.declared.frame.Frame.{Frame}
 use Rattle.copy_frames.specs.declared.status.Status.{Status}
 use Rattle.copy_both.specs.Events.{event_of}
 use Rattle.copy_both.specs.HeardFrames.{start_told}
-use Rattle.copy_both.specs.Hearing.{BeginOf, Begins, Refuses, begin_of, begun, confirmed_by, ended_by, event_heard, next_heard, HearingOf, Served, is_over, unless_over, frame_heard, frames_heard, link_fault, then_fault, with_fault}
+use Rattle.copy_both.specs.Hearing.{BeginOf, Begins, Refuses, begin_of, begun, confirmed_by, ended_by, event_heard, next_heard, HearingOf, ServedFrom, is_over, unless_over, frame_heard, frames_heard, link_fault, then_fault, with_fault}
 use Rattle.copy_both.specs.declared.event.Event.{Event}
 use Rattle.copy_both.specs.declared.event.Event.TheVariants as event
 use Rattle.copy_both.specs.declared.link_fault.LinkFault.{LinkFault}
@@ -23,7 +23,7 @@ confirmed_told : (ahead : Bool) (slot : ℕ) (status : Status) (h : HearingOf)
 confirmed_told true slot status h = refl
 confirmed_told false slot status h = refl
 
-event_told : (served : Served) (slot : ℕ) (e : Result Event LinkFault) (h : HearingOf)
+event_told : (served : ServedFrom) (slot : ℕ) (e : Result Event LinkFault) (h : HearingOf)
     → (event_heard served slot e h).heard.started ≡ h.heard.started
 event_told served slot (Err fault) h = refl
 event_told served slot (Ok (event.End kind)) h = refl
@@ -35,14 +35,14 @@ over_told : (over : Bool) (h next : HearingOf) → next.heard.started ≡ h.hear
 over_told true h next same = refl
 over_told false h next same = same
 
-frame_told : (served : Served) (h : HearingOf) (frame : Frame) (s : ℕ × ℕ) → h.started ≡ Some s
+frame_told : (served : ServedFrom) (h : HearingOf) (frame : Frame) (s : ℕ × ℕ) → h.started ≡ Some s
     → (frame_heard served h frame).heard.started ≡ h.heard.started
 frame_told served h frame s is =
     over_told (is_over h) h (next_heard served frame h.started h)
     (ap (λ (o : Option (ℕ × ℕ)). (next_heard served frame o h).heard.started) is
     ∙ event_told served s.0 (event_of frame.kind frame.body) h)
 
-frames_told : (served : Served) (frames : List Frame) (h : HearingOf) (s : ℕ × ℕ) → h.started ≡ Some s
+frames_told : (served : ServedFrom) (frames : List Frame) (h : HearingOf) (s : ℕ × ℕ) → h.started ≡ Some s
     → (frames_heard served h frames).heard.started ≡ h.heard.started
 unfolding frames_heard
 frames_told served [] h s is = refl
@@ -59,7 +59,7 @@ Told last = last.heard.started ≡ start_told None last.started
 none_told : (last : HearingOf) → last.started ≡ None → last.heard.started ≡ None → Told last
 none_told last none silent = silent ∙ sym (ap (start_told None) none)
 
-begun_told : (served : Served) (frames : List Frame) (h : HearingOf) → h.started ≡ None → h.heard.started ≡ None
+begun_told : (served : ServedFrom) (frames : List Frame) (h : HearingOf) → h.started ≡ None → h.heard.started ≡ None
     → (b : BeginOf) → Told (frames_heard served (begun b h) frames)
 begun_told served frames h none silent (Begins slot start) =
     let next : HearingOf = begun (Begins slot start) h in
@@ -69,13 +69,13 @@ begun_told served frames h none silent (Refuses refusal) =
     let next : HearingOf = begun (Refuses refusal) h in
     subst Told (sym (over_stays served next frames refl)) (none_told next none silent)
 
-ended_told : (served : Served) (frames : List Frame) (h : HearingOf) → h.started ≡ None → h.heard.started ≡ None
+ended_told : (served : ServedFrom) (frames : List Frame) (h : HearingOf) → h.started ≡ None → h.heard.started ≡ None
     → Told (frames_heard served (ended_by 88 h) frames)
 ended_told served frames h none silent =
     subst Told (sym (over_stays served (ended_by 88 h) frames (over_by_end h.fault 88)))
     (none_told (ended_by 88 h) none silent)
 
-first_told : (served : Served) (frames : List Frame) (h : HearingOf) → h.started ≡ None → h.heard.started ≡ None
+first_told : (served : ServedFrom) (frames : List Frame) (h : HearingOf) → h.started ≡ None → h.heard.started ≡ None
     → is_over h ≡ false → Told (frames_heard served h frames)
 unfolding frames_heard
 first_told served [] h none silent going = none_told h none silent
@@ -94,7 +94,7 @@ first_told served (frame ∷ frames) h none silent going =
 
 -- ---- all frames
 
-told_by : (served : Served) (frames : List Frame) (h : HearingOf) → is_over h ≡ false → h.heard.started ≡ None
+told_by : (served : ServedFrom) (frames : List Frame) (h : HearingOf) → is_over h ≡ false → h.heard.started ≡ None
     → (was : Option (ℕ × ℕ)) → h.started ≡ was
     → (frames_heard served h frames).heard.started ≡ start_told was (frames_heard served h frames).started
 told_by served frames h going silent None none = first_told served frames h none silent going
@@ -104,7 +104,7 @@ fault_told : (f : Option FrameFault) (h : HearingOf) → (then_fault f h).heard.
 fault_told None h = refl
 fault_told (Some f) h = over_told (is_over h) h (with_fault (link_fault f) h) refl
 
-pub all_told : (served : Served) (frames : List Frame) (h : HearingOf) (f : Option FrameFault) → is_over h ≡ false
+pub all_told : (served : ServedFrom) (frames : List Frame) (h : HearingOf) (f : Option FrameFault) → is_over h ≡ false
     → h.heard.started ≡ None
     → (then_fault f (frames_heard served h frames)).heard.started
     ≡ start_told h.started (frames_heard served h frames).started

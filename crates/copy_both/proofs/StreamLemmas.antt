@@ -6,8 +6,8 @@ use Rattle.std.proofs.lemmas.List.{append-nil, take-append-drop}
 use Rattle.std.proofs.lemmas.List.Concat.{flat_map-append}
 use Rattle.std.proofs.lemmas.Option.{slice_get_within}
 use Rattle.copy_frames.specs.Contents.{copy_both_response}
-use Rattle.copy_both.specs.Streams.{Item, Response, spelled, Telling, StreamStateOf, Move, Take, Keep, take_items, taken_state, keep_item, keep_bytes, move_items, moved, all_items, all_moved}
-use Rattle.copy_both.specs.StreamLaws.{IsThere, AllThere, Start, first_state, Speaks, Starts, Takes, Keeps, Passes, Grows}
+use Rattle.copy_both.specs.Streams.{StreamItem, Response, spelled, Telling, StreamStateOf, Move, Take, Keep, take_items, taken_state, keep_item, keep_bytes, move_items, moved, all_items, all_moved}
+use Rattle.copy_both.specs.StreamLaws.{IsThere, AllThere, Start, first_state, HasSent, Starts, Takes, Keeps, Passes, Grows}
 
 pub moved_append : {C : Type 0} (telling : Telling C) (log : List C) (state : StreamStateOf) (moves : List Move)
     (move : Move)
@@ -37,12 +37,12 @@ there_append telling log state (first ∷ moves) move there here =
 -- one more move, whatever it is
 speaks_on : {C : Type 0} (telling : Telling C) (log : List C) (start : Start) (moves : List Move)
     (passed output : List ℕ) (state : StreamStateOf) (move : Move)
-    → Speaks telling log start moves passed output state → IsThere log state move
-    → Speaks telling log start (moves ++ move ∷ []) passed
+    → HasSent telling log start moves passed output state → IsThere log state move
+    → HasSent telling log start (moves ++ move ∷ []) passed
     (output ++ flat_map spelled (move_items telling log state move)) (moved telling log state move)
 speaks_on telling log start moves passed output state move speaks here =
     let first : StreamStateOf = first_state start in
-    let more : List Item = move_items telling log state move in
+    let more : List StreamItem = move_items telling log state move in
     record {
       bytes =
           sym (append_assoc passed output (flat_map spelled more))
@@ -67,7 +67,7 @@ takes telling log start moves passed output state commit clock speaks got =
 
 pub keeps : {C : Type 0} (telling : Telling C) → Keeps telling
 keeps telling log start moves passed output state clock want speaks =
-    subst (λ bytes. Speaks telling log start (moves ++ Keep clock want ∷ []) passed (output ++ bytes) state)
+    subst (λ bytes. HasSent telling log start (moves ++ Keep clock want ∷ []) passed (output ++ bytes) state)
     (append-nil (keep_bytes state clock want))
     (speaks_on telling log start moves passed output state (Keep clock want) speaks tt)
 

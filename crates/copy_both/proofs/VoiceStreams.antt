@@ -6,10 +6,10 @@ use Rattle.shard_checker.specs.CheckedView.{CheckedOf}
 use Rattle.tables_log.specs.Commits.{CommitOf}
 use Rattle.copy_frames.specs.Contents.{copy_both_response}
 use Rattle.copy_both.specs.LinkLaws.{started_at}
-use Rattle.copy_both.specs.StreamLaws.{Start, Speaks, first_state}
+use Rattle.copy_both.specs.StreamLaws.{Start, HasSent, first_state}
 use Rattle.copy_both.specs.Streams.{Telling, StreamStateOf, Move, Take, Keep, keep_bytes, state_after, take_bytes, stream}
 use Rattle.copy_both.specs.Tellings.{telling_of}
-use Rattle.copy_both.specs.VoiceLaws.{AreAt, Follow, takes_in, first_of, VoiceStarts, VoiceTakes, VoiceKeeps, VoicePassesOn, VoiceIsDone, VoiceStops, RestPassesOn}
+use Rattle.copy_both.specs.VoiceLaws.{AreAt, Follow, takes_in, start_count, VoiceStarts, VoiceTakes, VoiceKeeps, VoicePassesOn, VoiceIsDone, VoiceStops, RestPassesOn}
 use Rattle.copy_both.specs.Voices as voices
 use Rattle.copy_both.specs.Voices.{StageOf, voice_checked, voice_stage, voice_output, entry_bytes, entry_stage, kept_bytes, done_bytes}
 use Rattle.copy_both.proofs.StreamLemmas.{starts, takes, keeps, passes}
@@ -63,7 +63,7 @@ voice_starts old new slot position waits silent says = record {
   takes = refl;
   speaks = λ log are.
       let start : Start = started_at (voice_checked old) (slot, position) in
-      subst (λ (o : List ℕ). Speaks (telling_of (voice_checked old)) log start [] [] o (first_state start))
+      subst (λ (o : List ℕ). HasSent (telling_of (voice_checked old)) log start [] [] o (first_state start))
       (sym (says.output ∙ ap (λ (o : List ℕ). o ++ copy_both_response) silent))
       (starts (telling_of (voice_checked old)) log start);
 }
@@ -85,15 +85,15 @@ voice_takes old new told commit clock telling number says =
       stage_is = stage_is;
       slot = telling.slot;
       done = omega (arith, telling.done, length-push told.taken commit);
-      follow = follow_on (first_of told) told.taken commit telling.follow number;
+      follow = follow_on (start_count told) told.taken commit telling.follow number;
       takes = takes_more told.moves clock ∙ ap suc telling.takes ∙ sym (length-push told.taken commit);
       speaks = λ log are.
           let found : slice_get log state.done ≡ Some commit = ap (slice_get log) telling.done
-          ∙ last_one log (first_of told) told.taken commit are in
-          subst (λ (o : List ℕ). Speaks telling_is log told.start (told.moves ++ Take clock ∷ []) told.passed o
+          ∙ last_one log (start_count told) told.taken commit are in
+          subst (λ (o : List ℕ). HasSent telling_is log told.start (told.moves ++ Take clock ∷ []) told.passed o
           (state_after telling_is state commit)) (sym output_is)
           (takes telling_is log told.start told.moves told.passed (voice_output old) state commit clock
-          (telling.speaks log (first_ones log (first_of told) told.taken commit are)) found);
+          (telling.speaks log (first_ones log (start_count told) told.taken commit are)) found);
     }
 
 pub voice_keeps : VoiceKeeps
@@ -110,7 +110,7 @@ voice_keeps old new told clock want telling says =
       follow = telling.follow;
       takes = takes_kept told.moves clock want ∙ telling.takes;
       speaks = λ log are.
-          subst (λ (o : List ℕ). Speaks (telling_of told.checked) log told.start (told.moves ++ Keep clock want ∷ [])
+          subst (λ (o : List ℕ). HasSent (telling_of told.checked) log told.start (told.moves ++ Keep clock want ∷ [])
           told.passed o state) (sym output_is)
           (keeps (telling_of told.checked) log told.start told.moves told.passed (voice_output old) state clock want
           (telling.speaks log are));
@@ -126,7 +126,7 @@ voice_passes_on old new told count telling passed = record {
   follow = telling.follow;
   takes = telling.takes;
   speaks = λ log are.
-      subst (λ (o : List ℕ). Speaks (telling_of told.checked) log told.start told.moves
+      subst (λ (o : List ℕ). HasSent (telling_of told.checked) log told.start told.moves
       (told.passed ++ take count (voice_output old)) o telling.state)
       (sym passed.output)
       (passes (telling_of told.checked) log told.start told.moves told.passed (voice_output old) telling.state count

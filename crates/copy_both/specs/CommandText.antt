@@ -5,7 +5,7 @@ use Rattle.copy_both.specs.declared.start_command.StartCommand.{StartCommand}
 use Rattle.copy_both.specs.declared.start_command.StartOption.{StartOption}
 use Rattle.copy_both.specs.declared.token.Token.{Token}
 use Rattle.copy_both.specs.declared.token.Token.TheVariants.{Value, Open, Semicolon}
-use Rattle.copy_both.specs.CommandTokens.{tokens_of, is_close, is_keyword, name_in, position_in, separated}
+use Rattle.copy_both.specs.CommandTokens.{tokens_of, is_close, is_keyword, name_in, token_position, separated}
 use Rattle.copy_both.specs.OptionValues.{option_value}
 
 abbrev pub named_option : Option (List ℕ) → Option (List ℕ) → Option StartOption
@@ -55,7 +55,7 @@ has_keywords start slot logical =
 abbrev pub command_in : List Token → Option StartCommand
 command_in (start ∷ slot ∷ name ∷ logical ∷ place ∷ options) =
     if has_keywords start slot logical then
-    command_with (name_in name) (position_in place) (options_in options) else None
+    command_with (name_in name) (token_position place) (options_in options) else None
 command_in _ = None
 
 abbrev pub command_with_tokens : Option (List Token) → Option StartCommand

@@ -154,15 +154,15 @@ name_in Close = None
 name_in Comma = None
 name_in Semicolon = None
 
-abbrev pub position_in : Token → Option ℕ
-position_in (Position place) = Some place
-position_in (Word text) = None
-position_in (QuotedName text) = None
-position_in (Value text) = None
-position_in Open = None
-position_in Close = None
-position_in Comma = None
-position_in Semicolon = None
+abbrev pub token_position : Token → Option ℕ
+token_position (Position place) = Some place
+token_position (Word text) = None
+token_position (QuotedName text) = None
+token_position (Value text) = None
+token_position Open = None
+token_position Close = None
+token_position Comma = None
+token_position Semicolon = None
 
 -- ---- lists with commas
 

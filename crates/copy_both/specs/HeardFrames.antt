@@ -138,15 +138,15 @@ pub record HasStatusAhead (frames : List Frame) (reach : ℕ) : Type 0 where
   pub ahead : reach < status.flushed
 
 -- what a fault says about the bytes, if statuses may confirm up to here
-abbrev pub HasFault : CheckedOf → List ℕ → ℕ → LinkFault → Type 0
-HasFault checked bytes reach fault.FrameTooLong = fault_in 65536 bytes ≡ Some frame.FrameTooLong
-HasFault checked bytes reach fault.BadLength =
+abbrev pub HasLinkFault : CheckedOf → List ℕ → ℕ → LinkFault → Type 0
+HasLinkFault checked bytes reach fault.FrameTooLong = fault_in 65536 bytes ≡ Some frame.FrameTooLong
+HasLinkFault checked bytes reach fault.BadLength =
     (fault_in 65536 bytes ≡ Some frame.BadLength) ⊎ HasBadFrame (frames_in bytes) fault.BadLength
-HasFault checked bytes reach (fault.Unexpected byte) = HasBadFrame (frames_in bytes) (fault.Unexpected byte)
-HasFault checked bytes reach (fault.BadStart state) = IsRefusedStart checked (frames_in bytes) state
-HasFault checked bytes reach fault.StatusAhead = HasStatusAhead (frames_in bytes) reach
-HasFault checked bytes reach fault.Closed = ⊥
-HasFault checked bytes reach fault.OutOfMemory = Unit {0}
+HasLinkFault checked bytes reach (fault.Unexpected byte) = HasBadFrame (frames_in bytes) (fault.Unexpected byte)
+HasLinkFault checked bytes reach (fault.BadStart state) = IsRefusedStart checked (frames_in bytes) state
+HasLinkFault checked bytes reach fault.StatusAhead = HasStatusAhead (frames_in bytes) reach
+HasLinkFault checked bytes reach fault.Closed = ⊥
+HasLinkFault checked bytes reach fault.OutOfMemory = Unit {0}
 
 -- the sent position that statuses are checked against, by what was started before and after a piece
 abbrev pub sent_then : Option (ℕ × ℕ) → ℕ → Option (ℕ × ℕ) → ℕ
@@ -166,7 +166,7 @@ GoesOnOrEnds checked bytes ear (Some kind) = HasEnd (frames_in bytes) kind
 
 abbrev pub Explains : CheckedOf → List ℕ → Ear → ℕ → Result Heard LinkFault → Type 0
 Explains checked bytes ear reach (Ok heard) = GoesOnOrEnds checked bytes ear heard.ended
-Explains checked bytes ear reach (Err f) = HasFault checked bytes reach f
+Explains checked bytes ear reach (Err f) = HasLinkFault checked bytes reach f
 
 -- the start that is reported for a piece: that of the stream that it started
 abbrev pub start_told : Option (ℕ × ℕ) → Option (ℕ × ℕ) → Option ℕ

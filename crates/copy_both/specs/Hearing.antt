@@ -23,7 +23,7 @@ use Rattle.copy_both.specs.declared.link_fault.LinkFault.{LinkFault}
 use Rattle.copy_both.specs.declared.link_fault.LinkFault.TheVariants as fault
 
 -- what frames are checked against: the catalog, and how many commits the log has
-pub record Served : Type 0 where
+pub record ServedFrom : Type 0 where
   pub checked : CheckedOf
   pub commits : ℕ
 
@@ -53,7 +53,7 @@ ended_by kind h = record h { heard = record h.heard { ended = Some kind } }
 -- ---- the first frame
 
 -- whether a slot is in use is checked in the book, last
-abbrev pub offer_in : Served → OfferOf
+abbrev pub offer_in : ServedFrom → OfferOf
 offer_in served = record {
   publications = map (λ p. p.name) served.checked.catalog.publications;
   subscriptions = served.checked.catalog.subscriptions;
@@ -70,14 +70,14 @@ abbrev pub unless_fault : Option StartError → ℕ → ℕ → List ℕ → Beg
 unless_fault None slot start name = Begins slot start
 unless_fault (Some error) slot start name = Refuses (book_refusal name error)
 
-abbrev pub begin_by : Served → List Slot → StartAnswerOf → BeginOf
+abbrev pub begin_by : ServedFrom → List Slot → StartAnswerOf → BeginOf
 begin_by served slots (Refused refusal) = Refuses refusal
 begin_by served slots (Stream slot position) =
     unless_fault (start_fault slots (end_after served.commits) slot position) slot
     (max position (confirmed_at slots slot))
     (slot_name served.checked.catalog.subscriptions slot)
 
-unfoldable pub begin_of : Served → List Slot → ℕ → List ℕ → BeginOf
+unfoldable pub begin_of : ServedFrom → List Slot → ℕ → List ℕ → BeginOf
 begin_of served slots kind body = begin_by served slots (asked_of (offer_in served) kind body)
 
 abbrev pub begun : BeginOf → HearingOf → HearingOf
@@ -91,7 +91,7 @@ begun (Refuses refusal) h =
     record h { response = h.response ++ error_response refusal; fault = Some (fault.BadStart (state_of refusal)) }
 
 -- Terminate, `X`, ends the connection
-abbrev pub first_heard : Served → Frame → HearingOf → HearingOf
+abbrev pub first_heard : ServedFrom → Frame → HearingOf → HearingOf
 first_heard served frame h = if frame.kind == 88 then
     ended_by 88 h else begun (begin_of served h.slots frame.kind frame.body) h
 
@@ -109,16 +109,16 @@ confirmed_by false slot status h = record h {
   slots = confirmed_up_to h.slots slot status.flushed;
 }
 
-abbrev pub status_heard : Served → ℕ → Status → HearingOf → HearingOf
+abbrev pub status_heard : ServedFrom → ℕ → Status → HearingOf → HearingOf
 status_heard served slot status h =
     confirmed_by (nat_lt (min h.sent (end_after served.commits)) status.flushed) slot status h
 
-abbrev pub event_heard : Served → ℕ → Result Event LinkFault → HearingOf → HearingOf
+abbrev pub event_heard : ServedFrom → ℕ → Result Event LinkFault → HearingOf → HearingOf
 event_heard served slot (Err fault) h = with_fault fault h
 event_heard served slot (Ok (event.End kind)) h = ended_by kind h
 event_heard served slot (Ok (event.Status status)) h = status_heard served slot status h
 
-abbrev pub next_heard : Served → Frame → Option (ℕ × ℕ) → HearingOf → HearingOf
+abbrev pub next_heard : ServedFrom → Frame → Option (ℕ × ℕ) → HearingOf → HearingOf
 next_heard served frame None h = first_heard served frame h
 next_heard served frame (Some started) h = event_heard served started.0 (event_of frame.kind frame.body) h
 
@@ -136,10 +136,10 @@ abbrev pub unless_over : Bool → HearingOf → HearingOf → HearingOf
 unless_over true h next = h
 unless_over false h next = next
 
-abbrev pub frame_heard : Served → HearingOf → Frame → HearingOf
+abbrev pub frame_heard : ServedFrom → HearingOf → Frame → HearingOf
 frame_heard served h frame = unless_over (is_over h) h (next_heard served frame h.started h)
 
-unfoldable pub frames_heard : Served → HearingOf → List Frame → HearingOf
+unfoldable pub frames_heard : ServedFrom → HearingOf → List Frame → HearingOf
 frames_heard served h [] = h
 frames_heard served h (frame ∷ frames) = frames_heard served (frame_heard served h frame) frames
 
@@ -154,7 +154,7 @@ then_fault None h = h
 then_fault (Some fault) h = unless_over (is_over h) h (with_fault (link_fault fault) h)
 
 -- all available bytes
-abbrev pub bytes_heard : Served → ℕ → List ℕ → HearingOf → HearingOf
+abbrev pub bytes_heard : ServedFrom → ℕ → List ℕ → HearingOf → HearingOf
 bytes_heard served limit bytes h =
     then_fault (fault_in limit bytes) (frames_heard served h (frames_of (cut limit bytes)))
 

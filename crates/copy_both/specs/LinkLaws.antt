@@ -4,8 +4,8 @@ use Rattle.std.specs.Prelude.{◌≡◌, ℕ, Bool, false, List, [], ◌∷◌, 
 use Rattle.shard_checker.specs.CheckedView.{CheckedOf}
 use Rattle.tables_log.specs.Commits.{CommitOf}
 use Rattle.copy_both.specs.Hearing.{HearingOf}
-use Rattle.copy_both.specs.Links.{link_checked, link_stage, link_output, link_voice, LinkSays, LinkPasses, HearSays, SaysFirst, closing, frames_said, next_bytes, next_stage}
-use Rattle.copy_both.specs.StreamLaws.{Start, Speaks, first_state}
+use Rattle.copy_both.specs.Links.{link_checked, link_stage, link_output, link_voice, LinkSays, LinkPasses, HearSays, SendsFirst, closing, frames_said, next_bytes, next_stage}
+use Rattle.copy_both.specs.StreamLaws.{Start, HasSent, first_state}
 use Rattle.copy_both.specs.Streams.{StreamStateOf, Move, Take, Keep, moved, stream}
 use Rattle.copy_both.specs.Tellings.{telling_of}
 use Rattle.copy_both.specs.Voices as voices
@@ -31,7 +31,7 @@ with_moves run more = record run { moves = run.moves ++ more }
 pub record IsStreaming (link : Link) (run : Run) (state : StreamStateOf) : Type 0 where
   pub checked_is : link_checked link ≡ run.checked
   pub stage_is : link_stage link ≡ voices.Started state
-  pub says : Speaks (telling_of run.checked) run.log run.start run.moves run.passed (link_output link) state
+  pub says : HasSent (telling_of run.checked) run.log run.start run.moves run.passed (link_output link) state
 
 -- after the end: these bytes came after the stream
 pub record HasStreamed (link : Link) (run : Run) (last : List ℕ) : Type 0 where
@@ -85,7 +85,7 @@ LinkEnds = (old new : Link) (run : Run) (state : StreamStateOf) (h : HearingOf) 
 -- memory is refused while a piece is answered
 abbrev pub LinkBreaks : Type 0
 LinkBreaks = (old new : Link) (run : Run) (state : StreamStateOf) (h : HearingOf) (clock : ℕ) → Goes old h run state
-    → SaysFirst (link_voice old) (link_voice new) (frames_said (link_checked old) (link_stage old) h clock)
+    → SendsFirst (link_voice old) (link_voice new) (frames_said (link_checked old) (link_stage old) h clock)
     → HasBegun new (with_moves run (replied h clock)) (closing (voices.Started state) h.heard.ended)
 
 -- a call that closes it sends nothing
@@ -94,15 +94,15 @@ LinkStops = (old new : Link) (run : Run) (state : StreamStateOf) → IsStreaming
     → Closes (link_voice old) (link_voice new) → HasStreamed new run []
 
 -- a take at the end of the log is not a move
-abbrev pub took : Option CommitOf → ℕ → List Move
-took None clock = []
-took (Some commit) clock = Take clock ∷ []
+abbrev pub take_moves : Option CommitOf → ℕ → List Move
+take_moves None clock = []
+take_moves (Some commit) clock = Take clock ∷ []
 
 abbrev pub LinkTakes : Type 0
 LinkTakes = (old new : Link) (run : Run) (state : StreamStateOf) (clock : ℕ) → IsStreaming old run state
     → LinkSays old new (next_bytes (link_checked old) (link_stage old) run.log clock)
     (next_stage (link_checked old) (link_stage old) run.log clock)
-    → IsStreaming new (with_moves run (took (slice_get run.log state.done) clock))
+    → IsStreaming new (with_moves run (take_moves (slice_get run.log state.done) clock))
     (moved (telling_of run.checked) run.log state (Take clock))
 
 abbrev pub LinkKeeps : Type 0

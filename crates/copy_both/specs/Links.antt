@@ -13,7 +13,7 @@ use Rattle.copy_both.specs.Streams as streams
 use Rattle.copy_both.specs.Streams.{Take, spelled, move_items, moved}
 use Rattle.copy_both.specs.Tellings.{telling_of}
 use Rattle.copy_both.specs.Voices as voices
-use Rattle.copy_both.specs.Voices.{StageOf, AreReadBack, Says, Closes, Passes, voice_checked, voice_stage, voice_output, voice_room, first_stage, taken_of, kept_bytes, done_bytes, sent_of}
+use Rattle.copy_both.specs.Voices.{StageOf, AreReadBack, Sends, Closes, Passes, voice_checked, voice_stage, voice_output, voice_room, first_stage, taken_of, kept_bytes, done_bytes, sent_of}
 use Rattle.copy_both.specs.declared.ear.Ear.{Ear}
 use Rattle.copy_both.specs.declared.heard.Heard.{Heard}
 use Rattle.copy_both.specs.declared.link.Link.{Link}
@@ -63,7 +63,7 @@ pub record IsNewLink (link : Link) (checked : CheckedOf) : Type 0 where
 -- these bytes are sent, the link is then in this state, and nothing is heard
 pub record LinkSays (old new : Link) (bytes : List ℕ) (stage : StageOf) : Type 0 where
   pub ear : IsSameEar (link_ear old) (link_ear new)
-  pub voice : Says (link_voice old) (link_voice new) bytes stage
+  pub voice : Sends (link_voice old) (link_voice new) bytes stage
 
 -- nothing is sent, and from now on nothing is heard or sent
 pub record LinkCloses (old new : Link) : Type 0 where
@@ -126,21 +126,21 @@ abbrev pub stage_said : CheckedOf → StageOf → HearingOf → StageOf
 stage_said checked stage h = stage_by checked stage h.started h.heard
 
 -- the first few of the frames are sent, and from now on nothing will be
-pub record SaysFirst (old new : Voice) (frames : List (List ℕ)) : Type 0 where
+pub record SendsFirst (old new : Voice) (frames : List (List ℕ)) : Type 0 where
   pub said : List (List ℕ)
   pub others : List (List ℕ)
   pub all : said ++ others ≡ frames
-  pub says : Says old new (concat said) voices.Closed
+  pub says : Sends old new (concat said) voices.Closed
 
 -- a start that is refused is answered with its response, and another fault with nothing; if memory is refused, the
 -- first few frames are sent
 abbrev pub HearSays : Link → Link → HearingOf → ℕ → Result Heard LinkFault → Type 0
 HearSays old new h clock (Ok heard) =
-    Says (link_voice old) (link_voice new) (concat (frames_said (link_checked old) (link_stage old) h clock))
+    Sends (link_voice old) (link_voice new) (concat (frames_said (link_checked old) (link_stage old) h clock))
     (stage_said (link_checked old) (link_stage old) h)
-HearSays old new h clock (Err (fault.BadStart state)) = Says (link_voice old) (link_voice new) h.response voices.Closed
+HearSays old new h clock (Err (fault.BadStart state)) = Sends (link_voice old) (link_voice new) h.response voices.Closed
 HearSays old new h clock (Err fault.OutOfMemory) =
-    SaysFirst (link_voice old) (link_voice new) (frames_said (link_checked old) (link_stage old) h clock)
+    SendsFirst (link_voice old) (link_voice new) (frames_said (link_checked old) (link_stage old) h clock)
 HearSays old new h clock (Err other) = Closes (link_voice old) (link_voice new)
 
 -- the sent position; 0 for a link that has not started

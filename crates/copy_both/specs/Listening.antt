@@ -6,7 +6,7 @@ use Rattle.tables_log.specs.declared.book.Book.{Book}
 use Rattle.copy_frames.specs.Frames.{cut, frames_of, rest_of}
 use Rattle.copy_frames.specs.Inboxes.{Inbox}
 use Rattle.copy_frames.specs.declared.frame.Frame.{Frame}
-use Rattle.copy_both.specs.Hearing.{HearingOf, Served, with_fault, frames_heard, bytes_heard}
+use Rattle.copy_both.specs.Hearing.{HearingOf, ServedFrom, with_fault, frames_heard, bytes_heard}
 use Rattle.copy_both.specs.Sessions.{session_checked, served_by, hearing_view}
 use Rattle.copy_both.specs.declared.heard.Heard.{Heard}
 use Rattle.copy_both.specs.declared.hearing.Hearing.{Hearing}
@@ -24,7 +24,7 @@ abbrev pub held_frames : Inbox → List Frame
 held_frames inbox = frames_of (cut inbox.limit inbox.bytes)
 
 -- all of the frames were heard, or one of them has this fault; or memory was refused after the first few
-abbrev pub FramesHeard : Served → HearingOf → HearingOf → List Frame → Result (Unit {0}) LinkFault → Type 0
+abbrev pub FramesHeard : ServedFrom → HearingOf → HearingOf → List Frame → Result (Unit {0}) LinkFault → Type 0
 FramesHeard served start now frames (Ok done) = now ≡ frames_heard served start frames
 FramesHeard served start now frames (Err fault.OutOfMemory) = (count : ℕ)
     × (now ≡ frames_heard served start (take count frames))

@@ -32,5 +32,5 @@ pub record IsReady (inbox : Inbox) (refusal : List ℕ) : Type 0 where
   pub fault : inbox.fault ≡ None
   pub silent : refusal ≡ []
 
-abbrev pub Fits : Phase → Inbox → List ℕ → Type 0
-Fits now inbox refusal = now ≡ phase.Open → IsReady inbox refusal
+abbrev pub FitsPhase : Phase → Inbox → List ℕ → Type 0
+FitsPhase now inbox refusal = now ≡ phase.Open → IsReady inbox refusal

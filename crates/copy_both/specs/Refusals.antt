@@ -59,17 +59,17 @@ code_of refusal = code_text (state_of refusal)
 abbrev pub naming : List ℕ → List ℕ → List ℕ → List ℕ
 naming before name after = before ++ (34 ∷ (name ++ (34 ∷ after)))
 
-abbrev pub text_of : RefusalOf → List ℕ
-text_of ExpectedQuery = codes "expected a query"
-text_of Unreadable = codes "cannot read the replication command"
-text_of (NoSlot slot) = naming (codes "replication slot ") slot (codes " does not exist")
-text_of (WrongOption option) = naming (codes "option ") option (codes " is wrong")
-text_of (UnsupportedOption option) = naming (codes "option ") option (codes " is not supported")
-text_of (MissingOption option) = naming (codes "option ") option (codes " is missing")
-text_of (NoPublication publication) = naming (codes "publication ") publication (codes " does not exist")
-text_of (OtherPublications slot) = naming (codes "publications differ from those of slot ") slot []
-text_of Ahead = codes "start position is ahead of the log"
-text_of (InUse slot) = naming (codes "replication slot ") slot (codes " is active")
+abbrev pub refusal_text : RefusalOf → List ℕ
+refusal_text ExpectedQuery = codes "expected a query"
+refusal_text Unreadable = codes "cannot read the replication command"
+refusal_text (NoSlot slot) = naming (codes "replication slot ") slot (codes " does not exist")
+refusal_text (WrongOption option) = naming (codes "option ") option (codes " is wrong")
+refusal_text (UnsupportedOption option) = naming (codes "option ") option (codes " is not supported")
+refusal_text (MissingOption option) = naming (codes "option ") option (codes " is missing")
+refusal_text (NoPublication publication) = naming (codes "publication ") publication (codes " does not exist")
+refusal_text (OtherPublications slot) = naming (codes "publications differ from those of slot ") slot []
+refusal_text Ahead = codes "start position is ahead of the log"
+refusal_text (InUse slot) = naming (codes "replication slot ") slot (codes " is active")
 
 -- a field: its letter, and its value with a zero byte after it
 abbrev pub field : ℕ → List ℕ → List ℕ
@@ -81,8 +81,8 @@ error_fields code text =
     field 83 (codes "ERROR") ++ (field 86 (codes "ERROR") ++ (field 67 code ++ (field 77 text ++ (0 ∷ []))))
 
 abbrev pub error_response : RefusalOf → List ℕ
-error_response refusal = framed (record { kind = 69; body = error_fields (code_of refusal) (text_of refusal) })
+error_response refusal = framed (record { kind = 69; body = error_fields (code_of refusal) (refusal_text refusal) })
 
 -- its length is a signed number of 32 bits
 abbrev pub CanBeSent : RefusalOf → Type 0
-CanBeSent refusal = length (text_of refusal) + 29 < 2 ^ 31
+CanBeSent refusal = length (refusal_text refusal) + 29 < 2 ^ 31

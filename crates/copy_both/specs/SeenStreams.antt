@@ -11,7 +11,7 @@ use Rattle.shard_checker.specs.CheckedView.{CheckedOf, setting_in}
 use Rattle.tables_log.specs.Lsn.{end_lsn_of, commits_before}
 use Rattle.tables_log.specs.StandsFor.{Transaction, after, AreAccepted, entries_from}
 use Rattle.pgoutput_msgs.specs.Transactions.{tables_of, transaction_told}
-use Rattle.copy_both.specs.Streams.{Item, Response, Carries, Alive, spelled, Move, Take, Keep, first_sent, head_of, stream}
+use Rattle.copy_both.specs.Streams.{StreamItem, Response, Carries, Alive, spelled, Move, Take, Keep, first_sent, head_of, stream}
 use Rattle.copy_both.specs.Tellings.{telling_of}
 
 -- where a connection is: how many transactions are done, which tables its changes named, and the sent position
@@ -32,7 +32,7 @@ seen_next checked transactions subscriber done transaction =
 -- ---- moves
 
 -- the next transaction is taken, if there is one
-abbrev pub next_told : CheckedOf → List Transaction → ℕ → Reached → Option Transaction → ℕ → List Item
+abbrev pub next_told : CheckedOf → List Transaction → ℕ → Reached → Option Transaction → ℕ → List StreamItem
 next_told checked transactions subscriber at None clock = []
 next_told checked transactions subscriber at (Some transaction) clock =
     map (Carries (head_of (at.done + 1) clock))
@@ -48,7 +48,7 @@ reached_next checked transactions subscriber at (Some transaction) = record {
 }
 
 -- a keepalive carries the sent position
-abbrev pub move_told : CheckedOf → List Transaction → ℕ → Reached → Move → List Item
+abbrev pub move_told : CheckedOf → List Transaction → ℕ → Reached → Move → List StreamItem
 move_told checked transactions subscriber at (Take clock) =
     next_told checked transactions subscriber at (slice_get transactions at.done) clock
 move_told checked transactions subscriber at (Keep clock want) =
@@ -59,7 +59,7 @@ reached_by checked transactions subscriber at (Take clock) =
     reached_next checked transactions subscriber at (slice_get transactions at.done)
 reached_by checked transactions subscriber at (Keep clock want) = at
 
-abbrev pub moves_told : CheckedOf → List Transaction → ℕ → Reached → List Move → List Item
+abbrev pub moves_told : CheckedOf → List Transaction → ℕ → Reached → List Move → List StreamItem
 moves_told checked transactions subscriber at [] = []
 moves_told checked transactions subscriber at (move ∷ moves) =
     move_told checked transactions subscriber at move

@@ -10,7 +10,7 @@ use Rattle.tables_log.specs.declared.error.StartError.{StartError}
 use Rattle.tables_log.specs.declared.slots.Slot.{Slot}
 use Rattle.copy_frames.specs.declared.frame.Frame.{Frame}
 use Rattle.copy_both.specs.Hearing as h
-use Rattle.copy_both.specs.Hearing.{Served, HeardOf, HearingOf, heard_told, with_fault, BeginOf, begin_of, offer_in}
+use Rattle.copy_both.specs.Hearing.{ServedFrom, HeardOf, HearingOf, heard_told, with_fault, BeginOf, begin_of, offer_in}
 use Rattle.copy_both.specs.Refusals.{RefusalOf, state_of, error_response}
 use Rattle.copy_both.specs.StartAnswers.{StartAnswerOf, asked_of}
 use Rattle.copy_both.specs.StartOrder.{slot_name, book_refusal}
@@ -23,7 +23,7 @@ use Rattle.copy_both.specs.declared.session.Session.{Session}
 abbrev pub session_checked : Session → CheckedOf
 session_checked session = checked_view (arc_value session.checked)
 
-abbrev pub served_by : Session → Book → Served
+abbrev pub served_by : Session → Book → ServedFrom
 served_by session book = record { checked = session_checked session; commits = length (book_log book) }
 
 abbrev pub heard_view : Hearing → HeardOf

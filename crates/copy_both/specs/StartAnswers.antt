@@ -15,17 +15,17 @@ pub data StartAnswerOf : Type 0 where
   Refused : RefusalOf → StartAnswerOf
 
 -- bytes that are UTF-8
-abbrev pub utf8_text : List ℕ → Option (List ℕ)
-utf8_text bytes = if is_utf8 bytes then Some bytes else None
+abbrev pub text_if_utf8 : List ℕ → Option (List ℕ)
+text_if_utf8 bytes = if is_utf8 bytes then Some bytes else None
 
 -- if the first zero byte is at this place, the bytes before it, provided that it is the last byte
 abbrev pub text_until : Option ℕ → List ℕ → Option (List ℕ)
 text_until None body = None
-text_until (Some n) body = if n + 1 == length body then utf8_text (take n body) else None
+text_until (Some n) body = if n + 1 == length body then text_if_utf8 (take n body) else None
 
 -- the text of a Query, which is UTF-8 and ends with a zero byte
-abbrev pub text_in : List ℕ → Option (List ℕ)
-text_in body = text_until (position (λ b. b == 0) body) body
+abbrev pub text_of_query : List ℕ → Option (List ℕ)
+text_of_query body = text_until (position (λ b. b == 0) body) body
 
 abbrev pub unless_refused : Option RefusalOf → ℕ → ℕ → StartAnswerOf
 unless_refused (Some refusal) slot position = Refused refusal
@@ -36,22 +36,22 @@ asked_at offer command None = Refused (NoSlot command.slot)
 asked_at offer command (Some slot) =
     unless_refused (slot_refusal offer command slot (publications_at offer.subscriptions slot)) slot command.position
 
-abbrev pub asked_by : OfferOf → Option StartCommand → StartAnswerOf
-asked_by offer None = Refused Unreadable
-asked_by offer (Some command) = asked_at offer command (find_slot command.slot offer.subscriptions)
+abbrev pub asked_by_command : OfferOf → Option StartCommand → StartAnswerOf
+asked_by_command offer None = Refused Unreadable
+asked_by_command offer (Some command) = asked_at offer command (find_slot command.slot offer.subscriptions)
 
 abbrev pub asked_in : OfferOf → Option (List ℕ) → StartAnswerOf
 asked_in offer None = Refused ExpectedQuery
-asked_in offer (Some text) = asked_by offer (command_of text)
+asked_in offer (Some text) = asked_by_command offer (command_of text)
 
 -- what a frame of this kind and body requests; `Q` is a Query
 unfoldable pub asked_of : OfferOf → ℕ → List ℕ → StartAnswerOf
-asked_of offer kind body = if kind == 81 then asked_in offer (text_in body) else Refused ExpectedQuery
+asked_of offer kind body = if kind == 81 then asked_in offer (text_of_query body) else Refused ExpectedQuery
 
 -- what is reported of it to a caller
-abbrev pub told : StartAnswerOf → StartAnswer
-told (Stream slot position) = code.Stream slot position
-told (Refused refusal) = code.Refused (state_of refusal)
+abbrev pub start_reported : StartAnswerOf → StartAnswer
+start_reported (Stream slot position) = code.Stream slot position
+start_reported (Refused refusal) = code.Refused (state_of refusal)
 
 -- what is to be sent, after what was to be sent before
 abbrev pub sent_after : List ℕ → StartAnswerOf → List ℕ

@@ -129,8 +129,8 @@ same_publications known names numbers =
 
 -- ---- the slot
 
-abbrev pub is_taken : List Bool → ℕ → Bool
-is_taken in_use slot = unwrap_or (slice_get in_use slot) false
+abbrev pub is_in_use : List Bool → ℕ → Bool
+is_in_use in_use slot = unwrap_or (slice_get in_use slot) false
 
 -- the refusals of a command, if the slot is that of the subscription of this number
 abbrev pub slot_refusal : OfferOf → StartCommand → ℕ → List ℕ → Option RefusalOf
@@ -141,7 +141,7 @@ slot_refusal offer command slot taken =
     (or_else (refused (not (same_publications offer.publications (names_in command.options) taken))
     (OtherPublications command.slot))
     (or_else (refused (nat_lt offer.log_end command.position) Ahead)
-    (refused (is_taken offer.in_use slot) (InUse command.slot))))))
+    (refused (is_in_use offer.in_use slot) (InUse command.slot))))))
 
 -- the number of the subscription with this name
 abbrev pub find_slot : List ℕ → List Subscription → Option ℕ
@@ -164,13 +164,13 @@ start_refusal offer command = refusal_at offer command (find_slot command.slot o
 
 -- ---- what a book refuses
 
-abbrev pub name_of : Option Subscription → List ℕ
-name_of None = []
-name_of (Some subscription) = subscription.name
+abbrev pub name_or_empty : Option Subscription → List ℕ
+name_or_empty None = []
+name_or_empty (Some subscription) = subscription.name
 
 -- the name of the slot of this number
 abbrev pub slot_name : List Subscription → ℕ → List ℕ
-slot_name subscriptions slot = name_of (slice_get subscriptions slot)
+slot_name subscriptions slot = name_or_empty (slice_get subscriptions slot)
 
 -- why a book does not start a stream from the slot of this name
 abbrev pub book_refusal : List ℕ → StartError → RefusalOf

@@ -23,7 +23,7 @@ abbrev pub first_state : Start → StreamStateOf
 first_state start = state_at start.slot start.tables start.position
 
 -- what a connection passed on and what waits are its stream so far, and it is at the place where the moves lead
-pub record Speaks {C : Type 0} (telling : Telling C) (log : List C) (start : Start) (moves : List Move)
+pub record HasSent {C : Type 0} (telling : Telling C) (log : List C) (start : Start) (moves : List Move)
     (passed output : List ℕ) (state : StreamStateOf) : Type 0 where
   pub bytes : passed ++ output ≡ stream telling log start.slot start.tables start.position moves
   pub at : state ≡ all_moved telling log (first_state start) moves
@@ -31,30 +31,31 @@ pub record Speaks {C : Type 0} (telling : Telling C) (log : List C) (start : Sta
 
 abbrev pub Starts : {C : Type 0} → Telling C → Type 0
 Starts {C = C} telling = (log : List C) (start : Start)
-    → Speaks telling log start [] [] copy_both_response (first_state start)
+    → HasSent telling log start [] [] copy_both_response (first_state start)
 
 abbrev pub Takes : {C : Type 0} → Telling C → Type 0
 Takes {C = C} telling =
     (log : List C) (start : Start) (moves : List Move) (passed output : List ℕ) (state : StreamStateOf) (commit : C)
     (clock : ℕ)
-    → Speaks telling log start moves passed output state → slice_get log state.done ≡ Some commit
-    → Speaks telling log start (moves ++ Take clock ∷ []) passed (output ++ take_bytes telling state commit clock)
+    → HasSent telling log start moves passed output state → slice_get log state.done ≡ Some commit
+    → HasSent telling log start (moves ++ Take clock ∷ []) passed (output ++ take_bytes telling state commit clock)
     (state_after telling state commit)
 
 abbrev pub Keeps : {C : Type 0} → Telling C → Type 0
 Keeps {C = C} telling =
     (log : List C) (start : Start) (moves : List Move) (passed output : List ℕ) (state : StreamStateOf) (clock : ℕ)
     (want : Bool)
-    → Speaks telling log start moves passed output state
-    → Speaks telling log start (moves ++ Keep clock want ∷ []) passed (output ++ keep_bytes state clock want) state
+    → HasSent telling log start moves passed output state
+    → HasSent telling log start (moves ++ Keep clock want ∷ []) passed (output ++ keep_bytes state clock want) state
 
 abbrev pub Passes : {C : Type 0} → Telling C → Type 0
 Passes {C = C} telling =
     (log : List C) (start : Start) (moves : List Move) (passed output : List ℕ) (state : StreamStateOf) (n : ℕ)
-    → Speaks telling log start moves passed output state
-    → Speaks telling log start moves (passed ++ take n output) (drop n output) state
+    → HasSent telling log start moves passed output state
+    → HasSent telling log start moves (passed ++ take n output) (drop n output) state
 
 abbrev pub Grows : {C : Type 0} → Telling C → Type 0
 Grows {C = C} telling = (log more : List C) (start : Start) (moves : List Move) (passed output : List ℕ)
     (state : StreamStateOf)
-    → Speaks telling log start moves passed output state → Speaks telling (log ++ more) start moves passed output state
+    → HasSent telling log start moves passed output state
+    → HasSent telling (log ++ more) start moves passed output state

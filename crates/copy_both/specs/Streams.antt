@@ -13,18 +13,18 @@ use Rattle.pgoutput_msgs.specs.Spelling.{spelling_of}
 use Rattle.pgoutput_msgs.specs.declared.message.Msg.{Msg}
 
 -- what is sent at once, in a frame
-pub data Item : Type 0 where
-  Response : Item
-  Carries : XLogData → Msg → Item
-  Alive : Keepalive → Item
+pub data StreamItem : Type 0 where
+  Response : StreamItem
+  Carries : XLogData → Msg → StreamItem
+  Alive : Keepalive → StreamItem
 
 -- its frame: a CopyBothResponse of text without columns, or a CopyData
-abbrev pub frame_in : Item → Frame
+abbrev pub frame_in : StreamItem → Frame
 frame_in Response = record { kind = 87; body = 0 ∷ 0 ∷ 0 ∷ [] }
 frame_in (Carries head message) = record { kind = 100; body = xlog_data_body head (spelling_of message) }
 frame_in (Alive keepalive) = record { kind = 100; body = keepalive_body keepalive }
 
-abbrev pub spelled : Item → List ℕ
+abbrev pub spelled : StreamItem → List ℕ
 spelled item = framed (frame_in item)
 
 -- what is reported of commits to a subscriber: the number of a commit, from 1; its messages for the subscriber of a
@@ -63,7 +63,7 @@ abbrev pub head_of : ℕ → ℕ → XLogData
 head_of number clock = record { start = lsn_of number; end = lsn_of number; clock = clock }
 
 -- at the end of the log, nothing is taken
-abbrev pub take_items : {C : Type 0} → Telling C → StreamStateOf → Option C → ℕ → List Item
+abbrev pub take_items : {C : Type 0} → Telling C → StreamStateOf → Option C → ℕ → List StreamItem
 take_items telling state None clock = []
 take_items telling state (Some commit) clock =
     map (Carries (head_of (telling.number commit) clock)) (telling.messages state.slot state.relation_sent commit)
@@ -83,7 +83,7 @@ state_after telling state commit =
 
 -- ---- a keepalive carries the sent position
 
-abbrev pub keep_item : StreamStateOf → ℕ → Bool → Item
+abbrev pub keep_item : StreamStateOf → ℕ → Bool → StreamItem
 keep_item state clock want = Alive (record { position = state.sent; clock = clock; wants_reply = want })
 
 abbrev pub keep_bytes : StreamStateOf → ℕ → Bool → List ℕ
@@ -100,7 +100,7 @@ abbrev pub taken_state : {C : Type 0} → Telling C → StreamStateOf → Option
 taken_state telling state None = state
 taken_state telling state (Some commit) = state_after telling state commit
 
-abbrev pub move_items : {C : Type 0} → Telling C → List C → StreamStateOf → Move → List Item
+abbrev pub move_items : {C : Type 0} → Telling C → List C → StreamStateOf → Move → List StreamItem
 move_items telling log state (Take clock) = take_items telling state (slice_get log state.done) clock
 move_items telling log state (Keep clock want) = keep_item state clock want ∷ []
 
@@ -108,7 +108,7 @@ abbrev pub moved : {C : Type 0} → Telling C → List C → StreamStateOf → M
 moved telling log state (Take clock) = taken_state telling state (slice_get log state.done)
 moved telling log state (Keep clock want) = state
 
-abbrev pub all_items : {C : Type 0} → Telling C → List C → StreamStateOf → List Move → List Item
+abbrev pub all_items : {C : Type 0} → Telling C → List C → StreamStateOf → List Move → List StreamItem
 all_items telling log state [] = []
 all_items telling log state (move ∷ moves) =
     move_items telling log state move ++ all_items telling log (moved telling log state move) moves
@@ -118,7 +118,7 @@ all_moved telling log state [] = state
 all_moved telling log state (move ∷ moves) = all_moved telling log (moved telling log state move) moves
 
 -- what a connection sends that starts at this position and makes these moves, and its bytes
-abbrev pub stream_items : {C : Type 0} → Telling C → List C → ℕ → ℕ → ℕ → List Move → List Item
+abbrev pub stream_items : {C : Type 0} → Telling C → List C → ℕ → ℕ → ℕ → List Move → List StreamItem
 stream_items telling log slot tables position moves =
     Response ∷ all_items telling log (state_at slot tables position) moves
 

@@ -6,11 +6,11 @@ use Rattle.tables_log.specs.Commits.{CommitOf}
 use Rattle.tables_log.specs.Lsn.{commits_before}
 use Rattle.copy_frames.specs.Contents.{copy_both_response}
 use Rattle.copy_both.specs.LinkLaws.{started_at}
-use Rattle.copy_both.specs.StreamLaws.{Start, Speaks}
+use Rattle.copy_both.specs.StreamLaws.{Start, HasSent}
 use Rattle.copy_both.specs.Streams.{StreamStateOf, Move, Take, Keep, stream}
 use Rattle.copy_both.specs.Tellings.{telling_of}
 use Rattle.copy_both.specs.Voices as voices
-use Rattle.copy_both.specs.Voices.{Says, Closes, Passes, voice_checked, voice_stage, voice_output, first_stage, entry_bytes, entry_stage, kept_bytes, done_bytes}
+use Rattle.copy_both.specs.Voices.{Sends, Closes, Passes, voice_checked, voice_stage, voice_output, first_stage, entry_bytes, entry_stage, kept_bytes, done_bytes}
 use Rattle.copy_both.specs.declared.voice.Voice.{Voice}
 
 -- ---- commits of a log
@@ -41,8 +41,8 @@ pub record Told : Type 0 where
   pub moves : List Move
   pub passed : List ℕ
 
-abbrev pub first_of : Told → ℕ
-first_of told = commits_before told.start.position
+abbrev pub start_count : Told → ℕ
+start_count told = commits_before told.start.position
 
 -- it streams, and what it sent is the stream of the moves
 pub record IsTelling (voice : Voice) (told : Told) : Type 0 where
@@ -50,18 +50,18 @@ pub record IsTelling (voice : Voice) (told : Told) : Type 0 where
   pub state : StreamStateOf
   pub stage_is : voice_stage voice ≡ voices.Started state
   pub slot : state.slot ≡ told.start.slot
-  pub done : state.done ≡ first_of told + length told.taken
-  pub follow : Follow (first_of told) told.taken
+  pub done : state.done ≡ start_count told + length told.taken
+  pub follow : Follow (start_count told) told.taken
   pub takes : takes_in told.moves ≡ length told.taken
-  pub speaks : (log : List CommitOf) → AreAt log (first_of told) told.taken
-      → Speaks (telling_of told.checked) log told.start told.moves told.passed (voice_output voice) state
+  pub speaks : (log : List CommitOf) → AreAt log (start_count told) told.taken
+      → HasSent (telling_of told.checked) log told.start told.moves told.passed (voice_output voice) state
 
 -- it is closed, and these bytes came after the stream
 pub record HasTold (voice : Voice) (told : Told) (last : List ℕ) : Type 0 where
   pub stage_is : voice_stage voice ≡ voices.Closed
-  pub follow : Follow (first_of told) told.taken
+  pub follow : Follow (start_count told) told.taken
   pub takes : takes_in told.moves ≡ length told.taken
-  pub bytes : (log : List CommitOf) → AreAt log (first_of told) told.taken
+  pub bytes : (log : List CommitOf) → AreAt log (start_count told) told.taken
       → told.passed ++ voice_output voice
       ≡ stream (telling_of told.checked) log told.start.slot told.start.tables told.start.position told.moves
       ++ last
@@ -70,7 +70,7 @@ pub record HasTold (voice : Voice) (told : Told) (last : List ℕ) : Type 0 wher
 
 abbrev pub VoiceStarts : Type 0
 VoiceStarts = (old new : Voice) (slot position : ℕ) → voice_stage old ≡ voices.NotStarted → voice_output old ≡ []
-    → Says old new copy_both_response (first_stage (voice_checked old) slot position)
+    → Sends old new copy_both_response (first_stage (voice_checked old) slot position)
     → IsTelling new (record {
       checked = voice_checked old;
       start = started_at (voice_checked old) (slot, position);
@@ -82,14 +82,14 @@ VoiceStarts = (old new : Voice) (slot position : ℕ) → voice_stage old ≡ vo
 
 abbrev pub VoiceTakes : Type 0
 VoiceTakes = (old new : Voice) (told : Told) (commit : CommitOf) (clock : ℕ) → IsTelling old told
-    → commit.number ≡ suc (first_of told + length told.taken)
-    → Says old new (entry_bytes (voice_checked old) (voice_stage old) commit clock)
+    → commit.number ≡ suc (start_count told + length told.taken)
+    → Sends old new (entry_bytes (voice_checked old) (voice_stage old) commit clock)
     (entry_stage (voice_checked old) (voice_stage old) commit)
     → IsTelling new (record told { taken = told.taken ++ commit ∷ []; moves = told.moves ++ Take clock ∷ [] })
 
 abbrev pub VoiceKeeps : Type 0
 VoiceKeeps = (old new : Voice) (told : Told) (clock : ℕ) (want : Bool) → IsTelling old told
-    → Says old new (kept_bytes (voice_stage old) clock want) (voice_stage old)
+    → Sends old new (kept_bytes (voice_stage old) clock want) (voice_stage old)
     → IsTelling new (record told { moves = told.moves ++ Keep clock want ∷ [] })
 
 abbrev pub VoicePassesOn : Type 0
@@ -99,7 +99,7 @@ VoicePassesOn = (old new : Voice) (told : Told) (count : ℕ) → IsTelling old 
 -- CopyDone follows the stream
 abbrev pub VoiceIsDone : Type 0
 VoiceIsDone = (old new : Voice) (told : Told) → IsTelling old told
-    → Says old new (done_bytes (voice_stage old)) voices.Closed
+    → Sends old new (done_bytes (voice_stage old)) voices.Closed
     → HasTold new told (done_bytes (voice_stage old))
 
 -- a call that closes it sends nothing

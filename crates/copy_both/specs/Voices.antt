@@ -65,7 +65,7 @@ IsStarted Closed = ⊥
 -- ---- what a call leaves
 
 -- these bytes are sent, and the voice is then in this state
-pub record Says (old new : Voice) (bytes : List ℕ) (stage : StageOf) : Type 0 where
+pub record Sends (old new : Voice) (bytes : List ℕ) (stage : StageOf) : Type 0 where
   pub checked : voice_checked new ≡ voice_checked old
   pub stage_is : voice_stage new ≡ stage
   pub output : voice_output new ≡ voice_output old ++ bytes

@@ -6,7 +6,7 @@ ghost use Rattle.copy_both.specs.CommandText.{command_of};
 ghost use Rattle.copy_both.specs.Refusals.{CanBeSent, refusal_view};
 ghost use Rattle.copy_both.specs.ShortNames.{IsShortCommand};
 ghost use Rattle.copy_both.specs.StartAnswers as spec;
-ghost use Rattle.copy_both.specs.StartAnswers.{Refused, asked_at, asked_by, asked_of, told, sent_after};
+ghost use Rattle.copy_both.specs.StartAnswers.{Refused, asked_at, asked_by_command, asked_of, start_reported, sent_after};
 ghost use Rattle.copy_both.specs.StartOrder.{offer_view};
 
 use crate::command_text::command_of;
@@ -29,7 +29,7 @@ pub enum StartAnswer {
 
 /// The bytes as a text, if they are UTF-8.
 fn utf8_text(bytes: &[u8]) -> Option<&str>
-    ensures { option_copied result ≡ spec.utf8_text bytes.now }
+    ensures { option_copied result ≡ spec.text_if_utf8 bytes.now }
 {
     match str::from_utf8(bytes) {
         Ok(text) => Some(text),
@@ -45,7 +45,7 @@ fn first_zero(body: &[u8]) -> Option<usize>
 
 /// The text of a Query, which is UTF-8 and ends with a zero byte.
 fn text_in(body: &[u8]) -> Option<&str>
-    ensures { option_copied result ≡ spec.text_in body.now }
+    ensures { option_copied result ≡ spec.text_of_query body.now }
 {
     let Some(end) = first_zero(body) else {
         return None;
@@ -58,7 +58,7 @@ fn text_in(body: &[u8]) -> Option<&str>
 
 fn refuse(response: &mut BytesMut, refusal: &Refusal<'_>) -> Result<StartAnswer, AllocError>
     requires { CanBeSent (refusal_view refusal.now) }
-    ensures asked { IfOk result (λ asked. asked ≡ told (Refused (refusal_view refusal.now))) }
+    ensures asked { IfOk result (λ asked. asked ≡ start_reported (Refused (refusal_view refusal.now))) }
     ensures ok { OnOk result
         (response.new.items ≡ sent_after response.old.items (Refused (refusal_view refusal.now))) }
     ensures err { OnErr result (response.new.items ≡ response.old.items) }
@@ -76,7 +76,7 @@ fn answer_slot(
 ) -> Result<StartAnswer, AllocError>
     requires { IsShortCommand command.now }
     ensures asked { IfOk result
-        (λ asked. asked ≡ told (asked_at (offer_view offer.now) command.now (Some slot))) }
+        (λ asked. asked ≡ start_reported (asked_at (offer_view offer.now) command.now (Some slot))) }
     ensures ok { OnOk result
         (response.new.items ≡ sent_after response.old.items (asked_at (offer_view offer.now) command.now (Some slot))) }
     ensures err { OnErr result (response.new.items ≡ response.old.items) }
@@ -95,9 +95,11 @@ fn answer_command(
     response: &mut BytesMut,
 ) -> Result<StartAnswer, AllocError>
     requires { IsShortCommand command.now }
-    ensures asked { IfOk result (λ asked. asked ≡ told (asked_by (offer_view offer.now) (Some command.now))) }
+    ensures asked { IfOk result
+        (λ asked. asked ≡ start_reported (asked_by_command (offer_view offer.now) (Some command.now))) }
     ensures ok { OnOk result
-        (response.new.items ≡ sent_after response.old.items (asked_by (offer_view offer.now) (Some command.now))) }
+        (response.new.items
+        ≡ sent_after response.old.items (asked_by_command (offer_view offer.now) (Some command.now))) }
     ensures err { OnErr result (response.new.items ≡ response.old.items) }
 {
     let Some(slot) = find_slot(offer.subscriptions, command.slot.as_str()) else {
@@ -113,9 +115,11 @@ fn answer_text(
     text: &str,
     response: &mut BytesMut,
 ) -> Result<StartAnswer, AllocError>
-    ensures asked { IfOk result (λ asked. asked ≡ told (asked_by (offer_view offer.now) (command_of text.now))) }
+    ensures asked { IfOk result
+        (λ asked. asked ≡ start_reported (asked_by_command (offer_view offer.now) (command_of text.now))) }
     ensures ok { OnOk result
-        (response.new.items ≡ sent_after response.old.items (asked_by (offer_view offer.now) (command_of text.now))) }
+        (response.new.items
+        ≡ sent_after response.old.items (asked_by_command (offer_view offer.now) (command_of text.now))) }
     ensures err { OnErr result (response.new.items ≡ response.old.items) }
 {
     let Some(command) = command_of(alloc, text)? else {
@@ -135,7 +139,7 @@ pub fn answer_start(
     body: &[u8],
     response: &mut BytesMut,
 ) -> Result<StartAnswer, AllocError>
-    ensures asked { IfOk result (λ asked. asked ≡ told (asked_of (offer_view offer.now) kind body.now)) }
+    ensures asked { IfOk result (λ asked. asked ≡ start_reported (asked_of (offer_view offer.now) kind body.now)) }
     ensures ok { OnOk result
         (response.new.items ≡ sent_after response.old.items (asked_of (offer_view offer.now) kind body.now)) }
     ensures err { OnErr result (response.new.items ≡ response.old.items) }

@@ -1,6 +1,6 @@
 //! The half of a connection's end that hears.
 
-ghost use Rattle.copy_both.specs.Phases.{Fits};
+ghost use Rattle.copy_both.specs.Phases.{FitsPhase};
 
 use crate::heard::Heard;
 use crate::hearing::Hearing;
@@ -31,7 +31,7 @@ pub struct Ear {
     frames: Deframer,
     phase: Phase,
     session: Session,
-    ghost fits: { Fits phase frames session.response.items },
+    ghost fits: { FitsPhase phase frames session.response.items },
 }
 
 impl Ear {

@@ -62,7 +62,7 @@ impl Frames {
     ghost use Rattle.pgoutput_msgs.specs.Ranges.{HasTexts, IsWithinRange};
     ghost use Rattle.pgoutput_msgs.specs.Sinks.{Takes};
     ghost use Rattle.pgoutput_msgs.specs.Spelling.{spelling_of};
-    ghost use Rattle.pgoutput_msgs.specs.Telling.{begin_of, commit_of, message_of, named_in};
+    ghost use Rattle.pgoutput_msgs.specs.Telling.{begin_msg, commit_msg, message_of, named_in};
     ghost use Rattle.copy_both.specs.Framing.{AddsFrame};
 
     /// No frames.
@@ -107,7 +107,7 @@ impl Frames {
     /// Adds the frame of the Begin message of a commit, and makes room for the others once. The only error is out of
     /// memory.
     pub(crate) fn begin(&mut self, commit: &Commit) -> Result<(), AllocError>
-        ensures { OnOk result (AddsFrame self.old self.new (begin_of commit.now)) }
+        ensures { OnOk result (AddsFrame self.old self.new (begin_msg commit.now)) }
     {
         self.bytes.reserve(room_of(commit.changes().len()))?;
         self.add(&begin_message(commit))?;
@@ -116,7 +116,7 @@ impl Frames {
 
     /// Adds the frame of the Commit message of a commit. The only error is out of memory.
     pub(crate) fn end(&mut self, commit: &Commit) -> Result<(), AllocError>
-        ensures { OnOk result (AddsFrame self.old self.new (commit_of commit.now)) }
+        ensures { OnOk result (AddsFrame self.old self.new (commit_msg commit.now)) }
     {
         self.add(&commit_message(commit))?;
         Ok(())

@@ -1,7 +1,7 @@
 //! Why a start is refused.
 
 ghost use Rattle.std.specs.Prelude.{◌≡◌, ◌+◌, ◌++◌, [], length};
-ghost use Rattle.copy_both.specs.Refusals.{code_of, state_of, text_of, refusal_view};
+ghost use Rattle.copy_both.specs.Refusals.{code_of, state_of, refusal_text, refusal_view};
 
 use crate::sql_state::SqlState;
 
@@ -67,9 +67,9 @@ impl<'a> Refusal<'a> {
 
     /// The text: what is wrong, with the name of the slot, the option or the publication.
     pub fn words(&self) -> Words<'a>
-        ensures text { result.before.now ++ result.name.now ++ result.after.now ≡ text_of (refusal_view self.now) }
+        ensures text { result.before.now ++ result.name.now ++ result.after.now ≡ refusal_text (refusal_view self.now) }
         ensures length { length result.before.now + length result.name.now + length result.after.now
-            ≡ length (text_of (refusal_view self.now)) }
+            ≡ length (refusal_text (refusal_view self.now)) }
     {
         match self {
             Refusal::ExpectedQuery => plain("expected a query"),

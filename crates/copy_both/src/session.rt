@@ -7,7 +7,7 @@ ghost use Rattle.copy_both.specs.Events.{event_of};
 ghost use Rattle.copy_both.specs.Hearing as spec;
 ghost use Rattle.copy_both.specs.Refusals.{error_response, state_of};
 ghost use Rattle.copy_both.specs.Sessions.{served_by, hearing_view, asked_in, begin_in, refused_by_book, Hears, Begins, KeepsRest, IsSameBook, IsSameSession};
-ghost use Rattle.copy_both.specs.StartAnswers.{told, sent_after};
+ghost use Rattle.copy_both.specs.StartAnswers.{start_reported, sent_after};
 
 use crate::answer::{StartAnswer, answer_start};
 use crate::error_response::append_error_response;
@@ -113,7 +113,7 @@ impl Session {
     /// What the frame requests, if no slot is in use.
     fn ask(&mut self, frame: &Frame, book: &Book) -> Result<StartAnswer, AllocError>
         ensures kept { IsSameSession self.old self.new }
-        ensures asked { IfOk result (λ asked. asked ≡ told (asked_in self.old book.now frame.now)) }
+        ensures asked { IfOk result (λ asked. asked ≡ start_reported (asked_in self.old book.now frame.now)) }
         ensures ok { OnOk result (self.new.response.items
             ≡ sent_after self.old.response.items (asked_in self.old book.now frame.now)) }
         ensures err { OnErr result (self.new.response.items ≡ self.old.response.items) }

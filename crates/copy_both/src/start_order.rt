@@ -192,7 +192,7 @@ fn same_publications(publications: &[Publication], names: &[Text], numbers: &[us
 }
 
 fn is_taken(in_use: &[bool], slot: usize) -> bool
-    ensures { result ≡ spec.is_taken in_use.now slot }
+    ensures { result ≡ spec.is_in_use in_use.now slot }
 {
     in_use.get(slot).copied().unwrap_or(false)
 }

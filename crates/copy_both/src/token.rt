@@ -88,7 +88,7 @@ pub fn name_in(token: &Token) -> Option<&str>
 
 /// The place that a token is.
 pub fn position_in(token: &Token) -> Option<u64>
-    ensures { result ≡ spec.position_in token.now }
+    ensures { result ≡ spec.token_position token.now }
 {
     match token {
         Token::Position(place) => Some(*place),

@@ -40,7 +40,7 @@ impl Voice {
     ghost use Rattle.shard_checker.specs.CheckedView.{checked_view};
     ghost use Rattle.copy_frames.specs.Contents.{copy_both_response};
     ghost use Rattle.copy_both.specs.Voices as spec;
-    ghost use Rattle.copy_both.specs.Voices.{EntryIsReadBack, IsQuietFor, IsStarted, Says, Closes, told_fault, voice_checked, voice_stage, voice_output, voice_room};
+    ghost use Rattle.copy_both.specs.Voices.{EntryIsReadBack, IsQuietFor, IsStarted, Sends, Closes, told_fault, voice_checked, voice_stage, voice_output, voice_room};
     ghost use Rattle.copy_both.specs.declared.link_fault.LinkFault.TheVariants.{OutOfMemory};
 
     /// A voice that has not started and has nothing to send.
@@ -66,7 +66,7 @@ impl Voice {
     pub fn start(&mut self, slot: usize, position: u64) -> Result<(), LinkFault>
         ensures answer { Answers (λ done. done) told_fault (spec.start_answer (voice_stage self.old)) result }
         ensures memory { NeedsMemoryOnlyIf OutOfMemory (voice_stage self.old ≡ spec.NotStarted) result }
-        ensures ok { OnOk result (Says self.old self.new copy_both_response
+        ensures ok { OnOk result (Sends self.old self.new copy_both_response
             (spec.first_stage (voice_checked self.old) slot position)) }
         ensures err { OnErr result (Closes self.old self.new) }
     {
@@ -80,7 +80,7 @@ impl Voice {
     fn begin(&mut self, slot: usize, position: u64) -> Result<(), LinkFault>
         ensures answer { Answers (λ done. done) told_fault (spec.start_answer (voice_stage self.old)) result }
         ensures memory { NeedsMemoryOnlyIf OutOfMemory (voice_stage self.old ≡ spec.NotStarted) result }
-        ensures ok { OnOk result (Says self.old self.new copy_both_response
+        ensures ok { OnOk result (Sends self.old self.new copy_both_response
             (spec.first_stage (voice_checked self.old) slot position)) }
         ensures checked { voice_checked self.new ≡ voice_checked self.old }
         ensures err { OnErr result (voice_output self.new ≡ voice_output self.old) }
@@ -112,7 +112,7 @@ impl Voice {
         ensures answer { Answers (λ taken. taken) told_fault
             (spec.entry_answer (voice_checked self.old) (voice_stage self.old) commit.now) result }
         ensures memory { NeedsMemoryOnlyIf OutOfMemory (IsStarted (voice_stage self.old)) result }
-        ensures ok { OnOk result (Says self.old self.new
+        ensures ok { OnOk result (Sends self.old self.new
             (spec.entry_bytes (voice_checked self.old) (voice_stage self.old) commit.now now)
             (spec.entry_stage (voice_checked self.old) (voice_stage self.old) commit.now)) }
         ensures read_back { OnOk result
@@ -131,7 +131,7 @@ impl Voice {
         ensures answer { Answers (λ taken. taken) told_fault
             (spec.entry_answer (voice_checked self.old) (voice_stage self.old) commit.now) result }
         ensures memory { NeedsMemoryOnlyIf OutOfMemory (IsStarted (voice_stage self.old)) result }
-        ensures ok { OnOk result (Says self.old self.new
+        ensures ok { OnOk result (Sends self.old self.new
             (spec.entry_bytes (voice_checked self.old) (voice_stage self.old) commit.now now)
             (spec.entry_stage (voice_checked self.old) (voice_stage self.old) commit.now)) }
         ensures read_back { OnOk result
@@ -154,7 +154,7 @@ impl Voice {
     pub fn skip(&mut self, commit: &Commit)
         requires next { IfSome (spec.next_of (voice_stage self.old)) (λ next. commit.now.number ≡ next) }
         requires quiet { IsQuietFor (voice_checked self.old) (voice_stage self.old) commit.now }
-        ensures { (clock : ℕ) → Says self.old self.new
+        ensures { (clock : ℕ) → Sends self.old self.new
             (spec.entry_bytes (voice_checked self.old) (voice_stage self.old) commit.now clock)
             (spec.entry_stage (voice_checked self.old) (voice_stage self.old) commit.now) }
     {
@@ -172,7 +172,7 @@ impl Voice {
     pub fn keepalive(&mut self, now: u64, want: bool) -> Result<bool, LinkFault>
         ensures answer { Answers (λ said. said) told_fault (spec.keep_answer (voice_stage self.old)) result }
         ensures memory { NeedsMemoryOnlyIf OutOfMemory (IsStarted (voice_stage self.old)) result }
-        ensures ok { OnOk result (Says self.old self.new (spec.kept_bytes (voice_stage self.old) now want)
+        ensures ok { OnOk result (Sends self.old self.new (spec.kept_bytes (voice_stage self.old) now want)
             (voice_stage self.old)) }
         ensures err { OnErr result (Closes self.old self.new) }
     {
@@ -186,7 +186,7 @@ impl Voice {
     fn keep(&mut self, now: u64, want: bool) -> Result<bool, LinkFault>
         ensures answer { Answers (λ said. said) told_fault (spec.keep_answer (voice_stage self.old)) result }
         ensures memory { NeedsMemoryOnlyIf OutOfMemory (IsStarted (voice_stage self.old)) result }
-        ensures ok { OnOk result (Says self.old self.new (spec.kept_bytes (voice_stage self.old) now want)
+        ensures ok { OnOk result (Sends self.old self.new (spec.kept_bytes (voice_stage self.old) now want)
             (voice_stage self.old)) }
         ensures checked { voice_checked self.new ≡ voice_checked self.old }
         ensures err { OnErr result (voice_output self.new ≡ voice_output self.old) }
@@ -213,7 +213,7 @@ impl Voice {
     pub fn done(&mut self) -> Result<(), LinkFault>
         ensures answer { Answers (λ done. done) told_fault (spec.done_answer (voice_stage self.old)) result }
         ensures memory { NeedsMemoryOnlyIf OutOfMemory (IsStarted (voice_stage self.old)) result }
-        ensures ok { OnOk result (Says self.old self.new (spec.done_bytes (voice_stage self.old)) spec.Closed) }
+        ensures ok { OnOk result (Sends self.old self.new (spec.done_bytes (voice_stage self.old)) spec.Closed) }
         ensures err { OnErr result (Closes self.old self.new) }
     {
         let ended = self.end();
@@ -238,7 +238,7 @@ impl Voice {
 
     /// Sends the response to a start that is refused, and closes. The only error is out of memory.
     pub(crate) fn refuse(&mut self, response: &[u8]) -> Result<(), AllocError>
-        ensures ok { OnOk result (Says self.old self.new response.now spec.Closed) }
+        ensures ok { OnOk result (Sends self.old self.new response.now spec.Closed) }
         ensures err { OnErr result (Closes self.old self.new) }
     {
         self.stage = Stage::Closed;

@@ -10,7 +10,7 @@ use Rattle.copy_frames.specs.declared.fault.FrameFault.TheVariants.{BadLength, F
 use Rattle.copy_frames.specs.declared.frame.Frame.{Frame}
 use Rattle.copy_frames.specs.declared.front.Front.{Front}
 use Rattle.copy_frames.specs.declared.front.Front.TheVariants.{Part, Faulty, Whole}
-use Rattle.copy_frames.specs.Frames.{framed, sized, front, frame_of, Rest, Bad, Then, cut_after, cut_some, cut, bytes_of, fault_of, fault_in}
+use Rattle.copy_frames.specs.Frames.{framed, sized, front, frame_of, Rest, Bad, Then, cut_after, cut_some, cut, bytes_of, cut_fault, fault_in}
 use Rattle.copy_frames.specs.FrameLaws.{AreBytes, IsCut, CutsAreSpelled, SpelledAreCut, CutsAreWhole}
 use Rattle.copy_frames.specs.Inboxes.{Inbox, TakesPiece}
 use Rattle.copy_frames.specs.Scans.{SpellsFrame, Tells, Reaches, Scans}
@@ -105,7 +105,7 @@ pub reaches_on : (limit : ℕ) (bytes : List ℕ) (at size : ℕ) → Reaches li
     → SpellsFrame limit (drop at bytes) size → Reaches limit bytes (at + size)
 reaches_on limit bytes at size reached here = record {
   within = omega (arith, here.within, reached.within, length-drop at bytes);
-  same = λ more. reached.same more ∙ ap fault_of (here.cuts more)
+  same = λ more. reached.same more ∙ ap cut_fault (here.cuts more)
       ∙ ap (λ rest. fault_in limit (rest ++ more)) (drop-drop size at bytes);
 }
 
@@ -121,13 +121,13 @@ pub scan_ends_part : (limit : ℕ) (bytes : List ℕ) (at : ℕ) (rest : List �
     → rest ≡ drop at bytes
     → cut limit rest ≡ Rest rest → Scans limit bytes (at, None)
 scan_ends_part limit bytes at rest reached is e =
-    scan_ends limit bytes at None reached (sym (ap fault_of e) ∙ ap (fault_in limit) is)
+    scan_ends limit bytes at None reached (sym (ap cut_fault e) ∙ ap (fault_in limit) is)
 
 pub scan_ends_fault : (limit : ℕ) (bytes : List ℕ) (at : ℕ) (rest : List ℕ) (fault : FrameFault)
     → Reaches limit bytes at → rest ≡ drop at bytes
     → cut limit rest ≡ Bad fault rest → Scans limit bytes (at, Some fault)
 scan_ends_fault limit bytes at rest fault reached is e =
-    scan_ends limit bytes at (Some fault) reached (sym (ap fault_of e) ∙ ap (fault_in limit) is)
+    scan_ends limit bytes at (Some fault) reached (sym (ap cut_fault e) ∙ ap (fault_in limit) is)
 
 pub reaches_more : (limit : ℕ) (bytes piece : List ℕ) (at : ℕ) → Reaches limit bytes at
     → Reaches limit (bytes ++ piece) at
@@ -147,7 +147,7 @@ reaches_rest limit bytes size whole here reached = elim (cases_lt whole size) [
     within = omega (arith, reached.within, length-drop size bytes);
     same = λ later.
         let place : size + (whole - size) ≡ whole = omega arith in
-        sym (ap fault_of (here.cuts later)) ∙ reached.same later
+        sym (ap cut_fault (here.cuts later)) ∙ reached.same later
         ∙ ap (λ rest. fault_in limit (rest ++ later))
         (ap (λ n. drop n bytes) (sym place) ∙ sym (drop-drop (whole - size) size bytes));
   }
@@ -227,11 +227,11 @@ front_faults limit bytes h =
       | false ↦ (λ h. number_faults limit (from_be_bytes w32 (take 4 (drop 1 bytes))) (length bytes) h)
     ] h
 
-some_faults : (limit n : ℕ) (bytes : List ℕ) → fault_of (cut_some limit n bytes) ≡ Some OutOfMemory → ⊥
+some_faults : (limit n : ℕ) (bytes : List ℕ) → cut_fault (cut_some limit n bytes) ≡ Some OutOfMemory → ⊥
 some_faults limit zero bytes h = cc
 some_faults limit (suc n) bytes h =
     elim (front limit bytes) as
-    (λ f. front limit bytes ≡ f → fault_of (cut_after f bytes (cut_some limit n)) ≡ Some OutOfMemory → ⊥) [
+    (λ f. front limit bytes ≡ f → cut_fault (cut_after f bytes (cut_some limit n)) ≡ Some OutOfMemory → ⊥) [
       | Part ↦ (λ e h. cc)
       | Faulty fault ↦ (λ e h. let same : fault ≡ OutOfMemory = cc in front_faults limit bytes (e ∙ ap Faulty same))
       | Whole size ↦ (λ e h. some_faults limit n (drop size bytes) h)

@@ -3,15 +3,15 @@ use Rattle.std.proofs.Common.{◌≡◌, List, [], ◌∷◌, ◌++◌, refl, sy
 use Rattle.std.specs.List.{flat_map}
 use Rattle.std.proofs.lemmas.List.{append-nil, flat_map_more}
 use Rattle.copy_frames.specs.declared.frame.Frame.{Frame}
-use Rattle.copy_frames.specs.Frames.{framed, Cut, Then, cut, after_frames, fault_of, fault_in}
+use Rattle.copy_frames.specs.Frames.{framed, FrameCut, Then, cut, after_frames, cut_fault, fault_in}
 use Rattle.copy_frames.specs.FrameLaws.{FrameIsGiven, FaultIsFirst}
 
-after_frames-append : (given : List Frame) (frame : Frame) (last : Cut)
+after_frames-append : (given : List Frame) (frame : Frame) (last : FrameCut)
     → after_frames (given ++ frame ∷ []) last ≡ after_frames given (Then frame last)
 after_frames-append [] frame last = refl
 after_frames-append (first ∷ given) frame last = ap (Then first) (after_frames-append given frame last)
 
-fault_of-after_frames : (given : List Frame) (last : Cut) → fault_of (after_frames given last) ≡ fault_of last
+fault_of-after_frames : (given : List Frame) (last : FrameCut) → cut_fault (after_frames given last) ≡ cut_fault last
 fault_of-after_frames [] last = refl
 fault_of-after_frames (frame ∷ given) last = fault_of-after_frames given last
 
@@ -28,6 +28,6 @@ frame_is_given fed given old frame new has gives = record {
 
 pub fault_is_first : FaultIsFirst
 fault_is_first fed given inbox has =
-    ap (fault_in inbox.limit) (sym (append-nil fed)) ∙ ap fault_of (has.cuts [])
+    ap (fault_in inbox.limit) (sym (append-nil fed)) ∙ ap cut_fault (has.cuts [])
     ∙ fault_of-after_frames given (cut inbox.limit (inbox.bytes ++ []))
     ∙ ap (fault_in inbox.limit) (append-nil inbox.bytes)

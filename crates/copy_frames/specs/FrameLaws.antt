@@ -4,7 +4,7 @@ use Rattle.std.specs.Prelude.{◌≡◌, ℕ, ◌<◌, List, [], ◌∷◌, ◌+
 use Rattle.std.specs.List.{flat_map}
 use Rattle.copy_frames.specs.declared.frame.Frame.{Frame}
 use Rattle.copy_frames.specs.declared.front.Front.TheVariants.{Part, Faulty}
-use Rattle.copy_frames.specs.Frames.{framed, IsFrame, front, Cut, Rest, Bad, Then, cut, bytes_of, after_frames, fault_in}
+use Rattle.copy_frames.specs.Frames.{framed, IsFrame, front, FrameCut, Rest, Bad, Then, cut, bytes_of, after_frames, fault_in}
 use Rattle.copy_frames.specs.Inboxes.{Inbox, empty_inbox, with_piece, GivesFrame}
 
 -- ---- bytes
@@ -25,7 +25,7 @@ SpelledAreCut = (limit : ℕ) (frames : List Frame) (rest : List ℕ) → AreFra
 
 -- the frames are within the limit, and at the end there is neither a whole frame nor, without a fault, a length that no
 -- frame may have
-abbrev pub IsCut : ℕ → Cut → Type 0
+abbrev pub IsCut : ℕ → FrameCut → Type 0
 IsCut limit (Rest bytes) = front limit bytes ≡ Part
 IsCut limit (Bad fault bytes) = front limit bytes ≡ Faulty fault
 IsCut limit (Then frame more) = IsFrame limit frame × IsCut limit more

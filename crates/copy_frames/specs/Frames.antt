@@ -38,55 +38,55 @@ frame_of size bytes = record { kind = slice_index bytes 0; body = drop 5 (take s
 
 -- bytes as frames: a rest that is not a whole frame, a length that no frame may have with what follows it, or a frame
 -- and what comes after it
-pub data Cut : Type 0 where
-  Rest : List ℕ → Cut
-  Bad : FrameFault → List ℕ → Cut
-  Then : Frame → Cut → Cut
+pub data FrameCut : Type 0 where
+  Rest : List ℕ → FrameCut
+  Bad : FrameFault → List ℕ → FrameCut
+  Then : Frame → FrameCut → FrameCut
 
 -- how bytes with this front are cut; `more` cuts the rest
-abbrev pub cut_after : Front → List ℕ → (List ℕ → Cut) → Cut
+abbrev pub cut_after : Front → List ℕ → (List ℕ → FrameCut) → FrameCut
 cut_after Part bytes more = Rest bytes
 cut_after (Faulty fault) bytes more = Bad fault bytes
 cut_after (Whole size) bytes more = Then (frame_of size bytes) (more (drop size bytes))
 
 -- at most this number of frames
-abbrev pub cut_some : ℕ → ℕ → List ℕ → Cut
+abbrev pub cut_some : ℕ → ℕ → List ℕ → FrameCut
 cut_some limit zero bytes = Rest bytes
 cut_some limit (suc n) bytes = cut_after (front limit bytes) bytes (cut_some limit n)
 
 -- the frames of some bytes; there are no more frames than bytes
-unfoldable pub cut : ℕ → List ℕ → Cut
+unfoldable pub cut : ℕ → List ℕ → FrameCut
 cut limit bytes = cut_some limit (length bytes) bytes
 
 -- the bytes that were cut
-abbrev pub bytes_of : Cut → List ℕ
+abbrev pub bytes_of : FrameCut → List ℕ
 bytes_of (Rest bytes) = bytes
 bytes_of (Bad fault bytes) = bytes
 bytes_of (Then frame more) = framed frame ++ bytes_of more
 
 -- the frames before the rest
-abbrev pub frames_of : Cut → List Frame
+abbrev pub frames_of : FrameCut → List Frame
 frames_of (Rest bytes) = []
 frames_of (Bad fault bytes) = []
 frames_of (Then frame more) = frame ∷ frames_of more
 
 -- what comes after the last whole frame
-abbrev pub rest_of : Cut → List ℕ
+abbrev pub rest_of : FrameCut → List ℕ
 rest_of (Rest bytes) = bytes
 rest_of (Bad fault bytes) = bytes
 rest_of (Then frame more) = rest_of more
 
 -- the fault of a length, after the frames before it
-abbrev pub fault_of : Cut → Option FrameFault
-fault_of (Rest bytes) = None
-fault_of (Bad fault bytes) = Some fault
-fault_of (Then frame more) = fault_of more
+abbrev pub cut_fault : FrameCut → Option FrameFault
+cut_fault (Rest bytes) = None
+cut_fault (Bad fault bytes) = Some fault
+cut_fault (Then frame more) = cut_fault more
 
 -- these frames, and then the cut
-abbrev pub after_frames : List Frame → Cut → Cut
+abbrev pub after_frames : List Frame → FrameCut → FrameCut
 after_frames [] last = last
 after_frames (frame ∷ frames) last = Then frame (after_frames frames last)
 
 -- the fault of the first length that no frame may have
 abbrev pub fault_in : ℕ → List ℕ → Option FrameFault
-fault_in limit bytes = fault_of (cut limit bytes)
+fault_in limit bytes = cut_fault (cut limit bytes)

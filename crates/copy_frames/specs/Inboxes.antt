@@ -4,7 +4,7 @@ use Rattle.std.specs.Prelude.{◌≡◌, ℕ, Bool, true, false, List, [], ◌++
 use Rattle.copy_frames.specs.declared.fault.FrameFault.{FrameFault}
 use Rattle.copy_frames.specs.declared.fault.FrameFault.TheVariants.{BadLength, FrameTooLong, OutOfMemory}
 use Rattle.copy_frames.specs.declared.frame.Frame.{Frame}
-use Rattle.copy_frames.specs.Frames.{framed, IsFrame, Cut, Rest, Bad, Then, cut, fault_in}
+use Rattle.copy_frames.specs.Frames.{framed, IsFrame, FrameCut, Rest, Bad, Then, cut, fault_in}
 
 -- the limit on a frame's length, the bytes that were fed and not returned, and the fault that was returned
 pub record Inbox : Type 0 where
@@ -50,7 +50,7 @@ pub record GivesFrame (old : Inbox) (frame : Frame) (new : Inbox) : Type 0 where
   pub limit : new.limit ≡ old.limit
   pub fault : new.fault ≡ old.fault
 
-abbrev pub has_frame : Cut → Bool
+abbrev pub has_frame : FrameCut → Bool
 has_frame (Rest bytes) = false
 has_frame (Bad fault bytes) = false
 has_frame (Then frame more) = true

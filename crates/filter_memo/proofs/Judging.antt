@@ -14,7 +14,7 @@ use Rattle.filter_tree.specs.declared.filter.Filter.{Filter}
 use Rattle.filter_tree.specs.declared.tri.Tri.{Tri}
 use Rattle.filter_tree.specs.declared.tri.Tri.TheVariants.{True, False, Null}
 use Rattle.filter_memo.specs.Bits.{Adds, Joins, IsNothing}
-use Rattle.filter_memo.specs.Intervals.{AreAlike, IsWithin}
+use Rattle.filter_memo.specs.Intervals.{AreAlike, IsBetween}
 use Rattle.filter_memo.specs.Places.{IsPlace}
 use Rattle.filter_memo.specs.declared.interval.Interval.{Interval}
 use Rattle.filter_memo.specs.Telling.{part_at, has_number, told_at, Told, Tells, numbers_in, numbers_of, numbers_at, IsSettled, IsCell, IsInterval, AreCells, AreTold, Judges}
@@ -161,7 +161,7 @@ module _ {A : _} (parts : List (Filter A)) (scales : List Scale) (cells : Cells)
 
     -- values of an interval that are kept
     pub interval_before : (index : ℕ) (interval : Interval) → slice_get cells.intervals.items index ≡ Some interval
-        → interval.scale ≡ number → IsWithin (term_value scale.term row) interval.low interval.high
+        → interval.scale ≡ number → IsBetween (term_value scale.term row) interval.low interval.high
         → Judges parts scales cells (numbers_at scales number) row interval.said
     interval_before index interval found own within =
         let here : index < length cells.intervals.items =
@@ -177,7 +177,7 @@ module _ {A : _} (parts : List (Filter A)) (scales : List Scale) (cells : Cells)
 
     pub new_interval : (interval : Interval) → interval.scale ≡ number
         → AreAlike scale.bounds.items interval.low interval.high
-        → IsWithin (term_value scale.term row) interval.low interval.high
+        → IsBetween (term_value scale.term row) interval.low interval.high
         → Told parts scale.numbers.items row interval.said → IsInterval parts scales interval
     new_interval interval own alike within told = record {
       tells = λ other later found within_later.
@@ -188,7 +188,8 @@ module _ {A : _} (parts : List (Filter A)) (scales : List Scale) (cells : Cells)
           (All-get_or (IsSettled parts) scales number scale (slice_get_within scales number scale is) are.settled) in
           subst (λ (s : Scale). Told parts s.numbers.items later interval.said) (sym same)
           (settled.alike row later interval.low interval.high interval.said alike within
-          (subst (λ (s : Scale). IsWithin (term_value s.term later) interval.low interval.high) same within_later) told);
+          (subst (λ (s : Scale). IsBetween (term_value s.term later) interval.low interval.high) same within_later)
+          told);
     }
 
 -- ---- all scales

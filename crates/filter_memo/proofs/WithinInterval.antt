@@ -16,7 +16,7 @@ use Rattle.filter_tree.specs.declared.value.Value.TheVariants.{Null}
 use Rattle.filter_tree.proofs.OrderLemmas.{orders_values}
 use Rattle.filter_tree.proofs.Tests.{by_test}
 use Rattle.filter_memo.specs.Covering.{has}
-use Rattle.filter_memo.specs.Intervals.{is_outside, AreAlike, IsOne, AreOutside, IsWithin, HasNoNumber}
+use Rattle.filter_memo.specs.Intervals.{is_outside, AreAlike, IsOne, AreOutside, IsBetween, HasNoNumber}
 use Rattle.filter_memo.specs.Telling.{IsInterval}
 use Rattle.filter_memo.specs.declared.interval.Interval.{Interval}
 use Rattle.filter_memo.specs.declared.scale.Scale.{Scale}
@@ -68,7 +68,7 @@ by_one : (low high one other : ℤ) → low ≡ high → low ≤ℤ one → one 
 by_one low high one other same from upto from_other upto_other = omega (arith, ints)
 
 pub same_interval : {A : _} (bounds : List (Value A)) (v w : Datum) (low high : ℤ) → AreAlike bounds low high
-    → IsWithin v low high → IsWithin w low high → (constant : Constant) → has bounds constant ≡ true
+    → IsBetween v low high → IsBetween w low high → (constant : Constant) → has bounds constant ≡ true
     → datum_cmp (Known constant) v ≡ datum_cmp (Known constant) w
 same_interval bounds v w low high (IsOne same) at_v at_w constant h =
     let one : at_v.number ≡ at_w.number =

@@ -22,7 +22,7 @@ pub data AreAlike {A : _} (bounds : List (Value A)) (low high : ℤ) : Type 0 wh
   AreOutside : are_outside bounds low high ≡ true → AreAlike bounds low high
 
 -- the value is a number from `low` to `high`
-pub record IsWithin (datum : Datum) (low high : ℤ) : Type 0 where
+pub record IsBetween (datum : Datum) (low high : ℤ) : Type 0 where
   pub number : ℤ
   pub is : datum ≡ Known (Number number)
   pub from : low ≤ℤ number

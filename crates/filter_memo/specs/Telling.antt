@@ -8,7 +8,7 @@ use Rattle.filter_tree.specs.declared.filter.Filter.{Filter}
 use Rattle.filter_tree.specs.declared.tri.Tri.{Tri}
 use Rattle.filter_tree.specs.declared.tri.Tri.TheVariants.{False}
 use Rattle.filter_memo.specs.Bits.{said_at}
-use Rattle.filter_memo.specs.Intervals.{AreAlike, IsWithin, HasNoNumber}
+use Rattle.filter_memo.specs.Intervals.{AreAlike, IsBetween, HasNoNumber}
 use Rattle.filter_memo.specs.Places.{IsPlace}
 use Rattle.filter_memo.specs.declared.interval.Interval.{Interval}
 use Rattle.filter_memo.specs.declared.place.Place.{Place}
@@ -66,7 +66,7 @@ pub record IsSettled {A : _} (parts : List (Filter A)) (scale : Scale) : Type 0 
       → IsPlace scale.bounds.items (term_value scale.term other) place
       → Told parts scale.numbers.items one said → Told parts scale.numbers.items other said
   pub alike : (one other : List Datum) (low high : ℤ) (said : Said) → AreAlike scale.bounds.items low high
-      → IsWithin (term_value scale.term one) low high → IsWithin (term_value scale.term other) low high
+      → IsBetween (term_value scale.term one) low high → IsBetween (term_value scale.term other) low high
       → Told parts scale.numbers.items one said → Told parts scale.numbers.items other said
 
 abbrev pub AreSettled : {A : _} → List (Filter A) → List Scale → Type 0
@@ -83,7 +83,7 @@ IsCell parts scales (Some cell) = (scale : Scale) (row : List Datum) → slice_g
 -- what is kept is what the scale's filters say of each row in the interval
 pub record IsInterval {A : _} (parts : List (Filter A)) (scales : List Scale) (interval : Interval) : Type 0 where
   pub tells : (scale : Scale) (row : List Datum) → slice_get scales interval.scale ≡ Some scale
-      → IsWithin (term_value scale.term row) interval.low interval.high
+      → IsBetween (term_value scale.term row) interval.low interval.high
       → Told parts scale.numbers.items row interval.said
 
 pub record AreCells {A : _} (parts : List (Filter A)) (scales : List Scale) (cells : Cells) : Type 0 where

@@ -7,15 +7,15 @@ use Rattle.std.specs.FinMap.{IsAntisymmetric, nat_cmp-IsAntisymmetric, int_cmp-I
 use Rattle.std.specs.declared.cmp.Ordering.{Ordering}
 use Rattle.std.specs.declared.cmp.Ordering.TheVariants.{Less, Equal, Greater}
 use Rattle.filter_tree.specs.Datum.{Constant, Number, Truth, Bytes, Missing, Known}
-use Rattle.filter_tree.specs.Order.{rank_of, number_of, truth_of, bytes_of, datum_cmp, row_cmp, OrdersValues, TiesSameRows}
+use Rattle.filter_tree.specs.Order.{datum_rank, datum_number, datum_truth, datum_bytes, datum_cmp, row_cmp, OrdersValues, TiesSameRows}
 use Rattle.filter_tree.specs.Same.{same_row}
 use Rattle.filter_tree.proofs.SameLemmas.{equal_from_same_row, same_row_of_equal}
 
 -- ---- total
 
 pub datum_total : IsTotalOrder datum_cmp
-datum_total = then_total (on_total rank_of nat_cmp_total) (then_total (on_total number_of int_cmp_total)
-    (then_total (on_total truth_of bool_cmp_total) (on_total bytes_of nat_list_cmp_total)))
+datum_total = then_total (on_total datum_rank nat_cmp_total) (then_total (on_total datum_number int_cmp_total)
+    (then_total (on_total datum_truth bool_cmp_total) (on_total datum_bytes nat_list_cmp_total)))
 
 pub row_total : IsTotalOrder row_cmp
 row_total = lists_total datum_total

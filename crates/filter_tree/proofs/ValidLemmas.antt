@@ -12,7 +12,7 @@ use Rattle.std.specs.Cmp.{decided, unsigned_Decides}
 use Rattle.std.specs.Int.Signed.{le_z_yes}
 use Rattle.filter_tree.specs.Datum.{Constant, Number, Truth, Bytes, Datum, Missing, Known, value_at}
 use Rattle.filter_tree.specs.Range.{least_of, greatest_of}
-use Rattle.filter_tree.specs.Valid.{IsWithin, IsText, IsOf, Fits, IsValid, number_fault, text_fault, bytes_fault, constant_fault, value_fault, first_of, columns_fault, row_fault}
+use Rattle.filter_tree.specs.Valid.{IsWithin, IsText, IsOf, Fits, IsValid, number_fault, string_fault, bytes_fault, constant_fault, value_fault, first_row_fault, columns_fault, row_fault}
 use Rattle.filter_tree.specs.declared.table.ColType.{ColType}
 use Rattle.filter_tree.specs.declared.table.ColType.TheVariants.{SmallInt, Integer, BigInt, Boolean, Text}
 use Rattle.filter_tree.specs.declared.table.Column.{Column}
@@ -51,7 +51,7 @@ zero_in bytes h = Contains-from_any {eq = λ x y. y == x} (λ x y. (swapped_deci
 at_most : (m n : ℕ) → m ≤ n → nat_le m n ≡ true
 at_most m n h = grind (arith, nat_tests)
 
-text_fits : (k : ℕ) (bytes : List ℕ) → text_fault k bytes ≡ None → IsText bytes
+text_fits : (k : ℕ) (bytes : List ℕ) → string_fault k bytes ≡ None → IsText bytes
 text_fits k bytes h = by_test (list_any (λ byte. byte == 0) bytes)
     (λ found. absurd (let clash = rw found at h in cc))
     (λ missed. let short = rw missed at h in record {
@@ -59,7 +59,7 @@ text_fits k bytes h = by_test (list_any (λ byte. byte == 0) bytes)
       short = leb-true _ _ (passed _ _ short);
     })
 
-fits_text : (k : ℕ) (bytes : List ℕ) → IsText bytes → text_fault k bytes ≡ None
+fits_text : (k : ℕ) (bytes : List ℕ) → IsText bytes → string_fault k bytes ≡ None
 fits_text k bytes h = by_test (list_any (λ byte. byte == 0) bytes)
     (λ found. absurd (h.no_zero (zero_in bytes found)))
     (λ missed. let short = at_most (length bytes) 65535 h.short in rw (missed, short) refl)
@@ -71,12 +71,12 @@ unless_fault true later fault h = (refl, h)
 unless_fault false later fault h = absurd cc
 
 -- for bytes that are UTF-8 only the text's fault is left
-pub utf8_fault : (k : ℕ) (bytes : List ℕ) → IsUtf8 bytes → bytes_fault k bytes ≡ text_fault k bytes
+pub utf8_fault : (k : ℕ) (bytes : List ℕ) → IsUtf8 bytes → bytes_fault k bytes ≡ string_fault k bytes
 utf8_fault k bytes utf8 = rw (is_utf8-from_IsUtf8 bytes utf8) refl
 
 bytes_fit : (k : ℕ) (bytes : List ℕ) → bytes_fault k bytes ≡ None → IsUtf8 bytes × IsText bytes
 bytes_fit k bytes h =
-    let both = unless_fault (is_utf8 bytes) (text_fault k bytes) (WrongType k) h in
+    let both = unless_fault (is_utf8 bytes) (string_fault k bytes) (WrongType k) h in
     (IsUtf8-from_is_utf8 bytes both.0, text_fits k bytes both.1)
 
 fits_bytes : (k : ℕ) (bytes : List ℕ) → IsUtf8 bytes × IsText bytes → bytes_fault k bytes ≡ None
@@ -130,7 +130,7 @@ fits_value : (k : ℕ) (column : Column) (value : Datum) → Fits column value �
 fits_value k column Missing h = rw h refl
 fits_value k column (Known constant) h = fits_constant k column.kind constant h
 
-first_of_none : (f g : Option RowFault) → first_of f g ≡ None → (f ≡ None) × (g ≡ None)
+first_of_none : (f g : Option RowFault) → first_row_fault f g ≡ None → (f ≡ None) × (g ≡ None)
 first_of_none None g h = (refl, h)
 first_of_none (Some f) g h = absurd cc
 

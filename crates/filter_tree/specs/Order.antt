@@ -11,29 +11,29 @@ use Rattle.filter_tree.specs.Same.{same_row}
 
 -- Null comes before all else. No column has values of two kinds; between them the order is numbers, truth values,
 -- texts.
-abbrev pub rank_of : Datum → ℕ
-rank_of Missing = 0
-rank_of (Known (Number number)) = 1
-rank_of (Known (Truth truth)) = 2
-rank_of (Known (Bytes bytes)) = 3
+abbrev pub datum_rank : Datum → ℕ
+datum_rank Missing = 0
+datum_rank (Known (Number number)) = 1
+datum_rank (Known (Truth truth)) = 2
+datum_rank (Known (Bytes bytes)) = 3
 
 -- for a value of each kind, what distinguishes it from the others of its kind
-abbrev pub number_of : Datum → ℤ
-number_of (Known (Number number)) = number
-number_of value = pos 0
+abbrev pub datum_number : Datum → ℤ
+datum_number (Known (Number number)) = number
+datum_number value = pos 0
 
-abbrev pub truth_of : Datum → Bool
-truth_of (Known (Truth truth)) = truth
-truth_of value = false
+abbrev pub datum_truth : Datum → Bool
+datum_truth (Known (Truth truth)) = truth
+datum_truth value = false
 
-abbrev pub bytes_of : Datum → List ℕ
-bytes_of (Known (Bytes bytes)) = bytes
-bytes_of value = []
+abbrev pub datum_bytes : Datum → List ℕ
+datum_bytes (Known (Bytes bytes)) = bytes
+datum_bytes value = []
 
 -- by kind, numbers by their size, FALSE before TRUE, texts byte by byte
 abbrev pub datum_cmp : Datum → Datum → Ordering
-datum_cmp = then_cmp (on rank_of nat_cmp) (then_cmp (on number_of int_cmp)
-    (then_cmp (on truth_of bool_cmp) (on bytes_of (slice_cmp nat_cmp))))
+datum_cmp = then_cmp (on datum_rank nat_cmp) (then_cmp (on datum_number int_cmp)
+    (then_cmp (on datum_truth bool_cmp) (on datum_bytes (slice_cmp nat_cmp))))
 
 -- by the first column in which they differ; a row that is the beginning of another comes before it
 abbrev pub row_cmp : List Datum → List Datum → Ordering

@@ -47,14 +47,14 @@ abbrev pub number_fault : ℕ → ColType → ℤ → Option RowFault
 number_fault column kind number =
     if int_le (least_of kind) number && int_le number (greatest_of kind) then None else Some (OutOfRange column)
 
-abbrev pub text_fault : ℕ → List ℕ → Option RowFault
-text_fault column bytes =
+abbrev pub string_fault : ℕ → List ℕ → Option RowFault
+string_fault column bytes =
     if list_any (λ byte. byte == 0) bytes then Some (NulInText column)
     else (if nat_le (length bytes) 65535 then None else Some (TextTooLong column))
 
 -- bytes that are not UTF-8 have no column's type
 abbrev pub bytes_fault : ℕ → List ℕ → Option RowFault
-bytes_fault column bytes = if is_utf8 bytes then text_fault column bytes else Some (WrongType column)
+bytes_fault column bytes = if is_utf8 bytes then string_fault column bytes else Some (WrongType column)
 
 abbrev pub constant_fault : ℕ → ColType → Constant → Option RowFault
 constant_fault column SmallInt (Number number) = number_fault column SmallInt number
@@ -70,15 +70,15 @@ value_fault number column Missing = if column.not_null then Some (NullInNotNull 
 value_fault number column (Known constant) = constant_fault number column.kind constant
 
 -- the first of two faults
-abbrev pub first_of : Option RowFault → Option RowFault → Option RowFault
-first_of None later = later
-first_of (Some fault) later = Some fault
+abbrev pub first_row_fault : Option RowFault → Option RowFault → Option RowFault
+first_row_fault None later = later
+first_row_fault (Some fault) later = Some fault
 
 -- the first fault in these columns, the first of which has this number
 abbrev pub columns_fault : ℕ → List Column → List Datum → Option RowFault
 columns_fault number [] row = None
 columns_fault number (column ∷ columns) row =
-    first_of (value_fault number column (value_at row number)) (columns_fault (number + 1) columns row)
+    first_row_fault (value_fault number column (value_at row number)) (columns_fault (number + 1) columns row)
 
 -- the first fault of a row: its width, or else the first in the order of the columns
 abbrev pub row_fault : List Column → List Datum → Option RowFault

@@ -7,7 +7,7 @@ ghost use Rattle.std.specs.FinMap.{IsAntisymmetric};
 ghost use Rattle.std.specs.Ordering.{on, is_ne, eq_by_cmp, as_partial_cmp};
 ghost use Rattle.std.proofs.Common.{rules};
 ghost use Rattle.filter_tree.specs.Datum.{Known, Number};
-ghost use Rattle.filter_tree.specs.Order.{rank_of, datum_cmp, row_cmp, OrdersValues, TiesSameRows};
+ghost use Rattle.filter_tree.specs.Order.{datum_rank, datum_cmp, row_cmp, OrdersValues, TiesSameRows};
 ghost use Rattle.filter_tree.specs.Values.{datum_view};
 
 use crate::value::{Row, Value};
@@ -66,7 +66,7 @@ impl<A: Allocator> Ord for Value<A> {
 
 /// The place of the value's kind in the order, null first.
 fn rank<A: Allocator>(value: &Value<A>) -> u8
-    ensures { result ≡ rank_of (datum_view value.now) }
+    ensures { result ≡ datum_rank (datum_view value.now) }
 {
     match value {
         Value::Null => 0,

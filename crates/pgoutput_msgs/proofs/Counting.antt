@@ -3,7 +3,7 @@ use Rattle.std.proofs.Common.{◌≡◌, ℕ, suc, ◌-◌, ◌+◌, ◌≤◌, 
 use Rattle.filter_tree.specs.Memory.{TellsFault}
 use Rattle.pgoutput_msgs.specs.declared.error.MsgError.{MsgError}
 use Rattle.pgoutput_msgs.specs.declared.error.MsgError.TheVariants.{Unknown, Toast, BadCount, Short, BadText, Trailing, OutOfMemory}
-use Rattle.pgoutput_msgs.specs.Reading.{Outcome, Rule, pure, and_then, mapped, many, told}
+use Rattle.pgoutput_msgs.specs.Reading.{Outcome, Rule, pure, and_then, mapped, many, msg_fault}
 
 -- what was read before, and what is still read
 abbrev pub with_front : {A : Type 0} → List A → Outcome (List A) → Outcome (List A)
@@ -43,7 +43,8 @@ fails {A = A} rule n front bytes fault read =
     (and_then outcome (λ x. mapped (λ others. x ∷ others) (many rule n)))) read
 
 told_on : {A : Type 0} (rule : Rule A) (n : ℕ) (front : List A) (bytes : List ℕ) (error : MsgError)
-    → TellsFault (told error) (rule bytes) → TellsFault (told error) (with_front front (many rule (suc n) bytes))
+    → TellsFault (msg_fault error) (rule bytes)
+    → TellsFault (msg_fault error) (with_front front (many rule (suc n) bytes))
 told_on rule n front bytes (Unknown found) h = fails rule n front bytes (Unknown found) h
 told_on rule n front bytes Toast h = fails rule n front bytes Toast h
 told_on rule n front bytes BadCount h = fails rule n front bytes BadCount h
@@ -53,8 +54,8 @@ told_on rule n front bytes Trailing h = fails rule n front bytes Trailing h
 told_on rule n front bytes OutOfMemory h = tt
 
 pub ends : {A : Type 0} (rule : Rule A) (front : List A) (count i : ℕ) (bytes : List ℕ) (error : MsgError)
-    (total : Outcome (List A)) → i < count → TellsFault (told error) (rule bytes)
-    → with_front front (many rule (count - i) bytes) ≡ total → TellsFault (told error) total
+    (total : Outcome (List A)) → i < count → TellsFault (msg_fault error) (rule bytes)
+    → with_front front (many rule (count - i) bytes) ≡ total → TellsFault (msg_fault error) total
 ends {A = A} rule front count i bytes error total within failed so_far =
     let more : count - i ≡ suc (count - (i + 1)) = omega arith in
     let same : with_front front (many rule (suc (count - (i + 1))) bytes) ≡ total =

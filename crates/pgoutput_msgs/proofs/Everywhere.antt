@@ -13,7 +13,7 @@ use Rattle.table_changes.specs.Outs.{got}
 use Rattle.table_changes.specs.Records as r
 use Rattle.tables_log.specs.Commits.{CommitOf}
 use Rattle.tables_log.specs.Sendable.{IsSendableRow, IsSendablePart, IsTableNumber, IsSendableChange, IsSendable}
-use Rattle.pgoutput_msgs.specs.Telling.{relation_of, relation_at, introduced, relation_once, relations_of, told_one, message_of, named_in, said, told_by, said_each, enclosed, begin_of, commit_of, messages_for}
+use Rattle.pgoutput_msgs.specs.Telling.{relation_of, a_relation, introduced, relation_once, relations_of, told_one, message_of, named_in, said, told_by, said_each, enclosed, begin_msg, commit_msg, messages_for}
 use Rattle.pgoutput_msgs.specs.declared.message.Msg.{Msg}
 use Rattle.pgoutput_msgs.specs.declared.message.Msg.TheVariants as m
 
@@ -105,7 +105,7 @@ pub record Everywhere (P : Msg → Type 0) (tables : List Table) : Type 0 where
 
 module _ (P : Msg → Type 0) where
   one_relation : (number : ℕ) (found : Option Table)
-      → IfSome found (λ table. P (m.Relation (relation_of number table))) → All P (relation_at number found)
+      → IfSome found (λ table. P (m.Relation (relation_of number table))) → All P (a_relation number found)
   one_relation number None h = All-nil P
   one_relation number (Some table) h = all_one P (m.Relation (relation_of number table)) h
 
@@ -144,17 +144,17 @@ module _ (P : Msg → Type 0) where
       (got_sendable checked subscriber change (all 0 change (omega arith))))
       (all_said checked subscriber holds (told_by sent mine) changes (λ k d h. all (suc k) d (omega (arith, h))))
 
-  all_enclosed : (commit : CommitOf) (messages : List Msg) → P (begin_of commit) → P (commit_of commit)
+  all_enclosed : (commit : CommitOf) (messages : List Msg) → P (begin_msg commit) → P (commit_msg commit)
       → All P messages → All P (enclosed commit messages)
   all_enclosed commit [] begins ends all = All-nil P
   all_enclosed commit (first ∷ others) begins ends all =
-      All-append P (begin_of commit ∷ []) ((first ∷ others) ++ commit_of commit ∷ [])
-      (all_one P (begin_of commit) begins)
-      (All-append P (first ∷ others) (commit_of commit ∷ []) all (all_one P (commit_of commit) ends))
+      All-append P (begin_msg commit ∷ []) ((first ∷ others) ++ commit_msg commit ∷ [])
+      (all_one P (begin_msg commit) begins)
+      (All-append P (first ∷ others) (commit_msg commit ∷ []) all (all_one P (commit_msg commit) ends))
 
   pub all_messages : (checked : CheckedOf) (subscriber : ℕ) (sent : List Bool) (commit : CommitOf) → IsSendable commit
       → Everywhere P checked.catalog.tables
-      → P (begin_of commit) → P (commit_of commit) → All P (messages_for checked subscriber sent commit)
+      → P (begin_msg commit) → P (commit_msg commit) → All P (messages_for checked subscriber sent commit)
   all_messages checked subscriber sent commit h holds begins ends =
       all_enclosed commit (said_each checked subscriber sent commit.changes) begins ends
       (all_said checked subscriber holds sent commit.changes h.changed)

@@ -7,7 +7,7 @@ use Rattle.std.proofs.lemmas.Bool.{eqb-true, eqb-false}
 use Rattle.std.proofs.lemmas.List.Concat.{flat_map-cons}
 use Rattle.pgoutput_msgs.specs.declared.error.MsgError.{MsgError}
 use Rattle.pgoutput_msgs.specs.Laws.{IsBytes}
-use Rattle.pgoutput_msgs.specs.Reading.{Outcome, Rule, pure, fail, and_then, ◌>>=◌, mapped, ◌&◌, tested, passed, many}
+use Rattle.pgoutput_msgs.specs.Reading.{Outcome, Rule, pure, fail, and_then, ◌>>=◌, mapped, ◌&◌, if_passed, passed, many}
 
 -- what was taken from the front of some bytes
 pub record Takes {A : Type 0} (spell : A → List ℕ) (Fits : A → Type 0) (bytes : List ℕ) (a : A) (rest : List ℕ) : Type
@@ -175,7 +175,7 @@ exact_both {A = A} {B = B} rule spell Fits other spell_other FitsOther one two =
 
 -- a test that is passed
 tested_ok : {A : Type 0} (test : Bool) (fault : MsgError) (a b : A) (bytes rest : List ℕ)
-    → tested test fault a bytes ≡ Ok (b, rest) → (test ≡ true) × ((a ≡ b) × (bytes ≡ rest))
+    → if_passed test fault a bytes ≡ Ok (b, rest) → (test ≡ true) × ((a ≡ b) × (bytes ≡ rest))
 tested_ok true fault a b bytes rest e = (refl, same_read a b bytes rest e)
 tested_ok false fault a b bytes rest e = absurd (never fault b rest e)
 
@@ -187,7 +187,7 @@ pub exact_passed : {A : Type 0} (test : A → Bool) (fault : MsgError) (rule : R
     → Exact (passed test fault rule) spell FitsTest
 exact_passed {A = A} test fault rule spell Fits FitsTest one holds told = record {
   takes = λ bytes b rest is_bytes e.
-      let parts = bound (rule bytes) (λ a. tested (test a) fault a) b rest e in
+      let parts = bound (rule bytes) (λ a. if_passed (test a) fault a) b rest e in
       let t = one.takes bytes parts.value parts.middle is_bytes parts.first in
       let ok = tested_ok (test parts.value) fault parts.value b parts.middle rest parts.second in
       record {
@@ -197,8 +197,9 @@ exact_passed {A = A} test fault rule spell Fits FitsTest one holds told = record
         left = subst IsBytes ok.1.1 t.left;
       };
   again = λ b rest fits.
-      ap (λ (outcome : Outcome A). and_then outcome (λ a. tested (test a) fault a)) (one.again b rest (told b fits).1)
-      ∙ ap (λ (passes : Bool). tested passes fault b rest) (told b fits).0;
+      ap (λ (outcome : Outcome A). and_then outcome (λ a. if_passed (test a) fault a))
+      (one.again b rest (told b fits).1)
+      ∙ ap (λ (passes : Bool). if_passed passes fault b rest) (told b fits).0;
 }
 
 -- a number of values, one after the other

@@ -14,7 +14,7 @@ use Rattle.pgoutput_msgs.specs.declared.error.MsgError.{MsgError}
 use Rattle.pgoutput_msgs.specs.declared.error.MsgError.TheVariants.{Short, BadCount, BadText}
 use Rattle.pgoutput_msgs.specs.Laws.{IsBytes}
 use Rattle.pgoutput_msgs.specs.Ranges.{IsName}
-use Rattle.pgoutput_msgs.specs.Reading.{pure, ◌>>=◌, tested, byte, some, number, count16, count32, cut_at, up_to_zero, utf8_text, string_at, text_at}
+use Rattle.pgoutput_msgs.specs.Reading.{pure, ◌>>=◌, if_passed, byte, some, big_endian, count16, count32, cut_at, up_to_zero, utf8_text, string_at, text_at}
 use Rattle.pgoutput_msgs.specs.Spelling.{int8, int16, int32, int64, string}
 use Rattle.pgoutput_msgs.proofs.Exact.{Exact, Takes, done, same_read, never, bound, exact_then, exact_passed}
 
@@ -113,9 +113,9 @@ wide64 = record {
 }
 
 number_takes : (w : Width) (limit : ℕ) (wide : IsWide w limit) (bytes : List ℕ) (n : ℕ) (rest : List ℕ)
-    → IsBytes bytes → number w bytes ≡ Ok (n, rest)
+    → IsBytes bytes → big_endian w bytes ≡ Ok (n, rest)
     → Takes (to_be_bytes w) (λ m. m < limit) bytes n rest
-unfolding number
+unfolding big_endian
 number_takes w limit wide bytes n rest is_bytes e =
     let parts = bound (some (byte_len w) bytes) (λ x. pure (from_be_bytes w x)) n rest e in
     let found = some_takes (byte_len w) bytes parts.value parts.middle parts.first in
@@ -135,32 +135,34 @@ number_takes w limit wide bytes n rest is_bytes e =
     }
 
 number_again : (w : Width) (limit : ℕ) (wide : IsWide w limit) (n : ℕ) (rest : List ℕ) → n < limit
-    → number w (to_be_bytes w n ++ rest) ≡ Ok (n, rest)
-unfolding number
+    → big_endian w (to_be_bytes w n ++ rest) ≡ Ok (n, rest)
+unfolding big_endian
 number_again w limit wide n rest fits =
     rw (some_again (byte_len w) (to_be_bytes w n) rest (wide.long n), wide.again n fits) refl
 
-exact_wide : (w : Width) (limit : ℕ) → IsWide w limit → Exact (number w) (to_be_bytes w) (λ n. n < limit)
+exact_wide : (w : Width) (limit : ℕ) → IsWide w limit → Exact (big_endian w) (to_be_bytes w) (λ n. n < limit)
 exact_wide w limit wide = record { takes = number_takes w limit wide; again = number_again w limit wide }
 
-pub exact_int16 : Exact (number w16) int16 (λ n. n < 2 ^ 16)
+pub exact_int16 : Exact (big_endian w16) int16 (λ n. n < 2 ^ 16)
 exact_int16 = exact_wide w16 (2 ^ 16) wide16
 
-pub exact_int32 : Exact (number w32) int32 (λ n. n < 2 ^ 32)
+pub exact_int32 : Exact (big_endian w32) int32 (λ n. n < 2 ^ 32)
 exact_int32 = exact_wide w32 (2 ^ 32) wide32
 
-pub exact_int64 : Exact (number w64) int64 (λ n. n < 2 ^ 64)
+pub exact_int64 : Exact (big_endian w64) int64 (λ n. n < 2 ^ 64)
 exact_int64 = exact_wide w64 (2 ^ 64) wide64
 
 pub exact_count16 : Exact count16 int16 (λ n. n < 2 ^ 15)
 unfolding count16
-exact_count16 = exact_passed (λ n. nat_lt n (2 ^ 15)) BadCount (number w16) int16 (λ n. n < 2 ^ 16) (λ n. n < 2 ^ 15)
+exact_count16 =
+    exact_passed (λ n. nat_lt n (2 ^ 15)) BadCount (big_endian w16) int16 (λ n. n < 2 ^ 16) (λ n. n < 2 ^ 15)
     exact_int16
     (λ n fits e. ltb-true _ _ e) (λ n fits. (lt-ltb _ _ fits, omega (arith, fits)))
 
 pub exact_count32 : Exact count32 int32 (λ n. n < 2 ^ 31)
 unfolding count32
-exact_count32 = exact_passed (λ n. nat_lt n (2 ^ 31)) BadCount (number w32) int32 (λ n. n < 2 ^ 32) (λ n. n < 2 ^ 31)
+exact_count32 =
+    exact_passed (λ n. nat_lt n (2 ^ 31)) BadCount (big_endian w32) int32 (λ n. n < 2 ^ 32) (λ n. n < 2 ^ 31)
     exact_int32
     (λ n fits e. ltb-true _ _ e) (λ n fits. (lt-ltb _ _ fits, omega (arith, fits)))
 
@@ -267,7 +269,7 @@ pub utf8_read : (bytes rest : List ℕ) → IsUtf8 bytes → utf8_text bytes res
 unfolding utf8_text
 utf8_read bytes rest is = rw (is_utf8-from_IsUtf8 bytes is) refl
 
-not_utf8 : (test : Bool) (bytes rest : List ℕ) → (test ≡ true → ⊥) → tested test BadText bytes rest ≡ Err BadText
+not_utf8 : (test : Bool) (bytes rest : List ℕ) → (test ≡ true → ⊥) → if_passed test BadText bytes rest ≡ Err BadText
 not_utf8 true bytes rest none = absurd (none refl)
 not_utf8 false bytes rest none = refl
 

@@ -13,7 +13,7 @@ use Rattle.table_changes.specs.Outs.{got}
 use Rattle.table_changes.specs.Records as r
 use Rattle.tables_log.specs.Commits.{CommitOf}
 use Rattle.pgoutput_msgs.specs.Introducing.{IsIntroduced, known_after, AreIntroduced, AreTold, IsChangeOf, IsOf, messages_in_turn, told_in_turn, Introduces, CommitsIntroduce, CommitsInTurnIntroduce}
-use Rattle.pgoutput_msgs.specs.Telling.{oid_of, relation_at, introduced, relation_once, relation_of, relations_of, told_one, told_all, named_in, message_of, said, told_by, said_each, told_each, begin_of, commit_of, enclosed, messages_for, told_after}
+use Rattle.pgoutput_msgs.specs.Telling.{oid_of, a_relation, introduced, relation_once, relation_of, relations_of, told_one, told_all, named_in, message_of, said, told_by, said_each, told_each, begin_msg, commit_msg, enclosed, messages_for, told_after}
 use Rattle.pgoutput_msgs.specs.declared.message.Msg.{Msg}
 use Rattle.pgoutput_msgs.specs.declared.message.Msg.TheVariants as m
 
@@ -91,7 +91,7 @@ new_relation sent number table within is_new = record {
 
 one_by : (tables : List Table) (sent : List Bool) (number : ℕ) (found : Option Table)
     → slice_get tables number ≡ found → number < length tables → number < length sent → is_told sent number ≡ false
-    → Introduces sent (told_one sent number) (relation_at number found)
+    → Introduces sent (told_one sent number) (a_relation number found)
 one_by tables sent number None e there within is_new = absurd (missing tables number there e)
   where
     missing : (xs : List Table) (i : ℕ) → i < length xs → slice_get xs i ≡ None → ⊥
@@ -299,10 +299,10 @@ between : (sent after : List Bool) (commit : CommitOf) (messages : List Msg) →
     → Introduces sent after (enclosed commit messages)
 between sent after commit [] h = h
 between sent after commit (first ∷ others) h =
-    both sent sent after (begin_of commit ∷ []) ((first ∷ others) ++ commit_of commit ∷ [])
-    (one_message sent (begin_of commit) (λ known is. tt) (λ known. refl))
-    (both sent after after (first ∷ others) (commit_of commit ∷ []) h
-    (one_message after (commit_of commit) (λ known is. tt) (λ known. refl)))
+    both sent sent after (begin_msg commit ∷ []) ((first ∷ others) ++ commit_msg commit ∷ [])
+    (one_message sent (begin_msg commit) (λ known is. tt) (λ known. refl))
+    (both sent after after (first ∷ others) (commit_msg commit ∷ []) h
+    (one_message after (commit_msg commit) (λ known is. tt) (λ known. refl)))
 
 pub commits_introduce : CommitsIntroduce
 commits_introduce checked subscriber sent commit long of =

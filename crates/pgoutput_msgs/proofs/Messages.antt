@@ -9,8 +9,8 @@ use Rattle.pgoutput_msgs.specs.declared.tuple.Cell.{Cell}
 use Rattle.pgoutput_msgs.specs.declared.tuple.OldTuple.{OldTuple}
 use Rattle.pgoutput_msgs.specs.declared.tuple.OldTuple.TheVariants.{Key, Full}
 use Rattle.pgoutput_msgs.specs.Ranges.{IsTuple, IsOld, IsMaybeOld, IsOid, IsMessage}
-use Rattle.pgoutput_msgs.specs.Reading.{fail, ◌>>=◌, mapped, ◌&◌, many, byte, number, count32, string_at, tuple_at, old_by, new_at, identity_at, columns_at, begin_at, commit_by, commit_at, relation_at, insert_at, rows_by, update_at, delete_at, truncate_at, message_by, message_at}
-use Rattle.pgoutput_msgs.specs.Spelling.{int8, int32, int64, tuple_spelling, old_spelling, maybe_old_spelling, new_spelling, letter, fields_spelling, spelling_of}
+use Rattle.pgoutput_msgs.specs.Reading.{fail, ◌>>=◌, mapped, ◌&◌, many, byte, big_endian, count32, string_at, tuple_at, old_by, new_at, identity_at, relation_columns_at, begin_at, commit_by, commit_at, relation_at, insert_at, rows_by, update_at, delete_at, truncate_at, message_by, message_at}
+use Rattle.pgoutput_msgs.specs.Spelling.{int8, int32, int64, tuple_spelling, old_spelling, maybe_old_spelling, new_spelling, msg_letter, fields_spelling, spelling_of}
 use Rattle.pgoutput_msgs.proofs.Exact.{Exact, exact_then, exact_as, exact_fail, exact_if, exact_mapped, exact_both}
 use Rattle.pgoutput_msgs.proofs.Fields.{exact_byte, exact_int32, exact_int64, exact_count32}
 use Rattle.pgoutput_msgs.proofs.RelationRules.{relation_fields, relation_of, RelationFits, relation_parts, exact_relation_fields}
@@ -19,7 +19,7 @@ use Rattle.pgoutput_msgs.proofs.TupleRules.{many_all, old_letter, old_rest, exac
 -- ---- messages, after their letter
 
 abbrev Is : ℕ → Msg → Type 0
-Is first message = (letter message ≡ first) × IsMessage message
+Is first message = (msg_letter message ≡ first) × IsMessage message
 
 abbrev three : (ℕ × (ℕ × ℕ)) → List ℕ
 three f = int64 f.0 ++ (int64 f.1.0 ++ int64 f.1.1)
@@ -37,13 +37,13 @@ begin_back (m.Truncate a b) h = absurd (omega (arith, h.0))
 exact_begin : Exact begin_at fields_spelling (Is 66)
 unfolding begin_at
 exact_begin =
-    exact_mapped (number w64 & number w64 & number w32) (λ f. int64 f.0 ++ (int64 f.1.0 ++ int32 f.1.1))
+    exact_mapped (big_endian w64 & big_endian w64 & big_endian w32) (λ f. int64 f.0 ++ (int64 f.1.0 ++ int32 f.1.1))
     (λ f. (f.0 < 2 ^ 64) × ((f.1.0 < 2 ^ 64) × (f.1.1 < 2 ^ 32)))
     (λ f. m.Begin f.0 f.1.0 f.1.1) fields_spelling (Is 66)
-    (exact_both (number w64) int64 (λ n. n < 2 ^ 64) (number w64 & number w32) (λ f. int64 f.0 ++ int32 f.1)
+    (exact_both (big_endian w64) int64 (λ n. n < 2 ^ 64) (big_endian w64 & big_endian w32) (λ f. int64 f.0 ++ int32 f.1)
     (λ f. (f.0 < 2 ^ 64) × (f.1 < 2 ^ 32)) exact_int64
-    (exact_both (number w64) int64 (λ n. n < 2 ^ 64) (number w32) int32 (λ n. n < 2 ^ 32) exact_int64 exact_int32))
-    (λ f fits. (refl, (refl, fits))) begin_back
+    (exact_both (big_endian w64) int64 (λ n. n < 2 ^ 64) (big_endian w32) int32
+    (λ n. n < 2 ^ 32) exact_int64 exact_int32)) (λ f fits. (refl, (refl, fits))) begin_back
 
 abbrev no_flags : Msg → ℕ
 no_flags message = 0
@@ -64,15 +64,15 @@ commit_rest message = drop 1 (fields_spelling message)
 
 exact_commit_by : (flags : ℕ) → Exact (commit_by flags) commit_rest (λ x. (no_flags x ≡ flags) × Is 67 x)
 exact_commit_by flags =
-    exact_if flags 0 (mapped (λ f. m.Commit f.0 f.1.0 f.1.1) (number w64 & number w64 & number w64))
+    exact_if flags 0 (mapped (λ f. m.Commit f.0 f.1.0 f.1.1) (big_endian w64 & big_endian w64 & big_endian w64))
     (fail (Unknown flags)) commit_rest (Is 67) no_flags
-    (exact_mapped (number w64 & number w64 & number w64) three
+    (exact_mapped (big_endian w64 & big_endian w64 & big_endian w64) three
     (λ f. (f.0 < 2 ^ 64) × ((f.1.0 < 2 ^ 64) × (f.1.1 < 2 ^ 64)))
     (λ f. m.Commit f.0 f.1.0 f.1.1) commit_rest (λ x. (no_flags x ≡ 0) × Is 67 x)
-    (exact_both (number w64) int64 (λ n. n < 2 ^ 64) (number w64 & number w64) (λ f. int64 f.0 ++ int64 f.1)
+    (exact_both (big_endian w64) int64 (λ n. n < 2 ^ 64) (big_endian w64 & big_endian w64) (λ f. int64 f.0 ++ int64 f.1)
     (λ f. (f.0 < 2 ^ 64) × (f.1 < 2 ^ 64)) exact_int64
-    (exact_both (number w64) int64 (λ n. n < 2 ^ 64) (number w64) int64 (λ n. n < 2 ^ 64) exact_int64 exact_int64))
-    (λ f fits. (refl, (refl, (refl, fits)))) commit_back)
+    (exact_both (big_endian w64) int64 (λ n. n < 2 ^ 64) (big_endian w64) int64
+    (λ n. n < 2 ^ 64) exact_int64 exact_int64)) (λ f fits. (refl, (refl, (refl, fits)))) commit_back)
     (λ p. exact_fail (Unknown flags) commit_rest (λ x. (no_flags x ≡ flags) × Is 67 x) (λ x h. p (sym h.0)))
 
 commit_is : (x : Msg) → Is 67 x → 0 ∷ commit_rest x ≡ fields_spelling x
@@ -107,7 +107,8 @@ relation_back (m.Truncate a b) h = absurd (omega (arith, h.0))
 exact_relation : Exact relation_at fields_spelling (Is 82)
 unfolding relation_at
 exact_relation =
-    exact_mapped (number w32 & string_at & string_at & identity_at & columns_at) relation_parts RelationFits
+    exact_mapped
+    (big_endian w32 & string_at & string_at & identity_at & relation_columns_at) relation_parts RelationFits
     (λ f. m.Relation (relation_of f)) fields_spelling (Is 82) exact_relation_fields
     (λ f fits. (
       refl,
@@ -136,9 +137,9 @@ insert_back (m.Truncate a b) h = absurd (omega (arith, h.0))
 exact_insert : Exact insert_at fields_spelling (Is 73)
 unfolding insert_at
 exact_insert =
-    exact_mapped (number w32 & new_at) (λ f. int32 f.0 ++ new_spelling f.1) (λ f. (f.0 < 2 ^ 32) × IsTuple f.1)
+    exact_mapped (big_endian w32 & new_at) (λ f. int32 f.0 ++ new_spelling f.1) (λ f. (f.0 < 2 ^ 32) × IsTuple f.1)
     (λ f. m.Insert f.0 f.1) fields_spelling (Is 73)
-    (exact_both (number w32) int32 (λ n. n < 2 ^ 32) new_at new_spelling IsTuple exact_int32 exact_new)
+    (exact_both (big_endian w32) int32 (λ n. n < 2 ^ 32) new_at new_spelling IsTuple exact_int32 exact_new)
     (λ f fits. (refl, (refl, fits))) insert_back
 
 -- what is sent of an old row, if anything, and a new row
@@ -214,10 +215,10 @@ update_back (m.Truncate a b) h = absurd (omega (arith, h.0))
 exact_update : Exact update_at fields_spelling (Is 85)
 unfolding update_at
 exact_update =
-    exact_mapped (number w32 & (byte >>= rows_by)) (λ f. int32 f.0 ++ rows_spelling f.1)
+    exact_mapped (big_endian w32 & (byte >>= rows_by)) (λ f. int32 f.0 ++ rows_spelling f.1)
     (λ f. (f.0 < 2 ^ 32) × AreRows f.1) (λ f. m.Update f.0 f.1.0 f.1.1) fields_spelling (Is 85)
-    (exact_both (number w32) int32 (λ n. n < 2 ^ 32) (byte >>= rows_by) rows_spelling AreRows exact_int32 exact_rows)
-    (λ f fits. (refl, (refl, fits))) update_back
+    (exact_both (big_endian w32) int32 (λ n. n < 2 ^ 32)
+    (byte >>= rows_by) rows_spelling AreRows exact_int32 exact_rows) (λ f fits. (refl, (refl, fits))) update_back
 
 delete_back : (x : Msg) → Is 68 x → (f : ℕ × OldTuple) × ((m.Delete f.0 f.1 ≡ x) × ((f.0 < 2 ^ 32) × IsOld f.1))
 delete_back (m.Begin a b c) h = absurd (omega (arith, h.0))
@@ -231,9 +232,9 @@ delete_back (m.Truncate a b) h = absurd (omega (arith, h.0))
 exact_delete : Exact delete_at fields_spelling (Is 68)
 unfolding delete_at
 exact_delete =
-    exact_mapped (number w32 & (byte >>= old_by)) (λ f. int32 f.0 ++ old_spelling f.1)
+    exact_mapped (big_endian w32 & (byte >>= old_by)) (λ f. int32 f.0 ++ old_spelling f.1)
     (λ f. (f.0 < 2 ^ 32) × IsOld f.1) (λ f. m.Delete f.0 f.1) fields_spelling (Is 68)
-    (exact_both (number w32) int32 (λ n. n < 2 ^ 32) (byte >>= old_by) old_spelling IsOld exact_int32 exact_old)
+    (exact_both (big_endian w32) int32 (λ n. n < 2 ^ 32) (byte >>= old_by) old_spelling IsOld exact_int32 exact_old)
     (λ f fits. (refl, (refl, fits))) delete_back
 
 -- how many tables a message empties
@@ -256,15 +257,15 @@ truncate_back n (m.Delete a b) h = absurd (omega (arith, h.1.0))
 truncate_back n (m.Truncate a b) h = ((a, b), (refl, (h.1.1.1.0, (h.0, h.1.1.1.1))))
 
 exact_truncate_by : (n : ℕ) → n < 2 ^ 31
-    → Exact (mapped (λ f. m.Truncate f.0 f.1) (byte & many (number w32) n)) truncate_rest
+    → Exact (mapped (λ f. m.Truncate f.0 f.1) (byte & many (big_endian w32) n)) truncate_rest
     (λ x. (tables_of x ≡ n) × Is 84 x)
 exact_truncate_by n few =
-    exact_mapped (byte & many (number w32) n) (λ f. int8 f.0 ++ flat_map int32 f.1)
+    exact_mapped (byte & many (big_endian w32) n) (λ f. int8 f.0 ++ flat_map int32 f.1)
     (λ f. (f.0 < 256) × ((length f.1 ≡ n) × All IsOid f.1)) (λ f. m.Truncate f.0 f.1)
     truncate_rest (λ x. (tables_of x ≡ n) × Is 84 x)
-    (exact_both byte int8 (λ b. b < 256) (many (number w32) n) (flat_map int32)
+    (exact_both byte int8 (λ b. b < 256) (many (big_endian w32) n) (flat_map int32)
     (λ all. (length all ≡ n) × All IsOid all) exact_byte
-    (many_all (number w32) int32 IsOid exact_int32 n))
+    (many_all (big_endian w32) int32 IsOid exact_int32 n))
     (λ f fits. (refl, (fits.1.0, (refl, (subst (λ (k : ℕ). k < 2 ^ 31) (sym fits.1.0) few, (fits.0, fits.1.1))))))
     (truncate_back n)
 
@@ -288,9 +289,9 @@ few_tables (m.Truncate a b) h = h.1.0
 
 exact_truncate : Exact truncate_at fields_spelling (Is 84)
 unfolding truncate_at
-exact_truncate = exact_as (count32 >>= (λ n. mapped (λ f. m.Truncate f.0 f.1) (byte & many (number w32) n)))
+exact_truncate = exact_as (count32 >>= (λ n. mapped (λ f. m.Truncate f.0 f.1) (byte & many (big_endian w32) n)))
     (λ x. int32 (tables_of x) ++ truncate_rest x) (λ x. (tables_of x < 2 ^ 31) × Is 84 x) fields_spelling (Is 84)
-    (exact_then count32 (λ n. mapped (λ f. m.Truncate f.0 f.1) (byte & many (number w32) n)) int32 truncate_rest
+    (exact_then count32 (λ n. mapped (λ f. m.Truncate f.0 f.1) (byte & many (big_endian w32) n)) int32 truncate_rest
     (λ n. n < 2 ^ 31) (Is 84) tables_of exact_count32 exact_truncate_by)
     (λ x fits. (truncate_is x fits.1, fits.1)) (λ x fits. (few_tables x fits, fits))
 
@@ -308,16 +309,16 @@ no_message kind p q r s t u v (m.Truncate a b) h = v (sym h.0)
 
 exact_message_by : (kind : ℕ) → Exact (message_by kind) fields_spelling (Is kind)
 exact_message_by kind =
-    exact_if kind 66 begin_at _ fields_spelling IsMessage letter exact_begin (λ p.
-    exact_if kind 67 commit_at _ fields_spelling IsMessage letter exact_commit (λ q.
-    exact_if kind 82 relation_at _ fields_spelling IsMessage letter exact_relation (λ r.
-    exact_if kind 73 insert_at _ fields_spelling IsMessage letter exact_insert (λ s.
-    exact_if kind 85 update_at _ fields_spelling IsMessage letter exact_update (λ t.
-    exact_if kind 68 delete_at _ fields_spelling IsMessage letter exact_delete (λ u.
-    exact_if kind 84 truncate_at (fail (Unknown kind)) fields_spelling IsMessage letter exact_truncate
+    exact_if kind 66 begin_at _ fields_spelling IsMessage msg_letter exact_begin (λ p.
+    exact_if kind 67 commit_at _ fields_spelling IsMessage msg_letter exact_commit (λ q.
+    exact_if kind 82 relation_at _ fields_spelling IsMessage msg_letter exact_relation (λ r.
+    exact_if kind 73 insert_at _ fields_spelling IsMessage msg_letter exact_insert (λ s.
+    exact_if kind 85 update_at _ fields_spelling IsMessage msg_letter exact_update (λ t.
+    exact_if kind 68 delete_at _ fields_spelling IsMessage msg_letter exact_delete (λ u.
+    exact_if kind 84 truncate_at (fail (Unknown kind)) fields_spelling IsMessage msg_letter exact_truncate
     (λ v. exact_fail (Unknown kind) fields_spelling (Is kind) (no_message kind p q r s t u v))))))))
 
-byte_of_message : (x : Msg) → letter x < 256
+byte_of_message : (x : Msg) → msg_letter x < 256
 byte_of_message (m.Begin a b c) = omega arith
 byte_of_message (m.Commit a b c) = omega arith
 byte_of_message (m.Relation a) = omega arith
@@ -328,8 +329,8 @@ byte_of_message (m.Truncate a b) = omega arith
 
 pub exact_message : Exact message_at spelling_of IsMessage
 unfolding message_at
-exact_message = exact_as (byte >>= message_by) (λ x. (letter x ∷ []) ++ fields_spelling x)
-    (λ x. (letter x < 256) × IsMessage x) spelling_of IsMessage
-    (exact_then byte message_by int8 fields_spelling (λ n. n < 256) IsMessage letter exact_byte
+exact_message = exact_as (byte >>= message_by) (λ x. (msg_letter x ∷ []) ++ fields_spelling x)
+    (λ x. (msg_letter x < 256) × IsMessage x) spelling_of IsMessage
+    (exact_then byte message_by int8 fields_spelling (λ n. n < 256) IsMessage msg_letter exact_byte
     (λ kind _. exact_message_by kind))
     (λ x fits. (refl, fits.1)) (λ x fits. (byte_of_message x, fits))

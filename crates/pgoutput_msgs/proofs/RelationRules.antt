@@ -11,7 +11,7 @@ use Rattle.pgoutput_msgs.specs.declared.relation.RelationColumn.{RelationColumn}
 use Rattle.pgoutput_msgs.specs.declared.relation.ReplicaIdentity.{ReplicaIdentity}
 use Rattle.pgoutput_msgs.specs.declared.relation.ReplicaIdentity.TheVariants as i
 use Rattle.pgoutput_msgs.specs.Ranges.{IsName, IsColumn}
-use Rattle.pgoutput_msgs.specs.Reading.{pure, fail, ◌>>=◌, ◌&◌, many, byte, number, count16, string_at, identity_by, identity_at, flag_by, flag_at, column_at, columns_at}
+use Rattle.pgoutput_msgs.specs.Reading.{pure, fail, ◌>>=◌, ◌&◌, many, byte, big_endian, count16, string_at, identity_by_letter, identity_at, flag_by, key_flag_at, column_at, relation_columns_at}
 use Rattle.pgoutput_msgs.specs.Spelling.{int8, int16, int32, string, identity_letter, key_flag, column_spelling, columns_spelling}
 use Rattle.pgoutput_msgs.proofs.Exact.{Exact, exact_then, exact_as, exact_fail, exact_if, exact_value, exact_mapped, exact_both}
 use Rattle.pgoutput_msgs.proofs.Fields.{exact_byte, exact_int32, exact_count16, exact_string}
@@ -56,7 +56,8 @@ nothing_more a = []
 abbrev Always : {A : Type 0} → A → Type 0
 Always a = Unit {0}
 
-exact_identity_by : (kind : ℕ) → Exact (identity_by kind) nothing_more (λ x. (identity_letter x ≡ kind) × Unit {0})
+exact_identity_by : (kind : ℕ)
+    → Exact (identity_by_letter kind) nothing_more (λ x. (identity_letter x ≡ kind) × Unit {0})
 exact_identity_by kind =
     exact_if kind 100 (pure i.Default) _ nothing_more Always identity_letter
     (exact_value i.Default nothing_more Always identity_letter 100 refl refl tt default_alone) (λ p.
@@ -80,9 +81,9 @@ letter_of x = int8 (identity_letter x)
 
 exact_identity : Exact identity_at letter_of Always
 unfolding identity_at
-exact_identity = exact_as (byte >>= identity_by) (λ x. (identity_letter x ∷ []) ++ [])
+exact_identity = exact_as (byte >>= identity_by_letter) (λ x. (identity_letter x ∷ []) ++ [])
     (λ x. (identity_letter x < 256) × Unit {0}) letter_of Always
-    (exact_then byte identity_by int8 nothing_more (λ n. n < 256) Always identity_letter exact_byte
+    (exact_then byte identity_by_letter int8 nothing_more (λ n. n < 256) Always identity_letter exact_byte
     (λ kind _. exact_identity_by kind))
     (λ x fits. (refl, tt)) (λ x fits. (byte_of_identity x, tt))
 
@@ -113,8 +114,8 @@ byte_of_flag true = omega arith
 abbrev flag_of : Bool → List ℕ
 flag_of x = int8 (key_flag x)
 
-exact_flag : Exact flag_at flag_of Always
-unfolding flag_at
+exact_flag : Exact key_flag_at flag_of Always
+unfolding key_flag_at
 exact_flag = exact_as (byte >>= flag_by) (λ x. (key_flag x ∷ []) ++ []) (λ x. (key_flag x < 256) × Unit {0}) flag_of
     Always
     (exact_then byte flag_by int8 nothing_more (λ n. n < 256) Always key_flag exact_byte (λ kind _. exact_flag_by kind))
@@ -141,14 +142,15 @@ FieldsFit f = Unit {0} × (IsName f.1.0 × ((f.1.1.0 < 2 ^ 32) × (f.1.1.1 < 2 ^
 abbrev fields_of : column_fields → List ℕ
 fields_of f = flag_of f.0 ++ (string f.1.0 ++ (int32 f.1.1.0 ++ int32 f.1.1.1))
 
-exact_column_fields : Exact (flag_at & string_at & number w32 & number w32) fields_of FieldsFit
+exact_column_fields : Exact (key_flag_at & string_at & big_endian w32 & big_endian w32) fields_of FieldsFit
 exact_column_fields =
-    exact_both flag_at flag_of Always (string_at & number w32 & number w32)
+    exact_both key_flag_at flag_of Always (string_at & big_endian w32 & big_endian w32)
     (λ f. string f.0 ++ (int32 f.1.0 ++ int32 f.1.1)) (λ f. IsName f.0 × ((f.1.0 < 2 ^ 32) × (f.1.1 < 2 ^ 32)))
     exact_flag
-    (exact_both string_at string IsName (number w32 & number w32) (λ f. int32 f.0 ++ int32 f.1)
+    (exact_both string_at string IsName (big_endian w32 & big_endian w32) (λ f. int32 f.0 ++ int32 f.1)
     (λ f. (f.0 < 2 ^ 32) × (f.1 < 2 ^ 32)) exact_string
-    (exact_both (number w32) int32 (λ n. n < 2 ^ 32) (number w32) int32 (λ n. n < 2 ^ 32) exact_int32 exact_int32))
+    (exact_both (big_endian w32) int32 (λ n. n < 2 ^ 32) (big_endian w32) int32
+    (λ n. n < 2 ^ 32) exact_int32 exact_int32))
 
 column_made : (f : column_fields) → FieldsFit f → (fields_of f ≡ column_spelling (column_of f)) × IsColumn (column_of f)
 column_made f fits = (
@@ -171,11 +173,11 @@ column_back x fits =
 
 exact_column : Exact column_at column_spelling IsColumn
 unfolding column_at
-exact_column = exact_mapped (flag_at & string_at & number w32 & number w32) fields_of FieldsFit column_of
+exact_column = exact_mapped (key_flag_at & string_at & big_endian w32 & big_endian w32) fields_of FieldsFit column_of
     column_spelling IsColumn exact_column_fields column_made column_back
 
-exact_columns : Exact columns_at columns_spelling (λ columns. (length columns < 2 ^ 15) × All IsColumn columns)
-unfolding columns_at
+exact_columns : Exact relation_columns_at columns_spelling (λ columns. (length columns < 2 ^ 15) × All IsColumn columns)
+unfolding relation_columns_at
 exact_columns = exact_then count16 (many column_at) int16 (flat_map column_spelling) (λ n. n < 2 ^ 15) (All IsColumn)
     length exact_count16
     (λ n _. many_all column_at column_spelling IsColumn exact_column n)
@@ -194,17 +196,18 @@ abbrev pub relation_parts : relation_fields → List ℕ
 relation_parts f = int32 f.0
     ++ (string f.1.0 ++ (string f.1.1.0 ++ (letter_of f.1.1.1.0 ++ columns_spelling f.1.1.1.1)))
 
-pub exact_relation_fields : Exact (number w32 & string_at & string_at & identity_at & columns_at) relation_parts
+pub exact_relation_fields : Exact
+    (big_endian w32 & string_at & string_at & identity_at & relation_columns_at) relation_parts
     RelationFits
 exact_relation_fields =
-    exact_both (number w32) int32 (λ n. n < 2 ^ 32) (string_at & string_at & identity_at & columns_at)
+    exact_both (big_endian w32) int32 (λ n. n < 2 ^ 32) (string_at & string_at & identity_at & relation_columns_at)
     (λ f. string f.0 ++ (string f.1.0 ++ (letter_of f.1.1.0 ++ columns_spelling f.1.1.1)))
     (λ f. IsName f.0 × (IsName f.1.0 × (Unit {0} × ((length f.1.1.1 < 2 ^ 15) × All IsColumn f.1.1.1)))) exact_int32
-    (exact_both string_at string IsName (string_at & identity_at & columns_at)
+    (exact_both string_at string IsName (string_at & identity_at & relation_columns_at)
     (λ f. string f.0 ++ (letter_of f.1.0 ++ columns_spelling f.1.1))
     (λ f. IsName f.0 × (Unit {0} × ((length f.1.1 < 2 ^ 15) × All IsColumn f.1.1))) exact_string
-    (exact_both string_at string IsName (identity_at & columns_at)
+    (exact_both string_at string IsName (identity_at & relation_columns_at)
     (λ f. letter_of f.0 ++ columns_spelling f.1) (λ f. Unit {0} × ((length f.1 < 2 ^ 15) × All IsColumn f.1))
     exact_string
-    (exact_both identity_at letter_of Always columns_at columns_spelling
+    (exact_both identity_at letter_of Always relation_columns_at columns_spelling
     (λ columns. (length columns < 2 ^ 15) × All IsColumn columns) exact_identity exact_columns)))

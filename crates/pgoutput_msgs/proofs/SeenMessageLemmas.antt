@@ -18,12 +18,12 @@ use Rattle.table_changes.specs.Standing.{Covered}
 use Rattle.table_changes.proofs.ShowingLemmas.{record_shows_all}
 use Rattle.tables_log.specs.Commits.{CommitOf}
 use Rattle.pgoutput_msgs.specs.SeenMessages.{is_change, gone_message, seen_message, MessagesTellWhatIsSeen}
-use Rattle.pgoutput_msgs.specs.Telling.{relation_at, introduced, relation_once, relations_of, told_one, named_in, message_of, said, told_by, said_each, commit_of, enclosed, messages_for}
+use Rattle.pgoutput_msgs.specs.Telling.{a_relation, introduced, relation_once, relations_of, told_one, named_in, message_of, said, told_by, said_each, commit_msg, enclosed, messages_for}
 use Rattle.pgoutput_msgs.specs.declared.message.Msg.{Msg}
 
 -- ---- the changes among the messages of a commit
 
-no_change : (tables : List Table) (number : ℕ) (found : Option Table) → filter is_change (relation_at number found) ≡ []
+no_change : (tables : List Table) (number : ℕ) (found : Option Table) → filter is_change (a_relation number found) ≡ []
 no_change tables number None = refl
 no_change tables number (Some table) = refl
 
@@ -81,7 +81,7 @@ all_said checked subscriber sent (change ∷ changes) =
 within_begin : (commit : CommitOf) (messages : List Msg)
     → filter is_change (enclosed commit messages) ≡ filter is_change messages
 within_begin commit [] = refl
-within_begin commit (first ∷ others) = filter-append is_change (first ∷ others) (commit_of commit ∷ [])
+within_begin commit (first ∷ others) = filter-append is_change (first ∷ others) (commit_msg commit ∷ [])
     ∙ no_more (filter is_change (first ∷ others))
   where
     no_more : (xs : List Msg) → xs ++ [] ≡ xs

@@ -21,7 +21,7 @@ use Rattle.tables_log.specs.Sendable.{IsSendableValue, IsSendableRow, IsSendable
 use Rattle.pgoutput_msgs.specs.Ranges.{IsCellText, AreTexts, IsOldText, IsMaybeOldText, HasTextName, HasTexts, IsName, IsCell, IsTuple, IsOld, IsMaybeOld, IsColumn, IsOid, IsMessage}
 use Rattle.pgoutput_msgs.specs.Sent.{IsSent, MessagesAreReadBack}
 use Rattle.pgoutput_msgs.specs.Spelling.{int8, int32, string, identity_letter, cell_spelling, tuple_spelling, old_spelling, maybe_old_spelling, column_spelling, columns_spelling, spelling_of}
-use Rattle.pgoutput_msgs.specs.Telling.{type_oid_of, identity_of, column_of, columns_from, relation_of, old_of, maybe_old_of, message_of, begin_of, commit_of, messages_for, oid_of}
+use Rattle.pgoutput_msgs.specs.Telling.{type_oid_of, identity_of, sent_column, columns_from, relation_of, old_of, maybe_old_of, message_of, begin_msg, commit_msg, messages_for, oid_of}
 use Rattle.pgoutput_msgs.specs.ValueText.{cell_of, cells_of}
 use Rattle.pgoutput_msgs.specs.declared.message.Msg.{Msg}
 use Rattle.pgoutput_msgs.specs.declared.message.Msg.TheVariants as m
@@ -178,7 +178,7 @@ name_read : (name : List ℕ) → IsPlainName name → IsUtf8 name → IsName na
 name_read name h text = record { is_text = text; no_zero = h.no_zero }
 
 column_read : (table : Table) (number : ℕ) (column : Column) → HasPlainName column
-    → HasTextName (column_of table number column) → IsColumn (column_of table number column)
+    → HasTextName (sent_column table number column) → IsColumn (sent_column table number column)
 column_read table number column h text = record {
   name = name_read column.name h text;
   type_oid = type_oid_fits column.kind;
@@ -186,9 +186,9 @@ column_read table number column h text = record {
 }
 
 column_short : (table : Table) (number : ℕ) (column : Column) → HasPlainName column
-    → length (column_spelling (column_of table number column)) ≤ 73
+    → length (column_spelling (sent_column table number column)) ≤ 73
 column_short table number column h =
-    let relation = column_of table number column in
+    let relation = sent_column table number column in
     let split = length-append (string column.name)
     (int32 relation.type_oid ++ int32 (cast_unsigned w32 relation.type_modifier)) in
     omega (arith, split, length-append column.name (0 ∷ []), h.short)
@@ -198,17 +198,17 @@ columns_read : (table : Table) (number : ℕ) (columns : List Column) → All Ha
     → All IsColumn (columns_from table number columns)
 columns_read table number [] names texts = All-nil IsColumn
 columns_read table number (column ∷ columns) names texts =
-    All-cons IsColumn (column_of table number column) (columns_from table (number + 1) columns)
+    All-cons IsColumn (sent_column table number column) (columns_from table (number + 1) columns)
     (column_read table number column (All-head HasPlainName column columns names)
-    (All-head HasTextName (column_of table number column) (columns_from table (number + 1) columns) texts))
+    (All-head HasTextName (sent_column table number column) (columns_from table (number + 1) columns) texts))
     (columns_read table (number + 1) columns (All-tail HasPlainName column columns names)
-    (All-tail HasTextName (column_of table number column) (columns_from table (number + 1) columns) texts))
+    (All-tail HasTextName (sent_column table number column) (columns_from table (number + 1) columns) texts))
 
 columns_short : (table : Table) (number : ℕ) (columns : List Column) → All HasPlainName columns
     → All (λ column. length (column_spelling column) ≤ 73) (columns_from table number columns)
 columns_short table number [] names = All-nil (λ column. length (column_spelling column) ≤ 73)
 columns_short table number (column ∷ columns) names =
-    All-cons (λ one. length (column_spelling one) ≤ 73) (column_of table number column)
+    All-cons (λ one. length (column_spelling one) ≤ 73) (sent_column table number column)
     (columns_from table (number + 1) columns)
     (column_short table number column (All-head HasPlainName column columns names))
     (columns_short table (number + 1) columns (All-tail HasPlainName column columns names))
@@ -259,13 +259,13 @@ relation_found tables number (Some table) e few limited =
 
 -- ---- all messages
 
-plain_begin : (commit : CommitOf) → IsSendable commit → IsPlain (begin_of commit)
+plain_begin : (commit : CommitOf) → IsSendable commit → IsPlain (begin_msg commit)
 plain_begin commit h = record {
   read_back = λ texts. (omega (arith, h.numbered_within), (h.timed, omega (arith, h.numbered_within)));
   short = omega arith;
 }
 
-plain_commit : (commit : CommitOf) → IsSendable commit → IsPlain (commit_of commit)
+plain_commit : (commit : CommitOf) → IsSendable commit → IsPlain (commit_msg commit)
 plain_commit commit h = record {
   read_back = λ texts. (omega (arith, h.numbered_within), (omega (arith, h.numbered_within), h.timed));
   short = omega arith;

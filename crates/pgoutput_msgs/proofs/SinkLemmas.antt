@@ -8,7 +8,7 @@ use Rattle.shard_checker.specs.CheckedView.{CheckedOf, setting_in}
 use Rattle.table_changes.specs.Outs.{got}
 use Rattle.table_changes.specs.Records as r
 use Rattle.pgoutput_msgs.specs.Sinks.{Takes}
-use Rattle.pgoutput_msgs.specs.Telling.{introduced, relation_at, relation_once, relations_of, told_one, told_all, message_of, named_in, said, told_by, said_each, told_each}
+use Rattle.pgoutput_msgs.specs.Telling.{introduced, a_relation, relation_once, relations_of, told_one, told_all, message_of, named_in, said, told_by, said_each, told_each}
 use Rattle.pgoutput_msgs.proofs.TellingLemmas.{Introduces, introduces_on, all_introduced, all_marked, Says, says_on, all_said, all_told}
 use Rattle.pgoutput_msgs.specs.declared.message.Msg.{Msg}
 
@@ -59,7 +59,7 @@ module _ {S : Type 0} (takes_one : S → S → Msg → Type 0) where
 
   pub was_not_told : (old new : S) (tables : List Table) (sent : List Bool) (number : ℕ)
       → false ≡ slice_index_or sent number false
-      → Takes takes_one old new (relation_at number (slice_get tables number))
+      → Takes takes_one old new (a_relation number (slice_get tables number))
       → Takes takes_one old new (relation_once tables sent number)
   unfolding relation_once
   was_not_told old new tables sent number is took =

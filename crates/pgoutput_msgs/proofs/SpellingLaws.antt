@@ -9,7 +9,7 @@ use Rattle.pgoutput_msgs.specs.declared.error.MsgError.TheVariants.{Trailing}
 use Rattle.pgoutput_msgs.specs.declared.message.Msg.{Msg}
 use Rattle.pgoutput_msgs.specs.Laws.{IsBytes, NoneIsProperPrefix, EachSpellsOne, SpellingsAreDecoded, DecodedAreSpellings, NothingMayFollow}
 use Rattle.pgoutput_msgs.specs.Ranges.{IsMessage}
-use Rattle.pgoutput_msgs.specs.Reading.{Outcome, message_at, ended, decoded, told}
+use Rattle.pgoutput_msgs.specs.Reading.{Outcome, message_at, all_read, decoded, msg_fault}
 use Rattle.pgoutput_msgs.specs.Spelling.{spelling_of}
 use Rattle.pgoutput_msgs.proofs.Exact.{done, same_read}
 use Rattle.pgoutput_msgs.proofs.Fields.{not_true}
@@ -23,7 +23,7 @@ end_ok : (read : Msg × List ℕ) (message : Msg) (at_end : Bool)
 end_ok read message true e = (refl, cc)
 end_ok read message false e = absurd cc
 
-ended_ok : (outcome : Outcome Msg) (message : Msg) → ended outcome ≡ Ok message → outcome ≡ Ok (message, [])
+ended_ok : (outcome : Outcome Msg) (message : Msg) → all_read outcome ≡ Ok message → outcome ≡ Ok (message, [])
 ended_ok (Ok read) message e =
     let found = end_ok read message (length read.1 == 0) e in
     ap (λ (rest : List ℕ). done read.0 rest) (nil_from_length read.1 (eqb-true _ _ found.0))
@@ -39,17 +39,17 @@ are_spellings bytes message is_bytes e =
 pub are_decoded : SpellingsAreDecoded
 unfolding decoded
 are_decoded message fits =
-    ap (λ (bytes : List ℕ). ended (message_at bytes)) (sym (append-nil (spelling_of message)))
-    ∙ ap ended (exact_message.again message [] fits)
+    ap (λ (bytes : List ℕ). all_read (message_at bytes)) (sym (append-nil (spelling_of message)))
+    ∙ ap all_read (exact_message.again message [] fits)
 
-not_at_end : (message : Msg) (next : ℕ) (more : List ℕ) → ended (Ok (message, next ∷ more)) ≡ Err Trailing
+not_at_end : (message : Msg) (next : ℕ) (more : List ℕ) → all_read (Ok (message, next ∷ more)) ≡ Err Trailing
 not_at_end message next more =
     ap (λ (test : Bool). if test then good message else Err Trailing)
     (not_true (length (next ∷ more) == 0) (λ e. let none = eqb-true (length (next ∷ more)) 0 e in omega (arith, none)))
 
 pub nothing_follows : NothingMayFollow
 unfolding decoded
-nothing_follows message next more fits = ap ended (exact_message.again message (next ∷ more) fits)
+nothing_follows message next more fits = ap all_read (exact_message.again message (next ∷ more) fits)
     ∙ not_at_end message next more
 
 pub prefix_free : NoneIsProperPrefix
@@ -67,7 +67,7 @@ same_message one other p q e =
     (same_read one other [] [] both).0
 
 pub is_found : (bytes : List ℕ) (result : Result Msg MsgError) → IsBytes bytes
-    → Answers (λ message. message) told (decoded bytes) result
+    → Answers (λ message. message) msg_fault (decoded bytes) result
     → IfOk result (λ message. IsMessage message × (bytes ≡ spelling_of message))
 is_found bytes (Ok message) is_bytes answer = are_spellings bytes message is_bytes answer
 is_found bytes (Err error) is_bytes answer = tt

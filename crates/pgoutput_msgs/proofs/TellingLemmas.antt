@@ -17,7 +17,7 @@ use Rattle.replica_identity.specs.Plans.{PlanOf}
 use Rattle.replica_identity.specs.Transforms.{takes_row, takes_any, out_for}
 use Rattle.std.specs.Prelude.{All, filter, option_map, if◌then◌else◌}
 use Rattle.std.specs.List.{list_any}
-use Rattle.pgoutput_msgs.specs.Telling.{relation_once, relations_of, told_one, told_all, said, told_by, said_each, told_each, begin_of, commit_of, enclosed}
+use Rattle.pgoutput_msgs.specs.Telling.{relation_once, relations_of, told_one, told_all, said, told_by, said_each, told_each, begin_msg, commit_msg, enclosed}
 use Rattle.pgoutput_msgs.specs.declared.message.Msg.{Msg}
 
 -- the Relations so far and those of the remaining tables are those of all
@@ -156,11 +156,11 @@ sendable_change changes i c all is within =
 got_by : (checked : CheckedOf) (subscriber : ℕ) (change : r.ChangeOf) (plan : PlanOf) (out : Option o.OutOf)
     → plan ≡ checked.plan → out ≡ out_for plan subscriber change
     → got (setting_in checked) subscriber change
-    ≡ option_map (o.stands_for (o.table_of change) (takes_any plan subscriber)) out
+    ≡ option_map (o.stands_for (o.changed_table change) (takes_any plan subscriber)) out
 got_by checked subscriber change plan out own is =
-    sym (ap (λ (p : PlanOf). option_map (o.stands_for (o.table_of change) (takes_any p subscriber))
+    sym (ap (λ (p : PlanOf). option_map (o.stands_for (o.changed_table change) (takes_any p subscriber))
     (out_for p subscriber change)) own)
-    ∙ ap (option_map (o.stands_for (o.table_of change) (takes_any plan subscriber))) (sym is)
+    ∙ ap (option_map (o.stands_for (o.changed_table change) (takes_any plan subscriber))) (sym is)
 
 pub got_none : (checked : CheckedOf) (subscriber : ℕ) (change : r.ChangeOf) (plan : PlanOf) → plan ≡ checked.plan
     → None ≡ out_for plan subscriber change → got (setting_in checked) subscriber change ≡ None
@@ -168,14 +168,14 @@ got_none checked subscriber change plan own out =
     got_by checked subscriber change plan None own out
 
 pub got_insert : (checked : CheckedOf) (subscriber : ℕ) (change : r.ChangeOf) (plan : PlanOf) (table : ℕ)
-    (new : List Datum) → plan ≡ checked.plan → table ≡ o.table_of change
+    (new : List Datum) → plan ≡ checked.plan → table ≡ o.changed_table change
     → Some (o.Insert new) ≡ out_for plan subscriber change
     → got (setting_in checked) subscriber change ≡ Some (r.Insert table new)
 got_insert checked subscriber change plan table new own at out =
     got_by checked subscriber change plan (Some (o.Insert new)) own out ∙ ap (λ (n : ℕ). Some (r.Insert n new)) (sym at)
 
 pub got_update : (checked : CheckedOf) (subscriber : ℕ) (change : r.ChangeOf) (plan : PlanOf) (table : ℕ)
-    (part : Option r.PartOf) (new : List Datum) → plan ≡ checked.plan → table ≡ o.table_of change
+    (part : Option r.PartOf) (new : List Datum) → plan ≡ checked.plan → table ≡ o.changed_table change
     → Some (o.Update part new) ≡ out_for plan subscriber change
     → got (setting_in checked) subscriber change ≡ Some (r.Update table part new)
 got_update checked subscriber change plan table part new own at out =
@@ -183,7 +183,7 @@ got_update checked subscriber change plan table part new own at out =
     ∙ ap (λ (n : ℕ). Some (r.Update n part new)) (sym at)
 
 pub got_delete : (checked : CheckedOf) (subscriber : ℕ) (change : r.ChangeOf) (plan : PlanOf) (table : ℕ)
-    (part : Option r.PartOf) → plan ≡ checked.plan → table ≡ o.table_of change
+    (part : Option r.PartOf) → plan ≡ checked.plan → table ≡ o.changed_table change
     → Some (o.Delete part) ≡ out_for plan subscriber change
     → got (setting_in checked) subscriber change ≡ Some (r.Delete table part)
 got_delete checked subscriber change plan table part own at out =
@@ -290,7 +290,7 @@ unfolding told_by
 nothing_told sent = refl
 
 pub enclosed_some : (commit : CommitOf) (messages : List Msg) → (length messages ≡ 0 → ⊥)
-    → (begin_of commit ∷ messages) ++ commit_of commit ∷ [] ≡ enclosed commit messages
+    → (begin_msg commit ∷ messages) ++ commit_msg commit ∷ [] ≡ enclosed commit messages
 enclosed_some commit [] some = absurd (some refl)
 enclosed_some commit (first ∷ others) some = refl
 

@@ -21,7 +21,7 @@ use Rattle.table_changes.proofs.ShowingLemmas.{record_shows_all}
 use Rattle.tables_log.specs.Commits.{CommitOf}
 use Rattle.pgoutput_msgs.specs.SeenMessages.{seen_message}
 use Rattle.pgoutput_msgs.proofs.SeenMessageLemmas.{one_seen, as_message}
-use Rattle.pgoutput_msgs.specs.Telling.{relation_at, introduced, relation_once, relations_of, told_one, told_all, named_in, message_of, said, told_by, said_each, told_each, begin_of, commit_of, enclosed}
+use Rattle.pgoutput_msgs.specs.Telling.{a_relation, introduced, relation_once, relations_of, told_one, told_all, named_in, message_of, said, told_by, said_each, told_each, begin_msg, commit_msg, enclosed}
 use Rattle.pgoutput_msgs.specs.Transactions.{tables_of, is_among, first_relation, first_relations, change_told, changes_told, transaction_told, AreNamed, CommitsTellTransactions}
 use Rattle.pgoutput_msgs.specs.declared.message.Msg.{Msg}
 use Rattle.filter_tree.proofs.Tests.{or_true, or_false}
@@ -88,22 +88,22 @@ module _ (tables : List Table) where
       (named_all (told_one sent number) (named ++ number ∷ []) numbers (named_one sent named number is))
 
   introduced_by : (b : Bool) (number : ℕ)
-      → introduced tables b number ≡ (if b then [] else relation_at number (slice_get tables number))
+      → introduced tables b number ≡ (if b then [] else a_relation number (slice_get tables number))
   introduced_by true number = refl
   introduced_by false number = refl
 
   -- nothing is sent for a table that doesn't exist
   none_there : (b : Bool) (number : ℕ) → slice_get tables number ≡ None
-      → (if b then [] else relation_at number (slice_get tables number)) ≡ []
+      → (if b then [] else a_relation number (slice_get tables number)) ≡ []
   none_there true number none = refl
-  none_there false number none = ap (relation_at number) none
+  none_there false number none = ap (a_relation number) none
 
   once_first : (sent : List Bool) (named : List ℕ) (number : ℕ) → AreNamed tables sent named
       → relation_once tables sent number ≡ first_relation tables named number
   unfolding relation_once
   once_first sent named number is = elim (below_or_not number (length tables)) [
     | inl within ↦ introduced_by (is_told sent number) number
-        ∙ ap (λ (b : Bool). if b then [] else relation_at number (slice_get tables number)) (is.each number within)
+        ∙ ap (λ (b : Bool). if b then [] else a_relation number (slice_get tables number)) (is.each number within)
     | inr beyond ↦
         let none : slice_get tables number ≡ None = slice_get_past tables number beyond in
         introduced_by (is_told sent number) number ∙ none_there (is_told sent number) number none
@@ -250,7 +250,7 @@ module _ (checked : CheckedOf) (covered : Covered (setting_in checked)) where
       (ap length none)
 
 within : (commit : CommitOf) (messages : List Msg) → messages ≢ []
-    → enclosed commit messages ≡ begin_of commit ∷ messages ++ commit_of commit ∷ []
+    → enclosed commit messages ≡ begin_msg commit ∷ messages ++ commit_msg commit ∷ []
 within commit [] some = absurd (some refl)
 within commit (first ∷ others) some = refl
 

@@ -9,7 +9,7 @@ use Rattle.pgoutput_msgs.specs.declared.tuple.Cell.TheVariants.{Null, Text}
 use Rattle.pgoutput_msgs.specs.declared.tuple.OldTuple.{OldTuple}
 use Rattle.pgoutput_msgs.specs.declared.tuple.OldTuple.TheVariants.{Key, Full}
 use Rattle.pgoutput_msgs.specs.Ranges.{IsCell, IsTuple, IsOld}
-use Rattle.pgoutput_msgs.specs.Reading.{Rule, pure, fail, ◌>>=◌, mapped, many, byte, count16, text_at, cell_by, cell_at, tuple_at, old_by, new_by, new_at}
+use Rattle.pgoutput_msgs.specs.Reading.{Rule, pure, fail, ◌>>=◌, mapped, many, byte, count16, text_at, cell_by, cell_at, tuple_at, old_by, new_by_letter, new_at}
 use Rattle.pgoutput_msgs.specs.Spelling.{int8, int16, cell_spelling, tuple_spelling, old_spelling, new_spelling}
 use Rattle.pgoutput_msgs.proofs.Exact.{Exact, exact_then, exact_as, exact_fail, exact_if, exact_value, exact_mapped, exact_many}
 use Rattle.pgoutput_msgs.proofs.Fields.{exact_byte, exact_count16, sized, exact_text}
@@ -133,7 +133,7 @@ exact_old = exact_as (byte >>= old_by) (λ o. (old_letter o ∷ []) ++ old_rest 
 abbrev new_letter : List Cell → ℕ
 new_letter tuple = 78
 
-exact_new_by : (kind : ℕ) → Exact (new_by kind) tuple_spelling (λ t. (new_letter t ≡ kind) × IsTuple t)
+exact_new_by : (kind : ℕ) → Exact (new_by_letter kind) tuple_spelling (λ t. (new_letter t ≡ kind) × IsTuple t)
 exact_new_by kind =
     exact_if kind 78 tuple_at (fail (Unknown kind)) tuple_spelling IsTuple new_letter
     (exact_as tuple_at tuple_spelling IsTuple tuple_spelling (λ t. (new_letter t ≡ 78) × IsTuple t) exact_tuple
@@ -142,8 +142,9 @@ exact_new_by kind =
 
 pub exact_new : Exact new_at new_spelling IsTuple
 unfolding new_at
-exact_new = exact_as (byte >>= new_by) (λ t. (78 ∷ []) ++ tuple_spelling t) (λ t. (78 < 256) × IsTuple t) new_spelling
+exact_new =
+    exact_as (byte >>= new_by_letter) (λ t. (78 ∷ []) ++ tuple_spelling t) (λ t. (78 < 256) × IsTuple t) new_spelling
     IsTuple
-    (exact_then byte new_by int8 tuple_spelling (λ n. n < 256) IsTuple new_letter exact_byte
+    (exact_then byte new_by_letter int8 tuple_spelling (λ n. n < 256) IsTuple new_letter exact_byte
     (λ kind _. exact_new_by kind))
     (λ t fits. (refl, fits.1)) (λ t fits. (omega arith, fits))

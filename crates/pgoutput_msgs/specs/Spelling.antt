@@ -91,14 +91,14 @@ relation_spelling relation =
 -- ---- messages
 
 -- the first byte
-abbrev pub letter : Msg → ℕ
-letter (m.Begin final_lsn time xid) = 66
-letter (m.Commit lsn end_lsn time) = 67
-letter (m.Relation relation) = 82
-letter (m.Insert relation new) = 73
-letter (m.Update relation old new) = 85
-letter (m.Delete relation old) = 68
-letter (m.Truncate options relations) = 84
+abbrev pub msg_letter : Msg → ℕ
+msg_letter (m.Begin final_lsn time xid) = 66
+msg_letter (m.Commit lsn end_lsn time) = 67
+msg_letter (m.Relation relation) = 82
+msg_letter (m.Insert relation new) = 73
+msg_letter (m.Update relation old new) = 85
+msg_letter (m.Delete relation old) = 68
+msg_letter (m.Truncate options relations) = 84
 
 -- the bytes after the letter
 abbrev pub fields_spelling : Msg → List ℕ
@@ -112,7 +112,7 @@ fields_spelling (m.Truncate options relations) = int32 (length relations) ++ (in
 
 -- a message: its letter (`B`, `C`, `R`, `I`, `U`, `D`, `T`), and its fields in their order
 abbrev pub spelling_of : Msg → List ℕ
-spelling_of message = letter message ∷ fields_spelling message
+spelling_of message = msg_letter message ∷ fields_spelling message
 
 -- a Delete, if something is sent of the old row
 abbrev pub maybe_delete_spelling : ℕ → Option OldTuple → List ℕ

@@ -56,13 +56,13 @@ flagged is_key column =
     record { is_key = is_key; name = column.name; type_oid = type_oid_of column.kind; type_modifier = negsuc 0 }
 
 -- the column of this number: the flag marks those of the replica identity, under FULL all
-abbrev pub column_of : Table → ℕ → Column → RelationColumn
-column_of table number column = flagged (is_covered table number) column
+abbrev pub sent_column : Table → ℕ → Column → RelationColumn
+sent_column table number column = flagged (is_covered table number) column
 
 -- these columns, the first of which has this number
 abbrev pub columns_from : Table → ℕ → List Column → List RelationColumn
 columns_from table number [] = []
-columns_from table number (column ∷ columns) = column_of table number column ∷ columns_from table (number + 1) columns
+columns_from table number (column ∷ columns) = sent_column table number column ∷ columns_from table (number + 1) columns
 
 abbrev pub relation_of : ℕ → Table → Relation
 relation_of number table = record {
@@ -101,13 +101,13 @@ named_in (r.Truncate numbers) = numbers
 
 -- ---- Relations, each sent once: `sent` is whether it was, for each table by its number
 
-abbrev pub relation_at : ℕ → Option Table → List Msg
-relation_at number None = []
-relation_at number (Some table) = m.Relation (relation_of number table) ∷ []
+abbrev pub a_relation : ℕ → Option Table → List Msg
+a_relation number None = []
+a_relation number (Some table) = m.Relation (relation_of number table) ∷ []
 
 abbrev pub introduced : List Table → Bool → ℕ → List Msg
 introduced tables true number = []
-introduced tables false number = relation_at number (slice_get tables number)
+introduced tables false number = a_relation number (slice_get tables number)
 
 -- the Relation of a table, if it was not sent
 unfoldable pub relation_once : List Table → List Bool → ℕ → List Msg
@@ -149,16 +149,16 @@ told_each checked subscriber sent [] = sent
 told_each checked subscriber sent (change ∷ changes) =
     told_each checked subscriber (told_by sent (got (setting_in checked) subscriber change)) changes
 
-abbrev pub begin_of : CommitOf → Msg
-begin_of commit = m.Begin (lsn_of commit.number) commit.time (xid_of commit.number)
+abbrev pub begin_msg : CommitOf → Msg
+begin_msg commit = m.Begin (lsn_of commit.number) commit.time (xid_of commit.number)
 
-abbrev pub commit_of : CommitOf → Msg
-commit_of commit = m.Commit (lsn_of commit.number) (end_lsn_of commit.number) commit.time
+abbrev pub commit_msg : CommitOf → Msg
+commit_msg commit = m.Commit (lsn_of commit.number) (end_lsn_of commit.number) commit.time
 
 -- Begin, the messages between, and Commit; nothing if there are none between
 abbrev pub enclosed : CommitOf → List Msg → List Msg
 enclosed commit [] = []
-enclosed commit (first ∷ others) = begin_of commit ∷ (first ∷ others) ++ commit_of commit ∷ []
+enclosed commit (first ∷ others) = begin_msg commit ∷ (first ∷ others) ++ commit_msg commit ∷ []
 
 -- the messages of a commit for the subscriber of this number, if these Relations were sent before it
 abbrev pub messages_for : CheckedOf → ℕ → List Bool → CommitOf → List Msg

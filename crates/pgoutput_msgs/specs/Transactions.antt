@@ -14,7 +14,7 @@ use Rattle.table_changes.specs.Tables.{Tables}
 use Rattle.tables_log.specs.Commits.{CommitOf}
 use Rattle.tables_log.specs.Lsn.{lsn_of, end_lsn_of, xid_of}
 use Rattle.pgoutput_msgs.specs.SeenMessages.{seen_message}
-use Rattle.pgoutput_msgs.specs.Telling.{relation_at, messages_for, told_after}
+use Rattle.pgoutput_msgs.specs.Telling.{a_relation, messages_for, told_after}
 use Rattle.pgoutput_msgs.specs.declared.message.Msg.{Msg}
 use Rattle.pgoutput_msgs.specs.declared.message.Msg.TheVariants as m
 
@@ -32,7 +32,7 @@ is_among number numbers = list_any (nat_eq number) numbers
 
 -- the Relation of the table of this number, if it was not named before
 abbrev pub first_relation : List Table → List ℕ → ℕ → List Msg
-first_relation tables named number = if is_among number named then [] else relation_at number (slice_get tables number)
+first_relation tables named number = if is_among number named then [] else a_relation number (slice_get tables number)
 
 -- the Relations of the tables that were not named before, in this order
 abbrev pub first_relations : List Table → List ℕ → List ℕ → List Msg

@@ -4,7 +4,7 @@ ghost use Rattle.std.specs.Prelude.{◌≡◌, ℕ, List, ◌∷◌, ◌++◌, I
 ghost use Rattle.filter_tree.specs.Memory.{Answers};
 ghost use Rattle.pgoutput_msgs.specs.Spelling.{spelling_of};
 ghost use Rattle.pgoutput_msgs.specs.Ranges.{IsMessage};
-ghost use Rattle.pgoutput_msgs.specs.Reading.{Reads, message_at, decoded, told};
+ghost use Rattle.pgoutput_msgs.specs.Reading.{Reads, message_at, decoded, msg_fault};
 
 use crate::begin::read_begin;
 use crate::commit::read_commit;
@@ -25,19 +25,19 @@ use std::alloc::Global;
 ///
 /// PostgreSQL 15, 55.9. Logical Replication Message Formats.
 pub fn decode(alloc: Global, bytes: &[u8]) -> Result<Msg, MsgError>
-    ensures exact { Answers (λ message. message) told (decoded bytes.now) result }
+    ensures exact { Answers (λ message. message) msg_fault (decoded bytes.now) result }
     ensures found { IfOk result (λ message. IsMessage message × (bytes.now ≡ spelling_of message)) }
     ensures only { (message : Msg) → IsMessage message → bytes.now ≡ spelling_of message
-        → Answers (λ m. m) told (Ok message) result }
+        → Answers (λ m. m) msg_fault (Ok message) result }
     ensures trailing { (message : Msg) (next : ℕ) (more : List ℕ) → IsMessage message
-        → bytes.now ≡ spelling_of message ++ next ∷ more → Answers (λ m. m) told (Err MsgError.Trailing) result }
+        → bytes.now ≡ spelling_of message ++ next ∷ more → Answers (λ m. m) msg_fault (Err MsgError.Trailing) result }
 {
     whole(alloc, bytes)
 }
 
 #[tactic(auto, unfolding(crate::specs::Reading::decoded))]
 fn whole(alloc: Global, bytes: &[u8]) -> Result<Msg, MsgError>
-    ensures { Answers (λ message. message) told (decoded bytes.now) result }
+    ensures { Answers (λ message. message) msg_fault (decoded bytes.now) result }
 {
     let mut r = Reader::new(bytes);
     let message = read_message(&mut r, alloc)?;

@@ -3,7 +3,7 @@
 ghost use Rattle.std.specs.Prelude.{◌≡◌, ◌==◌, ◌<◌, IfOk, IfSome, length};
 ghost use Rattle.std.specs.List.{position};
 ghost use Rattle.std.specs.Int.{w16, w32, w64};
-ghost use Rattle.pgoutput_msgs.specs.Reading.{Reads, byte, some, number, count16, count32, up_to_zero, string_at, text_at, utf8_text};
+ghost use Rattle.pgoutput_msgs.specs.Reading.{Reads, byte, some, big_endian, count16, count32, up_to_zero, string_at, text_at, utf8_text};
 
 use crate::error::MsgError;
 use byteorder::{BigEndian, ByteOrder};
@@ -64,23 +64,23 @@ impl<'a> Reader<'a> {
         Ok(front)
     }
 
-    #[tactic(auto, unfolding(crate::specs::Reading::number))]
+    #[tactic(auto, unfolding(crate::specs::Reading::big_endian))]
     fn int16(&mut self) -> Result<u16, MsgError>
-        ensures { Reads (λ x. x) (number w16 self.old) result self.new }
+        ensures { Reads (λ x. x) (big_endian w16 self.old) result self.new }
     {
         Ok(BigEndian::read_u16(self.some(2)?))
     }
 
-    #[tactic(auto, unfolding(crate::specs::Reading::number))]
+    #[tactic(auto, unfolding(crate::specs::Reading::big_endian))]
     pub(crate) fn int32(&mut self) -> Result<u32, MsgError>
-        ensures { Reads (λ x. x) (number w32 self.old) result self.new }
+        ensures { Reads (λ x. x) (big_endian w32 self.old) result self.new }
     {
         Ok(BigEndian::read_u32(self.some(4)?))
     }
 
-    #[tactic(auto, unfolding(crate::specs::Reading::number))]
+    #[tactic(auto, unfolding(crate::specs::Reading::big_endian))]
     pub(crate) fn int64(&mut self) -> Result<u64, MsgError>
-        ensures { Reads (λ x. x) (number w64 self.old) result self.new }
+        ensures { Reads (λ x. x) (big_endian w64 self.old) result self.new }
     {
         Ok(BigEndian::read_u64(self.some(8)?))
     }

@@ -4,7 +4,7 @@ ghost use Rattle.std.specs.Prelude.{◌≡◌, ◌<◌, ◌^◌, ◌-◌, length
 ghost use Rattle.std.specs.List.{flat_map};
 ghost use Rattle.pgoutput_msgs.specs.Spelling.{identity_letter, key_flag, column_spelling, columns_spelling, relation_spelling, spelling_of};
 ghost use Rattle.pgoutput_msgs.specs.Room.{HasRoom, Puts};
-ghost use Rattle.pgoutput_msgs.specs.Reading.{Reads, flag_at, identity_at, column_at, columns_at, relation_at, many};
+ghost use Rattle.pgoutput_msgs.specs.Reading.{Reads, key_flag_at, identity_at, column_at, relation_columns_at, relation_at, many};
 
 use crate::error::MsgError;
 use crate::message::Msg;
@@ -125,9 +125,9 @@ pub(crate) fn put_relation(relation: &Relation, out: &mut Vec<u8>)
 
 // ---- reading
 
-#[tactic(auto, unfolding(crate::specs::Reading::flag_at))]
+#[tactic(auto, unfolding(crate::specs::Reading::key_flag_at))]
 fn read_flag(r: &mut Reader) -> Result<bool, MsgError>
-    ensures { Reads (λ x. x) (flag_at r.old) result r.new }
+    ensures { Reads (λ x. x) (key_flag_at r.old) result r.new }
 {
     match r.byte()? {
         0 => Ok(false),
@@ -180,9 +180,9 @@ fn read_counted_columns(
     Ok(columns)
 }
 
-#[tactic(auto, unfolding(crate::specs::Reading::columns_at))]
+#[tactic(auto, unfolding(crate::specs::Reading::relation_columns_at))]
 fn read_columns(r: &mut Reader, alloc: Global) -> Result<Items<RelationColumn>, MsgError>
-    ensures { Reads (λ x. x) (columns_at r.old) result r.new }
+    ensures { Reads (λ x. x) (relation_columns_at r.old) result r.new }
 {
     let count = r.count16()?;
     let columns = read_counted_columns(r, alloc, count)?;

@@ -45,7 +45,7 @@ fn say_new_relation<S: MessageSink>(
     requires number { IsTableNumber number }
     requires limited { All IsLimitedTable tables.now }
     ensures { OnOk result (Takes S.takes_one sink.old sink.new
-        (spec.relation_at number (slice_get tables.now number))) }
+        (spec.a_relation number (slice_get tables.now number))) }
 {
     match table_at(tables, number) {
         None => Ok(()),

@@ -15,7 +15,7 @@ pub trait MessageSink {
     ghost use Rattle.table_changes.specs.Records as r;
     ghost use Rattle.tables_log.specs.Sendable.{IsSendableChange, IsTableNumber};
     ghost use Rattle.pgoutput_msgs.specs.Sinks.{Takes};
-    ghost use Rattle.pgoutput_msgs.specs.Telling.{message_of, relation_at};
+    ghost use Rattle.pgoutput_msgs.specs.Telling.{message_of, a_relation};
     ghost use Rattle.pgoutput_msgs.specs.declared.message.Msg.{Msg};
 
     ghost takes_one: { Self → Self → Msg → Type 0 };
@@ -24,7 +24,7 @@ pub trait MessageSink {
     fn relation(&mut self, number: usize, table: &Table) -> Result<(), AllocError>
         requires number { IsTableNumber number }
         requires limited { IsLimitedTable table.now }
-        ensures { OnOk result (Takes takes_one self.old self.new (relation_at number (Some table.now))) };
+        ensures { OnOk result (Takes takes_one self.old self.new (a_relation number (Some table.now))) };
 
     /// Takes the Insert of a row of the table of this number. The only error is out of memory.
     fn insert(&mut self, table: usize, new: &Row) -> Result<(), AllocError>

@@ -181,7 +181,7 @@ fn tell_change<S: MessageSink>(
 /// The table of a change of rows.
 fn table_of(change: &Change) -> usize
     requires { IsSendableChange (change_view change.now) }
-    ensures exact { result ≡ outs.table_of (change_view change.now) }
+    ensures exact { result ≡ outs.changed_table (change_view change.now) }
     ensures within { IsTableNumber result }
 {
     match change {

@@ -12,7 +12,7 @@ use tables_log::{Commit, Lsn, xid_of_commit};
 ///
 /// PostgreSQL 15, 55.9. Logical Replication Message Formats (Begin).
 pub fn begin_message(commit: &Commit) -> Msg
-    ensures exact { result ≡ spec.begin_of commit.now }
+    ensures exact { result ≡ spec.begin_msg commit.now }
     ensures room { IsWithinRange result }
     ensures short { length (spelling_of result) ≤ 26 }
     ensures texts { HasTexts result }
@@ -28,7 +28,7 @@ pub fn begin_message(commit: &Commit) -> Msg
 ///
 /// PostgreSQL 15, 55.9. Logical Replication Message Formats (Commit).
 pub fn commit_message(commit: &Commit) -> Msg
-    ensures exact { result ≡ spec.commit_of commit.now }
+    ensures exact { result ≡ spec.commit_msg commit.now }
     ensures room { IsWithinRange result }
     ensures short { length (spelling_of result) ≤ 26 }
     ensures texts { HasTexts result }

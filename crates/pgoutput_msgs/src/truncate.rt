@@ -5,7 +5,7 @@ ghost use Rattle.std.specs.Int.{w32};
 ghost use Rattle.std.specs.List.{flat_map};
 ghost use Rattle.pgoutput_msgs.specs.Spelling.{int32, spelling_of};
 ghost use Rattle.pgoutput_msgs.specs.Room.{HasRoom, Puts};
-ghost use Rattle.pgoutput_msgs.specs.Reading.{Reads, number, many, truncate_at};
+ghost use Rattle.pgoutput_msgs.specs.Reading.{Reads, big_endian, many, truncate_at};
 
 use crate::error::MsgError;
 use crate::message::Msg;
@@ -44,7 +44,7 @@ pub(crate) fn put_truncate(options: u8, relations: &Items<u32>, out: &mut Vec<u8
 
 #[tactic(auto, using(crate::proofs::Counting::goes_on, crate::proofs::Counting::ends, crate::proofs::Counting::is_done))]
 fn oids(r: &mut Reader, alloc: Global, count: u32) -> Result<Vec<u32>, MsgError>
-    ensures { Reads (λ oids. oids.items) (many (number w32) count r.old) result r.new }
+    ensures { Reads (λ oids. oids.items) (many (big_endian w32) count r.old) result r.new }
 {
     let mut oids = Vec::new(alloc);
     for _ in 0..count {

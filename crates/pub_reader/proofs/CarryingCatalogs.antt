@@ -20,7 +20,7 @@ use Rattle.pub_reader.specs.CatalogMeaning.{MeansAsWritten}
 use Rattle.pub_catalog.specs.declared.catalog.Catalog.{Catalog}
 use Rattle.pub_catalog.specs.CatalogView.{catalog_view}
 use Rattle.pub_catalog.specs.Catalogs.{EntryOf, PublicationOf, CatalogOf, entry_map, publication_map, catalog_map}
-use Rattle.pub_reader.specs.Drafts.{CoverageOf, DraftPublicationOf, DraftOf, no_draft, is_covered, whole_from, resolved_entries, resolved_publication, resolved, coverage_map, draft_publication_map, draft_map}
+use Rattle.pub_reader.specs.Drafts.{CoverageOf, DraftPublicationOf, DraftOf, no_draft, takes_table, whole_from, resolved_entries, resolved_publication, resolved, coverage_map, draft_publication_map, draft_map}
 use Rattle.pub_reader.specs.Statements.{created_by, created, create, statement_by, statement, ended_statement, statements, finished, catalog_by}
 use Rattle.pub_reader.proofs.CarryingDrafts.{verdict_map, create_schema-carried, create_table-carried, alter_table-carried, create_index-carried, create_subscription-carried}
 use Rattle.pub_reader.proofs.CarryingObjects.{create_publication-carried}
@@ -40,7 +40,7 @@ whole_from-carried {S} {T} h covers number (table ∷ tables) =
 resolved_entries-carried : {S T : Type 0} (h : S → T) (tables : List Table) (coverage : CoverageOf S)
     → map (entry_map h) (resolved_entries tables coverage) ≡ resolved_entries tables (coverage_map h coverage)
 resolved_entries-carried {S} h tables coverage =
-    let covers : Table → Bool = is_covered coverage.everything coverage.schemas in
+    let covers : Table → Bool = takes_table coverage.everything coverage.schemas in
     map-append (entry_map h) coverage.entries (whole_from {S = S} covers 0 tables)
     ∙ ap (λ entries. map (entry_map h) coverage.entries ++ entries) (whole_from-carried h covers 0 tables)
 

@@ -19,10 +19,10 @@ use Rattle.pub_catalog.specs.Catalogs.{EntryOf, columns_at, indexes_at, entry_ma
 use Rattle.pub_reader.specs.Drafts.{CoverageOf, DraftPublicationOf, DraftOf, find_schema, find_publication, filter_on, filters_in, filters_on, coverage_map, draft_publication_map, draft_map}
 use Rattle.pub_reader.specs.Identities.{replica_identity, alter_table}
 use Rattle.pub_reader.specs.Indexes.{check_new_index, index_body, indexed_table, create_index}
-use Rattle.pub_reader.specs.Objects.{ObjectsOf, is_of, is_filtered, schema_by, schema_mentioned, table_mentioned, named_schema, current_schema, schema_object_by, schema_object, in_schema, taken_schema}
-use Rattle.pub_reader.specs.Publications.{check_new_publication, publication_name}
+use Rattle.pub_reader.specs.Objects.{ObjectsOf, is_entry_of, is_filtered, schema_by, schema_mentioned, table_mentioned, named_schema, current_schema, schema_object_by, schema_object, in_schema, taken_schema}
+use Rattle.pub_reader.specs.Publications.{check_new_publication, new_publication_name}
 use Rattle.pub_reader.specs.Schemas.{create_schema, check_new_schema}
-use Rattle.pub_reader.specs.Subscriptions.{check_new_subscription, subscription_name, once, subscribed, one_publication, publication_list, subscription_body, subscription_tail, create_subscription}
+use Rattle.pub_reader.specs.Subscriptions.{check_new_subscription, new_subscription_name, once, subscribed, one_publication, publication_list, subscription_body, subscription_tail, create_subscription}
 use Rattle.pub_reader.specs.TableNames.{table_in_schema, table_named, table_number, new_name}
 use Rattle.pub_reader.specs.Tables.{table_body, create_table}
 use Rattle.pub_catalog.proofs.Positions.{position-map}
@@ -49,8 +49,8 @@ check_new_publication-same h draft called =
     ) refl
 
 pub publication_name-same : {S T : Type 0} (h : S → T) (draft : DraftOf S) (ts : Items)
-    → publication_name (draft_map h draft) ts ≡ mapped same (publication_name draft ts)
-unfolding publication_name
+    → new_publication_name (draft_map h draft) ts ≡ mapped same (new_publication_name draft ts)
+unfolding new_publication_name
 publication_name-same h draft ts =
     then-same same (name ts) _ _ (λ called ts2. rw (check_new_publication-same h draft called)
     (then-same same (with_rest (check_new_publication draft called) ts2) _ _ (λ n ts3. refl)))
@@ -144,8 +144,8 @@ subscription_body-same h draft ts =
     then-same same (subscription_tail ts5) _ _ (λ d ts6. refl)))))
 
 subscription_name-same : {S T : Type 0} (h : S → T) (draft : DraftOf S) (ts : Items)
-    → subscription_name (draft_map h draft) ts ≡ mapped same (subscription_name draft ts)
-unfolding subscription_name check_new_subscription
+    → new_subscription_name (draft_map h draft) ts ≡ mapped same (new_subscription_name draft ts)
+unfolding new_subscription_name check_new_subscription
 subscription_name-same h draft ts =
     then-same same (name ts) _ _
     (λ called ts2. then-same same (with_rest (check_new_subscription draft called) ts2) _ _ (λ n ts3. refl))
@@ -154,7 +154,7 @@ pub create_subscription-carried : {S T : Type 0} (h : S → T) (draft : DraftOf 
     → create_subscription (draft_map h draft) ts ≡ mapped (draft_map h) (create_subscription draft ts)
 unfolding create_subscription
 create_subscription-carried h draft ts =
-    then-carried same (draft_map h) (subscription_name draft ts) (subscription_name (draft_map h draft) ts) _ _
+    then-carried same (draft_map h) (new_subscription_name draft ts) (new_subscription_name (draft_map h draft) ts) _ _
     (subscription_name-same h draft ts) (λ called ts2.
     then-carried same (draft_map h) (subscription_body draft ts2) (subscription_body (draft_map h draft) ts2) _ _
     (subscription_body-same h draft ts2) (λ numbers ts3. refl))
@@ -209,7 +209,7 @@ is_filtered-same h number [] = refl
 is_filtered-same h number (entry ∷ entries) = rw (is_some-same h entry.filter, is_filtered-same h number entries) refl
 
 is_of-same : {S T : Type 0} (h : S → T) (number : ℕ) (entries : List (EntryOf S))
-    → list_any (is_of number) (map (entry_map h) entries) ≡ list_any (is_of number) entries
+    → list_any (is_entry_of number) (map (entry_map h) entries) ≡ list_any (is_entry_of number) entries
 is_of-same h number [] = refl
 is_of-same h number (entry ∷ entries) = rw (is_of-same h number entries) refl
 
@@ -225,7 +225,7 @@ table_mentioned-carried {S} {T} h coverage place entry =
       is_filtered-same h entry.table coverage.entries,
       is_some-same h entry.filter,
     )
-    (by_test (list_any (is_of entry.table) coverage.entries)
+    (by_test (list_any (is_entry_of entry.table) coverage.entries)
     (λ e. rw e (by_test (is_some entry.filter || list_any (is_filtered entry.table) coverage.entries) (λ f. rw f refl)
     (λ f. rw f refl)))
     (λ e. rw e (ap made (sym (map-append (entry_map h) coverage.entries (entry ∷ []))))))

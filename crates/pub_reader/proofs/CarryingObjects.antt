@@ -19,8 +19,8 @@ use Rattle.pub_reader.specs.declared.coverage.ObjectKind.{ObjectKind}
 use Rattle.pub_reader.specs.declared.coverage.ObjectKind.TheVariants as o
 use Rattle.pub_catalog.specs.Catalogs.{columns_at}
 use Rattle.pub_reader.specs.Drafts.{CoverageOf, DraftPublicationOf, DraftOf, nothing_covered, filters_in, filters_on, coverage_map, draft_publication_map, draft_map}
-use Rattle.pub_reader.specs.Objects.{ObjectsOf, limited, table_mentioned, ended, where_clause, filter_by, filter_clause, taken_table, table_object, taken_by, tables_by, after_tables, tables_object, object_of, object_by, object, first_by, first_object, objects}
-use Rattle.pub_reader.specs.Publications.{publication_name, all_tables, published, scope_by, scope, for_by, for_clause, listed_objects, create_publication}
+use Rattle.pub_reader.specs.Objects.{ObjectsOf, limited, table_mentioned, filter_end, where_clause, filter_by, filter_clause, taken_table, table_object, taken_by, tables_by, after_tables, tables_object, object_of, object_by, object, first_by, first_object, objects}
+use Rattle.pub_reader.specs.Publications.{new_publication_name, all_tables, published, scope_by, scope, for_by, for_clause, listed_objects, create_publication}
 use Rattle.pub_reader.specs.Publishing.{parameters_clause}
 use Rattle.pub_reader.specs.TableNames.{table_named}
 use Rattle.pub_reader.proofs.CarryingDrafts.{publication_name-same, table_named-same, filters_in-carried, filters_on-carried, checked-mapped, table_mentioned-carried, objects_map, taken_schema-carried, schema_object-carried, in_schema-carried}
@@ -29,9 +29,9 @@ module _ {S T : Type 0} (from : Forms S) (to : Forms T) (h : S → T) (carries :
   -- ---- a filter
 
   ended-carried : (draft : DraftOf S) (coverage : CoverageOf S) (number place : ℕ) (s : S) (ts : Items)
-      → ended to (draft_map h draft) (coverage_map h coverage) number place (h s) ts
-      ≡ mapped (option_map h) (ended from draft coverage number place s ts)
-  unfolding ended
+      → filter_end to (draft_map h draft) (coverage_map h coverage) number place (h s) ts
+      ≡ mapped (option_map h) (filter_end from draft coverage number place s ts)
+  unfolding filter_end
   ended-carried draft coverage number place s ts =
       then-same (option_map h) (expect i.Close ts) _ _ (λ close ts2.
       rw (
@@ -216,8 +216,8 @@ module _ {S T : Type 0} (from : Forms S) (to : Forms T) (h : S → T) (carries :
         subscriptions =
             draft.subscriptions;
       } in
-      then-carried (λ called. called) (draft_map h) (publication_name draft ts)
-      (publication_name (draft_map h draft) ts) _ _ (publication_name-same h draft ts) (λ called ts2.
+      then-carried (λ called. called) (draft_map h) (new_publication_name draft ts)
+      (new_publication_name (draft_map h draft) ts) _ _ (publication_name-same h draft ts) (λ called ts2.
       then-carried (coverage_map h) (draft_map h) (for_clause from draft ts2) (for_clause to (draft_map h draft) ts2)
       _ _ (for_clause-carried draft ts2) (λ coverage ts3.
       then-same (draft_map h) (parameters_clause ts3) _ _ (λ given ts4.

@@ -29,17 +29,17 @@ use Rattle.pub_catalog.specs.CatalogEntries.{FilterNamesWithin, IsKnownEntry, Al
 use Rattle.pub_catalog.specs.Catalogs.{EntryOf, columns_at, indexes_at, identified, indexed}
 use Rattle.pub_reader.specs.declared.coverage.ObjectKind.{ObjectKind}
 use Rattle.pub_reader.specs.declared.coverage.ObjectKind.TheVariants as o
-use Rattle.pub_reader.specs.Drafts.{CoverageOf, DraftPublicationOf, DraftOf, no_draft, nothing_covered, find_schema, find_table, filters_in, filters_on, is_covered, whole_from, resolved, resolved_publication}
+use Rattle.pub_reader.specs.Drafts.{CoverageOf, DraftPublicationOf, DraftOf, no_draft, nothing_covered, find_schema, find_table, filters_in, filters_on, takes_table, whole_from, resolved, resolved_publication}
 use Rattle.pub_reader.specs.Identities.{replica_identity, alter_table}
 use Rattle.pub_reader.specs.Indexes.{index_body, indexed_table, create_index}
-use Rattle.pub_reader.specs.Objects.{ObjectsOf, schema_by, schema_mentioned, is_of, is_filtered, table_mentioned, limited, named_schema, current_schema, schema_object_by, schema_object, in_schema, taken_schema, ended, where_clause, filter_by, filter_clause, taken_table, table_object, taken_by, tables_by, after_tables, tables_object, object_of, object_by, object, first_by, first_object, objects}
-use Rattle.pub_reader.specs.Publications.{publication_name, all_tables, listed_objects, scope_by, scope, for_by, for_clause, create_publication}
+use Rattle.pub_reader.specs.Objects.{ObjectsOf, schema_by, schema_mentioned, is_entry_of, is_filtered, table_mentioned, limited, named_schema, current_schema, schema_object_by, schema_object, in_schema, taken_schema, filter_end, where_clause, filter_by, filter_clause, taken_table, table_object, taken_by, tables_by, after_tables, tables_object, object_of, object_by, object, first_by, first_object, objects}
+use Rattle.pub_reader.specs.Publications.{new_publication_name, all_tables, listed_objects, scope_by, scope, for_by, for_clause, create_publication}
 use Rattle.pub_reader.specs.Publishing.{parameters_clause}
 use Rattle.pub_reader.specs.Schemas.{known, create_schema, check_new_schema}
 use Rattle.pub_reader.specs.Statements.{created_by, created, create, statement_by, statement, ended_statement, statements}
-use Rattle.pub_reader.specs.Subscriptions.{subscription_name, subscription_body, create_subscription}
+use Rattle.pub_reader.specs.Subscriptions.{new_subscription_name, subscription_body, create_subscription}
 use Rattle.pub_reader.specs.TableNames.{known_table, name_in_schema, table_in_schema, table_named, table_number, new_name}
-use Rattle.pub_reader.specs.Tables.{table_of, table_body, create_table}
+use Rattle.pub_reader.specs.Tables.{new_table, table_body, create_table}
 use Rattle.pub_reader.proofs.KeptIndexes.{length-identified, length-indexed}
 
 -- ---- tables that are found
@@ -114,7 +114,7 @@ module _ (draft : DraftOf Expr) where
       → Gives Kept (with_rest (table_mentioned coverage place entry) ts)
   unfolding table_mentioned
   table-kept coverage place entry ts h known =
-      mentioned_by (not (list_any (is_of entry.table) coverage.entries))
+      mentioned_by (not (list_any (is_entry_of entry.table) coverage.entries))
       (is_some entry.filter || list_any (is_filtered entry.table) coverage.entries) coverage entry _ ts h known
 
   -- ---- filters
@@ -125,7 +125,7 @@ module _ (draft : DraftOf Expr) where
 
     where-named : (coverage : CoverageOf Expr) (ts : Items)
         → Gives NamesItsOwn (where_clause as_filter draft coverage number ts)
-    unfolding where_clause ended
+    unfolding where_clause filter_end
     where-named coverage ts =
         any-gives NamesItsOwn (expect (i.Keyword k.Where) ts) _ (λ place ts2.
         any-gives NamesItsOwn (expect i.Open ts2) _ (λ a ts3.
@@ -334,7 +334,7 @@ unfolding create_table
 create_table-carry draft ts h =
     any-gives Carry (new_name draft ts) _ (λ called ts2.
     any-gives Carry (table_body called.name ts2) _ (λ parts ts3.
-    added-carry draft (table_of called parts) h))
+    added-carry draft (new_table called parts) h))
 
 alter_table-carry : (draft : DraftOf Expr) (ts : Items) → Carry draft → Gives Carry (alter_table draft ts)
 unfolding alter_table
@@ -368,7 +368,7 @@ create_publication-carry : (draft : DraftOf Expr) (ts : Items) → Carry draft
     → Gives Carry (create_publication as_filter draft ts)
 unfolding create_publication
 create_publication-carry draft ts h =
-    any-gives Carry (publication_name draft ts) _ (λ called ts2.
+    any-gives Carry (new_publication_name draft ts) _ (λ called ts2.
     then-gives (Covers draft.tables) Carry (for_clause as_filter draft ts2) _ (for_clause-kept draft ts2)
     (λ coverage ts3 covers.
     any-gives Carry (parameters_clause ts3) _ (λ given ts4.
@@ -378,7 +378,7 @@ create_subscription-carry : (draft : DraftOf Expr) (ts : Items) → Carry draft
     → Gives Carry (create_subscription draft ts)
 unfolding create_subscription
 create_subscription-carry draft ts h =
-    any-gives Carry (subscription_name draft ts) _
+    any-gives Carry (new_subscription_name draft ts) _
     (λ called ts2. any-gives Carry (subscription_body draft ts2) _ (λ numbers ts3. h))
 
 created_by-carry : (item : Option Item) (draft : DraftOf Expr) (ts : Items) → Carry draft
@@ -439,9 +439,9 @@ resolved-known draft h =
     All-map (λ publication. All (IsKnownEntry draft.tables) publication.entries) (resolved_publication draft.tables)
     draft.publications (λ n d low.
     let publication : DraftPublicationOf Expr = get_or draft.publications n d in
-    let whole = whole_from (is_covered publication.coverage.everything publication.coverage.schemas) 0 draft.tables in
+    let whole = whole_from (takes_table publication.coverage.everything publication.coverage.schemas) 0 draft.tables in
     All-append (IsKnownEntry draft.tables) publication.coverage.entries whole (h n d low)
-    (whole-known draft.tables (is_covered publication.coverage.everything publication.coverage.schemas) 0 draft.tables
+    (whole-known draft.tables (takes_table publication.coverage.everything publication.coverage.schemas) 0 draft.tables
     (omega arith)))
 
 -- what is made of the statements of a text

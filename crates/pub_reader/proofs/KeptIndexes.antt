@@ -27,7 +27,7 @@ use Rattle.pub_catalog.specs.Catalogs.{schema_at, columns_at, indexes_at, identi
 use Rattle.pub_reader.specs.Drafts.{DraftOf, find_index, find_relation}
 use Rattle.pub_reader.specs.Identities.{action, by_index, index_named, using_index, identity_by, identity, replica_identity}
 use Rattle.pub_catalog.specs.IndexIdentities.{identifies}
-use Rattle.pub_reader.specs.Indexes.{check_new_index, method, once_in_index, index_column, index_columns, index_tail, index_body, indexed_table}
+use Rattle.pub_reader.specs.Indexes.{check_new_index, method, once_in_index, index_column, indexed_columns, index_tail, index_body, indexed_table}
 use Rattle.pub_reader.specs.TableNames.{table_number}
 
 -- the limits of a table, without the limits of its names
@@ -50,8 +50,8 @@ index_column-gives columns numbers ts h =
     any-gives (AreColumns columns) (with_rest (once_in_index numbers called column) ts3) _ (λ n ts4.
     All-push (λ number. number < length columns) numbers column.number h within)))
 
-index_columns-gives : (columns : List Column) (ts : Items) → Gives (AreColumns columns) (index_columns columns ts)
-unfolding index_columns
+index_columns-gives : (columns : List Column) (ts : Items) → Gives (AreColumns columns) (indexed_columns columns ts)
+unfolding indexed_columns
 index_columns-gives columns ts =
     then-gives (AreColumns columns) (AreColumns columns) (index_column columns [] ts) _
     (index_column-gives columns [] ts (All-nil (λ number. number < length columns))) (λ numbers ts2 h.
@@ -63,7 +63,7 @@ unfolding index_body
 index_body-gives columns ts =
     any-gives (AreColumns columns) (method ts) _ (λ u ts2.
     any-gives (AreColumns columns) (expect i.Open ts2) _ (λ a ts3.
-    then-gives (AreColumns columns) (AreColumns columns) (index_columns columns ts3) _
+    then-gives (AreColumns columns) (AreColumns columns) (indexed_columns columns ts3) _
     (index_columns-gives columns ts3) (λ numbers ts4 h.
     any-gives (AreColumns columns) (expect i.Close ts4) _ (λ b ts5.
     any-gives (AreColumns columns) (index_tail ts5) _ (λ v ts6. h)))))

@@ -25,13 +25,13 @@ use Rattle.pub_catalog.specs.Catalogs.{columns_at, indexes_at, identified, index
 use Rattle.pub_reader.specs.Drafts.{DraftOf, no_draft, resolved, resolved_publication, find_relation, find_publication, find_subscription}
 use Rattle.pub_reader.specs.Identities.{replica_identity, alter_table}
 use Rattle.pub_reader.specs.Indexes.{index_body, indexed_table, create_index}
-use Rattle.pub_reader.specs.Publications.{check_new_publication, publication_name, for_clause, create_publication}
+use Rattle.pub_reader.specs.Publications.{check_new_publication, new_publication_name, for_clause, create_publication}
 use Rattle.pub_reader.specs.Publishing.{parameters_clause}
 use Rattle.pub_reader.specs.Schemas.{create_schema, check_new_schema}
 use Rattle.pub_reader.specs.Statements.{created_by, created, create, statement_by, statement, ended_statement, statements}
-use Rattle.pub_reader.specs.Subscriptions.{check_new_subscription, subscription_name, subscription_body, create_subscription}
+use Rattle.pub_reader.specs.Subscriptions.{check_new_subscription, new_subscription_name, subscription_body, create_subscription}
 use Rattle.pub_reader.specs.TableNames.{table_number, check_new_table, new_named, table_head, new_name}
-use Rattle.pub_reader.specs.Tables.{keyed, table_of, table_tail, table_body, create_table}
+use Rattle.pub_reader.specs.Tables.{keyed, new_table, table_tail, table_body, create_table}
 use Rattle.pub_reader.proofs.KeptIndexes.{IsSizedTable, HasRoom, length-identified, length-indexed, identified-limited, indexed-limited, replica_identity-gives, indexed_table-gives, index_body-gives}
 
 -- the limits, as a catalog keeps them while it is being read
@@ -59,7 +59,7 @@ indexed-within tables number index h room is =
     (omega (arith, length-indexed tables number index, h.0), indexed-limited tables number index h.1 room is)
 
 -- a table of at most 100 columns, which has no index yet
-made : (called : NewName) (parts : Parts) → IsNarrow parts → IsSizedTable (table_of called parts)
+made : (called : NewName) (parts : Parts) → IsNarrow parts → IsSizedTable (new_table called parts)
 made called parts narrow =
     record {
       columns = narrow.0;
@@ -152,8 +152,8 @@ check_new_publication-gives draft called ts =
     (length draft.publications) 64 _ _ ts (below 64 (length draft.publications))
 
 publication_name-gives : {S : Type 0} (draft : DraftOf S) (ts : Items)
-    → Gives (λ (called : PlacedName). length draft.publications < 64) (publication_name draft ts)
-unfolding publication_name
+    → Gives (λ (called : PlacedName). length draft.publications < 64) (new_publication_name draft ts)
+unfolding new_publication_name
 publication_name-gives {S} draft ts =
     let room : PlacedName → Type 0 = λ called. length draft.publications < 64 in
     any-gives room (name ts) _ (λ called ts2.
@@ -165,7 +165,7 @@ create_publication-gives : {S : Type 0} (forms : Forms S) (draft : DraftOf S) (t
     → Gives Limited (create_publication forms draft ts)
 unfolding create_publication
 create_publication-gives forms draft ts h =
-    then-gives (λ (called : PlacedName). length draft.publications < 64) Limited (publication_name draft ts) _
+    then-gives (λ (called : PlacedName). length draft.publications < 64) Limited (new_publication_name draft ts) _
     (publication_name-gives draft ts) (λ called ts2 room.
     any-gives Limited (for_clause forms draft ts2) _ (λ coverage ts3.
     any-gives Limited (parameters_clause ts3) _ (λ given ts4. (h.0, (pushed 64 draft.publications _ room, h.1.1)))))
@@ -178,8 +178,8 @@ check_new_subscription-gives draft called ts =
     (length draft.subscriptions) 32 _ _ ts (below 32 (length draft.subscriptions))
 
 subscription_name-gives : {S : Type 0} (draft : DraftOf S) (ts : Items)
-    → Gives (λ (called : PlacedName). length draft.subscriptions < 32) (subscription_name draft ts)
-unfolding subscription_name
+    → Gives (λ (called : PlacedName). length draft.subscriptions < 32) (new_subscription_name draft ts)
+unfolding new_subscription_name
 subscription_name-gives {S} draft ts =
     let room : PlacedName → Type 0 = λ called. length draft.subscriptions < 32 in
     any-gives room (name ts) _ (λ called ts2.
@@ -191,7 +191,7 @@ create_subscription-gives : {S : Type 0} (draft : DraftOf S) (ts : Items) → Li
     → Gives Limited (create_subscription draft ts)
 unfolding create_subscription
 create_subscription-gives draft ts h =
-    then-gives (λ (called : PlacedName). length draft.subscriptions < 32) Limited (subscription_name draft ts) _
+    then-gives (λ (called : PlacedName). length draft.subscriptions < 32) Limited (new_subscription_name draft ts) _
     (subscription_name-gives draft ts) (λ called ts2 room.
     any-gives Limited (subscription_body draft ts2) _
     (λ numbers ts3. (h.0, (h.1.0, pushed 32 draft.subscriptions _ room))))

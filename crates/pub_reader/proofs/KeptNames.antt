@@ -31,7 +31,7 @@ use Rattle.pub_reader.specs.Indexes.{index_body, indexed_table, create_index}
 use Rattle.pub_reader.specs.Schemas.{create_schema, known_schema, check_new_schema}
 use Rattle.pub_reader.specs.Statements.{created_by, created, create, statement_by, statement, ended_statement}
 use Rattle.pub_reader.specs.TableNames.{table_number, name_in_schema, check_new_table, new_in_schema, new_by, new_named, head_by, table_head, new_name}
-use Rattle.pub_reader.specs.Tables.{keyed, table_of, tail_by, table_tail, table_body, create_table}
+use Rattle.pub_reader.specs.Tables.{keyed, new_table, tail_by, table_tail, table_body, create_table}
 use Rattle.pub_reader.proofs.OwnNames.{first_of, create_publication-named, create_subscription-named}
 
 -- ---- the name of a new table
@@ -146,8 +146,8 @@ create_table-named draft ts h named =
     (λ called ts2 p.
     then-leaves ColumnsPlain (λ made ts3. IsNamedDraft made) (table_body called.name ts2) _
     (table_body-plain called.name ts2 p.1.1) (λ parts ts3 q.
-    with_tables draft (draft.tables ++ table_of called parts ∷ []) named
-    (All-push IsNamed draft.tables (table_of called parts) named.tables
+    with_tables draft (draft.tables ++ new_table called parts ∷ []) named
+    (All-push IsNamed draft.tables (new_table called parts) named.tables
     (record { schema = p.0; name = p.1.0; columns = q.0 })))))
 
 -- ---- other statements

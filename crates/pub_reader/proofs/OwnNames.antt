@@ -33,10 +33,10 @@ use Rattle.pub_catalog.specs.CatalogNames.{AreOwnNames, AreTaken, TakesKnown, Is
 use Rattle.pub_reader.specs.DraftNames.{IsNamedDraft}
 use Rattle.pub_catalog.specs.Catalogs.{PublicationOf}
 use Rattle.pub_reader.specs.Drafts.{CoverageOf, DraftPublicationOf, DraftOf, no_draft, find_publication, find_subscription, resolved, resolved_publication}
-use Rattle.pub_reader.specs.Publications.{check_new_publication, publication_name, for_clause, published, with_publication, create_publication}
+use Rattle.pub_reader.specs.Publications.{check_new_publication, new_publication_name, for_clause, published, with_publication, create_publication}
 use Rattle.pub_reader.specs.Publishing.{parameters_clause}
 use Rattle.pub_reader.specs.Schemas.{fresh}
-use Rattle.pub_reader.specs.Subscriptions.{check_new_subscription, subscription_name, once, subscribed, one_publication, publication_list, subscription_tail, subscription_body, create_subscription}
+use Rattle.pub_reader.specs.Subscriptions.{check_new_subscription, new_subscription_name, once, subscribed, one_publication, publication_list, subscription_tail, subscription_body, create_subscription}
 use Rattle.filter_tree.proofs.Tests.{by_test}
 use Rattle.pub_reader.proofs.Positions.{position-none, list_any-map}
 
@@ -87,8 +87,9 @@ check_new_publication-leaves draft called ts =
     Publications ts
 
 publication_name-new : {S : Type 0} (draft : DraftOf S) (ts : Items) → ArePlain ts
-    → Leaves (λ called ts2. IsNew (λ text. find_publication text draft.publications) called) (publication_name draft ts)
-unfolding publication_name
+    → Leaves (λ called ts2. IsNew (λ text. find_publication text draft.publications) called)
+    (new_publication_name draft ts)
+unfolding new_publication_name
 publication_name-new {S} draft ts h =
     let new : PlacedName → Items → Type 0 =
     λ called ts2. IsNew (λ text. find_publication text draft.publications) called in
@@ -122,7 +123,7 @@ pub create_publication-named : {S : Type 0} (forms : Forms S) (draft : DraftOf S
 unfolding create_publication
 create_publication-named forms draft ts h named =
     let new : PlacedName → Type 0 = IsNew (λ text. find_publication text draft.publications) in
-    then-gives new IsNamedDraft (publication_name draft ts) _ (first_of new _ (publication_name-new draft ts h))
+    then-gives new IsNamedDraft (new_publication_name draft ts) _ (first_of new _ (publication_name-new draft ts h))
     (λ called ts2 is_new.
     any-gives IsNamedDraft (for_clause forms draft ts2) _ (λ coverage ts3.
     any-gives IsNamedDraft (parameters_clause ts3) _
@@ -219,8 +220,8 @@ check_new_subscription-leaves draft called ts =
 
 subscription_name-new : {S : Type 0} (draft : DraftOf S) (ts : Items) → ArePlain ts
     → Leaves (λ called ts2. IsNew (λ text. find_subscription text draft.subscriptions) called)
-    (subscription_name draft ts)
-unfolding subscription_name
+    (new_subscription_name draft ts)
+unfolding new_subscription_name
 subscription_name-new draft ts h =
     let new : PlacedName → Items → Type 0 =
     λ called ts2. IsNew (λ text. find_subscription text draft.subscriptions) called in
@@ -248,7 +249,7 @@ pub create_subscription-named : {S : Type 0} (draft : DraftOf S) (ts : Items) �
 unfolding create_subscription
 create_subscription-named draft ts h named =
     let new : PlacedName → Type 0 = IsNew (λ text. find_subscription text draft.subscriptions) in
-    then-gives new IsNamedDraft (subscription_name draft ts) _ (first_of new _ (subscription_name-new draft ts h))
+    then-gives new IsNamedDraft (new_subscription_name draft ts) _ (first_of new _ (subscription_name-new draft ts h))
     (λ called ts2 is_new.
     then-gives (AreTaken (length draft.publications)) IsNamedDraft (subscription_body draft ts2) _
     (subscription_body-gives draft ts2) (λ numbers ts3 taken.

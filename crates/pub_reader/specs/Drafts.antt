@@ -90,8 +90,8 @@ filters_on tree number (publication ∷ publications) =
 
 -- ---- the end of the catalog
 
-abbrev pub is_covered : Bool → List (List ℕ) → Table → Bool
-is_covered everything schemas table = everything || is_some (find_schema table.schema schemas)
+abbrev pub takes_table : Bool → List (List ℕ) → Table → Bool
+takes_table everything schemas table = everything || is_some (find_schema table.schema schemas)
 
 -- a whole entry for each table that is covered; the first table has this number
 abbrev pub whole_from : {S : Type 0} → (Table → Bool) → ℕ → List Table → List (EntryOf S)
@@ -103,7 +103,7 @@ whole_from covers number (table ∷ tables) =
 -- the entries of a publication: the tables that it names, and then each table that it carries whole
 abbrev pub resolved_entries : {S : Type 0} → List Table → CoverageOf S → List (EntryOf S)
 resolved_entries tables coverage =
-    coverage.entries ++ whole_from (is_covered coverage.everything coverage.schemas) 0 tables
+    coverage.entries ++ whole_from (takes_table coverage.everything coverage.schemas) 0 tables
 
 abbrev pub resolved_publication : {S : Type 0} → List Table → DraftPublicationOf S → PublicationOf S
 resolved_publication tables publication =

@@ -60,8 +60,8 @@ index_column columns numbers = do
   check (once_in_index numbers called column)
   pure (numbers ++ column.number ∷ [])
 
-unfoldable pub index_columns : List Column → Rule (List ℕ)
-index_columns columns = index_column columns [] >>= repeat (link i.Comma (index_column columns))
+unfoldable pub indexed_columns : List Column → Rule (List ℕ)
+indexed_columns columns = index_column columns [] >>= repeat (link i.Comma (index_column columns))
 
 -- ---- the statement
 
@@ -79,7 +79,7 @@ unfoldable pub index_body : List Column → Rule (List ℕ)
 index_body columns = do
   method
   expect i.Open
-  numbers ← index_columns columns
+  numbers ← indexed_columns columns
   expect i.Close
   index_tail
   pure numbers

@@ -32,8 +32,8 @@ schema_by coverage called None = Err (fault called.place w.UnknownName)
 unfoldable pub schema_mentioned : {S : Type 0} → DraftOf S → CoverageOf S → PlacedName → Verdict (CoverageOf S)
 schema_mentioned draft coverage called = schema_by coverage called (find_schema called.text draft.schemas)
 
-abbrev pub is_of : {S : Type 0} → ℕ → EntryOf S → Bool
-is_of number entry = entry.table == number
+abbrev pub is_entry_of : {S : Type 0} → ℕ → EntryOf S → Bool
+is_entry_of number entry = entry.table == number
 
 abbrev pub is_filtered : {S : Type 0} → ℕ → EntryOf S → Bool
 is_filtered number entry = entry.table == number && is_some entry.filter
@@ -41,7 +41,7 @@ is_filtered number entry = entry.table == number && is_some entry.filter
 -- A table; its name is at this place. Its second mention is ignored, but refused if either mention has a filter.
 unfoldable pub table_mentioned : {S : Type 0} → CoverageOf S → ℕ → EntryOf S → Verdict (CoverageOf S)
 table_mentioned coverage place entry =
-    if not (list_any (is_of entry.table) coverage.entries) then
+    if not (list_any (is_entry_of entry.table) coverage.entries) then
     Ok (record coverage { entries = coverage.entries ++ entry ∷ [] })
     else if is_some entry.filter || list_any (is_filtered entry.table) coverage.entries then
     Err (fault place w.TableTwice)
@@ -101,8 +101,8 @@ module _ {S : Type 0} (forms : Forms S) where
   -- ---- a table
 
   -- the parenthesis after a filter
-  unfoldable pub ended : DraftOf S → CoverageOf S → ℕ → ℕ → S → Rule (Option S)
-  ended draft coverage number place filter = do
+  unfoldable pub filter_end : DraftOf S → CoverageOf S → ℕ → ℕ → S → Rule (Option S)
+  filter_end draft coverage number place filter = do
     expect i.Close
     check (limited place ((filters_on forms.tree number draft.publications
         ++ filters_in forms.tree number coverage.entries) ++ forms.tree filter ∷ []))
@@ -113,7 +113,7 @@ module _ {S : Type 0} (forms : Forms S) where
     place ← expect (i.Keyword k.Where)
     expect i.Open
     filter ← expression forms (columns_at draft.tables number)
-    ended draft coverage number place filter
+    filter_end draft coverage number place filter
 
   -- after a table: a filter, or nothing; a list of columns is refused
   abbrev pub filter_by : Option Item → DraftOf S → CoverageOf S → ℕ → Rule (Option S)

@@ -51,11 +51,11 @@ with_operation listed word =
     None
 
 -- each word must name an operation
-abbrev pub listed_by : Option Operations → List (List ℕ) → Option Operations
-listed_by None words = None
-listed_by (Some listed) [] = Some listed
-listed_by (Some listed) (word ∷ words) = listed_by (with_operation listed (trimmed word)) words
+abbrev pub all_listed : Option Operations → List (List ℕ) → Option Operations
+all_listed None words = None
+all_listed (Some listed) [] = Some listed
+all_listed (Some listed) (word ∷ words) = all_listed (with_operation listed (trimmed word)) words
 
 -- the operations of a list; a text of only white space has none
 unfoldable pub operations : List ℕ → Option Operations
-operations text = if length (trimmed text) == 0 then Some no_operation else listed_by (Some no_operation) (parts text)
+operations text = if length (trimmed text) == 0 then Some no_operation else all_listed (Some no_operation) (parts text)

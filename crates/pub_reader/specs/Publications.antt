@@ -19,8 +19,8 @@ check_new_publication draft called =
     fresh called (find_publication called.text draft.publications) (nat_le 64 (length draft.publications))
     Publications
 
-unfoldable pub publication_name : {S : Type 0} → DraftOf S → Rule PlacedName
-publication_name draft = do
+unfoldable pub new_publication_name : {S : Type 0} → DraftOf S → Rule PlacedName
+new_publication_name draft = do
   called ← name
   check (check_new_publication draft called)
   pure called
@@ -67,7 +67,7 @@ module _ {S : Type 0} (forms : Forms S) where
 
   unfoldable pub create_publication : DraftOf S → Rule (DraftOf S)
   create_publication draft = do
-    called ← publication_name draft
+    called ← new_publication_name draft
     coverage ← for_clause draft
     given ← parameters_clause
     pure (with_publication draft called coverage given)

@@ -7,7 +7,7 @@ use Rattle.table_changes.specs.Commands.{Command, Insert, Update, Delete, Trunca
 use Rattle.pub_reader.specs.Grammar.i
 use Rattle.pub_reader.specs.Grammar.{Item, Rule, ◌>>=◌, ◌>>◌, pure, refuse, advance, expect, next_is, item_ahead, written_ahead, link, repeat}
 use Rattle.sql_reader.specs.Items.{Items}
-use Rattle.sql_reader.specs.Rows.{in_parentheses}
+use Rattle.sql_reader.specs.Rows.{row_in_parentheses}
 use Rattle.pub_reader.specs.declared.script_command.CommandWord.{CommandWord}
 use Rattle.pub_reader.specs.declared.script_command.CommandWord.TheVariants as c
 use Rattle.pub_reader.specs.ScriptTables.{script_table}
@@ -34,20 +34,20 @@ command_ahead ts = command_word_by (item_ahead ts) (written_ahead ts)
 unfoldable pub insert_body : List Table → Rule Command
 insert_body tables = do
   number ← script_table tables
-  row ← in_parentheses
+  row ← row_in_parentheses
   pure (Insert number row)
 
 unfoldable pub update_body : List Table → Rule Command
 update_body tables = do
   number ← script_table tables
-  key ← in_parentheses
-  row ← in_parentheses
+  key ← row_in_parentheses
+  row ← row_in_parentheses
   pure (Update number key row)
 
 unfoldable pub delete_body : List Table → Rule Command
 delete_body tables = do
   number ← script_table tables
-  key ← in_parentheses
+  key ← row_in_parentheses
   pure (Delete number key)
 
 unfoldable pub one_table : List Table → List ℕ → Rule (List ℕ)

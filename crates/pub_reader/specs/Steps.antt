@@ -51,12 +51,12 @@ step_ahead ts = step_word_by (item_ahead ts) (written_ahead ts)
 
 -- The word of a step after this number of other steps: there are at most 100,000 steps, and no token after the word is
 -- looked at.
-abbrev pub counted : ℕ → Option StepWord → Rule StepWord
-counted count None = refuse
-counted count (Some word) = if nat_le 100000 count then refuse_as (w.TooMany Steps) else advance >> pure word
+abbrev pub step_counted : ℕ → Option StepWord → Rule StepWord
+step_counted count None = refuse
+step_counted count (Some word) = if nat_le 100000 count then refuse_as (w.TooMany Steps) else advance >> pure word
 
 unfoldable pub counted_word : ℕ → Rule StepWord
-counted_word count ts = counted count (step_ahead ts) ts
+counted_word count ts = step_counted count (step_ahead ts) ts
 
 -- ---- numbers and truth values
 
@@ -73,8 +73,8 @@ truth_by (Some (i.Keyword k.True)) = advance >> pure true
 truth_by (Some (i.Keyword k.False)) = advance >> pure false
 truth_by _ = refuse
 
-unfoldable pub truth : Rule Bool
-truth ts = truth_by (item_ahead ts) ts
+unfoldable pub truth_word : Rule Bool
+truth_word ts = truth_by (item_ahead ts) ts
 
 -- FALSE if there is none
 abbrev pub truth_or_false_by : Option Item → Rule Bool
@@ -103,7 +103,7 @@ hear_body = do
 unfoldable pub keep_body : Rule StepOf
 keep_body = do
   subscriber ← natural
-  want ← truth
+  want ← truth_word
   pure (Keep subscriber want)
 
 unfoldable pub deliver_body : Rule StepOf

@@ -17,8 +17,8 @@ check_new_subscription draft called =
     fresh called (find_subscription called.text draft.subscriptions) (nat_le 32 (length draft.subscriptions))
     Subscriptions
 
-unfoldable pub subscription_name : {S : Type 0} → DraftOf S → Rule PlacedName
-subscription_name draft = do
+unfoldable pub new_subscription_name : {S : Type 0} → DraftOf S → Rule PlacedName
+new_subscription_name draft = do
   called ← name
   check (check_new_subscription draft called)
   pure called
@@ -63,7 +63,7 @@ subscription_body draft = do
 
 unfoldable pub create_subscription : {S : Type 0} → DraftOf S → Rule (DraftOf S)
 create_subscription draft = do
-  called ← subscription_name draft
+  called ← new_subscription_name draft
   numbers ← subscription_body draft
   pure (record draft {
     subscriptions =

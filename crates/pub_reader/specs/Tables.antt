@@ -15,8 +15,8 @@ use Rattle.pub_reader.specs.TableNames.{new_name}
 unfoldable pub keyed : PlacedName → Parts → Verdict (Unit {0})
 keyed called parts = if has_key parts then Ok tt else Err (fault called.place w.NoKey)
 
-abbrev pub table_of : NewName → Parts → Table
-table_of called parts =
+abbrev pub new_table : NewName → Parts → Table
+new_table called parts =
     record {
       schema = called.schema;
       name = called.name.text;
@@ -49,4 +49,4 @@ unfoldable pub create_table : {S : Type 0} → DraftOf S → Rule (DraftOf S)
 create_table draft = do
   called ← new_name draft
   parts ← table_body called.name
-  pure (record draft { tables = draft.tables ++ table_of called parts ∷ [] })
+  pure (record draft { tables = draft.tables ++ new_table called parts ∷ [] })

@@ -27,7 +27,7 @@ impl Coverage {
     ghost use Rattle.std.specs.List.{list_any};
     ghost use Rattle.sql_reader.specs.Reading.{Answers};
     ghost use Rattle.pub_catalog.specs.CatalogView.{entry_view};
-    ghost use Rattle.pub_reader.specs.Drafts.{nothing_covered, is_covered};
+    ghost use Rattle.pub_reader.specs.Drafts.{nothing_covered, takes_table};
     ghost use Rattle.pub_reader.specs.DraftView.{coverage_view};
     ghost use Rattle.pub_reader.specs.Objects as spec;
 
@@ -44,7 +44,7 @@ impl Coverage {
 
     /// Whether a table is carried whole, because its schema is or because every table is.
     pub fn covers(&self, table: &Table) -> bool
-        ensures { result ≡ is_covered self.now.everything self.now.schemas table.now }
+        ensures { result ≡ takes_table self.now.everything self.now.schemas table.now }
     {
         self.everything || self.schemas.find(table.schema.as_str()).is_some()
     }
@@ -58,7 +58,7 @@ impl Coverage {
 
     /// Whether a table is named.
     fn has_table(&self, number: usize) -> bool
-        ensures { result ≡ list_any (spec.is_of number) (coverage_view self.now).entries }
+        ensures { result ≡ list_any (spec.is_entry_of number) (coverage_view self.now).entries }
     {
         for entry in &self.entries {
             if entry.table == number {

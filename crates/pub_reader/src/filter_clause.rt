@@ -49,7 +49,7 @@ fn within_limits(
 }
 
 /// Reads the parenthesis after a filter.
-#[tactic(auto, unfolding(crate::specs::Objects::ended))]
+#[tactic(auto, unfolding(crate::specs::Objects::filter_end))]
 fn ended(
     r: &mut Reader<'_>,
     alloc: Global,
@@ -60,7 +60,7 @@ fn ended(
     filter: Filter,
 ) -> Result<Option<Filter>, ReadError>
     ensures { TakesSome (λ filter. option_map expr_view filter)
-        (spec.ended as_filter (draft_view draft.now) (coverage_view coverage.now) number place (expr_view filter))
+        (spec.filter_end as_filter (draft_view draft.now) (coverage_view coverage.now) number place (expr_view filter))
         r.old result r.new }
 {
     r.expect(Item::Close, "AND, OR or `)`")?;

@@ -82,13 +82,13 @@ fn index_column(
 }
 
 /// Reads the names of the columns of the index, separated by commas.
-#[tactic(auto, using(sql_reader::proofs::RepetitionLemmas::chains), unfolding(crate::specs::Indexes::index_columns))]
+#[tactic(auto, using(sql_reader::proofs::RepetitionLemmas::chains), unfolding(crate::specs::Indexes::indexed_columns))]
 fn index_columns(
     r: &mut Reader<'_>,
     alloc: Global,
     columns: &[Column],
 ) -> Result<Vec<usize>, ReadError>
-    ensures { TakesSome (λ numbers. numbers.items) (spec.index_columns columns.now) r.old result r.new }
+    ensures { TakesSome (λ numbers. numbers.items) (spec.indexed_columns columns.now) r.old result r.new }
 {
     let mut numbers = Vec::new(alloc);
     index_column(r, alloc, columns, &mut numbers)?;

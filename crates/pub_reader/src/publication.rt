@@ -24,13 +24,13 @@ const EVERY_OPERATION: Operations = Operations {
 };
 
 /// Reads the name of a new publication.
-#[tactic(auto, unfolding(crate::specs::Publications::publication_name))]
+#[tactic(auto, unfolding(crate::specs::Publications::new_publication_name))]
 fn publication_name(
     r: &mut Reader<'_>,
     alloc: Global,
     draft: &Draft,
 ) -> Result<PlacedName, ReadError>
-    ensures takes { TakesSome (λ name. name) (spec.publication_name (draft_view draft.now)) r.old result r.new }
+    ensures takes { TakesSome (λ name. name) (spec.new_publication_name (draft_view draft.now)) r.old result r.new }
     ensures free { IfOk result (λ name. find_publication name.text (draft_view draft.now).publications ≡ None) }
 {
     let name = read_name(r, alloc, "the name of a publication")?;

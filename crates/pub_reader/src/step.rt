@@ -64,9 +64,9 @@ fn byte_count(r: &mut Reader<'_>) -> Result<usize, ReadError>
 }
 
 /// Reads TRUE or FALSE.
-#[tactic(auto, using(sql_reader::proofs::Ahead::rest_of_some_is_fewer), unfolding(crate::specs::Steps::truth))]
+#[tactic(auto, using(sql_reader::proofs::Ahead::rest_of_some_is_fewer), unfolding(crate::specs::Steps::truth_word))]
 fn truth(r: &mut Reader<'_>) -> Result<bool, ReadError>
-    ensures { TakesSome (λ b. b) spec.truth r.old result r.new }
+    ensures { TakesSome (λ b. b) spec.truth_word r.old result r.new }
 {
     match r.item() {
         Some(Item::Keyword(Keyword::True)) => {

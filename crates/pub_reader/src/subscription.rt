@@ -13,13 +13,13 @@ use sql_reader::{ErrorKind, Item, Keyword, Omitted, PlacedName, ReadError, Reade
 use std::alloc::Global;
 
 /// Reads the name of a new subscription.
-#[tactic(auto, unfolding(crate::specs::Subscriptions::subscription_name))]
+#[tactic(auto, unfolding(crate::specs::Subscriptions::new_subscription_name))]
 fn subscription_name(
     r: &mut Reader<'_>,
     alloc: Global,
     draft: &Draft,
 ) -> Result<PlacedName, ReadError>
-    ensures takes { TakesSome (λ name. name) (spec.subscription_name (draft_view draft.now)) r.old result r.new }
+    ensures takes { TakesSome (λ name. name) (spec.new_subscription_name (draft_view draft.now)) r.old result r.new }
     ensures free { IfOk result (λ name. find_subscription name.text (draft_view draft.now).subscriptions ≡ None) }
 {
     let name = read_name(r, alloc, "the name of a subscription")?;

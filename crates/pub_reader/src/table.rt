@@ -43,7 +43,7 @@ fn table_tail(r: &Reader<'_>) -> Result<(), ReadError>
 
 /// The table with a name and elements. It has no unique index yet.
 fn table_of(alloc: Global, name: NewName, parts: TableParts) -> Table
-    ensures { result ≡ spec.table_of name (parts_view parts) }
+    ensures { result ≡ spec.new_table name (parts_view parts) }
 {
     let NewName { schema, name } = name;
     let TableParts { columns, key } = parts;

@@ -14,7 +14,7 @@ use Rattle.tables_log.specs.declared.error.CommitError.{CommitError}
 use Rattle.tables_log.proofs.StandLemmas.{each_is_logged, commits_add_one}
 use Rattle.publisher_desk.specs.Logged.{StandsIn, IsReadIn, IsNoted, AreNoted, own_numbers, RiseTo, IsSighted, AreLogged, IsHistoryOf, IsLogOfSeats, Records, Looks, Refuses, IsRefusedIn, IsRefused}
 use Rattle.publisher_desk.specs.Receipts.{ReceiptOf, transaction_of, transactions_of}
-use Rattle.publisher_desk.specs.Seats.{number_of, highest}
+use Rattle.publisher_desk.specs.Seats.{note_number, highest}
 use Rattle.publisher_desk.specs.Sights.{IsTold, Sees, StartsWith, sight, times, view_of}
 use Rattle.publisher_desk.specs.declared.note.Note.{Note}
 use Rattle.publisher_desk.specs.declared.note.Note.TheVariants.{Committed, Looked}
@@ -74,7 +74,7 @@ own_append (Committed receipt ∷ notes) more = ap (λ (list : List ℕ). receip
 own_append (Looked reading ∷ notes) more = own_append notes more
 
 noted_low : (setting : Setting) (log : List ReceiptOf) (note : Note) → IsNoted setting log note
-    → number_of note ≤ length log
+    → note_number note ≤ length log
 noted_low setting log (Committed receipt) stands =
     let all = ap length stands.log_is in let both = length-append stands.earlier (receipt ∷ stands.later) in
     let number = stands.number_is in omega (arith, all, both, number)

@@ -5,7 +5,7 @@ use Rattle.std.proofs.lemmas.List.Elements.{All-nil, All-push}
 use Rattle.std.proofs.lemmas.Option.{slice_get_within}
 use Rattle.table_changes.proofs.TableLemmas.{some_is}
 use Rattle.tables_log.proofs.PlaceLemmas.{number_is, number_apart, get_front, get_last}
-use Rattle.publisher_desk.specs.Seats.{number_of, receipts, highest, AreTimed, HasTime, AreUpTo, IsForward, IsSeat}
+use Rattle.publisher_desk.specs.Seats.{note_number, receipts, highest, AreTimed, HasTime, AreUpTo, IsForward, IsSeat}
 use Rattle.publisher_desk.specs.declared.note.Note.{Note}
 use Rattle.publisher_desk.specs.declared.note.Note.TheVariants.{Committed, Looked}
 use Rattle.publisher_desk.specs.declared.note.Reading.{Reading}
@@ -26,7 +26,7 @@ highest_append (note ∷ notes) more = let rest = highest_append notes more in o
 up_to_highest : (notes : List Note) → AreUpTo (highest notes) notes
 up_to_highest [] place note at = absurd cc
 up_to_highest (first ∷ notes) zero note at = let same : first ≡ note = some_is first note at in
-    let number : number_of first ≡ number_of note = ap number_of same in omega (arith, number)
+    let number : note_number first ≡ note_number note = ap note_number same in omega (arith, number)
 up_to_highest (first ∷ notes) (suc place) note at = let later = up_to_highest notes place note at in
     omega (arith, later)
 
@@ -87,7 +87,7 @@ reading_kept notes reading high last parts more amount count last_is low same st
   counted = let push = receipts_append notes (Looked reading ∷ []) in omega (arith, push, still, seat.counted);
   high_is = let push = highest_append notes (Looked reading ∷ []) in omega (arith, push, seat.high_is);
   forward = forward_more notes (Looked reading)
-      (λ other same. let number : reading.number ≡ other.number = ap number_of same in
+      (λ other same. let number : reading.number ≡ other.number = ap note_number same in
       up_to_number notes high other.number seat.high_is (omega (arith, number))) seat.forward;
 }
 

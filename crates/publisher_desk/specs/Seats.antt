@@ -5,9 +5,9 @@ use Rattle.publisher_desk.specs.declared.note.Note.TheVariants.{Committed, Looke
 use Rattle.publisher_desk.specs.declared.note.Reading.{Reading}
 
 -- the number of a commit, or of how many commits there were when a row was read
-abbrev pub number_of : Note → ℕ
-number_of (Committed receipt) = receipt.number
-number_of (Looked reading) = reading.number
+abbrev pub note_number : Note → ℕ
+note_number (Committed receipt) = receipt.number
+note_number (Looked reading) = reading.number
 
 -- how many of them are receipts
 abbrev pub receipts : List Note → ℕ
@@ -18,17 +18,17 @@ receipts (Looked reading ∷ notes) = receipts notes
 -- the greatest of their numbers; 0 of none
 abbrev pub highest : List Note → ℕ
 highest [] = 0
-highest (note ∷ notes) = max (number_of note) (highest notes)
+highest (note ∷ notes) = max (note_number note) (highest notes)
 
 -- Each of them is of this number or an earlier one.
 abbrev pub AreUpTo : ℕ → List Note → Type 0
-AreUpTo number notes = (place : ℕ) (note : Note) → slice_get notes place ≡ Some note → number_of note ≤ number
+AreUpTo number notes = (place : ℕ) (note : Note) → slice_get notes place ≡ Some note → note_number note ≤ number
 
 -- No row was read of fewer commits than an earlier note knows of.
 abbrev pub IsForward : List Note → Type 0
 IsForward notes = (earlier place : ℕ) (note : Note) (reading : Reading) → earlier < place
     → slice_get notes earlier ≡ Some note → slice_get notes place ≡ Some (Looked reading)
-    → number_of note ≤ reading.number
+    → note_number note ≤ reading.number
 
 -- the time of a commit has 64 bits
 abbrev pub HasTime : Note → Type 0

@@ -11,7 +11,7 @@ use Rattle.filter_tree.specs.Expr.{Expr, Or}
 use Rattle.filter_tree.specs.declared.table.Table.{Table}
 use Rattle.pub_catalog.specs.Catalogs.{EntryOf}
 use Rattle.replica_identity.specs.Joining.{joined, joined_at}
-use Rattle.replica_identity.specs.Plans.{filters_for, share_in, shares_from}
+use Rattle.replica_identity.specs.Plans.{filters_for, share_from, shares_from}
 use Rattle.replica_identity.specs.Shares.{ShareOf, Nothing, Everything, Where, any_of, share_by}
 use Rattle.filter_tree.proofs.Tests.{by_test}
 
@@ -52,14 +52,14 @@ abbrev only_if : Bool → EntryOf Expr → List (Option Expr)
 only_if test entry = map (λ (e : EntryOf Expr). e.filter) (if test then entry ∷ [] else [])
 
 share_in_more : (entries : List (EntryOf Expr)) (entry : EntryOf Expr) (table : ℕ) → (entry.table == table) ≡ true
-    → share_in (entries ++ entry ∷ []) table ≡ joined (share_in entries table) entry.filter
+    → share_from (entries ++ entry ∷ []) table ≡ joined (share_from entries table) entry.filter
 share_in_more entries entry table e =
     ap share_by (filters_for-append table entries (entry ∷ [])
     ∙ ap (λ b. filters_for table entries ++ only_if b entry) e)
     ∙ share_by_more (filters_for table entries) entry.filter
 
 share_in_same : (entries : List (EntryOf Expr)) (entry : EntryOf Expr) (table : ℕ) → (entry.table == table) ≡ false
-    → share_in (entries ++ entry ∷ []) table ≡ share_in entries table
+    → share_from (entries ++ entry ∷ []) table ≡ share_from entries table
 share_in_same entries entry table e =
     ap share_by (filters_for-append table entries (entry ∷ [])
     ∙ ap (λ b. filters_for table entries ++ only_if b entry) e ∙ append-nil (filters_for table entries))
@@ -87,7 +87,7 @@ shares_same entries entry k [] h = refl
 shares_same entries entry k (table ∷ tables) h =
     ap (λ share. share ∷ shares_from (entries ++ entry ∷ []) (k + 1) tables)
     (share_in_same entries entry k (earlier_number entry.table k h))
-    ∙ ap (λ shares. share_in entries k ∷ shares) (shares_same entries entry (k + 1) tables (omega arith))
+    ∙ ap (λ shares. share_from entries k ∷ shares) (shares_same entries entry (k + 1) tables (omega arith))
 
 joined_from : (entries : List (EntryOf Expr)) (entry : EntryOf Expr) (k j : ℕ) (tables : List Table)
     → entry.table ≡ k + j →
@@ -98,12 +98,12 @@ joined_from entries entry k j [] e = refl
 joined_from entries entry k zero (table ∷ tables) e =
     ap (λ share. share ∷ shares_from (entries ++ entry ∷ []) (k + 1) tables)
     (share_in_more entries entry k (ap (λ n. n == k) e ∙ same_number k))
-    ∙ ap (λ shares. joined (share_in entries k) entry.filter ∷ shares)
+    ∙ ap (λ shares. joined (share_from entries k) entry.filter ∷ shares)
     (shares_same entries entry (k + 1) tables (omega arith))
 joined_from entries entry k (suc j) (table ∷ tables) e =
     ap (λ share. share ∷ shares_from (entries ++ entry ∷ []) (k + 1) tables)
     (share_in_same entries entry k (ap (λ n. n == k) e ∙ later_number k j))
-    ∙ ap (λ shares. share_in entries k ∷ shares) (joined_from entries entry (k + 1) j tables (e ∙ next_sum k j))
+    ∙ ap (λ shares. share_from entries k ∷ shares) (joined_from entries entry (k + 1) j tables (e ∙ next_sum k j))
 
 joined_on : (entries more : List (EntryOf Expr)) (tables : List Table)
     → fold joined_at (shares_from entries 0 tables) more ≡ shares_from (entries ++ more) 0 tables

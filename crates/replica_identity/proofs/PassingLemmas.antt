@@ -12,7 +12,7 @@ use Rattle.filter_tree.specs.declared.tri.Tri.TheVariants.{True, False, Null}
 use Rattle.pub_catalog.specs.Catalogs.{CatalogOf, PublicationOf, EntryOf}
 use Rattle.pub_catalog.specs.declared.catalog.Subscription.{Subscription}
 use Rattle.replica_identity.specs.Passes.{listed_by, lets, entry_carries, carries}
-use Rattle.replica_identity.specs.Plans.{PlanOf, TakesWhatPasses, filters_for, share_in, shares_from, entries_in, entries_at, entries_listed, shares_for, plan_of}
+use Rattle.replica_identity.specs.Plans.{PlanOf, TakesWhatPasses, filters_for, share_from, shares_from, entries_in, entries_at, entries_listed, shares_for, plan_of}
 use Rattle.replica_identity.specs.Shares.{Nothing, any_of, share_by, takes, is_true}
 use Rattle.filter_tree.proofs.Tests.{by_test}
 
@@ -107,11 +107,11 @@ publications_let table row publications (number ∷ numbers) =
 -- ---- shares of tables
 
 share_in_list : (entries : List (EntryOf Expr)) (k j : ℕ) (tables : List Table) → j < length tables
-    → slice_index_or (shares_from entries k tables) j Nothing ≡ share_in entries (k + j)
+    → slice_index_or (shares_from entries k tables) j Nothing ≡ share_from entries (k + j)
 share_in_list entries k j [] h = absurd (omega arith)
-share_in_list entries k zero (table ∷ tables) h = ap (share_in entries) (omega arith)
+share_in_list entries k zero (table ∷ tables) h = ap (share_from entries) (omega arith)
 share_in_list entries k (suc j) (table ∷ tables) h = share_in_list entries (k + 1) j tables (omega arith)
-    ∙ ap (share_in entries) (omega arith)
+    ∙ ap (share_from entries) (omega arith)
 
 no_more : (n : ℕ) → 0 + n ≡ n
 no_more n = omega arith
@@ -123,7 +123,7 @@ one_takes : (catalog : CatalogOf Expr) (subscription : Subscription) (table : �
 one_takes catalog subscription table row h =
     let entries = entries_listed catalog.publications subscription.publications in
     ap (λ share. takes share row)
-    (share_in_list entries 0 table catalog.tables h ∙ ap (share_in entries) (no_more table))
+    (share_in_list entries 0 table catalog.tables h ∙ ap (share_from entries) (no_more table))
     ∙ takes_what_lets (filters_for table entries) row
     ∙ entries_let table row entries
     ∙ publications_let table row catalog.publications subscription.publications

@@ -12,7 +12,7 @@ use Rattle.filter_tree.specs.declared.table.UniqueIndex.{UniqueIndex}
 use Rattle.pub_catalog.specs.Catalogs.{CatalogOf}
 use Rattle.replica_identity.specs.Identities.{numbers_to, columns_by, identity_columns}
 use Rattle.replica_identity.specs.Plans.{PlanOf}
-use Rattle.replica_identity.specs.Setting.{recorded_as, fault_in, index_key, keys_in, identity_by, identity_in, setting_of}
+use Rattle.replica_identity.specs.Setting.{recorded_as, table_fault, index_key, keys_in, row_identity, identity_in, setting_of}
 use Rattle.replica_identity.specs.SettingLaws.{HasTable}
 use Rattle.table_changes.specs.Columns.{values_at, unless_null}
 use Rattle.table_changes.specs.Keys.{value_in, HasPrimaryKeys}
@@ -40,7 +40,7 @@ pub has_table : (catalog : CatalogOf Expr) (plan : PlanOf) (number : ℕ) (table
     → slice_get catalog.tables number ≡ Some table → HasTable (setting_of catalog plan) number table
 has_table catalog plan number table there = record {
   known = lt-ltb number (length catalog.tables) (slice_get_within catalog.tables number table there);
-  fault = λ row. ap (λ found. fault_in found row) there;
+  fault = λ row. ap (λ found. table_fault found row) there;
   primary = λ row. ap (λ found. value_in (slice_get (keys_in found) 0) row) there;
   indexed = λ place index at row. ap (λ found. value_in (slice_get (keys_in found) (place + 1)) row) there
       ∙ index_in table place index at row;
@@ -72,7 +72,7 @@ all_values (cell ∷ row) =
 
 by_columns : (identity : Identity) (table : Table) (row : List Datum) → table.identity ≡ identity
     → length row ≡ length table.columns
-    → identity_by (recorded_as identity) table row ≡ values_at (identity_columns table) row
+    → row_identity (recorded_as identity) table row ≡ values_at (identity_columns table) row
 by_columns Default table row is wide = refl
 by_columns (Index number) table row is wide = refl
 by_columns Full table row is wide =

@@ -15,13 +15,13 @@ abbrev pub filters_for : ℕ → List (EntryOf Expr) → List (Option Expr)
 filters_for table entries =
     map (λ (entry : EntryOf Expr). entry.filter) (filter (λ entry. entry.table == table) entries)
 
-abbrev pub share_in : List (EntryOf Expr) → ℕ → ShareOf
-share_in entries table = share_by (filters_for table entries)
+abbrev pub share_from : List (EntryOf Expr) → ℕ → ShareOf
+share_from entries table = share_by (filters_for table entries)
 
 -- the shares of the tables, the first of which has this number
 abbrev pub shares_from : List (EntryOf Expr) → ℕ → List Table → List ShareOf
 shares_from entries number [] = []
-shares_from entries number (table ∷ tables) = share_in entries number ∷ shares_from entries (number + 1) tables
+shares_from entries number (table ∷ tables) = share_from entries number ∷ shares_from entries (number + 1) tables
 
 -- the entries of the publication of this number
 abbrev pub entries_in : Option (PublicationOf Expr) → List (EntryOf Expr)

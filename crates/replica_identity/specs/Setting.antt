@@ -25,9 +25,9 @@ recorded_as Nothing = Nowhere
 
 -- ---- for a table that exists; otherwise a row has no fault, its key has no column, and it is its own identity
 
-abbrev pub fault_in : Option Table → List Datum → Option RowFault
-fault_in None row = None
-fault_in (Some table) row = row_fault table.columns row
+abbrev pub table_fault : Option Table → List Datum → Option RowFault
+table_fault None row = None
+table_fault (Some table) row = row_fault table.columns row
 
 abbrev pub primary_key : Table → UniqueKey
 primary_key table row = Some (values_at table.key row)
@@ -49,13 +49,13 @@ recorded_in None = Whole
 recorded_in (Some table) = recorded_as table.identity
 
 -- under FULL the row itself identifies it
-abbrev pub identity_by : Recorded → Table → List Datum → List Datum
-identity_by Whole table row = row
-identity_by _ table row = values_at (identity_columns table) row
+abbrev pub row_identity : Recorded → Table → List Datum → List Datum
+row_identity Whole table row = row
+row_identity _ table row = values_at (identity_columns table) row
 
 abbrev pub identity_in : Option Table → List Datum → List Datum
 identity_in None row = row
-identity_in (Some table) row = identity_by (recorded_as table.identity) table row
+identity_in (Some table) row = row_identity (recorded_as table.identity) table row
 
 abbrev pub blanked_by : Recorded → Table → List Datum → List Datum
 blanked_by Whole table row = row
@@ -69,7 +69,7 @@ blanked_in (Some table) row = blanked_by (recorded_as table.identity) table row
 abbrev pub setting_of : CatalogOf Expr → PlanOf → Setting
 setting_of catalog plan = record {
   known = λ table. nat_lt table (length catalog.tables);
-  fault = λ table. fault_in (slice_get catalog.tables table);
+  fault = λ table. table_fault (slice_get catalog.tables table);
   keys = λ table. keys_in (slice_get catalog.tables table);
   recorded = λ table. recorded_in (slice_get catalog.tables table);
   identity = λ table. identity_in (slice_get catalog.tables table);

@@ -25,7 +25,7 @@ use Rattle.publisher_desk.specs.Seats.{receipts, AreTimed, IsForward}
 use Rattle.publisher_desk.specs.declared.note.Note.{Note}
 use Rattle.publisher_desk.specs.declared.note.Note.TheVariants.{Committed, Looked}
 use Rattle.publisher_desk.specs.declared.note.Reading.{Reading}
-use Rattle.senders.specs.CloseCauses.{IsMissing, IsRepeated, IsNotLogged, IsToldBy, HasWrongReading, HasOtherTaken, IsCause, IsHeldBack, RefusedClose}
+use Rattle.senders.specs.CloseCauses.{IsMissing, IsRepeated, IsNotLogged, IsToldBy, HasWrongReading, HasOtherTaken, IsCloseCause, IsHeldBack, RefusedClose}
 use Rattle.senders.specs.Closing.{IsClosed}
 use Rattle.publisher_desk.specs.Logged.{RiseTo}
 use Rattle.senders.specs.Gathering.{receipts_in, all_receipts, all_readings, numbers_of, IsRising}
@@ -110,7 +110,7 @@ long_count book seats order ordered long = sym long.count ∙ length_permutation
 
 unlike_cause : (book : Book) (seats : List (List Note)) (served : List Served) (order : List ReceiptOf)
     (error : CloseError) → AreInOrder seats order → IsAsLong book order → IsUnlikeIn book order error
-    → IsCause book seats served error
+    → IsCloseCause book seats served error
 unfolding long_count
 unlike_cause book seats served order f.CountDiffers ordered long unlike = absurd unlike
 unlike_cause book seats served order f.ReceiptMissing ordered long unlike =
@@ -186,7 +186,7 @@ module _ (book fresh : Book) (seats : List (List Note)) (receipts seen : List (B
       (sym seen_is) long
 
   pub unlike_compared : (served : List Served) (error : CloseError)
-      → IsUnlikeIn book (map (λ (one : Bor ReceiptOf). one.now) seen) error → IsCause book seats served error
+      → IsUnlikeIn book (map (λ (one : Bor ReceiptOf). one.now) seen) error → IsCloseCause book seats served error
   unfolding seen_ordered seen_long
   unlike_compared served error unlike =
       unlike_cause book seats served (map (λ (one : Bor ReceiptOf). one.now) seen) error seen_ordered seen_long unlike
@@ -286,7 +286,7 @@ all_counted (seat ∷ seats) =
     let both = length-append (receipts_in seat) (all_receipts seats) in omega (arith, rest, one, both)
 
 held_back : (book : Book) (all left : ℕ) (seats : List (List Note)) (served : List Served) (error : CloseError)
-    → IsCounted all left seats (length (book_log book)) → IsCause book seats served error
+    → IsCounted all left seats (length (book_log book)) → IsCloseCause book seats served error
     → IsHeldBack all left seats error
 held_back book all left seats served f.CountDiffers counted cause = by_test (ltb (left + length seats) all)
     (λ less. ltb-true (left + length seats) all less)
@@ -300,11 +300,11 @@ held_back book all left seats served f.OutOfMemory counted cause = tt
 module _ (checked : CheckedOf) (limit all left : ℕ) (book : Book) (seats : List (List Note)) (served : List Served)
     (is : IsBookOf checked limit book) (counted : IsCounted all left seats (length (book_log book))) where
   pub refused_as_named : (seen : List (List Note)) (told : List Served) (error : CloseError) → seen ≡ seats
-      → told ≡ served → IsCause book seen told error → RefusedClose checked limit all left seats served error
+      → told ≡ served → IsCloseCause book seen told error → RefusedClose checked limit all left seats served error
   refused_as_named seen told error same alike cause =
-      let why : IsCause book seats served error =
-      subst (λ (list : List (List Note)). IsCause book list served error) same
-      (subst (λ (list : List Served). IsCause book seen list error) alike cause) in
+      let why : IsCloseCause book seats served error =
+      subst (λ (list : List (List Note)). IsCloseCause book list served error) same
+      (subst (λ (list : List Served). IsCloseCause book seen list error) alike cause) in
       record {
         book = book;
         is = is;

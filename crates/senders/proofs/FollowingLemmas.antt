@@ -31,14 +31,14 @@ use Rattle.senders.specs.Gathering.{all_receipts, receipts_in}
 use Rattle.senders.specs.TakenCommits.{IsTaken}
 use Rattle.stream_laws.specs.Cutting.{whole_in}
 use Rattle.stream_laws.specs.Following.{Follows, IsPublished, IsSentItem, items_from, log_of}
-use Rattle.stream_laws.specs.FollowingBytes.{AreFirst, StopsFollowing, position_in}
+use Rattle.stream_laws.specs.FollowingBytes.{AreFirst, StopsFollowing, position_after_bytes}
 use Rattle.stream_laws.specs.LayoutRoom.{IsClocked, IsTimedTransaction}
 use Rattle.stream_laws.proofs.FollowingBytesLemmas.{fed_follow, stopped_follow}
 use Rattle.stream_laws.proofs.LayoutRoomLemmas.{logs_fit_layouts}
 use Rattle.stream_laws.proofs.SentItems.{streams_can_be_sent}
 use Rattle.test_subscriber.specs.Subscribers.{sub_machine}
 use Rattle.senders.specs.Following.{ClientsFollow, ClientsStop, ClosedAreFollowed, ClosedAreTold, ClosedTellTheLog, IsFirstPart, IsLastPart, NoBytes, OfDone, ServedAreFirstParts}
-use Rattle.senders.specs.Serving.{IsLast, IsStream, IsTail, commits_of}
+use Rattle.senders.specs.Serving.{IsAfterStream, IsStream, IsTail, commits_of}
 use Rattle.senders.specs.Serving as serving
 
 -- ---- a list that is cut in two ways
@@ -63,7 +63,7 @@ cut (x ∷ a) b (y ∷ c) d e =
 
 -- ---- what was written
 
-last_part : (frames : List Frame) (last front rest : List ℕ) → last ≡ front ++ rest → IsLast frames last
+last_part : (frames : List Frame) (last front rest : List ℕ) → last ≡ front ++ rest → IsAfterStream frames last
     → IsLastPart frames front
 last_part frames last front rest is (serving.Nothing none) =
     NoBytes (nil_from_length front (omega (arith, ap length (sym is ∙ none), length-append front rest)))
@@ -165,7 +165,7 @@ clients_follow checked transactions accepted timed few slot start moves clocks o
     let position : ℕ = (sub_machine old).position in
     let here : AreFirst view transactions slot position moves bytes others =
     subst (λ (p : ℕ). AreFirst view transactions slot p moves bytes others) (sym at) first in
-    subst (λ (p : ℕ). Follows view transactions slot (position_in view transactions slot p moves bytes)
+    subst (λ (p : ℕ). Follows view transactions slot (position_after_bytes view transactions slot p moves bytes)
     (sub_machine new)) at
     (fed_follow view transactions (published checked transactions accepted timed few) slot old between new follows
     opens moves

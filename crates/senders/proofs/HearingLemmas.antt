@@ -10,7 +10,7 @@ use Rattle.tables_log.specs.StandsFor.{AreAccepted}
 use Rattle.tables_log.specs.declared.book.Book.{Book}
 use Rattle.tables_log.proofs.StandLemmas.{each_is_logged}
 use Rattle.copy_both.specs.Ears.{ear_refusal, ear_started}
-use Rattle.copy_both.specs.HeardFrames.{AsksIfStarted, GoesOnOrEnds, HasFault, HasHeard, Explains, IsAnswered, IsBookFor, frames_in, reach_of, sent_then, IsStartedBy}
+use Rattle.copy_both.specs.HeardFrames.{AsksIfStarted, GoesOnOrEnds, HasLinkFault, HasHeard, Explains, IsAnswered, IsBookFor, frames_in, reach_of, sent_then, IsStartedBy}
 use Rattle.copy_both.specs.declared.ear.Ear.{Ear}
 use Rattle.copy_both.specs.declared.heard.Heard.{Heard}
 use Rattle.copy_both.specs.declared.link_fault.LinkFault.{LinkFault}
@@ -48,7 +48,7 @@ explained checked bytes old new book sent (Err fault) is from stays answered exp
         is.stands.accepted;
     sent = sent_then (ear_started old) sent (ear_started new);
     from = sent_from (ear_started old) (ear_started new) sent from stays;
-    has = subst (λ (n : ℕ). HasFault checked bytes
+    has = subst (λ (n : ℕ). HasLinkFault checked bytes
         (min (sent_then (ear_started old) sent (ear_started new)) (end_after n)) fault)
         (each_is_logged book is.transactions is.stands) explains;
   };

@@ -27,7 +27,7 @@ use Rattle.publisher_desk.specs.declared.note.Note.TheVariants.{Committed, Looke
 use Rattle.publisher_desk.specs.declared.note.Reading.{Reading}
 use Rattle.publisher_desk.proofs.KeptLemmas.{times_append}
 use Rattle.publisher_desk.proofs.LoggedLemmas.{length_transactions, transactions_append}
-use Rattle.senders.specs.CloseCauses.{IsUnlike, IsRefusedThere, IsOtherThere, IsMissing, IsFalling, IsRepeated, IsNotLogged, HasWrongReading, IsCause, CanCome}
+use Rattle.senders.specs.CloseCauses.{IsUnlike, IsRefusedThere, IsOtherThere, IsMissing, IsFalling, IsRepeated, IsNotLogged, HasWrongReading, IsCloseCause, CanCome}
 use Rattle.senders.specs.Gathering.{receipts_in, readings_in, all_receipts, all_readings, numbers_of, IsRising}
 use Rattle.senders.specs.Histories.{AreInOrder, IsRight}
 use Rattle.senders.specs.declared.served.Served.{Served}
@@ -338,7 +338,7 @@ module _ (checked : CheckedOf) (book : Book) (seats : List (List Note)) (named :
           counted setting tables number (receipt ∷ order) =
               ap suc (counted setting (left_by setting tables (transaction_of receipt)) (number + 1) order)
 
-  can_come : (served : List Served) (error : CloseError) → IsCause book seats served error → CanCome error
+  can_come : (served : List Served) (error : CloseError) → IsCloseCause book seats served error → CanCome error
   unfolding not_missing not_wrong
   can_come served f.CountDiffers cause = tt
   can_come served f.ReceiptMissing cause = not_missing cause.0 cause.1
@@ -348,7 +348,7 @@ module _ (checked : CheckedOf) (book : Book) (seats : List (List Note)) (named :
 
 pub comes_as_named : (checked : CheckedOf) (book : Book) (seats seen : List (List Note)) (served : List Served)
     (error : CloseError) → book_checked book ≡ checked → seen ≡ seats → IsLogOfSeats checked seats book
-    → IsCause book seen served error → CanCome error
+    → IsCloseCause book seen served error → CanCome error
 comes_as_named checked book seats seen served error named same logged cause =
     can_come checked book seen named (subst (λ (list : List (List Note)). IsLogOfSeats checked list book) (sym same) logged)
     served error cause

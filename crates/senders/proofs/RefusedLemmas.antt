@@ -14,7 +14,7 @@ use Rattle.senders.specs.declared.end.End.TheVariants as end
 use Rattle.senders.specs.declared.served.Served.{Served}
 use Rattle.senders.specs.Listening.{EndsAt, EndsFor}
 use Rattle.senders.specs.Refusing.{AnswersAs, cause_by}
-use Rattle.senders.specs.Serving.{IsAnswer, IsCause, IsServed, IsServedFor, IsWritten, commits_of, started_of}
+use Rattle.senders.specs.Serving.{IsUnstartedAnswer, IsEndCause, IsServed, IsServedFor, IsWritten, commits_of, started_of}
 use Rattle.senders.specs.declared.listener_end.ListenerEnd.{ListenerEnd}
 use Rattle.senders.specs.declared.listener_end.ListenerEnd.TheVariants as listener_end
 use Rattle.senders.specs.declared.listener.Listener.{Listener}
@@ -25,7 +25,7 @@ record Answered (checked : CheckedOf) (bytes : List ℕ) (before after : Option 
     Type 0 where
   written : List ℕ
   put : Appends before after written
-  answer : IsAnswer checked (frames_in bytes) written failed why
+  answer : IsUnstartedAnswer checked (frames_in bytes) written failed why
 
 module _ (checked : CheckedOf) (bytes : List ℕ) (source_failed source_ended : Bool) (before after : Option (List ℕ))
     (failed : Bool) (response : List ℕ) where
@@ -60,7 +60,7 @@ module _ (checked : CheckedOf) (bytes : List ℕ) (source_failed source_ended : 
     (failed : Bool) (served : Served) (no_slot : served.slot ≡ None)
     (no_start : served.start ≡ None) (none : served.taken.items ≡ []) where
   unstarted : Answered checked bytes before after failed served.end
-      → IsCause checked bytes None source_failed source_ended failed served.end
+      → IsEndCause checked bytes None source_failed source_ended failed served.end
       → IsServedFor checked bytes source_failed source_ended before after failed served
   unstarted answer cause = record {
     written = answer.written;
@@ -70,7 +70,7 @@ module _ (checked : CheckedOf) (bytes : List ℕ) (source_failed source_ended : 
         (subst (λ (o : Option ℕ). IsWritten checked (frames_in bytes) None o (commits_of served) answer.written failed
         served.end) (sym no_start)
         (record { none = ap (map (λ commit. arc_value commit)) none; answer = answer.answer }));
-    cause = subst (λ (o : Option ℕ). IsCause checked bytes (started_of o served.start) source_failed source_ended
+    cause = subst (λ (o : Option ℕ). IsEndCause checked bytes (started_of o served.start) source_failed source_ended
         failed served.end) (sym no_slot) cause;
     left = λ slot some sound client. cc;
   }
@@ -96,7 +96,7 @@ served_refused checked left now_left source_failed source_ended before after fai
           (subst (Answered checked bytes before after failed) (sym same)
           (answered checked bytes source_failed source_ended before after failed (ear_refusal new.ear) why ends
           answers))
-          (subst (IsCause checked bytes None source_failed source_ended failed) (sym same)
+          (subst (IsEndCause checked bytes None source_failed source_ended failed) (sym same)
           (heard_cause checked bytes None (ear_refusal new.ear) source_failed source_ended failed why ends));
     }
 
@@ -111,6 +111,6 @@ served_nothing checked left source_failed source_ended before failed served no_s
   served_for = unstarted checked [] source_failed source_ended before before failed served no_slot no_start none
       (subst (Answered checked [] before before failed) (sym same)
       (record { written = []; put = Appends-nil before; answer = refl }))
-      (subst (IsCause checked [] None source_failed source_ended failed) (sym same)
+      (subst (IsEndCause checked [] None source_failed source_ended failed) (sym same)
       (record { transactions = []; accepted = tt; sent = 0; from = tt; has = tt }));
 }

@@ -8,8 +8,8 @@ use Rattle.std.proofs.KnownBytes.{Appends-nil, Appends-trans}
 use Rattle.tables_log.specs.Commits.{CommitOf}
 use Rattle.copy_both.specs.Streams.{Take, Keep, stream}
 use Rattle.copy_both.specs.Tellings.{telling_of}
-use Rattle.copy_both.specs.VoiceLaws.{Told, IsTelling, first_of}
-use Rattle.copy_both.specs.Voices.{Closes, Says, entry_bytes, entry_stage, kept_bytes, next_of, voice_checked, voice_output, voice_stage}
+use Rattle.copy_both.specs.VoiceLaws.{Told, IsTelling, start_count}
+use Rattle.copy_both.specs.Voices.{Closes, Sends, entry_bytes, entry_stage, kept_bytes, next_of, voice_checked, voice_output, voice_stage}
 use Rattle.copy_both.specs.declared.voice.Voice.{Voice}
 use Rattle.copy_both.proofs.VoiceStreams.{voice_keeps, voice_stops, voice_takes}
 use Rattle.stream_laws.specs.LayoutRoom.{IsClocked}
@@ -52,7 +52,7 @@ module _ (before after : Option (List ℕ)) (told : Told) where
   pub takes_up : (taken : List CommitOf) (old new : Voice) (commit : CommitOf) (number clock : ℕ) → clock < 2 ^ 64
       → TellsOn before after taken old told → next_of (voice_stage old) ≡ Some number
       → commit.number ≡ number
-      → Says old new (entry_bytes (voice_checked old) (voice_stage old) commit clock)
+      → Sends old new (entry_bytes (voice_checked old) (voice_stage old) commit clock)
       (entry_stage (voice_checked old) (voice_stage old) commit)
       → TellsOn before after (taken ++ commit ∷ []) new told
   takes_up taken old new commit number clock timed on next is says =
@@ -60,7 +60,7 @@ module _ (before after : Option (List ℕ)) (told : Told) where
       let counted : Some (tells.state.done + 1) ≡ Some number = sym (ap next_of tells.stage_is) ∙ next in
       let count : tells.state.done + 1 ≡ number = cc in
       let done = tells.done in
-      let place : commit.number ≡ suc (first_of on.now + length on.now.taken) = omega arith in
+      let place : commit.number ≡ suc (start_count on.now + length on.now.taken) = omega arith in
       let after_it = voice_takes old new on.now commit clock tells place says in
       record {
         now = record on.now { taken = on.now.taken ++ commit ∷ []; moves = _ };
@@ -80,7 +80,7 @@ module _ (before after : Option (List ℕ)) (told : Told) where
 
   pub keeps_alive : (taken : List CommitOf) (old new : Voice) (clock : ℕ) (want : Bool) → clock < 2 ^ 64
       → TellsOn before after taken old told
-      → Says old new (kept_bytes (voice_stage old) clock want) (voice_stage old) → TellsOn before after taken new told
+      → Sends old new (kept_bytes (voice_stage old) clock want) (voice_stage old) → TellsOn before after taken new told
   keeps_alive taken old new clock want timed on says = record {
     clocks = All-append IsClocked on.now.moves (Keep clock want ∷ []) on.clocks
         (All-cons IsClocked (Keep clock want) [] timed (All-nil IsClocked));
@@ -238,7 +238,7 @@ module _ {X : Type 0} (view : X → CommitOf) (before middle after : Option (Lis
   pub tells_entry : (pushed : List X) (commit : X) (shown : CommitOf) (new : Voice) (next : Option ℕ)
       (number clock : ℕ) → clock < 2 ^ 64 → next ≡ next_of (voice_stage old) → next ≡ Some number
       → (view commit).number ≡ number → shown ≡ view commit
-      → Says between new (entry_bytes (voice_checked between) (voice_stage between) shown clock)
+      → Sends between new (entry_bytes (voice_checked between) (voice_stage between) shown clock)
       (entry_stage (voice_checked between) (voice_stage between) shown)
       → pushed ≡ kept ++ commit ∷ [] → TellsOn before after (map view pushed) new told
   tells_entry pushed commit shown new next number clock timed next_is some numbered is says more =
@@ -246,11 +246,11 @@ module _ {X : Type 0} (view : X → CommitOf) (before middle after : Option (Lis
       (sym (ap (map view) more ∙ map-append view kept (commit ∷ [])))
       (takes_up before after told (map view kept) between new (view commit) number clock timed tells_kept
       (ap next_of flushes.stage_is ∙ sym next_is ∙ some) numbered
-      (subst (λ (c : CommitOf). Says between new (entry_bytes (voice_checked between) (voice_stage between) c clock)
+      (subst (λ (c : CommitOf). Sends between new (entry_bytes (voice_checked between) (voice_stage between) c clock)
       (entry_stage (voice_checked between) (voice_stage between) c)) is says))
 
   pub tells_reply : (new : Voice) (clock : ℕ) (want : Bool) → clock < 2 ^ 64
-      → Says between new (kept_bytes (voice_stage between) clock want) (voice_stage between)
+      → Sends between new (kept_bytes (voice_stage between) clock want) (voice_stage between)
       → TellsOn before after (map view kept) new told
   tells_reply new clock want timed says =
       keeps_alive before after told (map view kept) between new clock want timed tells_kept says

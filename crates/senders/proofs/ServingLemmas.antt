@@ -17,7 +17,7 @@ use Rattle.senders.specs.Hearing.{HoldsFault}
 use Rattle.senders.specs.Listening.{EndsAt, EndsFor, EndsOf, HearsAll, StartsOn}
 use Rattle.senders.specs.Refusing.{cause_by}
 use Rattle.senders.specs.Running.{Heard, IsEndOf, Memory, RunsOn, Streams, Whole, Writing}
-use Rattle.senders.specs.Serving.{IsCause, IsEnded, IsLast, IsLeft, IsServed, IsServedFor, IsStream, IsTail, IsWritten, commits_of, started_of}
+use Rattle.senders.specs.Serving.{IsEndCause, IsEnded, IsAfterStream, HasClientLeft, IsServed, IsServedFor, IsStream, IsTail, IsWritten, commits_of, started_of}
 use Rattle.senders.specs.Serving as serving
 use Rattle.senders.specs.Speaking.{IsSaid}
 use Rattle.senders.specs.Speaking as speaking
@@ -36,7 +36,7 @@ memory_cause checked bytes slot start =
 pub heard_cause : (checked : CheckedOf) (bytes : List ℕ) (started : Option (ℕ × ℕ)) (response : List ℕ)
     (source_failed source_ended sink_failed : Bool) (why : ListenerEnd)
     → EndsFor checked bytes started response source_failed source_ended why
-    → IsCause checked bytes started source_failed source_ended sink_failed (cause_by why)
+    → IsEndCause checked bytes started source_failed source_ended sink_failed (cause_by why)
 heard_cause checked bytes started response source_failed source_ended sink_failed listener_end.SourceFailed ends = ends
 heard_cause checked bytes started response source_failed source_ended sink_failed listener_end.SourceEnded ends = inl ends
 heard_cause checked bytes started response source_failed source_ended sink_failed (listener_end.Frame kind) ends =
@@ -55,7 +55,8 @@ record Knows (checked : CheckedOf) (bytes : List ℕ) (slot start : ℕ) (source
 
 is_last : (checked : CheckedOf) (bytes : List ℕ) (slot start : ℕ) (source_failed source_ended : Bool)
     (why : Option ListenerEnd) (last : List ℕ)
-    → Knows checked bytes slot start source_failed source_ended why → IsSaid why last → IsLast (frames_in bytes) last
+    → Knows checked bytes slot start source_failed source_ended why → IsSaid why last
+    → IsAfterStream (frames_in bytes) last
 is_last checked bytes slot start source_failed source_ended why last knows (speaking.Nothing none) =
     serving.Nothing none
 is_last checked bytes slot start source_failed source_ended why last knows (speaking.Done done is) =
@@ -65,30 +66,31 @@ module _ (checked : CheckedOf) (bytes : List ℕ) (slot start : ℕ) (source_fai
     (before after : Option (List ℕ)) (sink_failed : Bool) (why : Option ListenerEnd) (served : Served)
     (knows : Knows checked bytes slot start source_failed source_ended why) where
   stream_cause : (is : End) → IsEndOf why sink_failed is
-      → IsCause checked bytes (Some (slot, start)) source_failed source_ended sink_failed is
+      → IsEndCause checked bytes (Some (slot, start)) source_failed source_ended sink_failed is
   stream_cause is (Writing same failed) =
-      subst (IsCause checked bytes (Some (slot, start)) source_failed source_ended sink_failed) (sym same) failed
+      subst (IsEndCause checked bytes (Some (slot, start)) source_failed source_ended sink_failed) (sym same) failed
   stream_cause is (Memory same) =
-      subst (IsCause checked bytes (Some (slot, start)) source_failed source_ended sink_failed) (sym same)
+      subst (IsEndCause checked bytes (Some (slot, start)) source_failed source_ended sink_failed) (sym same)
       (memory_cause checked bytes slot start)
   stream_cause is (Whole same) =
-      subst (IsCause checked bytes (Some (slot, start)) source_failed source_ended sink_failed) (sym same) tt
+      subst (IsEndCause checked bytes (Some (slot, start)) source_failed source_ended sink_failed) (sym same) tt
   stream_cause is (Heard ending some same) =
-      subst (IsCause checked bytes (Some (slot, start)) source_failed source_ended sink_failed) (sym same)
+      subst (IsEndCause checked bytes (Some (slot, start)) source_failed source_ended sink_failed) (sym same)
       (heard_cause checked bytes (Some (slot, start)) knows.response source_failed source_ended sink_failed ending
       (knows.ends ending some))
 
   -- a frame of this kind ended it
   left_by_kind : (written : List ℕ) (kind : ℕ) (is_done : Bool) → (kind == 99) ≡ is_done
       → HasEnd (frames_in bytes) kind → (kind ≡ 99 → IsTail copy_done written)
-      → IsLeft source_ended (frames_in bytes) written
+      → HasClientLeft source_ended (frames_in bytes) written
   left_by_kind written kind true is has answered =
       let same : kind ≡ 99 = grind (arith, nat_tests) in serving.Answered (answered same)
   left_by_kind written kind false is has answered =
       serving.Otherwise kind has (λ same. let yes : (kind == 99) ≡ true = ap (λ (k : ℕ). k == 99) same in cc)
 
   left_by_ending : (written : List ℕ) (why_ended : ListenerEnd) → why ≡ Some why_ended → cause_by why_ended ≡ end.Client
-      → (why ≡ Some (listener_end.Frame 99) → IsTail copy_done written) → IsLeft source_ended (frames_in bytes) written
+      → (why ≡ Some (listener_end.Frame 99) → IsTail copy_done written)
+      → HasClientLeft source_ended (frames_in bytes) written
   left_by_ending written listener_end.SourceFailed some client answered = cc
   left_by_ending written listener_end.SourceEnded some client answered = serving.NoMore (knows.ends listener_end.SourceEnded some)
   left_by_ending written (listener_end.Frame kind) some client answered =
@@ -98,7 +100,7 @@ module _ (checked : CheckedOf) (bytes : List ℕ) (slot start : ℕ) (source_fai
 
   left_by : (written : List ℕ) (is : End) → is ≡ end.Client
       → (why ≡ Some (listener_end.Frame 99) → IsTail copy_done written) → IsEndOf why sink_failed is
-      → IsLeft source_ended (frames_in bytes) written
+      → HasClientLeft source_ended (frames_in bytes) written
   left_by written is client answered (Writing same failed) = cc
   left_by written is client answered (Memory same) = cc
   left_by written is client answered (Whole same) = cc
@@ -129,9 +131,9 @@ module _ (checked : CheckedOf) (bytes : List ℕ) (slot start : ℕ) (source_fai
             streams.written sink_failed served.end) (sym streams.slot_is)
             (subst (λ (o : Option ℕ). IsWritten checked (frames_in bytes) (Some slot) o (commits_of served)
             streams.written sink_failed served.end) (sym streams.start_is) is);
-        cause = subst (λ (o : Option ℕ). IsCause checked bytes (started_of o served.start) source_failed source_ended
+        cause = subst (λ (o : Option ℕ). IsEndCause checked bytes (started_of o served.start) source_failed source_ended
             sink_failed served.end) (sym streams.slot_is)
-            (subst (λ (o : Option ℕ). IsCause checked bytes (started_of (Some slot) o) source_failed source_ended
+            (subst (λ (o : Option ℕ). IsEndCause checked bytes (started_of (Some slot) o) source_failed source_ended
             sink_failed served.end) (sym streams.start_is)
             (stream_cause served.end streams.ends));
         left = λ other some sound client.

@@ -8,7 +8,7 @@ use Rattle.tables_log.specs.Commits.{CommitOf}
 use Rattle.tables_log.specs.Routes.{ArePassed}
 use Rattle.copy_both.specs.StreamLaws.{Start}
 use Rattle.copy_both.specs.Voices as voices
-use Rattle.copy_both.specs.Voices.{IsQuietFor, Says, StageOf, entry_bytes, entry_stage, next_of, voice_checked, voice_stage}
+use Rattle.copy_both.specs.Voices.{IsQuietFor, Sends, StageOf, entry_bytes, entry_stage, next_of, voice_checked, voice_stage}
 use Rattle.copy_both.specs.declared.voice.Voice.{Voice}
 use Rattle.senders.specs.Sending.{AreQuietFor, TakesUp, TellsOn, started_telling}
 use Rattle.senders.proofs.SendingLemmas.{takes_up}
@@ -17,7 +17,7 @@ use Rattle.senders.proofs.SendingLemmas.{takes_up}
 
 abbrev pub Skips : Voice → Voice → CommitOf → Type 0
 Skips old new commit = (clock : ℕ)
-    → Says old new (entry_bytes (voice_checked old) (voice_stage old) commit clock)
+    → Sends old new (entry_bytes (voice_checked old) (voice_stage old) commit clock)
     (entry_stage (voice_checked old) (voice_stage old) commit)
 
 skips_one : (old new : Voice) (commit : CommitOf) → IfSome (next_of (voice_stage old)) (λ next. commit.number ≡ next)

@@ -6,7 +6,7 @@ use Rattle.tables_log.specs.Commits.{CommitOf}
 use Rattle.copy_frames.specs.Contents.{copy_done}
 use Rattle.copy_both.specs.VoiceLaws.{Told}
 use Rattle.copy_both.specs.Voices as voices
-use Rattle.copy_both.specs.Voices.{Says, done_bytes, voice_output, voice_stage}
+use Rattle.copy_both.specs.Voices.{Sends, done_bytes, voice_output, voice_stage}
 use Rattle.copy_both.specs.declared.voice.Voice.{Voice}
 use Rattle.senders.specs.Flushing.{Flushes}
 use Rattle.senders.specs.Sending.{StopsAs}
@@ -71,7 +71,7 @@ none_left (Err error) rest was_failed failed all says sound = cc
 
 pub says_done : {E : Type 0} (s : SenderEnd) (why : Option ListenerEnd) (before after : Option (List ℕ))
     (was_failed failed : Bool) (old done new : Voice) (result : Result (Unit {0}) E) → IsQuietStop s → IsQuietAt s old
-    → why ≡ Some (listener_end.Frame 99) → Says old done (done_bytes (voice_stage old)) voices.Closed
+    → why ≡ Some (listener_end.Frame 99) → Sends old done (done_bytes (voice_stage old)) voices.Closed
     → Flushes before after done new → OnOk result (voice_output new ≡ [])
     → MatchResult result (λ done. failed ≡ was_failed) (λ error. failed ≡ true)
     → SaysLast s s why before after was_failed failed

@@ -11,7 +11,7 @@ use Rattle.copy_both.specs.LinkLaws.{started_at}
 use Rattle.copy_both.specs.Streams.{Move, count_before, stream}
 use Rattle.copy_both.specs.StreamLaws.{Start}
 use Rattle.copy_both.specs.Tellings.{telling_of}
-use Rattle.copy_both.specs.VoiceLaws.{AreAt, Follow, Told, first_of, takes_in}
+use Rattle.copy_both.specs.VoiceLaws.{AreAt, Follow, Told, start_count, takes_in}
 use Rattle.copy_both.specs.Voices.{voice_output}
 use Rattle.copy_both.specs.declared.link_fault.LinkFault.TheVariants as fault
 use Rattle.copy_both.specs.declared.voice.Voice.{Voice}
@@ -58,7 +58,8 @@ module _ (checked : CheckedOf) (slot start : ℕ) where
       → Follows (started_telling checked slot start copy_both_response) now taken bytes → Spells now output []
       → Wrote checked slot start taken (copy_both_response ++ bytes) output
   wrote taken now bytes output clocks follows spelled =
-      let position : first_of now ≡ count_before start = ap (λ (s : Start). count_before s.position) follows.start_is in
+      let position : start_count now ≡ count_before start =
+      ap (λ (s : Start). count_before s.position) follows.start_is in
       let here : Start = started_at checked (slot, start) in
       record {
         follow = subst (Follow (count_before start)) follows.taken_is
@@ -67,7 +68,7 @@ module _ (checked : CheckedOf) (slot start : ℕ) where
         clocks = clocks;
         takes = spelled.takes ∙ ap length follows.taken_is;
         bytes = λ log are.
-            let at : AreAt log (first_of now) now.taken =
+            let at : AreAt log (start_count now) now.taken =
             subst (λ (n : ℕ). AreAt log n now.taken) (sym position)
             (subst (AreAt log (count_before start)) (sym follows.taken_is) are) in
             ap (λ (passed : List ℕ). passed ++ output) (sym follows.passed_is) ∙ spelled.bytes log at

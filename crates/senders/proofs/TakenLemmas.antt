@@ -8,7 +8,7 @@ use Rattle.senders.specs.declared.end.End.TheVariants.{Finished}
 use Rattle.senders.specs.declared.served.Served.{Served}
 use Rattle.tables_log.specs.Commits.{CommitOf}
 use Rattle.tables_log.proofs.PlaceLemmas.{number_is, number_apart}
-use Rattle.senders.specs.TakenCommits.{first_of, taken_of, IsTaken}
+use Rattle.senders.specs.TakenCommits.{taken_from, taken_of, IsTaken}
 
 -- what is to be shown holds just where the commits that are left are at their places
 pub record AtRest (whole : Type 0) (log : List CommitOf) (place : ℕ) (commits : List CommitOf) : Type 0 where
@@ -17,8 +17,8 @@ pub record AtRest (whole : Type 0) (log : List CommitOf) (place : ℕ) (commits 
 
 -- ---- a connection
 
-module _ (log : List CommitOf) (served : Served) (count : ℕ) (first : count ≡ first_of served) where
-  at_first : AreAt log count (taken_of served) → AreAt log (first_of served) (taken_of served)
+module _ (log : List CommitOf) (served : Served) (count : ℕ) (first : count ≡ taken_from served) where
+  at_first : AreAt log count (taken_of served) → AreAt log (taken_from served) (taken_of served)
   at_first at = subst (λ (n : ℕ). AreAt log n (taken_of served)) first at
 
   pub taken_whole : AreAt log count (taken_of served) → count + length served.taken.items ≡ length log
@@ -37,7 +37,7 @@ module _ (log : List CommitOf) (served : Served) (count : ℕ) (first : count �
       other (let long = length-map served.taken.items (λ commit. arc_value commit) in let whole =
       taken.whole finished in omega (arith, whole, first, long))
 
-pub whole_or_short : (log : List CommitOf) (served : Served) (count : ℕ) → count ≡ first_of served
+pub whole_or_short : (log : List CommitOf) (served : Served) (count : ℕ) → count ≡ taken_from served
     → AreAt log count (taken_of served) → served.end ≡ Finished
     → (taken all : ℕ) → taken ≡ length served.taken.items → all ≡ length log → (same : Bool)
     → nat_eq (count + taken) all ≡ same → MatchBool same (IsTaken log served) (¬ IsTaken log served)

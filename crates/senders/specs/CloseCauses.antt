@@ -33,7 +33,7 @@ pub record HasRefused (setting : Setting) (order : List ReceiptOf) : Type 0 wher
   pub refused : ¬ IsAccepted setting (after setting (transactions_of (take place order))) (transaction_of receipt)
 
 -- they are, and what is recorded of them there, with the receipt's time, is not the log's entry
-pub record HasOther (setting : Setting) (log : List CommitOf) (order : List ReceiptOf) : Type 0 where
+pub record HasOtherEntry (setting : Setting) (log : List CommitOf) (order : List ReceiptOf) : Type 0 where
   pub place : ℕ
   pub receipt : ReceiptOf
   pub at : slice_get order place ≡ Some receipt
@@ -46,7 +46,7 @@ pub record HasOther (setting : Setting) (log : List CommitOf) (order : List Rece
 -- one of these is so
 pub data IsUnlike (setting : Setting) (log : List CommitOf) (order : List ReceiptOf) : Type 0 where
   IsRefusedThere : HasRefused setting order → IsUnlike setting log order
-  IsOtherThere : HasOther setting log order → IsUnlike setting log order
+  IsOtherThere : HasOtherEntry setting log order → IsUnlike setting log order
 
 pub data IsMissing (setting : Setting) (log : List CommitOf) (seats : List (List Note)) : Type 0 where
   -- the numbers of a seat's receipts don't rise in its order, from 1 at least to the log's length at most
@@ -81,13 +81,13 @@ pub record HasOtherTaken (book : Book) (seats : List (List Note)) (served : List
 
 -- ---- refusals, each of which passes what comes before it
 
-abbrev pub IsCause : Book → List (List Note) → List Served → CloseError → Type 0
-IsCause book seats served CountDiffers = length (book_log book) ≢ length (all_receipts seats)
-IsCause book seats served ReceiptMissing = (length (book_log book) ≡ length (all_receipts seats))
+abbrev pub IsCloseCause : Book → List (List Note) → List Served → CloseError → Type 0
+IsCloseCause book seats served CountDiffers = length (book_log book) ≢ length (all_receipts seats)
+IsCloseCause book seats served ReceiptMissing = (length (book_log book) ≡ length (all_receipts seats))
     × IsMissing (book_setting book) (book_log book) seats
-IsCause book seats served ReadingWrong = HasWrongReading book seats
-IsCause book seats served TakenDiffers = HasOtherTaken book seats served
-IsCause book seats served OutOfMemory = Unit {0}
+IsCloseCause book seats served ReadingWrong = HasWrongReading book seats
+IsCloseCause book seats served TakenDiffers = HasOtherTaken book seats served
+IsCloseCause book seats served OutOfMemory = Unit {0}
 
 -- Of all seats, `left` were never handed out. Receipts are too few only if not all others are passed in.
 abbrev pub IsHeldBack : ℕ → ℕ → List (List Note) → CloseError → Type 0
@@ -114,5 +114,5 @@ pub record RefusedClose (checked : CheckedOf) (limit all left : ℕ) (seats : Li
   pub book : Book
   pub is : IsBookOf checked limit book
   pub counted : IsCounted all left seats (length (book_log book))
-  pub cause : IsCause book seats served error
+  pub cause : IsCloseCause book seats served error
   pub held_back : IsHeldBack all left seats error

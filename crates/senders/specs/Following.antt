@@ -21,9 +21,9 @@ use Rattle.publisher_desk.specs.declared.note.Note.{Note}
 use Rattle.senders.specs.Closing.{IsClosed}
 use Rattle.stream_laws.specs.Following.{Follows, items_from}
 use Rattle.stream_laws.specs.Cutting.{whole_in}
-use Rattle.stream_laws.specs.FollowingBytes.{AreFirst, StopsFollowing, SubFollows, position_in}
+use Rattle.stream_laws.specs.FollowingBytes.{AreFirst, StopsFollowing, SubFollows, position_after_bytes}
 use Rattle.stream_laws.specs.LayoutRoom.{IsClocked, IsTimedTransaction}
-use Rattle.test_subscriber.specs.Copies.{told}
+use Rattle.test_subscriber.specs.Copies.{sub_fault}
 use Rattle.test_subscriber.specs.Subscribers.{FeedStops, Feeds, Opens, sub_machine}
 use Rattle.test_subscriber.specs.declared.fault.SubFault.{SubFault}
 use Rattle.test_subscriber.specs.declared.subscriber.Subscriber.{Subscriber}
@@ -71,7 +71,7 @@ ClientsFollow = (checked : Checked) (transactions : List Transaction)
     → (bytes others : List ℕ) → AreFirst (checked_view checked) transactions slot start moves bytes others
     → Feeds between bytes new
     → Follows (checked_view checked) transactions slot
-    (position_in (checked_view checked) transactions slot start moves bytes) (sub_machine new)
+    (position_after_bytes (checked_view checked) transactions slot start moves bytes) (sub_machine new)
 
 -- If a piece stops it, memory was refused, and it still follows, after everything that is whole in the bytes before
 -- the piece, and some of what is whole with it.
@@ -84,7 +84,7 @@ ClientsStop = (checked : Checked) (transactions : List Transaction)
     → (bytes piece others : List ℕ) (error : SubFault)
     → AreFirst (checked_view checked) transactions slot start moves (bytes ++ piece) others
     → Feeds between bytes middle → FeedStops middle piece error new
-    → (told error ≡ None)
+    → (sub_fault error ≡ None)
     × StopsFollowing (checked_view checked) transactions slot start
     (whole_in (length bytes) (items_from (checked_view checked) transactions slot start moves))
     (whole_in (length (bytes ++ piece)) (items_from (checked_view checked) transactions slot start moves)) new
@@ -93,7 +93,7 @@ ClientsStop = (checked : Checked) (transactions : List Transaction)
 
 -- The transactions that explain the receipts were accepted one after another, have times of 64 bits, and are few
 -- enough.
-pub record AreTold (checked : CheckedOf) (transactions : List Transaction) : Type 0 where
+pub record AreExplained (checked : CheckedOf) (transactions : List Transaction) : Type 0 where
   pub accepted : AreAccepted (setting_in checked) no_rows transactions
   pub timed : All IsTimedTransaction transactions
   pub few : length transactions ≤ 1000000000
@@ -101,7 +101,7 @@ pub record AreTold (checked : CheckedOf) (transactions : List Transaction) : Typ
 abbrev pub ClosedAreTold : Type 0
 ClosedAreTold = (checked : CheckedOf) (limit : ℕ) (seats : List (List Note)) (served : List Served) (book : Book)
     (closed : IsClosed checked limit seats served book)
-    → AreTold checked closed.transactions
+    → AreExplained checked closed.transactions
 
 -- So what was written to each connection, without a CopyDone at the end, is a prefix of the stream over the log of
 -- these transactions.
@@ -123,4 +123,4 @@ ClosedAreFollowed = (checked : Checked) (limit : ℕ) (seats : List (List Note))
     → (sub_machine old).position ≡ start → Opens old between
     → (bytes rest : List ℕ) → bytes ++ rest ≡ part.front → Feeds between bytes new
     → Follows (checked_view checked) closed.transactions slot
-    (position_in (checked_view checked) closed.transactions slot start part.moves bytes) (sub_machine new)
+    (position_after_bytes (checked_view checked) closed.transactions slot start part.moves bytes) (sub_machine new)

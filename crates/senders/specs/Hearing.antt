@@ -6,7 +6,7 @@ use Rattle.table_changes.specs.Tables.{no_rows}
 use Rattle.tables_log.specs.Slots.{end_after}
 use Rattle.tables_log.specs.StandsFor.{Transaction, AreAccepted}
 use Rattle.copy_both.specs.Ears.{ear_started, ear_refusal}
-use Rattle.copy_both.specs.HeardFrames.{frames_in, AsksIfStarted, GoesOnOrEnds, HasHeard, HasFault, IsAnswered}
+use Rattle.copy_both.specs.HeardFrames.{frames_in, AsksIfStarted, GoesOnOrEnds, HasHeard, HasLinkFault, IsAnswered}
 use Rattle.copy_both.specs.Hearing.{first_sent}
 use Rattle.copy_both.specs.declared.ear.Ear.{Ear}
 use Rattle.copy_both.specs.declared.heard.Heard.{Heard}
@@ -35,7 +35,7 @@ pub record HoldsFault (checked : CheckedOf) (bytes : List ℕ) (started : Option
     pub accepted : AreAccepted (setting_in checked) no_rows transactions
     pub sent : ℕ
     pub from : IsSentFrom started sent
-    pub has : HasFault checked bytes (min sent (end_after (length transactions))) fault
+    pub has : HasLinkFault checked bytes (min sent (end_after (length transactions))) fault
 
 -- What was started stays so.
 abbrev pub StaysStarted : Ear → Ear → Type 0

@@ -7,7 +7,7 @@ use Rattle.tables_log.specs.Routes.{ArePassed}
 use Rattle.copy_both.specs.LinkLaws.{started_at}
 use Rattle.copy_both.specs.Streams.{stream}
 use Rattle.copy_both.specs.Tellings.{telling_of}
-use Rattle.copy_both.specs.VoiceLaws.{AreAt, Follow, Told, IsTelling, first_of, takes_in}
+use Rattle.copy_both.specs.VoiceLaws.{AreAt, Follow, Told, IsTelling, start_count, takes_in}
 use Rattle.copy_both.specs.Voices as voices
 use Rattle.copy_both.specs.Voices.{StageOf, voice_output}
 use Rattle.copy_both.specs.declared.voice.Voice.{Voice}
@@ -22,9 +22,9 @@ started_telling checked slot start passed =
 
 -- What was passed on and what waits are the stream of the moves, and then these bytes.
 pub record Spells (told : Told) (output last : List ℕ) : Type 0 where
-  pub follow : Follow (first_of told) told.taken
+  pub follow : Follow (start_count told) told.taken
   pub takes : takes_in told.moves ≡ length told.taken
-  pub bytes : (log : List CommitOf) → AreAt log (first_of told) told.taken
+  pub bytes : (log : List CommitOf) → AreAt log (start_count told) told.taken
       → told.passed ++ output
       ≡ stream (telling_of told.checked) log told.start.slot told.start.tables told.start.position told.moves
       ++ last

@@ -28,9 +28,9 @@ pub record IsTail (rest list : List ℕ) : Type 0 where
   pub list_is : list ≡ front ++ rest
 
 -- after a stream comes nothing, or CopyDone to a client that sent it
-pub data IsLast (frames : List Frame) (last : List ℕ) : Type 0 where
-  Nothing : last ≡ [] → IsLast frames last
-  Done : last ≡ copy_done → HasEnd frames 99 → IsLast frames last
+pub data IsAfterStream (frames : List Frame) (last : List ℕ) : Type 0 where
+  Nothing : last ≡ [] → IsAfterStream frames last
+  Done : last ≡ copy_done → HasEnd frames 99 → IsAfterStream frames last
 
 -- The commits that were taken up follow one another from the start on, and what was written are the first bytes of
 -- their stream, in each log that has them there; all but where the sink failed or memory was refused. Where the
@@ -44,7 +44,7 @@ pub record IsStream (checked : CheckedOf) (frames : List Frame) (slot start : �
   pub takes : takes_in moves ≡ length taken
   pub rest : List ℕ
   pub last : List ℕ
-  pub last_is : IsLast frames last
+  pub last_is : IsAfterStream frames last
   pub bytes : (log : List CommitOf) → AreAt log (count_before start) taken
       → written ++ rest ≡ stream (telling_of checked) log slot (length checked.catalog.tables) start moves ++ last
   pub all : failed ≡ false → why ≢ end.Link fault.OutOfMemory → rest ≡ []
@@ -59,15 +59,16 @@ pub record IsResponse (checked : CheckedOf) (frames : List Frame) (state : SqlSt
   pub all : failed ≡ false → rest ≡ []
 
 -- where no stream was started, nothing is written but the response to a start that was refused
-abbrev pub IsAnswer : CheckedOf → List Frame → List ℕ → Bool → End → Type 0
-IsAnswer checked frames written failed (end.Link (fault.BadStart state)) = IsResponse checked frames state written failed
-IsAnswer checked frames written failed end.Finished = ⊥
-IsAnswer checked frames written failed other = written ≡ []
+abbrev pub IsUnstartedAnswer : CheckedOf → List Frame → List ℕ → Bool → End → Type 0
+IsUnstartedAnswer checked frames written failed (end.Link (fault.BadStart state)) =
+    IsResponse checked frames state written failed
+IsUnstartedAnswer checked frames written failed end.Finished = ⊥
+IsUnstartedAnswer checked frames written failed other = written ≡ []
 
 pub record IsUnstarted (checked : CheckedOf) (frames : List Frame) (taken : List CommitOf) (written : List ℕ)
     (failed : Bool) (why : End) : Type 0 where
   pub none : taken ≡ []
-  pub answer : IsAnswer checked frames written failed why
+  pub answer : IsUnstartedAnswer checked frames written failed why
 
 -- a slot is reported together with a start
 abbrev pub IsWritten : CheckedOf → List Frame → Option ℕ → Option ℕ → List CommitOf → List ℕ → Bool → End → Type 0
@@ -91,21 +92,21 @@ pub record IsEnded (frames : List Frame) : Type 0 where
   pub has : HasEnd frames kind
 
 -- by the bytes that were read, and by what the source and the sink say of themselves
-abbrev pub IsCause : CheckedOf → List ℕ → Option (ℕ × ℕ) → Bool → Bool → Bool → End → Type 0
-IsCause checked bytes started source_failed source_ended sink_failed end.ReadFault = source_failed ≡ true
-IsCause checked bytes started source_failed source_ended sink_failed end.WriteFault = sink_failed ≡ true
-IsCause checked bytes started source_failed source_ended sink_failed (end.Link fault) =
+abbrev pub IsEndCause : CheckedOf → List ℕ → Option (ℕ × ℕ) → Bool → Bool → Bool → End → Type 0
+IsEndCause checked bytes started source_failed source_ended sink_failed end.ReadFault = source_failed ≡ true
+IsEndCause checked bytes started source_failed source_ended sink_failed end.WriteFault = sink_failed ≡ true
+IsEndCause checked bytes started source_failed source_ended sink_failed (end.Link fault) =
     HoldsFault checked bytes started fault
-IsCause checked bytes started source_failed source_ended sink_failed end.Client =
+IsEndCause checked bytes started source_failed source_ended sink_failed end.Client =
     (source_ended ≡ true) ⊎ IsEnded (frames_in bytes)
-IsCause checked bytes started source_failed source_ended sink_failed end.Finished = Unit {0}
+IsEndCause checked bytes started source_failed source_ended sink_failed end.Finished = Unit {0}
 
 -- why its client ended a stream: there was nothing more to read, a frame of another kind than CopyDone ended it, or
 -- CopyDone did, and was answered
-pub data IsLeft (source_ended : Bool) (frames : List Frame) (written : List ℕ) : Type 0 where
-  NoMore : source_ended ≡ true → IsLeft source_ended frames written
-  Otherwise : (kind : ℕ) → HasEnd frames kind → kind ≢ 99 → IsLeft source_ended frames written
-  Answered : IsTail copy_done written → IsLeft source_ended frames written
+pub data HasClientLeft (source_ended : Bool) (frames : List Frame) (written : List ℕ) : Type 0 where
+  NoMore : source_ended ≡ true → HasClientLeft source_ended frames written
+  Otherwise : (kind : ℕ) → HasEnd frames kind → kind ≢ 99 → HasClientLeft source_ended frames written
+  Answered : IsTail copy_done written → HasClientLeft source_ended frames written
 
 -- ---- all of it
 
@@ -119,10 +120,10 @@ pub record IsServedFor (checked : CheckedOf) (bytes : List ℕ) (source_failed s
   pub put : Appends before after written
   pub is : IsWritten checked (frames_in bytes) served.slot served.start (commits_of served) written sink_failed
       served.end
-  pub cause : IsCause checked bytes (started_of served.slot served.start) source_failed source_ended sink_failed
+  pub cause : IsEndCause checked bytes (started_of served.slot served.start) source_failed source_ended sink_failed
       served.end
   pub left : (slot : ℕ) → served.slot ≡ Some slot → sink_failed ≡ false → served.end ≡ end.Client
-      → IsLeft source_ended (frames_in bytes) written
+      → HasClientLeft source_ended (frames_in bytes) written
 
 -- The source gave some bytes, and this came of them.
 pub record IsServed (checked : CheckedOf) (left now_left : Option (List ℕ)) (source_failed source_ended : Bool)

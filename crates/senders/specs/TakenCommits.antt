@@ -9,8 +9,8 @@ use Rattle.senders.specs.declared.served.Served.{Served}
 use Rattle.tables_log.specs.Commits.{CommitOf}
 
 -- how many commits of the log begin before its start; none where it has no start
-abbrev pub first_of : Served → ℕ
-first_of served = count_before (unwrap_or served.start 0)
+abbrev pub taken_from : Served → ℕ
+taken_from served = count_before (unwrap_or served.start 0)
 
 abbrev pub taken_of : Served → List CommitOf
 taken_of served = map (λ commit. arc_value commit) served.taken.items
@@ -18,6 +18,6 @@ taken_of served = map (λ commit. arc_value commit) served.taken.items
 -- Its start is not after the log's end. Its commits are those of the log from its start on, and reach the log's end
 -- where it was finished.
 pub record IsTaken (log : List CommitOf) (served : Served) : Type 0 where
-  pub within : first_of served ≤ length log
-  pub at : AreAt log (first_of served) (taken_of served)
-  pub whole : served.end ≡ Finished → first_of served + length (taken_of served) ≡ length log
+  pub within : taken_from served ≤ length log
+  pub at : AreAt log (taken_from served) (taken_of served)
+  pub whole : served.end ≡ Finished → taken_from served + length (taken_of served) ≡ length log

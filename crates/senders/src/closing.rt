@@ -8,7 +8,7 @@ ghost use Rattle.publisher_desk.specs.Counting.{IsCounted};
 ghost use Rattle.publisher_desk.specs.Held.{IsBookOf};
 ghost use Rattle.publisher_desk.specs.Seats.{AreTimed, IsForward};
 ghost use Rattle.publisher_desk.specs.Logged.{IsLogOfSeats};
-ghost use Rattle.senders.specs.CloseCauses.{CanCome, IsCause, RefusedClose};
+ghost use Rattle.senders.specs.CloseCauses.{CanCome, IsCloseCause, RefusedClose};
 ghost use Rattle.senders.specs.Closing.{IsClosed};
 ghost use Rattle.senders.specs.Histories.{AreInOrder};
 ghost use Rattle.senders.specs.Replays.{IsAsLong};
@@ -36,7 +36,7 @@ fn order_receipts<'a, P: Publishing>(
     ensures long { IfOk result (λ receipts. IsAsLong book.now (map (λ receipt. receipt.now) receipts.items)) }
     ensures forward { OnOk result (All IsForward seats.now) }
     ensures timed { OnOk result (All AreTimed seats.now) }
-    ensures err { IfErr result (λ error. (served : List Served) → IsCause book.now seats.now served error) }
+    ensures err { IfErr result (λ error. (served : List Served) → IsCloseCause book.now seats.now served error) }
 {
     let mut receipts = receipts_of(alloc, seats)?;
     let count = book.log_len();
@@ -75,7 +75,7 @@ fn compare<P: Publishing>(
     requires { IsNew fresh.old (book_checked book.now) (book_limit book.now) }
     ensures ok { OnOk result (IsClosed (book_checked book.now) (book_limit book.now) seats.now served.now fresh.new) }
     ensures log { OnOk result (length (book_log book.now) ≡ length (book_log fresh.new)) }
-    ensures err { IfErr result (IsCause book.now seats.now served.now) }
+    ensures err { IfErr result (IsCloseCause book.now seats.now served.now) }
 {
     let receipts = order_receipts(alloc, book, seats)?;
     let mut readings = readings_of(alloc, seats)?;

@@ -4,7 +4,7 @@ ghost use Rattle.std.specs.Prelude.{◌≡◌, ◌≢◌, ◌≤◌, ◌^◌, Al
 ghost use Rattle.std.specs.Arc.{arc_value};
 ghost use Rattle.copy_both.specs.VoiceLaws.{AreAt};
 ghost use Rattle.tables_log.specs.BookView.{book_log};
-ghost use Rattle.senders.specs.TakenCommits.{first_of, taken_of, IsTaken};
+ghost use Rattle.senders.specs.TakenCommits.{taken_from, taken_of, IsTaken};
 
 use crate::end::End;
 use crate::served::Served;
@@ -14,7 +14,7 @@ use tables_log::{Book, Commit, Lsn};
 
 /// How many commits of the log begin before the connection's start.
 fn commits_before(served: &Served) -> u64
-    ensures is { result ≡ first_of served.now }
+    ensures is { result ≡ taken_from served.now }
     ensures within { result ≤ 2 ^ 58 }
 {
     match served.start {

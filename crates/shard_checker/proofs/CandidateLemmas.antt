@@ -17,8 +17,8 @@ use Rattle.filter_tree.specs.declared.tri.Tri.{Tri}
 use Rattle.filter_tree.proofs.SameLemmas.{same_term_is, same_term_of_equal}
 use Rattle.filter_tree.proofs.Tests.{by_test, both_true, or_false, and_false}
 use Rattle.shard_checker.specs.Domain.{kind_at, range_of, IsIn, IsInDomain}
-use Rattle.shard_checker.specs.Facts.{is_declared, is_found_present, is_null, is_present, is_about, leaves, may_be, says_null, says_present}
-use Rattle.shard_checker.specs.Candidates.{Candidate, candidate, constant_candidate, constants_of, serves, serves_nearby, gives_number, names_number, has_number, gives_text, names_text, has_value, is_empty, number_in, numbers_nearby, named_by, named_in, first_of, null_of, candidates_of, candidates_in, remains}
+use Rattle.shard_checker.specs.Facts.{is_declared, is_found_present, is_said_null, is_present, is_about, leaves, may_be, says_null, says_present}
+use Rattle.shard_checker.specs.Candidates.{Candidate, candidate, constant_candidate, constants_of, serves, serves_nearby, gives_number, names_number, has_number, gives_text, names_text, has_value, is_empty, number_in, numbers_nearby, named_by, named_in, always_tried, null_of, candidates_of, candidates_in, remains}
 use Rattle.shard_checker.specs.declared.domain.Range.{Range}
 use Rattle.shard_checker.proofs.ListTests.{any_flat_map, any_alike, no_any, same_answer, not_any, all_both}
 use Rattle.shard_checker.proofs.Testing.{by_either, two_true, left_true, right_true}
@@ -31,7 +31,7 @@ null_remains : (path : Path) (term : Term)
 null_remains path term = not_any (λ (entry : AtomOf × Tri). says_present (column_of term) entry.0 entry.1) path
 
 value_remains : (path : Path) (term : Term) (value : Option Constant)
-    → remains path (candidate term (Some value)) ≡ (not (is_null (column_of term) path) && may_be term path value)
+    → remains path (candidate term (Some value)) ≡ (not (is_said_null (column_of term) path) && may_be term path value)
 value_remains path term value =
     all_both (λ (entry : AtomOf × Tri). not (says_null (column_of term) entry.0 entry.1))
     (λ (entry : AtomOf × Tri). leaves term value entry.0 entry.1) path
@@ -137,7 +137,7 @@ values_named_if : (b : Bool) (kind : ColType) (term : Term) (constants : List Co
 values_named_if true kind term constants = values_each term (named_by kind term) (values_named kind term) constants
 values_named_if false kind term constants = tt
 
-values_first : (kind : ColType) (term : Term) → AreValues term (first_of kind term)
+values_first : (kind : ColType) (term : Term) → AreValues term (always_tried kind term)
 values_first SmallInt term = let range = range_of SmallInt term in
     values_if term (int_le range.least range.least && int_le range.least range.greatest) (Some (Number range.least))
 values_first Integer term = let range = range_of Integer term in
@@ -149,11 +149,11 @@ values_first Text term = ((None, refl), tt)
 
 -- the values that are tried for a term
 abbrev values_of : ColType → List AtomOf → Term → List Candidate
-values_of kind atoms term = first_of kind term ++ flat_map (named_in kind term) atoms
+values_of kind atoms term = always_tried kind term ++ flat_map (named_in kind term) atoms
 
 are_values : (kind : ColType) (atoms : List AtomOf) (term : Term) → AreValues term (values_of kind atoms term)
 are_values kind atoms term =
-    values_both term (first_of kind term) (flat_map (named_in kind term) atoms) (values_first kind term)
+    values_both term (always_tried kind term) (flat_map (named_in kind term) atoms) (values_first kind term)
     (values_each term (named_in kind term)
     (λ atom. values_named_if (is_about term atom) kind term (constants_of atom)) atoms)
 
@@ -168,15 +168,15 @@ is_left path candidate = may_be_value path candidate.term candidate.value
 -- one of the values remains exactly if one is left and nothing says that the column is null
 any_remains : (path : Path) (term : Term) (candidates : List Candidate) → AreValues term candidates
     → list_any (remains path) candidates
-    ≡ (not (is_null (column_of term) path) && list_any (is_left path) candidates)
-any_remains path term [] h = sym (and_false (not (is_null (column_of term) path)))
+    ≡ (not (is_said_null (column_of term) path) && list_any (is_left path) candidates)
+any_remains path term [] h = sym (and_false (not (is_said_null (column_of term) path)))
 any_remains path term (first ∷ rest) h =
     ap (λ (b : Bool). b || list_any (remains path) rest)
     (ap (remains path) h.0.1 ∙ value_remains path term h.0.0)
-    ∙ ap (λ (b : Bool). (not (is_null (column_of term) path) && may_be term path h.0.0) || b)
+    ∙ ap (λ (b : Bool). (not (is_said_null (column_of term) path) && may_be term path h.0.0) || b)
     (any_remains path term rest h.1)
-    ∙ or_and (not (is_null (column_of term) path)) (may_be term path h.0.0) (list_any (is_left path) rest)
-    ∙ ap (λ (b : Bool). not (is_null (column_of term) path) && (b || list_any (is_left path) rest))
+    ∙ or_and (not (is_said_null (column_of term) path)) (may_be term path h.0.0) (list_any (is_left path) rest)
+    ∙ ap (λ (b : Bool). not (is_said_null (column_of term) path) && (b || list_any (is_left path) rest))
     (sym (ap (is_left path) h.0.1))
   where
     or_and : (p q s : Bool) → ((p && q) || (p && s)) ≡ (p && (q || s))
@@ -350,11 +350,11 @@ texts_left term path atoms among =
 
 -- the first candidates, and then those that atoms name
 two_parts : (path : Path) (kind : ColType) (term : Term) (atoms : List AtomOf) (first named : Bool)
-    → list_any (is_left path) (first_of kind term) ≡ first
+    → list_any (is_left path) (always_tried kind term) ≡ first
     → list_any (is_left path) (flat_map (named_in kind term) atoms) ≡ named
     → list_any (is_left path) (values_of kind atoms term) ≡ (first || named)
 two_parts path kind term atoms first named h k =
-    list_any-append (is_left path) (first_of kind term) (flat_map (named_in kind term) atoms)
+    list_any-append (is_left path) (always_tried kind term) (flat_map (named_in kind term) atoms)
     ∙ ap (λ (b : Bool). b || list_any (is_left path) (flat_map (named_in kind term) atoms)) h
     ∙ ap (λ (b : Bool). first || b) k
 
@@ -430,8 +430,8 @@ term_remains columns atoms term path among =
     ∙ ap (λ (b : Bool). b || list_any (remains path) (values_of kind atoms term)) (null_left columns term path)
     ∙ ap (λ (b : Bool). not (is_present columns (column_of term) path) || b)
     (any_remains path term (values_of kind atoms term) (are_values kind atoms term)
-    ∙ ap (λ (b : Bool). not (is_null (column_of term) path) && b) (values_left kind term path atoms among))
-    ∙ turned (is_present columns (column_of term) path) (is_null (column_of term) path) (has_value kind term path)
+    ∙ ap (λ (b : Bool). not (is_said_null (column_of term) path) && b) (values_left kind term path atoms among))
+    ∙ turned (is_present columns (column_of term) path) (is_said_null (column_of term) path) (has_value kind term path)
   where
     turned : (p q s : Bool) → (not p || (not q && s)) ≡ not (p && (q || not s))
     turned false q s = refl

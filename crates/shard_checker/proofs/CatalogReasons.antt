@@ -14,7 +14,7 @@ use Rattle.pub_catalog.specs.declared.catalog.Subscription.{Subscription}
 use Rattle.replica_identity.specs.Identities.{is_covered, tells_rows_apart}
 use Rattle.shard_checker.specs.CatalogRefusal.{missing_operation, missing_by, publication_refusal, publishing_refusal, table_refusal, identity_refusal, column_refusal, carried_refusal, entry_refusal, entries_refusal, taken_refusal, covering_refusal}
 use Rattle.shard_checker.specs.CatalogTruth.{has_operation, NamesUncovered}
-use Rattle.shard_checker.specs.Refusal.{later, first_of}
+use Rattle.shard_checker.specs.Refusal.{later, earliest}
 use Rattle.shard_checker.specs.Sound.{is_taken}
 use Rattle.shard_checker.specs.declared.error.CheckError.{CheckError}
 use Rattle.shard_checker.specs.declared.error.CheckError.TheVariants.{PublishMissing, NoIdentity, NotCovered}
@@ -24,7 +24,7 @@ use Rattle.shard_checker.proofs.TruthLemmas.{same_some, failed}
 use Rattle.table_changes.proofs.TableLemmas.{at_zero, at_next}
 
 -- to what one of two refusals leads
-pub by_first : {P : Type 0} (one next : Option CheckError) (error : CheckError) → first_of one next ≡ Some error
+pub by_first : {P : Type 0} (one next : Option CheckError) (error : CheckError) → earliest one next ≡ Some error
     → (one ≡ Some error → P) → (next ≡ Some error → P) → P
 by_first None next error h at_one at_next = at_next h
 by_first (Some one) next error h at_one at_next = at_one h

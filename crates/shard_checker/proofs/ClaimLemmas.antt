@@ -6,7 +6,7 @@ use Rattle.std.proofs.lemmas.List.{length-set, set-get_or, map-set, with_items_i
 use Rattle.filter_tree.specs.declared.mask.Mask.{Mask}
 use Rattle.shard_checker.specs.Claims.{claim_refusal, claims_refusal, steps_at, refusal_due, Begin, Records, AreTold, AreWaiting}
 use Rattle.shard_checker.specs.LeafMasks.{all_at, at_leaf}
-use Rattle.shard_checker.specs.Refusal.{Subject, first_of}
+use Rattle.shard_checker.specs.Refusal.{Subject, earliest}
 use Rattle.shard_checker.specs.Steps.{mask_in, masks_of}
 use Rattle.shard_checker.specs.declared.claims.Claim.{Claim}
 use Rattle.shard_checker.specs.declared.claims.Claims.{Claims}
@@ -22,26 +22,26 @@ module _ (subject : Subject) (roots : List ℕ) where
       → claims_refusal subject roots one leaf claims ≡ claims_refusal subject roots other leaf claims
   same_at_leaves one other leaf [] same = refl
   same_at_leaves one other leaf (claim ∷ claims) same =
-      ap (λ masks. first_of (claim_refusal subject roots masks claim)
+      ap (λ masks. earliest (claim_refusal subject roots masks claim)
       (claims_refusal subject roots one (leaf + 1) claims)) (same leaf (omega arith) (omega arith))
-      ∙ ap (first_of (claim_refusal subject roots (other leaf) claim))
+      ∙ ap (earliest (claim_refusal subject roots (other leaf) claim))
       (same_at_leaves one other (leaf + 1) claims
       (λ k after before. same k (omega (arith, after)) (omega (arith, before))))
 
   pub one_more : (masks : ℕ → List Mask) (leaf last : ℕ) (claims : List Claim) (claim : Claim)
       → last ≡ leaf + length claims
       → claims_refusal subject roots masks leaf (claims ++ claim ∷ [])
-      ≡ first_of (claims_refusal subject roots masks leaf claims) (claim_refusal subject roots (masks last) claim)
+      ≡ earliest (claims_refusal subject roots masks leaf claims) (claim_refusal subject roots (masks last) claim)
   one_more masks leaf last [] claim at =
       let here : leaf ≡ last = omega arith in
       first_none (claim_refusal subject roots (masks leaf) claim)
       ∙ ap (λ (k : ℕ). claim_refusal subject roots (masks k) claim) here
     where
-      first_none : (refusal : Option CheckError) → first_of refusal None ≡ refusal
+      first_none : (refusal : Option CheckError) → earliest refusal None ≡ refusal
       first_none None = refl
       first_none (Some error) = refl
   one_more masks leaf last (first ∷ claims) claim at =
-      ap (first_of (claim_refusal subject roots (masks leaf) first))
+      ap (earliest (claim_refusal subject roots (masks leaf) first))
       (one_more masks (leaf + 1) last claims claim (omega arith))
       ∙ sym (first_one_of (claim_refusal subject roots (masks leaf) first)
       (claims_refusal subject roots masks (leaf + 1) claims) (claim_refusal subject roots (masks last) claim))

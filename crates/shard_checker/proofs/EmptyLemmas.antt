@@ -7,7 +7,7 @@ use Rattle.filter_tree.specs.declared.filter.Term.{Term}
 use Rattle.filter_tree.specs.declared.table.Column.{Column}
 use Rattle.shard_checker.specs.Domain.{kind_at}
 use Rattle.shard_checker.specs.Emptiness.{IsLeft, HasValue, IsEmptiness, CanBeTold}
-use Rattle.shard_checker.specs.Facts.{is_null, is_present}
+use Rattle.shard_checker.specs.Facts.{is_said_null, is_present}
 use Rattle.shard_checker.specs.Candidates.{has_value, is_empty}
 use Rattle.shard_checker.proofs.ExistingLemmas.{value_exists}
 use Rattle.shard_checker.proofs.Testing.{both_false, clash}
@@ -29,8 +29,8 @@ pub not_empty_has : (columns : List Column) (term : Term) (path : Path) → is_e
 not_empty_has columns term path h = by_test (is_present columns (column_of term) path)
     (λ present. let rest =
     second_false (is_present columns (column_of term) path)
-    (is_null (column_of term) path || not (has_value (kind_at columns (column_of term)) term path)) present h in
-    let both = both_false (is_null (column_of term) path)
+    (is_said_null (column_of term) path || not (has_value (kind_at columns (column_of term)) term path)) present h in
+    let both = both_false (is_said_null (column_of term) path)
     (not (has_value (kind_at columns (column_of term)) term path)) rest in
     let some = value_exists (kind_at columns (column_of term)) term path (not_false _ both.1) in
     record {
@@ -53,10 +53,10 @@ rest_fails false q r h k = refl
 left_not_empty : (columns : List Column) (term : Term) (path : Path) (value : Datum) → IsLeft columns term path value
     → is_empty columns term path ≡ false
 left_not_empty columns term path Missing absent =
-    first_fails (is_present columns (column_of term) path) (is_null (column_of term) path)
+    first_fails (is_present columns (column_of term) path) (is_said_null (column_of term) path)
     (has_value (kind_at columns (column_of term)) term path) absent
 left_not_empty columns term path (Known constant) left =
-    rest_fails (is_present columns (column_of term) path) (is_null (column_of term) path)
+    rest_fails (is_present columns (column_of term) path) (is_said_null (column_of term) path)
     (has_value (kind_at columns (column_of term)) term path) left.may_be_known
     (value_found (kind_at columns (column_of term)) term path constant left.in_domain left.agrees)
 

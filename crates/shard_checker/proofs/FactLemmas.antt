@@ -17,7 +17,7 @@ use Rattle.filter_tree.specs.declared.table.Column.{Column}
 use Rattle.filter_tree.specs.declared.tri.Tri.{Tri}
 use Rattle.filter_tree.specs.declared.tri.Tri.TheVariants.{True, False, Null}
 use Rattle.filter_tree.proofs.SameLemmas.{same_atom_is, same_term_is}
-use Rattle.shard_checker.specs.Facts.{tells_null, tells_present, says_null, says_present, not_null_in, is_declared, is_null, is_present, has_null, is_always_known, is_never_null, holds_of, is_about, leaves, may_be}
+use Rattle.shard_checker.specs.Facts.{tells_null, tells_present, says_null, says_present, not_null_in, is_declared, is_said_null, is_present, has_null, is_always_known, is_never_null, holds_of, is_about, leaves, may_be}
 use Rattle.shard_checker.specs.Rows.{MayHold, IsTyped}
 use Rattle.shard_checker.proofs.Testing.{two_true, by_either, clash, same_number}
 use Rattle.filter_tree.proofs.Tests.{both_true}
@@ -99,11 +99,11 @@ says_null_is row column atom value meant says =
     subst (λ k. value_at row k ≡ Missing) (same_number (column_of (term_of atom)) column both.1)
     (term_missing (term_of atom) row (told_null atom (term_value (term_of atom) row) value meant both.0))
 
-pub null_is : (row : List Datum) (column : ℕ) (path : Path) → Agrees row path → is_null column path ≡ true
+pub null_is : (row : List Datum) (column : ℕ) (path : Path) → Agrees row path → is_said_null column path ≡ true
     → value_at row column ≡ Missing
 null_is row column [] agrees h = absurd cc
 null_is row column (entry ∷ path) agrees h =
-    by_either (says_null column entry.0 entry.1) (is_null column path) h
+    by_either (says_null column entry.0 entry.1) (is_said_null column path) h
     (λ here. says_null_is row column entry.0 entry.1 agrees.0 here)
     (λ there. null_is row column path agrees.1 there)
 

@@ -14,7 +14,7 @@ use Rattle.replica_identity.specs.Shares.{ShareOf}
 use Rattle.split_cert.specs.Tree.{Tree, Split, Owner, Empty, NeverNull, nodes}
 use Rattle.shard_checker.specs.CatalogRefusal.{publishing_refusal, identity_refusal, covering_refusal, table_shares, certificates_refusal, count_refusal, catalog_refusal, sharding_refusal}
 use Rattle.shard_checker.specs.CatalogTruth.{HasWrongCertificate, ShardingIsWrong}
-use Rattle.shard_checker.specs.Refusal.{Subject, later, first_of, first_refusal}
+use Rattle.shard_checker.specs.Refusal.{Subject, later, earliest, first_refusal}
 use Rattle.shard_checker.specs.Sound.{is_taken}
 use Rattle.shard_checker.specs.Candidates.{is_empty}
 use Rattle.shard_checker.specs.Truth.{EmptyIsWrong, NeverNullIsWrong, OwnerIsWrong, SplitIsWrong, IsWrong}
@@ -223,10 +223,10 @@ pub sharding_wrong : (catalog : CatalogOf Expr) (plan : PlanOf) (trees : List Tr
     → sharding_refusal is_empty catalog plan trees ≡ Some error → ShardingIsWrong catalog plan trees error
 sharding_wrong catalog plan trees error known h =
     by_first (catalog_refusal catalog)
-    (first_of (count_refusal (length catalog.tables) (length trees))
+    (earliest (count_refusal (length catalog.tables) (length trees))
     (certificates_refusal is_empty plan catalog.subscriptions 0 catalog.tables trees)) error h
     (λ of_catalog. by_first (publishing_refusal catalog.subscriptions 0 catalog.publications)
-    (first_of (identity_refusal 0 catalog.tables)
+    (earliest (identity_refusal 0 catalog.tables)
     (covering_refusal catalog.tables catalog.subscriptions 0 catalog.publications)) error of_catalog
     (λ publishing. publishing_wrong catalog plan trees error publishing)
     (λ rest. by_first (identity_refusal 0 catalog.tables)

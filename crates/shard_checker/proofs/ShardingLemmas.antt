@@ -20,7 +20,7 @@ use Rattle.replica_identity.proofs.PassingLemmas.{takes_what_passes}
 use Rattle.split_cert.specs.Tree.{Tree}
 use Rattle.shard_checker.specs.CatalogRefusal.{missing_operation, missing_by, publication_refusal, publishing_refusal, table_refusal, identity_refusal, column_refusal, carried_refusal, entry_refusal, entries_refusal, taken_refusal, covering_refusal, table_shares, certificates_refusal, count_refusal, catalog_refusal, sharding_refusal}
 use Rattle.shard_checker.specs.Owners.{share_in, HasOneOwner}
-use Rattle.shard_checker.specs.Refusal.{first_of, first_refusal}
+use Rattle.shard_checker.specs.Refusal.{earliest, first_refusal}
 use Rattle.shard_checker.specs.Rows.{IsTyped}
 use Rattle.shard_checker.specs.Sound.{is_taken, RowHasOneOwner, PublishesChanges, is_covered_by, entry_is_covered, IsSound}
 use Rattle.shard_checker.specs.Candidates.{is_empty}
@@ -32,7 +32,7 @@ use Rattle.shard_checker.proofs.SoundLemmas.{certificate_sound}
 use Rattle.shard_checker.proofs.Testing.{two_true, same_number}
 use Rattle.table_changes.proofs.TableLemmas.{at_zero, zero_more, at_next}
 
-none_first : (one next : Option CheckError) → first_of one next ≡ None → (one ≡ None) × (next ≡ None)
+none_first : (one next : Option CheckError) → earliest one next ≡ None → (one ≡ None) × (next ≡ None)
 none_first None next h = (refl, h)
 none_first (Some error) next h = absurd cc
 
@@ -242,12 +242,12 @@ pub sharding_sound : (catalog : CatalogOf Expr) (plan : PlanOf) (trees : List Tr
     → sharding_refusal is_empty catalog plan trees ≡ None → plan ≡ plan_of catalog → IsSound catalog
 sharding_sound catalog plan trees known h own =
     let all = none_first (catalog_refusal catalog)
-    (first_of (count_refusal (length catalog.tables) (length trees))
+    (earliest (count_refusal (length catalog.tables) (length trees))
     (certificates_refusal is_empty plan catalog.subscriptions 0 catalog.tables trees)) h in
     let certificates = none_first (count_refusal (length catalog.tables) (length trees))
     (certificates_refusal is_empty plan catalog.subscriptions 0 catalog.tables trees) all.1 in
     let publishing = none_first (publishing_refusal catalog.subscriptions 0 catalog.publications)
-    (first_of (identity_refusal 0 catalog.tables)
+    (earliest (identity_refusal 0 catalog.tables)
     (covering_refusal catalog.tables catalog.subscriptions 0 catalog.publications)) all.0 in
     let rest = none_first (identity_refusal 0 catalog.tables)
     (covering_refusal catalog.tables catalog.subscriptions 0 catalog.publications) publishing.1 in

@@ -17,9 +17,9 @@ use Rattle.filter_tree.proofs.PossibleLemmas.{possible_holds}
 use Rattle.replica_identity.specs.Shares.{ShareOf, Nothing, Everything, Where, takes, is_true}
 use Rattle.split_cert.specs.Tree.{Tree, Split, Owner, Empty, NeverNull, nodes}
 use Rattle.shard_checker.specs.Domain.{kind_at}
-use Rattle.shard_checker.specs.Facts.{is_null, is_present, is_never_null}
+use Rattle.shard_checker.specs.Facts.{is_said_null, is_present, is_never_null}
 use Rattle.shard_checker.specs.Owners.{share_in, HasOneOwner, is_surely_true, must_take, may_take, is_second, second_owner}
-use Rattle.shard_checker.specs.Refusal.{Subject, subject_of, first_refusal, later, second_refusal, owner_refusal, empty_refusal, never_null_refusal, first_of, split_refusal, refusal, PathIsSound}
+use Rattle.shard_checker.specs.Refusal.{Subject, subject_of, first_refusal, later, second_refusal, owner_refusal, empty_refusal, never_null_refusal, earliest, split_refusal, refusal, PathIsSound}
 use Rattle.shard_checker.specs.Rows.{IsTyped}
 use Rattle.shard_checker.specs.Candidates.{has_value, is_empty}
 use Rattle.shard_checker.specs.declared.error.CheckError.{CheckError}
@@ -55,10 +55,10 @@ empty_is : (columns : List Column) (row : List Datum) (term : Term) (path : Path
     → Agrees row path → is_empty columns term path ≡ true → ⊥
 empty_is columns row term path valid agrees h =
     let both = both_true (is_present columns (column_of term) path)
-    (is_null (column_of term) path || not (has_value (kind_at columns (column_of term)) term path)) h in
+    (is_said_null (column_of term) path || not (has_value (kind_at columns (column_of term)) term path)) h in
     let present : value_at row (column_of term) ≡ Missing → ⊥ =
     present_is columns row (column_of term) path valid agrees both.0 in
-    by_either (is_null (column_of term) path) (not (has_value (kind_at columns (column_of term)) term path)) both.1
+    by_either (is_said_null (column_of term) path) (not (has_value (kind_at columns (column_of term)) term path)) both.1
     (λ null. present (null_is row (column_of term) path agrees null))
     (λ none. clash (has_value (kind_at columns (column_of term)) term path)
     (some_found columns row term path (value_at row (column_of term)) valid agrees present refl)
@@ -175,7 +175,7 @@ agrees_longer : (row : List Datum) (path : Path) (atom : AtomOf) (value : Tri) �
 agrees_longer row [] atom value agrees is = (is, tt)
 agrees_longer row (entry ∷ path) atom value agrees is = (agrees.0, agrees_longer row path atom value agrees.1 is)
 
-pub first_none : (one next : Option CheckError) → first_of one next ≡ None → (one ≡ None) × (next ≡ None)
+pub first_none : (one next : Option CheckError) → earliest one next ≡ None → (one ≡ None) × (next ≡ None)
 first_none None next h = (refl, h)
 first_none (Some error) next h = absurd cc
 
@@ -202,7 +202,7 @@ split_sound : (subject : Subject) (path : Path) (node : ℕ) (found : Option Ato
 split_sound subject path node None if_true if_false if_null at_true at_false at_null h = absurd cc
 split_sound subject path node (Some atom) if_true if_false if_null at_true at_false at_null h =
     let both = first_none (if_true (path ++ (atom, True) ∷ []))
-    (first_of (if_false (path ++ (atom, False) ∷ [])) (if_null (path ++ (atom, Null) ∷ []))) h in
+    (earliest (if_false (path ++ (atom, False) ∷ [])) (if_null (path ++ (atom, Null) ∷ []))) h in
     let rest = first_none (if_false (path ++ (atom, False) ∷ [])) (if_null (path ++ (atom, Null) ∷ [])) both.1 in
     record {
       one_owner = λ row valid agrees. one_branch subject.columns subject.shares path atom

@@ -21,7 +21,7 @@ use Rattle.pub_catalog.specs.declared.catalog.Subscription.{Subscription}
 use Rattle.replica_identity.specs.Identities.{index_columns, columns_by, identity_columns, identity_tells, tells_rows_apart}
 use Rattle.replica_identity.specs.Passes.{listed_by, lets, entry_carries, carries}
 use Rattle.replica_identity.specs.Plans.{PlanOf, TakesWhatPasses, share_at, plan_of}
-use Rattle.replica_identity.specs.Setting.{recorded_as, fault_in, recorded_in, identity_by, identity_in, blanked_by, blanked_in, setting_of}
+use Rattle.replica_identity.specs.Setting.{recorded_as, table_fault, recorded_in, row_identity, identity_in, blanked_by, blanked_in, setting_of}
 use Rattle.replica_identity.specs.Shares.{ShareOf, Everything, Where, takes, is_true, is_nothing}
 use Rattle.replica_identity.specs.Shares as share
 use Rattle.replica_identity.proofs.PassingLemmas.{takes_what_passes}
@@ -154,7 +154,7 @@ passes_alike catalog sound subscriber number table (Some subscription) one other
 -- under FULL rows with the same identity are the same row; otherwise they have the same value in each column of the
 -- identity
 by_identity : {P : Type 0} (identity : Identity) (table : Table) (one other : List Datum)
-    → identity_by (recorded_as identity) table one ≡ identity_by (recorded_as identity) table other
+    → row_identity (recorded_as identity) table one ≡ row_identity (recorded_as identity) table other
     → (one ≡ other → P) → (values_at (identity_columns table) one ≡ values_at (identity_columns table) other → P) → P
 by_identity Default table one other h whole some = some h
 by_identity (Index number) table one other h whole some = some h
@@ -200,8 +200,8 @@ values_kept columns (column ∷ part) row within =
     (λ another h. within another (right_true (column == another) (has part another) h)))
 
 blanked_as : (identity : Identity) (table : Table) (row : List Datum)
-    → identity_by (recorded_as identity) table (blanked_by (recorded_as identity) table row)
-    ≡ identity_by (recorded_as identity) table row
+    → row_identity (recorded_as identity) table (blanked_by (recorded_as identity) table row)
+    ≡ row_identity (recorded_as identity) table row
 blanked_as Default table row = values_kept (identity_columns table) (identity_columns table) row (λ column h. h)
 blanked_as (Index number) table row = values_kept (identity_columns table) (identity_columns table) row (λ column h. h)
 blanked_as Full table row = refl
@@ -251,9 +251,9 @@ valid_of_fits : (catalog : CatalogOf Expr) (plan : PlanOf) (number : ℕ) (table
     → fits (setting_of catalog plan) number row ≡ true → IsValid table.columns row
 valid_of_fits catalog plan number table row there h =
     let both = both_true (nat_lt number (length catalog.tables))
-    (is_none (fault_in (slice_get catalog.tables number) row)) h in
+    (is_none (table_fault (slice_get catalog.tables number) row)) h in
     valid_from_no_fault table.columns row
-    (no_fault (row_fault table.columns row) (subst (λ found. is_none (fault_in found row) ≡ true) there both.1))
+    (no_fault (row_fault table.columns row) (subst (λ found. is_none (table_fault found row) ≡ true) there both.1))
 
 value_there : (found : Option Column) (value : Datum) → IfSome found (λ column. Fits column value)
     → takes_no_null found ≡ true → is_null value ≡ false
@@ -358,7 +358,7 @@ apart_by : (catalog : CatalogOf Expr) (plan : PlanOf) (tables : Tables) (command
     → (number : ℕ) (table : Table) → slice_get catalog.tables number ≡ Some table → (one other : List Datum)
     → BothHeld catalog plan tables command number one other
     → (identity : Identity) → table.identity ≡ identity → identity_tells identity table ≡ true
-    → identity_by (recorded_as identity) table one ≡ identity_by (recorded_as identity) table other → one ≡ other
+    → row_identity (recorded_as identity) table one ≡ row_identity (recorded_as identity) table other → one ≡ other
 apart_by catalog plan tables command leaves number table there one other both Default is tells same =
     apart_by_key catalog plan tables command leaves number table there one other both
     (by_columns Default table one other is same)
@@ -406,7 +406,7 @@ one_owner catalog plan own number within row one = record {
 one_of_fitting : (catalog : CatalogOf Expr) (plan : PlanOf) → TakesWhatPasses catalog plan → (number : ℕ)
     → number < length catalog.tables
     → (found : Option Table) (row : List Datum) → slice_get catalog.tables number ≡ found
-    → is_none (fault_in found row) ≡ true
+    → is_none (table_fault found row) ≡ true
     → IfSome found (λ table. (row : List Datum) → IsTyped table.columns row → RowHasOneOwner catalog number row)
     → PassesToOne (setting_of catalog plan) number row
 one_of_fitting catalog plan own number within None row there h sound =
@@ -421,7 +421,7 @@ pub setting_sound : (catalog : CatalogOf Expr) (plan : PlanOf) → IsSound catal
 setting_sound catalog plan sound own = record {
   one_owner = λ table row h.
       let both = both_true (nat_lt table (length catalog.tables))
-      (is_none (fault_in (slice_get catalog.tables table) row)) h in
+      (is_none (table_fault (slice_get catalog.tables table) row)) h in
       one_of_fitting catalog plan own table (ltb-true table (length catalog.tables) both.0)
       (slice_get catalog.tables table) row refl both.1 (sound.one_owner table);
 }

@@ -14,7 +14,7 @@ use Rattle.split_cert.specs.Tree.{Tree}
 use Rattle.shard_checker.specs.CatalogRefusal.{sharding_refusal}
 use Rattle.shard_checker.specs.CatalogTruth.{ShardingIsWrong}
 use Rattle.shard_checker.specs.Checks.{Checks, IfRefused}
-use Rattle.shard_checker.specs.Emptiness.{Test, IsEmptiness}
+use Rattle.shard_checker.specs.Emptiness.{EmptyTest, IsEmptiness}
 use Rattle.shard_checker.specs.Owners.{HasOneOwner}
 use Rattle.shard_checker.specs.Refusal.{first_refusal}
 use Rattle.shard_checker.specs.Rows.{IsTyped}
@@ -46,8 +46,8 @@ module _ (number : ℕ) (table : Table) (shares : List ShareOf) (tree : Tree) wh
 
 module _ {A B : Type 0} (catalog : CatalogOf Expr) (plan : PlanOf) (trees : List Tree) (given : Result A CheckError)
     (found : CheckError) (result : Result B CheckError) (fails : given ≡ Err found) (told : result ≡ Err found) where
-  pub refused_by_any : Checks (sharding_refusal is_empty catalog plan trees) given → (test : Test) → IsEmptiness test
-      → Checks (sharding_refusal test catalog plan trees) result
+  pub refused_by_any : Checks (sharding_refusal is_empty catalog plan trees) given → (test : EmptyTest)
+      → IsEmptiness test → Checks (sharding_refusal test catalog plan trees) result
   refused_by_any h test tells =
       subst (λ (refusal : Option CheckError). Checks refusal result) (sharding_by_any test tells catalog plan trees)
       (subst (Checks (sharding_refusal is_empty catalog plan trees)) (sym told)

@@ -16,8 +16,8 @@ use Rattle.split_cert.proofs.PreorderLemmas.{nodes_of_texts}
 use Rattle.shard_checker.specs.CatalogRefusal.{declared_refusal, sharding_refusal}
 use Rattle.shard_checker.specs.CatalogTruth.{ShardingIsWrong}
 use Rattle.shard_checker.specs.Checks.{Checks}
-use Rattle.shard_checker.specs.Emptiness.{Test, IsEmptiness}
-use Rattle.shard_checker.specs.Texts.{texts_view, fault_at, first_fault, text_fault, tree_in, trees_in, text_refusal, AreRead, ChecksText, IfCheckErr, IfTextRefused, TextNeedsMemoryOnlyIf}
+use Rattle.shard_checker.specs.Emptiness.{EmptyTest, IsEmptiness}
+use Rattle.shard_checker.specs.Texts.{texts_view, fault_at, first_text_error, text_fault, tree_in, trees_in, text_refusal, AreRead, ChecksText, IfCheckErr, IfTextRefused, TextNeedsMemoryOnlyIf}
 use Rattle.shard_checker.specs.Candidates.{is_empty}
 use Rattle.shard_checker.specs.Walking.{refusal_by_nodes}
 use Rattle.shard_checker.specs.declared.error.CheckError.{CheckError}
@@ -53,7 +53,7 @@ pub ruleset reads = (read_whole, read_short)
 
 -- ---- texts that are read
 
-none_first : (one next : Option TextError) → first_fault one next ≡ None → (one ≡ None) × (next ≡ None)
+none_first : (one next : Option TextError) → first_text_error one next ≡ None → (one ≡ None) × (next ≡ None)
 none_first None next h = (refl, h)
 none_first (Some error) next h = absurd cc
 
@@ -72,7 +72,7 @@ nodes_of_read line (text ∷ texts) h =
     ∙ first_nodes line (certificate_of text.now) (nodes_in text.now) (trees_in (texts_view texts))
     (nodes_of_texts text.now) both.0
 
-pub sharding_by_texts : (test : Test) (catalog : CatalogOf Expr) (plan : PlanOf) (texts : List (Bor (List ℕ)))
+pub sharding_by_texts : (test : EmptyTest) (catalog : CatalogOf Expr) (plan : PlanOf) (texts : List (Bor (List ℕ)))
     → text_fault 1 (texts_view texts) ≡ None
     → refusal_by_nodes test catalog plan (map (λ text. (nodes_in text.now).nodes) texts)
     ≡ sharding_refusal test catalog plan (trees_in (texts_view texts))
@@ -82,19 +82,19 @@ sharding_by_texts test catalog plan texts h =
 
 -- ---- what is returned
 
-pub text_first : (test : Test) (catalog : CatalogOf Expr) (plan : PlanOf) (texts : List (List ℕ)) (error : TextError)
-    → text_fault 1 texts ≡ Some error → text_refusal test catalog plan texts ≡ Some error
+pub text_first : (test : EmptyTest) (catalog : CatalogOf Expr) (plan : PlanOf) (texts : List (List ℕ))
+    (error : TextError) → text_fault 1 texts ≡ Some error → text_refusal test catalog plan texts ≡ Some error
 text_first test catalog plan texts error h =
-    ap (λ fault. first_fault fault (option_map Check (sharding_refusal test catalog plan (trees_in texts)))) h
+    ap (λ fault. first_text_error fault (option_map Check (sharding_refusal test catalog plan (trees_in texts)))) h
 
 -- by any test, if all texts are read
-pub text_by_any : (test : Test) → IsEmptiness test
+pub text_by_any : (test : EmptyTest) → IsEmptiness test
     → (catalog : CatalogOf Expr) (plan : PlanOf) (texts : List (List ℕ)) (found : Option CheckError)
     → text_fault 1 texts ≡ None
     → sharding_refusal is_empty catalog plan (trees_in texts) ≡ found
     → text_refusal test catalog plan texts ≡ option_map Check found
 text_by_any test tells catalog plan texts found read h =
-    ap (λ fault. first_fault fault (option_map Check (sharding_refusal test catalog plan (trees_in texts)))) read
+    ap (λ fault. first_text_error fault (option_map Check (sharding_refusal test catalog plan (trees_in texts)))) read
     ∙ ap (option_map Check) (sym (sharding_by_any test tells catalog plan (trees_in texts)) ∙ h)
 
 -- ---- the error of a text's fault
@@ -103,7 +103,7 @@ abbrev OfFault : List (List ℕ) → TextError → Type 0
 OfFault texts error = AreRead {A = Unit {0}} texts (Err error)
 
 one_fault : (texts : List (List ℕ)) (line : ℕ) (found : Result Tree CertError) (later : Option TextError)
-    (error : TextError) → first_fault (fault_at line found) later ≡ Some error
+    (error : TextError) → first_text_error (fault_at line found) later ≡ Some error
     → (later ≡ Some error → text_fault 1 texts ≡ Some error → OfFault texts error) → text_fault 1 texts ≡ Some error
     → OfFault texts error
 one_fault texts line (Ok tree) later error h more first = more h first
@@ -152,7 +152,7 @@ module _ {A B : Type 0} (catalog : CatalogOf Expr) (plan : PlanOf) (texts : List
   found_by h = subst (Checks (sharding_refusal is_empty catalog plan (trees_in texts))) fails h
 
   pub refused_by_any : text_fault 1 texts ≡ None
-      → Checks (sharding_refusal is_empty catalog plan (trees_in texts)) given → (test : Test) → IsEmptiness test
+      → Checks (sharding_refusal is_empty catalog plan (trees_in texts)) given → (test : EmptyTest) → IsEmptiness test
       → ChecksText (text_refusal test catalog plan texts) result
   refused_by_any read h test tells =
       let one : ChecksText {A = B} (text_refusal test catalog plan texts) (Err (Check found)) =

@@ -11,7 +11,7 @@ use Rattle.replica_identity.specs.Shares.{ShareOf}
 use Rattle.split_cert.specs.Tree.{Tree, Split, Owner, Empty, NeverNull, nodes}
 use Rattle.shard_checker.specs.Facts.{is_never_null}
 use Rattle.shard_checker.specs.Owners.{share_in, must_take, may_take, is_second, second_owner}
-use Rattle.shard_checker.specs.Refusal.{Subject, subject_of, later, second_refusal, others_refusal, owner_refusal, empty_refusal, never_null_refusal, first_of, split_refusal, refusal, first_refusal}
+use Rattle.shard_checker.specs.Refusal.{Subject, subject_of, later, second_refusal, others_refusal, owner_refusal, empty_refusal, never_null_refusal, earliest, split_refusal, refusal, first_refusal}
 use Rattle.shard_checker.specs.Candidates.{is_empty}
 use Rattle.shard_checker.specs.Truth.{IsLeastOther, HasSecond, EmptyIsWrong, NeverNullIsWrong, OwnerIsWrong, SplitIsWrong, IsWrong, CertificateIsWrong}
 use Rattle.shard_checker.specs.declared.error.CheckError.{CheckError}
@@ -145,14 +145,14 @@ owner_wrong subject path node owner (Some share) error h = by_test (must_take sh
 
 -- ---- trees
 
-first_some : (one next : Option CheckError) (error : CheckError) → first_of one next ≡ Some error
+first_some : (one next : Option CheckError) (error : CheckError) → earliest one next ≡ Some error
     → (one ≡ Some error) ⊎ (next ≡ Some error)
 first_some None next error h = inr h
 first_some (Some one) next error h = inl h
 
 of_three : {A B C : Type 0} (one two three : Option CheckError) (error : CheckError) → (one ≡ Some error → A)
     → (two ≡ Some error → B) → (three ≡ Some error → C)
-    → (one ≡ Some error) ⊎ (first_of two three ≡ Some error) → A ⊎ (B ⊎ C)
+    → (one ≡ Some error) ⊎ (earliest two three ≡ Some error) → A ⊎ (B ⊎ C)
 of_three one two three error at_one at_two at_three (inl h) = inl (at_one h)
 of_three one None three error at_one at_two at_three (inr h) = inr (inr (at_three h))
 of_three one (Some two) three error at_one at_two at_three (inr h) = inr (inl (at_two h))
@@ -173,7 +173,7 @@ split_wrong subject path node (Some atom) error if_true if_false if_null true_wr
     (if_null (path ++ (atom, Null) ∷ [])) error
     (at_true (path ++ (atom, True) ∷ [])) (at_false (path ++ (atom, False) ∷ [])) (at_null (path ++ (atom, Null) ∷ []))
     (first_some (if_true (path ++ (atom, True) ∷ []))
-    (first_of (if_false (path ++ (atom, False) ∷ [])) (if_null (path ++ (atom, Null) ∷ []))) error h)
+    (earliest (if_false (path ++ (atom, False) ∷ [])) (if_null (path ++ (atom, Null) ∷ []))) error h)
 
 refusal_true : (subject : Subject) (tree : Tree) (path : Path) (node : ℕ) (error : CheckError)
     → refusal is_empty subject tree path node ≡ Some error → IsWrong subject tree path node error

@@ -21,7 +21,7 @@ use Rattle.shard_checker.specs.CandidateSets.{AreAtomSets}
 use Rattle.shard_checker.specs.LeafMasks.{all_at}
 use Rattle.shard_checker.specs.Remaining.{Keeps, Restores, Remain}
 use Rattle.shard_checker.specs.WalkInvariants.{AgreesWithPath, GoesBack, candidates_of_table}
-use Rattle.shard_checker.specs.Refusal.{Subject, first_of, owner_refusal, second_refusal}
+use Rattle.shard_checker.specs.Refusal.{Subject, earliest, owner_refusal, second_refusal}
 use Rattle.shard_checker.specs.Steps.{AreFilters, IsCompiled, IsSettled, filter_of, mask_in, masks_of, second_among}
 use Rattle.shard_checker.specs.Walking.{onward}
 use Rattle.shard_checker.specs.declared.error.CheckError.TheVariants.{NotOwner}
@@ -262,7 +262,7 @@ module _ (subject : Subject) (formulas : Formulas) (sets : CandidateSets) (known
       ready.prepared.compiled.ordered)
 
   pub added_due : refusal_due subject formulas new
-      ≡ first_of (refusal_due subject formulas old)
+      ≡ earliest (refusal_due subject formulas old)
       (owner_refusal subject path node number (slice_get subject.shares number))
   added_due =
       ap (λ (v : Vec LeafMasks). claims_refusal subject formulas.roots.items
@@ -270,7 +270,7 @@ module _ (subject : Subject) (formulas : Formulas) (sets : CandidateSets) (known
       ∙ ap (claims_refusal subject formulas.roots.items (steps_at formulas old) 0) added
       ∙ one_more subject formulas.roots.items (steps_at formulas old) 0 (length old.list.items) old.list.items
       (claim_of node number) (omega arith)
-      ∙ ap (first_of (refusal_due subject formulas old))
+      ∙ ap (earliest (refusal_due subject formulas old))
       (owner_claimed subject formulas path (steps_at formulas old (length old.list.items)) ready.prepared.compiled
       steps_here node number)
 

@@ -15,7 +15,7 @@ use Rattle.filter_tree.specs.declared.table.ColType.TheVariants.{SmallInt, Integ
 use Rattle.filter_tree.specs.declared.table.Column.{Column}
 use Rattle.filter_tree.specs.declared.tri.Tri.{Tri}
 use Rattle.shard_checker.specs.Domain.{kind_at, range_of}
-use Rattle.shard_checker.specs.Facts.{is_declared, is_null, is_present, is_about, leaves, may_be, says_null, says_present}
+use Rattle.shard_checker.specs.Facts.{is_declared, is_said_null, is_present, is_about, leaves, may_be, says_null, says_present}
 use Rattle.shard_checker.specs.declared.candidates.Candidate as d
 use Rattle.shard_checker.specs.declared.candidates.Tried.{Tried}
 use Rattle.shard_checker.specs.declared.candidates.Tried.TheVariants as t
@@ -86,7 +86,7 @@ has_value Text term path = has_text term path
 abbrev pub is_empty : List Column → Term → Path → Bool
 is_empty columns term path =
     is_present columns (column_of term) path
-    && (is_null (column_of term) path || not (has_value (kind_at columns (column_of term)) term path))
+    && (is_said_null (column_of term) path || not (has_value (kind_at columns (column_of term)) term path))
 
 -- ---- the candidates of a table
 
@@ -126,12 +126,12 @@ abbrev pub named_in : ColType → Term → AtomOf → List Candidate
 named_in kind term atom = if is_about term atom then flat_map (named_by kind term) (constants_of atom) else []
 
 -- what is tried for the term whatever atoms there are
-abbrev pub first_of : ColType → Term → List Candidate
-first_of SmallInt term = number_in (range_of SmallInt term) term (range_of SmallInt term).least
-first_of Integer term = number_in (range_of Integer term) term (range_of Integer term).least
-first_of BigInt term = number_in (range_of BigInt term) term (range_of BigInt term).least
-first_of Boolean term = constant_candidate term (Truth true) ∷ constant_candidate term (Truth false) ∷ []
-first_of Text term = candidate term (Some None) ∷ []
+abbrev pub always_tried : ColType → Term → List Candidate
+always_tried SmallInt term = number_in (range_of SmallInt term) term (range_of SmallInt term).least
+always_tried Integer term = number_in (range_of Integer term) term (range_of Integer term).least
+always_tried BigInt term = number_in (range_of BigInt term) term (range_of BigInt term).least
+always_tried Boolean term = constant_candidate term (Truth true) ∷ constant_candidate term (Truth false) ∷ []
+always_tried Text term = candidate term (Some None) ∷ []
 
 -- null, unless the term's column is declared NOT NULL
 abbrev pub null_of : List Column → Term → List Candidate
@@ -141,7 +141,7 @@ null_of columns term = if is_declared columns (column_of term) then [] else cand
 abbrev pub candidates_of : List Column → List AtomOf → Term → List Candidate
 candidates_of columns atoms term =
     null_of columns term
-    ++ (first_of (kind_at columns (column_of term)) term
+    ++ (always_tried (kind_at columns (column_of term)) term
     ++ flat_map (named_in (kind_at columns (column_of term)) term) atoms)
 
 -- what is tried for the terms

@@ -13,8 +13,8 @@ use Rattle.replica_identity.specs.Identities.{is_covered, tells_rows_apart}
 use Rattle.replica_identity.specs.Plans.{PlanOf, share_at}
 use Rattle.replica_identity.specs.Shares.{ShareOf}
 use Rattle.split_cert.specs.Tree.{Tree}
-use Rattle.shard_checker.specs.Emptiness.{Test}
-use Rattle.shard_checker.specs.Refusal.{first_of, first_refusal}
+use Rattle.shard_checker.specs.Emptiness.{EmptyTest}
+use Rattle.shard_checker.specs.Refusal.{earliest, first_refusal}
 use Rattle.shard_checker.specs.Sound.{is_taken}
 use Rattle.shard_checker.specs.declared.error.CheckError.{CheckError}
 use Rattle.shard_checker.specs.declared.error.CheckError.TheVariants.{PublishMissing, NoIdentity, NotCovered, CertCount}
@@ -44,7 +44,7 @@ publication_refusal subscriptions number publishes = if is_taken subscriptions n
 abbrev pub publishing_refusal : List Subscription → ℕ → List (PublicationOf Expr) → Option CheckError
 publishing_refusal subscriptions number [] = None
 publishing_refusal subscriptions number (publication ∷ publications) =
-    first_of (publication_refusal subscriptions number publication.publishes)
+    earliest (publication_refusal subscriptions number publication.publishes)
     (publishing_refusal subscriptions (number + 1) publications)
 
 -- ---- what is recorded of old rows
@@ -55,7 +55,7 @@ table_refusal number table = if tells_rows_apart table then None else Some (NoId
 -- the refusal of tables, the first of which has this number
 abbrev pub identity_refusal : ℕ → List Table → Option CheckError
 identity_refusal number [] = None
-identity_refusal number (table ∷ tables) = first_of (table_refusal number table) (identity_refusal (number + 1) tables)
+identity_refusal number (table ∷ tables) = earliest (table_refusal number table) (identity_refusal (number + 1) tables)
 
 -- ---- which columns filters name
 
@@ -83,7 +83,7 @@ entry_refusal tables publication entry =
 abbrev pub entries_refusal : List Table → ℕ → List (EntryOf Expr) → Option CheckError
 entries_refusal tables publication [] = None
 entries_refusal tables publication (entry ∷ entries) =
-    first_of (entry_refusal tables publication entry) (entries_refusal tables publication entries)
+    earliest (entry_refusal tables publication entry) (entries_refusal tables publication entries)
 
 abbrev pub taken_refusal : List Table → List Subscription → ℕ → List (EntryOf Expr) → Option CheckError
 taken_refusal tables subscriptions number entries = if is_taken subscriptions number then
@@ -93,7 +93,7 @@ taken_refusal tables subscriptions number entries = if is_taken subscriptions nu
 abbrev pub covering_refusal : List Table → List Subscription → ℕ → List (PublicationOf Expr) → Option CheckError
 covering_refusal tables subscriptions number [] = None
 covering_refusal tables subscriptions number (publication ∷ publications) =
-    first_of (taken_refusal tables subscriptions number publication.entries)
+    earliest (taken_refusal tables subscriptions number publication.entries)
     (covering_refusal tables subscriptions (number + 1) publications)
 
 -- ---- certificates; a test determines which terms have no value
@@ -105,14 +105,15 @@ table_shares plan table number (subscription ∷ subscriptions) =
     share_at plan number table ∷ table_shares plan table (number + 1) subscriptions
 
 -- the refusal of the certificate of the table of this number
-abbrev pub certificate_refusal : Test → PlanOf → List Subscription → ℕ → Table → Tree → Option CheckError
+abbrev pub certificate_refusal : EmptyTest → PlanOf → List Subscription → ℕ → Table → Tree → Option CheckError
 certificate_refusal is_empty plan subscriptions number table tree =
     first_refusal is_empty number table (table_shares plan number 0 subscriptions) tree
 
 -- the refusal of the certificates of tables, the first of which has this number
-abbrev pub certificates_refusal : Test → PlanOf → List Subscription → ℕ → List Table → List Tree → Option CheckError
+abbrev pub certificates_refusal : EmptyTest → PlanOf → List Subscription → ℕ → List Table → List Tree
+    → Option CheckError
 certificates_refusal is_empty plan subscriptions number (table ∷ tables) (tree ∷ trees) =
-    first_of (certificate_refusal is_empty plan subscriptions number table tree)
+    earliest (certificate_refusal is_empty plan subscriptions number table tree)
     (certificates_refusal is_empty plan subscriptions (number + 1) tables trees)
 certificates_refusal is_empty plan subscriptions number tables trees = None
 
@@ -124,16 +125,16 @@ count_refusal tables certificates = if certificates == tables then None else Som
 -- the reasons that are found without looking at a filter or a certificate
 abbrev pub declared_refusal : CatalogOf Expr → Option CheckError
 declared_refusal catalog =
-    first_of (publishing_refusal catalog.subscriptions 0 catalog.publications) (identity_refusal 0 catalog.tables)
+    earliest (publishing_refusal catalog.subscriptions 0 catalog.publications) (identity_refusal 0 catalog.tables)
 
 abbrev pub catalog_refusal : CatalogOf Expr → Option CheckError
 catalog_refusal catalog =
-    first_of (publishing_refusal catalog.subscriptions 0 catalog.publications)
-    (first_of (identity_refusal 0 catalog.tables)
+    earliest (publishing_refusal catalog.subscriptions 0 catalog.publications)
+    (earliest (identity_refusal 0 catalog.tables)
     (covering_refusal catalog.tables catalog.subscriptions 0 catalog.publications))
 
-abbrev pub sharding_refusal : Test → CatalogOf Expr → PlanOf → List Tree → Option CheckError
+abbrev pub sharding_refusal : EmptyTest → CatalogOf Expr → PlanOf → List Tree → Option CheckError
 sharding_refusal is_empty catalog plan trees =
-    first_of (catalog_refusal catalog)
-    (first_of (count_refusal (length catalog.tables) (length trees))
+    earliest (catalog_refusal catalog)
+    (earliest (count_refusal (length catalog.tables) (length trees))
     (certificates_refusal is_empty plan catalog.subscriptions 0 catalog.tables trees))

@@ -4,7 +4,7 @@ use Rattle.std.specs.Prelude.{◌≡◌, ◌<◌, ◌≤◌, ℕ, ◌+◌, if◌
 use Rattle.filter_tree.specs.declared.mask.Mask.{Mask}
 use Rattle.shard_checker.specs.LeafMasks.{all_at}
 use Rattle.shard_checker.specs.Owners.{is_surely_true}
-use Rattle.shard_checker.specs.Refusal.{Subject, first_of, second_refusal}
+use Rattle.shard_checker.specs.Refusal.{Subject, earliest, second_refusal}
 use Rattle.shard_checker.specs.Steps.{mask_in, masks_of, second_among}
 use Rattle.shard_checker.specs.declared.claims.Claim.{Claim}
 use Rattle.shard_checker.specs.declared.claims.Claims.{Claims}
@@ -35,7 +35,7 @@ claim_refusal subject roots masks claim = root_refusal subject roots masks claim
 abbrev pub claims_refusal : Subject → List ℕ → (ℕ → List Mask) → ℕ → List Claim → Option CheckError
 claims_refusal subject roots masks leaf [] = None
 claims_refusal subject roots masks leaf (claim ∷ claims) =
-    first_of (claim_refusal subject roots (masks leaf) claim) (claims_refusal subject roots masks (leaf + 1) claims)
+    earliest (claim_refusal subject roots (masks leaf) claim) (claims_refusal subject roots masks (leaf + 1) claims)
 
 -- what the steps may be at a leaf
 abbrev pub steps_at : Formulas → Claims → ℕ → List Mask

@@ -53,8 +53,8 @@ abbrev pub is_declared : List Column → ℕ → Bool
 is_declared columns column = not_null_in (slice_get columns column)
 
 -- some atom says that the column is null
-abbrev pub is_null : ℕ → Path → Bool
-is_null column path = list_any (λ entry. says_null column entry.0 entry.1) path
+abbrev pub is_said_null : ℕ → Path → Bool
+is_said_null column path = list_any (λ entry. says_null column entry.0 entry.1) path
 
 -- some atom says that the column isn't null
 abbrev pub is_found_present : ℕ → Path → Bool

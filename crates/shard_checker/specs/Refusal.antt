@@ -10,7 +10,7 @@ use Rattle.filter_tree.specs.declared.table.Table.{Table}
 use Rattle.filter_tree.specs.declared.tri.Tri.TheVariants.{True, False, Null}
 use Rattle.replica_identity.specs.Shares.{ShareOf}
 use Rattle.split_cert.specs.Tree.{Tree, Split, Owner, Empty, NeverNull, nodes}
-use Rattle.shard_checker.specs.Emptiness.{Test}
+use Rattle.shard_checker.specs.Emptiness.{EmptyTest}
 use Rattle.shard_checker.specs.Facts.{is_never_null}
 use Rattle.shard_checker.specs.Numbering.{numbered_atoms, numbered_terms}
 use Rattle.shard_checker.specs.Owners.{HasOneOwner, must_take, second_owner, shares_view}
@@ -70,7 +70,7 @@ owner_refusal subject path node owner (Some share) =
     if must_take share path then others_refusal subject path node owner else Some (NotOwner subject.table node)
 
 -- no value is left for the term, as a test determines
-abbrev pub empty_refusal : Test → Subject → Path → ℕ → Option Term → Option CheckError
+abbrev pub empty_refusal : EmptyTest → Subject → Path → ℕ → Option Term → Option CheckError
 empty_refusal is_empty subject path node None = Some (BadIndex subject.table node)
 empty_refusal is_empty subject path node (Some term) = if is_empty subject.columns term path then
     None else Some (NotEmpty subject.table node)
@@ -82,21 +82,21 @@ never_null_refusal subject path node (Some atom) = if is_never_null subject.colu
 
 -- ---- trees
 
-abbrev pub first_of : Option CheckError → Option CheckError → Option CheckError
-first_of None next = next
-first_of (Some error) next = Some error
+abbrev pub earliest : Option CheckError → Option CheckError → Option CheckError
+earliest None next = next
+earliest (Some error) next = Some error
 
 -- the refusal of a split, from those of its branches, each with its path by the value of the atom
 abbrev pub split_refusal : Subject → Path → ℕ → Option AtomOf → (Path → Option CheckError)
     → (Path → Option CheckError) → (Path → Option CheckError) → Option CheckError
 split_refusal subject path node None if_true if_false if_null = Some (BadIndex subject.table node)
 split_refusal subject path node (Some atom) if_true if_false if_null =
-    first_of (if_true (path ++ (atom, True) ∷ []))
-    (first_of (if_false (path ++ (atom, False) ∷ [])) (if_null (path ++ (atom, Null) ∷ [])))
+    earliest (if_true (path ++ (atom, True) ∷ []))
+    (earliest (if_false (path ++ (atom, False) ∷ [])) (if_null (path ++ (atom, Null) ∷ [])))
 
 -- the first refusal in a tree at the end of a path; its first node has this number, and a test determines which terms
 -- have no value
-abbrev pub refusal : Test → Subject → Tree → Path → ℕ → Option CheckError
+abbrev pub refusal : EmptyTest → Subject → Tree → Path → ℕ → Option CheckError
 refusal is_empty subject (Split index if_true if_false if_null) path node =
     split_refusal subject path node (slice_get subject.atoms index)
     (λ longer. refusal is_empty subject if_true longer (later node 1))
@@ -110,7 +110,7 @@ refusal is_empty subject (NeverNull index) path node =
     never_null_refusal subject path node (slice_get subject.atoms index)
 
 -- the first refusal in the certificate of the table of this number
-abbrev pub first_refusal : Test → ℕ → Table → List ShareOf → Tree → Option CheckError
+abbrev pub first_refusal : EmptyTest → ℕ → Table → List ShareOf → Tree → Option CheckError
 first_refusal is_empty number table shares tree = refusal is_empty (subject_of number table.columns shares) tree [] 0
 
 -- each row that may be in the columns and agrees with the path has one owner

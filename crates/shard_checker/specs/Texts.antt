@@ -11,7 +11,7 @@ use Rattle.split_cert.specs.Text.{certificate_of}
 use Rattle.split_cert.specs.Tree.{Tree}
 use Rattle.split_cert.specs.declared.error.CertError.{CertError}
 use Rattle.shard_checker.specs.CatalogRefusal.{sharding_refusal}
-use Rattle.shard_checker.specs.Emptiness.{Test}
+use Rattle.shard_checker.specs.Emptiness.{EmptyTest}
 use Rattle.shard_checker.specs.declared.error.CheckError.{CheckError}
 use Rattle.shard_checker.specs.declared.error.CheckError.TheVariants.{OutOfMemory}
 use Rattle.shard_checker.specs.declared.text_error.TextError.{TextError}
@@ -27,14 +27,14 @@ abbrev pub fault_at : ℕ → Result Tree CertError → Option TextError
 fault_at line (Ok tree) = None
 fault_at line (Err fault) = Some (Text line fault)
 
-abbrev pub first_fault : Option TextError → Option TextError → Option TextError
-first_fault None next = next
-first_fault (Some error) next = Some error
+abbrev pub first_text_error : Option TextError → Option TextError → Option TextError
+first_text_error None next = next
+first_text_error (Some error) next = Some error
 
 -- the first text that is not read; the first of these texts has this line
 abbrev pub text_fault : ℕ → List (List ℕ) → Option TextError
 text_fault line [] = None
-text_fault line (text ∷ texts) = first_fault (fault_at line (certificate_of text)) (text_fault (line + 1) texts)
+text_fault line (text ∷ texts) = first_text_error (fault_at line (certificate_of text)) (text_fault (line + 1) texts)
 
 -- ---- what is refused
 
@@ -47,9 +47,9 @@ abbrev pub trees_in : List (List ℕ) → List Tree
 trees_in texts = flat_map (λ text. tree_in (certificate_of text)) texts
 
 -- the first text that isn't read, with lines counted from 1, or otherwise the first reason to refuse the sharding
-abbrev pub text_refusal : Test → CatalogOf Expr → PlanOf → List (List ℕ) → Option TextError
+abbrev pub text_refusal : EmptyTest → CatalogOf Expr → PlanOf → List (List ℕ) → Option TextError
 text_refusal is_empty catalog plan texts =
-    first_fault (text_fault 1 texts) (option_map Check (sharding_refusal is_empty catalog plan (trees_in texts)))
+    first_text_error (text_fault 1 texts) (option_map Check (sharding_refusal is_empty catalog plan (trees_in texts)))
 
 -- ---- what a call returns
 

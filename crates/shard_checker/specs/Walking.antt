@@ -16,8 +16,8 @@ use Rattle.split_cert.specs.declared.node.Node.{Node}
 use Rattle.split_cert.specs.declared.node.Node.TheVariants.{Split, Owner, Empty, NeverNull}
 use Rattle.shard_checker.specs.CatalogRefusal.{table_shares, catalog_refusal, count_refusal}
 use Rattle.shard_checker.specs.Claims.{refusal_due}
-use Rattle.shard_checker.specs.Emptiness.{Test}
-use Rattle.shard_checker.specs.Refusal.{Subject, subject_of, later, first_of, owner_refusal, empty_refusal, never_null_refusal, subject_view}
+use Rattle.shard_checker.specs.Emptiness.{EmptyTest}
+use Rattle.shard_checker.specs.Refusal.{Subject, subject_of, later, earliest, owner_refusal, empty_refusal, never_null_refusal, subject_view}
 use Rattle.shard_checker.specs.declared.subject.Subject as d
 use Rattle.shard_checker.specs.declared.error.CheckError.{CheckError}
 use Rattle.shard_checker.specs.declared.error.CheckError.TheVariants.{BadIndex, OutOfMemory}
@@ -61,7 +61,7 @@ known_atom subject node None = Some (BadIndex subject.table node)
 known_atom subject node (Some atom) = None
 
 -- what is wrong with a node at the end of a path, without a split's branches
-abbrev pub node_refusal : Test → Subject → Node → Path → ℕ → Option CheckError
+abbrev pub node_refusal : EmptyTest → Subject → Node → Path → ℕ → Option CheckError
 node_refusal is_empty subject (Split index) path node = known_atom subject node (slice_get subject.atoms index)
 node_refusal is_empty subject (Owner subscriber) path node =
     owner_refusal subject path node subscriber (slice_get subject.shares subscriber)
@@ -80,33 +80,34 @@ path_after subject (NeverNull index) path = onward path
 -- ---- nodes
 
 -- the first refusal of nodes, as far as they are those of one certificate
-abbrev pub walk : Test → Subject → List Node → Option Path → ℕ → Option CheckError
+abbrev pub walk : EmptyTest → Subject → List Node → Option Path → ℕ → Option CheckError
 walk is_empty subject [] path node = None
 walk is_empty subject (first ∷ nodes) None node = None
 walk is_empty subject (first ∷ nodes) (Some path) node =
-    first_of (node_refusal is_empty subject first path node)
+    earliest (node_refusal is_empty subject first path node)
     (walk is_empty subject nodes (path_after subject first path) (later node 1))
 
-abbrev pub walk_from : Test → Subject → List Node → Place → Option CheckError
-walk_from is_empty subject nodes place = first_of place.due (walk is_empty subject nodes place.path place.node)
+abbrev pub walk_from : EmptyTest → Subject → List Node → Place → Option CheckError
+walk_from is_empty subject nodes place = earliest place.due (walk is_empty subject nodes place.path place.node)
 
 -- the first refusal in the nodes of the certificate of the table of this number
-abbrev pub nodes_refusal : Test → ℕ → Table → List ShareOf → List Node → Option CheckError
+abbrev pub nodes_refusal : EmptyTest → ℕ → Table → List ShareOf → List Node → Option CheckError
 nodes_refusal is_empty number table shares nodes =
     walk is_empty (subject_of number table.columns shares) nodes (Some []) 0
 
 -- the first refusal in the nodes of the certificates of tables, the first of which has this number
-abbrev pub tables_refusal : Test → PlanOf → List Subscription → ℕ → List Table → List (List Node) → Option CheckError
+abbrev pub tables_refusal : EmptyTest → PlanOf → List Subscription → ℕ → List Table → List (List Node)
+    → Option CheckError
 tables_refusal is_empty plan subscriptions number (table ∷ tables) (nodes ∷ certificates) =
-    first_of (nodes_refusal is_empty number table (table_shares plan number 0 subscriptions) nodes)
+    earliest (nodes_refusal is_empty number table (table_shares plan number 0 subscriptions) nodes)
     (tables_refusal is_empty plan subscriptions (number + 1) tables certificates)
 tables_refusal is_empty plan subscriptions number tables certificates = None
 
 -- the first reason to refuse a sharding; the certificates are given by their nodes
-abbrev pub refusal_by_nodes : Test → CatalogOf Expr → PlanOf → List (List Node) → Option CheckError
+abbrev pub refusal_by_nodes : EmptyTest → CatalogOf Expr → PlanOf → List (List Node) → Option CheckError
 refusal_by_nodes is_empty catalog plan certificates =
-    first_of (catalog_refusal catalog)
-    (first_of (count_refusal (length catalog.tables) (length certificates))
+    earliest (catalog_refusal catalog)
+    (earliest (count_refusal (length catalog.tables) (length certificates))
     (tables_refusal is_empty plan catalog.subscriptions 0 catalog.tables certificates))
 
 -- ---- the program's walk
@@ -126,17 +127,18 @@ abbrev pub place_of : {A : _} → d.Subject A → Walk A → Place
 place_of subject walk = place_at (path_of walk) walk.node (due_of subject walk)
 
 -- the nodes are refused from one place as the nodes that are left are refused from another, whatever comes after them
-pub record Passes (is_empty : Test) (subject : Subject) (nodes : List Node) (old : Place) (left : List Node)
+pub record Passes (is_empty : EmptyTest) (subject : Subject) (nodes : List Node) (old : Place) (left : List Node)
     (new : Place) : Type 0 where
   pub each : (more : List Node)
       → walk_from is_empty subject (nodes ++ more) old ≡ walk_from is_empty subject (left ++ more) new
 
 -- nodes are refused by this error, whatever comes after them
-pub record Stops (is_empty : Test) (subject : Subject) (nodes : List Node) (old : Place) (error : CheckError) : Type 0
+pub record Stops (is_empty : EmptyTest) (subject : Subject) (nodes : List Node) (old : Place)
+    (error : CheckError) : Type 0
   where
     pub each : (more : List Node) → walk_from is_empty subject (nodes ++ more) old ≡ Some error
 
 -- the result of a walk over nodes from one place to another; out of memory may come in place of any other error
-abbrev pub Walks : {A : Type 0} → Test → Subject → List Node → Place → Place → Result A CheckError → Type 0
+abbrev pub Walks : {A : Type 0} → EmptyTest → Subject → List Node → Place → Place → Result A CheckError → Type 0
 Walks is_empty subject nodes old new (Ok value) = Passes is_empty subject nodes old [] new
 Walks is_empty subject nodes old new (Err error) = error ≢ OutOfMemory → Stops is_empty subject nodes old error

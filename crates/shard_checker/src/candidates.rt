@@ -223,7 +223,7 @@ fn add_first(
     term: Term,
 ) -> Result<(), AllocError>
     ensures { OnOk result (candidates_view candidates.new.items
-        ≡ candidates_view candidates.old.items ++ spec.first_of kind term) }
+        ≡ candidates_view candidates.old.items ++ spec.always_tried kind term) }
 {
     match kind {
         ColType::SmallInt | ColType::Integer | ColType::BigInt => {

@@ -4,7 +4,7 @@ ghost use Rattle.std.specs.Prelude.{List, [], OnOk};
 ghost use Rattle.filter_tree.specs.Datum.{Datum};
 ghost use Rattle.split_cert.specs.Where.{tree_view};
 ghost use Rattle.shard_checker.specs.Checks.{Checks, IfRefused};
-ghost use Rattle.shard_checker.specs.Emptiness.{IsEmptiness, Test};
+ghost use Rattle.shard_checker.specs.Emptiness.{IsEmptiness, EmptyTest};
 ghost use Rattle.shard_checker.specs.Owners.{shares_view, HasOneOwner};
 ghost use Rattle.shard_checker.specs.WalkInvariants.{Prepared};
 ghost use Rattle.shard_checker.specs.Refusal as spec;
@@ -103,7 +103,7 @@ pub fn check_one<A: Allocator, B: Allocator>(
 ) -> Result<(), CheckError>
     ensures sound { OnOk result
         ((row : List Datum) → IsTyped table.now.columns row → HasOneOwner (shares_view shares.now) row) }
-    ensures exact { (test : Test) → IsEmptiness test →
+    ensures exact { (test : EmptyTest) → IsEmptiness test →
         Checks (spec.first_refusal test 0 table.now (shares_view shares.now) (tree_view cert.now)) result }
     ensures wrong { IfRefused result (CertificateIsWrong 0 table.now (shares_view shares.now) (tree_view cert.now)) }
 {

@@ -11,7 +11,7 @@ ghost use Rattle.shard_checker.specs.CatalogRefusal as spec;
 ghost use Rattle.shard_checker.specs.CatalogTruth.{ShardingIsWrong};
 ghost use Rattle.shard_checker.specs.Checks.{Checks, Finds, IfRefused};
 ghost use Rattle.shard_checker.specs.CheckedView.{checked_of, checked_view};
-ghost use Rattle.shard_checker.specs.Emptiness.{IsEmptiness, Test};
+ghost use Rattle.shard_checker.specs.Emptiness.{IsEmptiness, EmptyTest};
 ghost use Rattle.shard_checker.specs.Owners.{shares_view};
 ghost use Rattle.shard_checker.specs.Sound.{IsSound};
 ghost use Rattle.shard_checker.specs.Candidates.{is_empty};
@@ -176,7 +176,7 @@ pub fn check<A: Allocator>(
     ensures apart { OnOk result (KeepsApart (setting_of (catalog_view catalog) (plan_view plan))) }
     ensures divided { OnOk result (DividesRows (setting_of (catalog_view catalog) (plan_view plan))) }
     ensures kept { IfOk result (λ checked. checked_view checked ≡ checked_of catalog plan) }
-    ensures exact { (test : Test) → IsEmptiness test → Checks
+    ensures exact { (test : EmptyTest) → IsEmptiness test → Checks
         (spec.sharding_refusal test (catalog_view catalog) (plan_view plan) (map tree_view certs.now)) result }
     ensures memory { NeedsMemoryOnlyIf CheckError.OutOfMemory (spec.declared_refusal (catalog_view catalog) ≡ None) result }
     ensures wrong { IfRefused result

@@ -11,7 +11,7 @@ ghost use Rattle.shard_checker.specs.CatalogRefusal.{declared_refusal, sharding_
 ghost use Rattle.shard_checker.specs.CatalogTruth.{ShardingIsWrong};
 ghost use Rattle.shard_checker.specs.Checks.{Checks};
 ghost use Rattle.shard_checker.specs.CheckedView.{checked_of, checked_view};
-ghost use Rattle.shard_checker.specs.Emptiness.{IsEmptiness, Test};
+ghost use Rattle.shard_checker.specs.Emptiness.{IsEmptiness, EmptyTest};
 ghost use Rattle.shard_checker.specs.Sound.{IsSound};
 ghost use Rattle.shard_checker.specs.Texts as spec;
 ghost use Rattle.shard_checker.specs.Candidates.{is_empty};
@@ -86,7 +86,7 @@ pub fn check_text(
     ensures apart { OnOk result (KeepsApart (setting_of (catalog_view catalog) (plan_view plan))) }
     ensures divided { OnOk result (DividesRows (setting_of (catalog_view catalog) (plan_view plan))) }
     ensures kept { IfOk result (λ checked. checked_view checked ≡ checked_of catalog plan) }
-    ensures exact { (test : Test) → IsEmptiness test → spec.ChecksText
+    ensures exact { (test : EmptyTest) → IsEmptiness test → spec.ChecksText
         (spec.text_refusal test (catalog_view catalog) (plan_view plan) (spec.texts_view texts.now)) result }
     ensures read { spec.AreRead (spec.texts_view texts.now) result }
     ensures memory { spec.TextNeedsMemoryOnlyIf (declared_refusal (catalog_view catalog) ≡ None) result }

@@ -8,7 +8,7 @@ ghost use Rattle.split_cert.specs.Where.{tree_view};
 ghost use Rattle.shard_checker.specs.Checks.{Checks, Defers, error_of};
 ghost use Rattle.shard_checker.specs.WalkInvariants.{GoesBack, Prepared, WalkAgrees};
 ghost use Rattle.shard_checker.specs.Refusal as refusal;
-ghost use Rattle.shard_checker.specs.Refusal.{first_of, subject_view};
+ghost use Rattle.shard_checker.specs.Refusal.{earliest, subject_view};
 ghost use Rattle.shard_checker.specs.Candidates.{is_empty};
 ghost use Rattle.shard_checker.specs.Walking as spec;
 
@@ -200,7 +200,7 @@ fn wait<A: Allocator>(
 ) -> Result<(), AllocError>
     requires ready { WalkAgrees subject.now walk.old }
     requires room { length walk.old.claims.list.items < 64 }
-    ensures due { OnOk result (spec.due_of subject.now walk.new ≡ first_of (spec.due_of subject.now walk.old)
+    ensures due { OnOk result (spec.due_of subject.now walk.new ≡ earliest (spec.due_of subject.now walk.old)
         (spec.node_refusal is_empty (subject_view subject.now) (Node.Owner number) (path_view walk.old.path.items)
         walk.old.node)) }
     ensures ready { OnOk result (WalkAgrees subject.now walk.new) }
@@ -219,7 +219,7 @@ fn check_later<A: Allocator>(
     number: u32,
 ) -> Result<(), CheckError>
     requires { WalkAgrees subject.now walk.old }
-    ensures refusal { Defers (first_of (spec.due_of subject.now walk.old) (spec.node_refusal is_empty
+    ensures refusal { Defers (earliest (spec.due_of subject.now walk.old) (spec.node_refusal is_empty
         (subject_view subject.now) (Node.Owner number) (path_view walk.old.path.items) walk.old.node))
         (spec.due_of subject.now walk.new) result }
     ensures ready { OnOk result (WalkAgrees subject.now walk.new) }
@@ -241,7 +241,7 @@ fn after_waiting<A: Allocator>(
     found: Result<(), CheckError>,
 ) -> Result<(), CheckError>
     requires { WalkAgrees subject.now walk.old }
-    ensures refusal { Defers (first_of (spec.due_of subject.now walk.old) (error_of found))
+    ensures refusal { Defers (earliest (spec.due_of subject.now walk.old) (error_of found))
         (spec.due_of subject.now walk.new) result }
     ensures ready { OnOk result (WalkAgrees subject.now walk.new) }
     ensures path { walk.new.path.items ≡ walk.old.path.items }
@@ -262,7 +262,7 @@ fn check_node<A: Allocator>(
     node: Node,
 ) -> Result<(), CheckError>
     requires { WalkAgrees subject.now walk.old }
-    ensures refusal { Defers (first_of (spec.due_of subject.now walk.old) (spec.node_refusal is_empty
+    ensures refusal { Defers (earliest (spec.due_of subject.now walk.old) (spec.node_refusal is_empty
         (subject_view subject.now) node (path_view walk.old.path.items) walk.old.node))
         (spec.due_of subject.now walk.new) result }
     ensures ready { OnOk result (WalkAgrees subject.now walk.new) }

@@ -11,7 +11,7 @@ use Rattle.copy_both.specs.Streams.{StreamStateOf}
 use Rattle.shard_world.specs.CatchingUp.{next_peer, sent_by, caught_up, SubscribersCatchUp}
 use Rattle.stream_laws.specs.Following.{IsPublished}
 use Rattle.stream_laws.specs.LayoutRoom.{FitsLayouts}
-use Rattle.shard_world.specs.World.{position_now, Asks, Connection, Peer, World, PeerEvent, Open, Hear, Take, Keep, Deliver, Report, Lose, Event, Commit, On, Answer, first_world, spelled_up, heard_of, hears, state_of, takes, take_step, keep_step, open_step, shut_step, peer_step, broken, with_peer, with_transaction, StepsOn, Steps, Leads, Source, source_in, step_in, broken_in, asking_length}
+use Rattle.shard_world.specs.World.{position_now, Asks, Connection, Peer, World, PeerEvent, Open, Hear, Take, Keep, Deliver, Report, Lose, Event, Commit, On, Answer, first_world, spelled_up, heard_of, hears, stream_state, take_commit, take_step, keep_step, open_step, shut_step, peer_step, broken, with_peer, with_transaction, StepsPeer, Steps, Leads, StreamSource, source_in, step_in, broken_in, asking_length}
 use Rattle.shard_world.proofs.EndLemmas.{IsEnd}
 use Rattle.shard_world.proofs.EndSteps.{now_end, peer_end, take_many_end, take_many_good, ends_at}
 use Rattle.shard_world.proofs.CatchingUpLemmas.{hears_start, catches_up}
@@ -29,7 +29,7 @@ IsAskedAt checked subscriber position (Some c) = c.start ≡ None
 abbrev pub IsAsked : CheckedOf → ℕ → Peer → Type 0
 IsAsked checked subscriber peer = IsAskedAt checked subscriber peer.position peer.connection
 
-module _ (source : Source) (now : ℕ) where
+module _ (source : StreamSource) (now : ℕ) where
   hears_asked : (peer : Peer) (c : Connection) (more : ℕ)
       → IsAskedAt source.checked source.number peer.position (Some c)
       → IsAsked source.checked source.number (hears source now peer c more)
@@ -43,7 +43,7 @@ module _ (source : Source) (now : ℕ) where
 
   takes_asked : (peer : Peer) (c : Connection) (state : StreamStateOf) (found : Option CommitOf)
       → IsAsked source.checked source.number peer → IsAskedAt source.checked source.number peer.position (Some c)
-      → IsAsked source.checked source.number (takes source.checked now peer c state found).1
+      → IsAsked source.checked source.number (take_commit source.checked now peer c state found).1
   takes_asked peer c state None whole still = whole
   takes_asked peer c state (Some commit) whole still = still
 
@@ -51,7 +51,7 @@ module _ (source : Source) (now : ℕ) where
       → IsAskedAt source.checked source.number peer.position (Some c)
       → IsAsked source.checked source.number (take_step source now peer c start).1
   take_asked peer c None whole still = whole
-  take_asked peer c (Some start) whole still = takes_asked peer c (state_of source start c.moves) _ whole still
+  take_asked peer c (Some start) whole still = takes_asked peer c (stream_state source start c.moves) _ whole still
 
   keep_asked : (want : Bool) (peer : Peer) (c : Connection) (start : Option ℕ)
       → IsAsked source.checked source.number peer → IsAskedAt source.checked source.number peer.position (Some c)
@@ -124,7 +124,7 @@ step_asked checked most world now (Commit commands time) answer next steps all =
 step_asked checked most world now (On subscriber event) answer next steps all =
     by_number (nat_lt subscriber (length checked.plan)) steps
   where
-    by_number : (known : Bool) → StepsOn known checked world subscriber now event answer next → AllAsked checked next
+    by_number : (known : Bool) → StepsPeer known checked world subscriber now event answer next → AllAsked checked next
     by_number false step = same_asked checked next world step.1 all
     by_number true step = elim step [
       | inl moves ↦ same_asked checked next
@@ -156,7 +156,7 @@ end_of_count position count ends counts some = elim ends [
 
 pub subscribers_catch_up : SubscribersCatchUp
 subscribers_catch_up checked most publisher events times world leads subscriber now timed c is =
-    let source : Source = source_in checked world subscriber in
+    let source : StreamSource = source_in checked world subscriber in
     let sayable = can_be_said checked most publisher events times world leads in
     let good = good_at checked publisher.covered publisher.apart most events (all_timed events times) world leads
     sayable in
@@ -172,7 +172,7 @@ subscribers_catch_up checked most publisher events times world leads subscriber 
     subscriber)))
     caught.counts caught.some
   where
-    all_ends : (source : Source) → IsPublished source.checked source.transactions
+    all_ends : (source : StreamSource) → IsPublished source.checked source.transactions
         → FitsLayouts source.checked source.transactions → (peer : Peer) → IsGood source peer → IsEnd peer.position
         → IsEnd (caught_up source now peer).position
     all_ends source public sayable peer good h =

@@ -16,8 +16,8 @@ use Rattle.test_subscriber.specs.Subscribers.{Feeds, Loses, Opens, Passes, Repor
 use Rattle.test_subscriber.specs.declared.subscriber.Subscriber.{Subscriber}
 use Rattle.shard_world.specs.Connections.{HearsOn, LosesOn, answer_of, front_of, kept_or_not}
 use Rattle.shard_world.specs.Joined.{PeerOf, PeerIs}
-use Rattle.shard_world.specs.PeerCalls.{Made, Makes, LosesLink, LosesIfThere, Drops}
-use Rattle.shard_world.specs.PeerSteps.{Case, ChangesOwn, StepsTo, peer_of, source_of}
+use Rattle.shard_world.specs.PeerCalls.{MakesFrom, MakesFromEach, LosesLink, LosesIfThere, Drops}
+use Rattle.shard_world.specs.PeerSteps.{Case, ChangesOwn, StepsPeerTo, peer_of, source_of}
 use Rattle.shard_world.specs.World as w
 use Rattle.shard_world.specs.World.{Answer, PeerEvent, Connection, Open, Hear, Take, Keep, Deliver, Report, Lose}
 use Rattle.shard_world.proofs.CaseLemmas.{is_shut, is_open}
@@ -36,13 +36,13 @@ kept_own number book = record {
 
 -- nothing of the book changes
 made_by : (case : Case) (event : PeerEvent) (answer : Answer) (book : Book) (new : PeerOf)
-    → StepsTo case event answer (book_slots book) new → Made case event answer book book new
+    → StepsPeerTo case event answer (book_slots book) new → MakesFrom case event answer book book new
 made_by case event answer book new steps = record { steps = steps; own = kept_own case.number book }
 
 -- ---- without a connection
 
 pub is_not_open : (checked : CheckedOf) (now : ℕ) (event : PeerEvent) (book : Book) (old : PeerOf) → event ≢ Open
-    → old.link ≡ None → Makes checked now event book book old old w.NotOpen
+    → old.link ≡ None → MakesFromEach checked now event book book old old w.NotOpen
 is_not_open checked now event book old other none case stands =
     let shut = is_shut case (book_slots book) old stands.peer none in
     made_by case event w.NotOpen book old
@@ -71,7 +71,7 @@ is_not_open checked now event book old other none case stands =
 -- ---- open
 
 pub is_already_open : (checked : CheckedOf) (now : ℕ) (book : Book) (old : PeerOf) (link : Link)
-    → old.link ≡ Some link → Makes checked now Open book book old old w.AlreadyOpen
+    → old.link ≡ Some link → MakesFromEach checked now Open book book old old w.AlreadyOpen
 is_already_open checked now book old link some case stands =
     let here = is_open case (book_slots book) old link stands.peer some in
     made_by case Open w.AlreadyOpen book old
@@ -79,7 +79,7 @@ is_already_open checked now book old link some case stands =
 
 pub opens_one : (checked : CheckedOf) (now : ℕ) (book : Book) (old : PeerOf) (link : Link) (after : Subscriber)
     → old.link ≡ None → IsNewLink link checked → Opens old.subscriber after
-    → Makes checked now Open book book old (record { link = Some link; subscriber = after }) w.Opened
+    → MakesFromEach checked now Open book book old (record { link = Some link; subscriber = after }) w.Opened
 opens_one checked now book old link after none new opened case stands =
     made_by case Open w.Opened book (record { link = Some link; subscriber = after })
     (opens case stands.is (book_slots book) old link after stands.peer none
@@ -100,7 +100,7 @@ pub hears_some : (checked : CheckedOf) (now : ℕ) (before after : Book) (old : 
     (front_of count (sub_output old.subscriber)) (link_sent link) (Ok heard)
     → HearSays link new (link_heard link before (front_of count (sub_output old.subscriber))) now (Ok heard)
     → Passes old.subscriber (length (front_of count (sub_output old.subscriber))) subscriber
-    → Makes checked now (Hear count) before after old (record { link = Some new; subscriber = subscriber })
+    → MakesFromEach checked now (Hear count) before after old (record { link = Some new; subscriber = subscriber })
     (w.Heard (length (front_of count (sub_output old.subscriber))))
 hears_some checked now before after old link new subscriber count heard some answer leaves says passes case stands =
     let done : HearsOn case count (length (front_of count (sub_output old.subscriber))) before after
@@ -117,13 +117,13 @@ pub hears_piece : (checked : CheckedOf) (now : ℕ) (before after : Book) (old :
     → HearLeaves (ear_phase (link_ear link)) (link_ear link) (link_ear new) before after piece (link_sent link)
     (Ok heard)
     → HearSays link new (link_heard link before piece) now (Ok heard) → Passes old.subscriber (length piece) subscriber
-    → Makes checked now (Hear count) before after old (record { link = Some new; subscriber = subscriber })
+    → MakesFromEach checked now (Hear count) before after old (record { link = Some new; subscriber = subscriber })
     (w.Heard (length piece))
 hears_piece checked now before after old link new subscriber count heard piece some is answer leaves says passes =
     subst (λ p. hear_answer (link_ear link) before p (link_sent link) ≡ Ok heard
     → HearLeaves (ear_phase (link_ear link)) (link_ear link) (link_ear new) before after p (link_sent link) (Ok heard)
     → HearSays link new (link_heard link before p) now (Ok heard) → Passes old.subscriber (length p) subscriber
-    → Makes checked now (Hear count) before after old (record { link = Some new; subscriber = subscriber })
+    → MakesFromEach checked now (Hear count) before after old (record { link = Some new; subscriber = subscriber })
     (w.Heard (length p))) (sym is)
     (λ its. hears_some checked now before after old link new subscriber count heard some (sym its)) answer leaves says
     passes
@@ -133,7 +133,8 @@ pub takes_one : (checked : CheckedOf) (now : ℕ) (book : Book) (old : PeerOf) (
     → Ok found ≡ next_answer (link_checked link) (link_stage link) (book_log book)
     → LinkSays link new (next_bytes (link_checked link) (link_stage link) (book_log book) now)
     (next_stage (link_checked link) (link_stage link) (book_log book) now)
-    → Makes checked now Take book book old (record { link = Some new; subscriber = old.subscriber }) (answer_of found)
+    → MakesFromEach checked now Take book book old (record { link = Some new; subscriber = old.subscriber })
+    (answer_of found)
 takes_one checked now book old link new found some answer says case stands =
     made_by case Take (answer_of found) book (record { link = Some new; subscriber = old.subscriber })
     (takes case (book_slots book) old link new stands.peer some
@@ -146,7 +147,7 @@ takes_one checked now book old link new found some answer says case stands =
 pub keeps_one : (checked : CheckedOf) (now : ℕ) (book : Book) (old : PeerOf) (link new : Link) (want said : Bool)
     → old.link ≡ Some link → Ok said ≡ keep_answer (link_stage link)
     → LinkSays link new (kept_bytes (link_stage link) now want) (link_stage link)
-    → Makes checked now (Keep want) book book old (record { link = Some new; subscriber = old.subscriber })
+    → MakesFromEach checked now (Keep want) book book old (record { link = Some new; subscriber = old.subscriber })
     (kept_or_not said)
 keeps_one checked now book old link new want said some answer says case stands =
     made_by case (Keep want) (kept_or_not said) book (record { link = Some new; subscriber = old.subscriber })
@@ -158,7 +159,7 @@ pub delivers_some : (checked : CheckedOf) (now : ℕ) (book : Book) (old : PeerO
     (after : Subscriber) (count : ℕ) → old.link ≡ Some link
     → Feeds old.subscriber (front_of count (link_output link)) after
     → LinkPasses link new (length (front_of count (link_output link)))
-    → Makes checked now (Deliver count) book book old (record { link = Some new; subscriber = after })
+    → MakesFromEach checked now (Deliver count) book book old (record { link = Some new; subscriber = after })
     (w.Delivered (length (front_of count (link_output link))))
 delivers_some checked now book old link new after count some fed passes case stands =
     made_by case (Deliver count) (w.Delivered (length (front_of count (link_output link)))) book
@@ -168,17 +169,17 @@ delivers_some checked now book old link new after count some fed passes case sta
 pub delivers_piece : (checked : CheckedOf) (now : ℕ) (book : Book) (old : PeerOf) (link new : Link)
     (after : Subscriber) (count : ℕ) (piece : List ℕ) → old.link ≡ Some link
     → piece ≡ front_of count (link_output link) → Feeds old.subscriber piece after → LinkPasses link new (length piece)
-    → Makes checked now (Deliver count) book book old (record { link = Some new; subscriber = after })
+    → MakesFromEach checked now (Deliver count) book book old (record { link = Some new; subscriber = after })
     (w.Delivered (length piece))
 delivers_piece checked now book old link new after count piece some is =
     subst (λ p. Feeds old.subscriber p after → LinkPasses link new (length p)
-    → Makes checked now (Deliver count) book book old (record { link = Some new; subscriber = after })
+    → MakesFromEach checked now (Deliver count) book book old (record { link = Some new; subscriber = after })
     (w.Delivered (length p))) (sym is)
     (delivers_some checked now book old link new after count some)
 
 pub reports_one : (checked : CheckedOf) (now : ℕ) (book : Book) (old : PeerOf) (link : Link) (after : Subscriber)
     (want : Bool) → old.link ≡ Some link → Reports old.subscriber now want after
-    → Makes checked now (Report want) book book old (record { link = old.link; subscriber = after }) w.Reported
+    → MakesFromEach checked now (Report want) book book old (record { link = old.link; subscriber = after }) w.Reported
 reports_one checked now book old link after want some reported case stands =
     made_by case (Report want) w.Reported book (record { link = old.link; subscriber = after })
     (reports case stands.is (book_slots book) old link after want stands.peer some
@@ -187,7 +188,7 @@ reports_one checked now book old link after want some reported case stands =
 pub loses_one : (checked : CheckedOf) (now : ℕ) (before after : Book) (old : PeerOf) (link new : Link)
     (subscriber : Subscriber) → old.link ≡ Some link → LinkLoses link new before after
     → Loses old.subscriber subscriber
-    → Makes checked now Lose before after old (record { link = None; subscriber = subscriber }) w.Lost
+    → MakesFromEach checked now Lose before after old (record { link = None; subscriber = subscriber }) w.Lost
 loses_one checked now before after old link new subscriber some lost_link lost_subscriber case stands =
     let done : LosesOn case before after (record { link = None; subscriber = subscriber }) =
     loses_on case before after old link new subscriber stands.peer some lost_link lost_subscriber in
@@ -195,20 +196,20 @@ loses_one checked now before after old link new subscriber some lost_link lost_s
 
 pub drops_lose : (checked : CheckedOf) (now : ℕ) (before after : Book) (old new : PeerOf) (link : Link)
     → old.link ≡ Some link → Drops old new before after
-    → Makes checked now Lose before after old new w.Lost
+    → MakesFromEach checked now Lose before after old new w.Lost
 drops_lose checked now before after old new link some drops case stands =
     let lost : LosesLink link before after = subst (λ its. LosesIfThere its before after) some drops.link in
-    subst (λ its. Made case Lose w.Lost before after (record { link = its; subscriber = new.subscriber }))
+    subst (λ its. MakesFrom case Lose w.Lost before after (record { link = its; subscriber = new.subscriber }))
     (sym drops.none)
     (loses_one checked now before after old link lost.lost new.subscriber some lost.loses drops.subscriber case stands)
 
 pub drops_lose_so : (checked : CheckedOf) (now : ℕ) (before after : Book) (old new : PeerOf) → is_some old.link ≡ true
     → Drops old new before after
-    → Makes checked now Lose before after old new w.Lost
+    → MakesFromEach checked now Lose before after old new w.Lost
 drops_lose_so checked now before after old new there drops = by_link old.link refl there
   where
     by_link : (link : Option Link) → old.link ≡ link → is_some link ≡ true
-        → Makes checked now Lose before after old new w.Lost
+        → MakesFromEach checked now Lose before after old new w.Lost
     by_link None is none = absurd cc
     by_link (Some link) is none = drops_lose checked now before after old new link is drops
 

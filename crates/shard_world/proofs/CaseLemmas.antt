@@ -10,7 +10,7 @@ use Rattle.test_subscriber.specs.declared.subscriber.Subscriber.{Subscriber}
 use Rattle.stream_laws.specs.Asking.{IsAsking}
 use Rattle.stream_laws.specs.Following.{IsPublished}
 use Rattle.shard_world.specs.Joined.{PeerOf, IsApart, IsLinked, IsAt}
-use Rattle.shard_world.specs.PeerSteps.{Case, IsCase, peer_of, StandsIn, source_of}
+use Rattle.shard_world.specs.PeerSteps.{Case, IsCase, peer_of, MatchesPeer, source_of}
 use Rattle.stream_laws.specs.LayoutRoom.{FitsLayouts}
 use Rattle.shard_world.specs.World.{Connection, position_now, machine_now}
 use Rattle.stream_laws.proofs.StartLengths.{subscribers_can_ask}
@@ -76,13 +76,13 @@ module _ (case : Case) (slots : List Slot) (subscriber : Subscriber) where
   open_at link None e at = absurd at
   open_at link (Some c) e at = record { c = c; some = e; linked = at }
 
-pub is_shut : (case : Case) (slots : List Slot) (code : PeerOf) → StandsIn case slots code → code.link ≡ None
+pub is_shut : (case : Case) (slots : List Slot) (code : PeerOf) → MatchesPeer case slots code → code.link ≡ None
     → Shut case slots code.subscriber
 is_shut case slots code stands none = shut_at case slots code.subscriber (peer_of case).connection refl
     (subst (λ link. IsAt (source_of case) slots link code.subscriber (peer_of case) (peer_of case).connection) none
     stands.at)
 
-pub is_open : (case : Case) (slots : List Slot) (code : PeerOf) (link : Link) → StandsIn case slots code
+pub is_open : (case : Case) (slots : List Slot) (code : PeerOf) (link : Link) → MatchesPeer case slots code
     → code.link ≡ Some link → Open case slots link code.subscriber
 is_open case slots code link stands some = open_at case slots code.subscriber link (peer_of case).connection refl
     (subst (λ its. IsAt (source_of case) slots its code.subscriber (peer_of case) (peer_of case).connection) some

@@ -9,14 +9,14 @@ use Rattle.tables_log.specs.Commits.{CommitOf}
 use Rattle.tables_log.specs.Lsn.{commits_before}
 use Rattle.tables_log.specs.StandsFor.{AreAccepted}
 use Rattle.copy_both.specs.Streams as s
-use Rattle.copy_both.specs.Streams.{Item, Response, spelled, StreamStateOf, Move, state_at, keep_item, moved, taken_state, all_moved}
+use Rattle.copy_both.specs.Streams.{StreamItem, Response, spelled, StreamStateOf, Move, state_at, keep_item, moved, taken_state, all_moved}
 use Rattle.copy_both.specs.Tellings.{telling_of}
 use Rattle.copy_both.proofs.StreamLemmas.{moved_append, items_append}
 use Rattle.shard_world.specs.CatchingUp.{next_peer, sent_by, sent_to, take_many, delivered_all, caught_up}
 use Rattle.stream_laws.specs.Cutting.{if_whole, whole_in}
 use Rattle.stream_laws.specs.Following.{raised_by, position_after, IsPublished}
 use Rattle.stream_laws.specs.LayoutRoom.{FitsLayouts}
-use Rattle.shard_world.specs.World.{Up, Asks, Says, Connection, Peer, PeerEvent, Hear, Take, Keep, Deliver, Session, down_items, down_bytes, position_now, spelled_up, whole_up, ups_of, start_at, hear_up, newly, heard_of, hears, delivers, as_many, state_of, takes, take_step, keep_step, moves_on, open_step, peer_step, Source, up_bytes, down_of, log_in, asking_length}
+use Rattle.shard_world.specs.World.{Up, Asks, Says, Connection, Peer, PeerEvent, Hear, Take, Keep, Deliver, Session, down_items, down_bytes, position_now, spelled_up, whole_up, ups_of, start_at, hear_up, newly, heard_of, hears, delivers, as_many, stream_state, take_commit, take_step, keep_step, moves_on, open_step, peer_step, StreamSource, up_bytes, down_of, log_in, asking_length}
 use Rattle.stream_laws.proofs.EntryLemmas.{entry_at, entries_length, past_end}
 use Rattle.stream_laws.proofs.FollowingLemmas.{first_sent_counts}
 use Rattle.shard_world.proofs.WorldPeers.{IsGood, good_follows}
@@ -57,7 +57,7 @@ starts_by now position ups session = by_start session.start refl
     }
 
 -- the command is whole among the bytes that are heard, or the stream has started
-pub hears_start : (source : Source) (now : ℕ) (peer : Peer) (c : Connection) (more : ℕ)
+pub hears_start : (source : StreamSource) (now : ℕ) (peer : Peer) (c : Connection) (more : ℕ)
     → (c.start ≡ None → c.heard < asking_length source peer.position)
     → asking_length source peer.position ≤ c.heard + more → HasStart (heard_of source now peer c more).start
 hears_start source now peer c more still whole = by_start c.start refl
@@ -90,7 +90,7 @@ hears_start source now peer c more still whole = by_start c.start refl
 -- ---- commits are taken
 
 -- how many commits are counted by what was sent
-module _ (source : Source) (accepted : AreAccepted (setting_in source.checked) no_rows source.transactions) where
+module _ (source : StreamSource) (accepted : AreAccepted (setting_in source.checked) no_rows source.transactions) where
   take_counts : (state : StreamStateOf) (found : Option CommitOf) → slice_get (log_in source) state.done ≡ found
       → commits_before state.sent ≡ state.done
       → commits_before (taken_state (telling_of source.checked) state found).sent
@@ -115,7 +115,7 @@ module _ (source : Source) (accepted : AreAccepted (setting_in source.checked) n
       moves_count moves (moved (telling_of source.checked) (log_in source) state move) (move_counts state move counts)
 
   pub place_counts : (start : ℕ) (moves : List Move)
-      → commits_before (state_of source start moves).sent ≡ (state_of source start moves).done
+      → commits_before (stream_state source start moves).sent ≡ (stream_state source start moves).done
   place_counts start moves =
       moves_count moves (state_at source.number (length source.checked.catalog.tables) start) (first_sent_counts start)
 
@@ -135,7 +135,7 @@ moves_sent checked log [] state sent = sent
 moves_sent checked log (move ∷ moves) state sent =
     moves_sent checked log moves (moved (telling_of checked) log state move) (move_sent checked log state move sent)
 
-state_sent : (source : Source) (start : ℕ) (moves : List Move) → 1 ≤ (state_of source start moves).sent
+state_sent : (source : StreamSource) (start : ℕ) (moves : List Move) → 1 ≤ (stream_state source start moves).sent
 state_sent source start moves =
     moves_sent source.checked (log_in source) moves
     (state_at source.number (length source.checked.catalog.tables) start) (first_some start)
@@ -151,7 +151,7 @@ state_sent source start moves =
 
 -- ---- items, all of them
 
-whole_all : (items : List Item) → whole_in (length (flat_map spelled items)) items ≡ items
+whole_all : (items : List StreamItem) → whole_in (length (flat_map spelled items)) items ≡ items
 whole_all [] = refl
 whole_all (item ∷ items) =
     ap (λ b. if_whole b item
@@ -165,25 +165,25 @@ whole_all (item ∷ items) =
     left_is : length (spelled item ++ flat_map spelled items) - length (spelled item) ≡ length (flat_map spelled items)
     left_is = omega (arith, length-append (spelled item) (flat_map spelled items))
 
-after_one : (position : ℕ) (items : List Item) (item : Item)
+after_one : (position : ℕ) (items : List StreamItem) (item : StreamItem)
     → position_after position (items ++ item ∷ []) ≡ raised_by (position_after position items) item
 after_one position [] item = refl
 after_one position (first ∷ items) item = after_one (raised_by position first) items item
 
 -- ---- a connection whose stream has started
 
-pub record IsRunning (source : Source) (start : ℕ) (peer : Peer) : Type 0 where
+pub record IsRunning (source : StreamSource) (start : ℕ) (peer : Peer) : Type 0 where
   pub c : Connection
   pub is : peer.connection ≡ Some c
   pub start_is : c.start ≡ Some start
   pub good : IsGood source peer
 
 -- this number of commits or fewer remain
-pub record IsLeft (source : Source) (start count : ℕ) (peer : Peer) : Type 0 where
+pub record IsLeft (source : StreamSource) (start count : ℕ) (peer : Peer) : Type 0 where
   pub running : IsRunning source start peer
-  pub left : length (log_in source) ≤ (state_of source start running.c.moves).done + count
+  pub left : length (log_in source) ≤ (stream_state source start running.c.moves).done + count
 
-module _ (source : Source) (published : IsPublished source.checked source.transactions)
+module _ (source : StreamSource) (published : IsPublished source.checked source.transactions)
     (sayable : FitsLayouts source.checked source.transactions) (now : ℕ) (timed : now < 2 ^ 64) where
   pub as_step : (event : PeerEvent) (peer : Peer) (c : Connection) → peer.connection ≡ Some c
       → next_peer source now event peer ≡ (open_step source now event peer c).1
@@ -199,47 +199,48 @@ module _ (source : Source) (published : IsPublished source.checked source.transa
       subst (IsLeft source start count)
       (sym (as_step Take peer h.running.c h.running.is
       ∙ ap (λ from. (take_step source now peer h.running.c from).1) h.running.start_is))
-      (by_found (slice_get (log_in source) (state_of source start h.running.c.moves).done) refl
+      (by_found (slice_get (log_in source) (stream_state source start h.running.c.moves).done) refl
       (subst (IsGood source)
       (as_step Take peer h.running.c h.running.is
       ∙ ap (λ from. (take_step source now peer h.running.c from).1) h.running.start_is)
       (next_good Take peer h.running.good)))
     where
       by_found : (found : Option CommitOf)
-          → slice_get (log_in source) (state_of source start h.running.c.moves).done ≡ found
-          → IsGood source (takes source.checked now peer h.running.c (state_of source start h.running.c.moves)
-          (slice_get (log_in source) (state_of source start h.running.c.moves).done)).1
+          → slice_get (log_in source) (stream_state source start h.running.c.moves).done ≡ found
+          → IsGood source (take_commit source.checked now peer h.running.c (stream_state source start h.running.c.moves)
+          (slice_get (log_in source) (stream_state source start h.running.c.moves).done)).1
           → IsLeft source start count
-          (takes source.checked now peer h.running.c (state_of source start h.running.c.moves)
-          (slice_get (log_in source) (state_of source start h.running.c.moves).done)).1
+          (take_commit source.checked now peer h.running.c (stream_state source start h.running.c.moves)
+          (slice_get (log_in source) (stream_state source start h.running.c.moves).done)).1
       by_found None e good =
           subst (λ found. IsLeft source start count
-          (takes source.checked now peer h.running.c (state_of source start h.running.c.moves) found).1) (sym e)
-          (record {
+          (take_commit source.checked now peer h.running.c (stream_state source start h.running.c.moves) found).1)
+          (sym e) (record {
             running = h.running;
-            left = let end = past_end (log_in source) (state_of source start h.running.c.moves).done e in
+            left = let end = past_end (log_in source) (stream_state source start h.running.c.moves).done e in
                 omega (arith, end);
           })
       by_found (Some commit) e good =
           subst (λ found. IsLeft source start count
-          (takes source.checked now peer h.running.c (state_of source start h.running.c.moves) found).1) (sym e)
-          (record {
+          (take_commit source.checked now peer h.running.c (stream_state source start h.running.c.moves) found).1)
+          (sym e) (record {
             running = record {
               c = record h.running.c { moves = h.running.c.moves ++ s.Take now ∷ [] };
               is = refl;
               start_is = h.running.start_is;
               good = subst (λ found. IsGood source
-                  (takes source.checked now peer h.running.c (state_of source start h.running.c.moves) found).1) e
+                  (take_commit source.checked now peer h.running.c
+                  (stream_state source start h.running.c.moves) found).1) e
                   good;
             };
             left =
-                let further : (state_of source start (h.running.c.moves ++ s.Take now ∷ [])).done
-                ≡ (state_of source start h.running.c.moves).done + 1 =
+                let further : (stream_state source start (h.running.c.moves ++ s.Take now ∷ [])).done
+                ≡ (stream_state source start h.running.c.moves).done + 1 =
                 ap (λ (at : StreamStateOf). at.done)
                 (moved_append (telling_of source.checked) (log_in source)
                 (state_at source.number (length source.checked.catalog.tables) start) h.running.c.moves
                 (s.Take now)
-                ∙ ap (taken_state (telling_of source.checked) (state_of source start h.running.c.moves)) e) in
+                ∙ ap (taken_state (telling_of source.checked) (stream_state source start h.running.c.moves)) e) in
                 omega (arith, further, h.left);
           })
 
@@ -270,7 +271,7 @@ module _ (source : Source) (published : IsPublished source.checked source.transa
     pub some : 1 ≤ position
 
   pub reaches_end : (start : ℕ) (position : ℕ) (c : Connection) → c.start ≡ Some start
-      → length (log_in source) ≤ (state_of source start c.moves).done + 0
+      → length (log_in source) ≤ (stream_state source start c.moves).done + 0
       → (delivered : ℕ) → delivered ≤ length
       (flat_map spelled (down_items source c.start (c.moves ++ s.Keep now false ∷ [])))
       → CountsAll (position_after position (whole_in
@@ -278,20 +279,20 @@ module _ (source : Source) (published : IsPublished source.checked source.transa
       (length (down_bytes source c.start (c.moves ++ s.Keep now false ∷ []))) delivered)
       (down_items source c.start (c.moves ++ s.Keep now false ∷ []))))
   reaches_end start position c start_is left delivered within =
-      let before : List Item = down_items source (Some start) c.moves in
+      let before : List StreamItem = down_items source (Some start) c.moves in
       subst CountsAll (sym (ap (position_after position)
       (whole (down_items source c.start (c.moves ++ s.Keep now false ∷ [])) delivered within ∙ items_are)
-      ∙ after_one position before (keep_item (state_of source start c.moves) now false)))
+      ∙ after_one position before (keep_item (stream_state source start c.moves) now false)))
       (record { all = at_least (position_after position before); some = at_some (position_after position before) })
     where
       items_are : down_items source c.start (c.moves ++ s.Keep now false ∷ [])
-          ≡ down_items source (Some start) c.moves ++ keep_item (state_of source start c.moves) now false ∷ []
+          ≡ down_items source (Some start) c.moves ++ keep_item (stream_state source start c.moves) now false ∷ []
       items_are = ap (λ from. down_items source from (c.moves ++ s.Keep now false ∷ [])) start_is
           ∙ ap (λ items. Response ∷ items)
           (items_append (telling_of source.checked) (log_in source)
           (state_at source.number (length source.checked.catalog.tables) start) c.moves (s.Keep now false))
 
-      whole : (items : List Item) (done : ℕ) → done ≤ length (flat_map spelled items)
+      whole : (items : List StreamItem) (done : ℕ) → done ≤ length (flat_map spelled items)
           → whole_in (done + as_many (length (flat_map spelled items)) (length (flat_map spelled items)) done) items
           ≡ items
       whole items done h = subst (λ n. whole_in n items ≡ items)
@@ -300,13 +301,13 @@ module _ (source : Source) (published : IsPublished source.checked source.transa
           all_of : (count done : ℕ) → done ≤ count → done + as_many count count done ≡ count
           all_of count done h = omega (arith, h)
 
-      counts : commits_before (state_of source start c.moves).sent ≡ (state_of source start c.moves).done
+      counts : commits_before (stream_state source start c.moves).sent ≡ (stream_state source start c.moves).done
       counts = place_counts source published.accepted start c.moves
 
-      at_least : (p : ℕ) → length (log_in source) ≤ commits_before (max p (state_of source start c.moves).sent)
+      at_least : (p : ℕ) → length (log_in source) ≤ commits_before (max p (stream_state source start c.moves).sent)
       at_least p = omega (arith, counts, left)
 
-      at_some : (p : ℕ) → 1 ≤ max p (state_of source start c.moves).sent
+      at_some : (p : ℕ) → 1 ≤ max p (stream_state source start c.moves).sent
       at_some p = omega (arith, state_sent source start c.moves)
 
   -- ---- all of it

@@ -9,11 +9,11 @@ use Rattle.table_changes.specs.Records as r
 use Rattle.shard_checker.specs.CheckedView.{CheckedOf, setting_in}
 use Rattle.tables_log.specs.Commits.{CommitOf}
 use Rattle.tables_log.specs.Lsn.{commits_before, end_lsn_of}
-use Rattle.pgoutput_msgs.specs.Telling.{relation_at, introduced, relation_once, relations_of, told_one, told_by, named_in, message_of, said, said_each, begin_of, commit_of, enclosed, messages_for}
+use Rattle.pgoutput_msgs.specs.Telling.{a_relation, introduced, relation_once, relations_of, told_one, told_by, named_in, message_of, said, said_each, begin_msg, commit_msg, enclosed, messages_for}
 use Rattle.pgoutput_msgs.specs.declared.message.Msg.{Msg}
 use Rattle.pgoutput_msgs.specs.declared.message.Msg.TheVariants as m
 use Rattle.copy_both.specs.Streams as s
-use Rattle.copy_both.specs.Streams.{Item, Response, Carries, Alive, spelled, StreamStateOf, Move, state_at, state_after, taken_state, head_of, take_items, keep_item, all_items, stream_items}
+use Rattle.copy_both.specs.Streams.{StreamItem, Response, Carries, Alive, spelled, StreamStateOf, Move, state_at, state_after, taken_state, head_of, take_items, keep_item, all_items, stream_items}
 use Rattle.copy_both.specs.Tellings.{telling_of}
 use Rattle.stream_laws.specs.Cutting.{if_whole, whole_in}
 use Rattle.stream_laws.specs.Following.{raised_by_message, raised_by, position_after}
@@ -54,7 +54,7 @@ TellsBy P (m.Truncate options relations) = Unit {0}
 abbrev TellsEnd : Msg → Type 0
 TellsEnd message = TellsBy IsEnd message
 
-abbrev ItemTellsEnd : Item → Type 0
+abbrev ItemTellsEnd : StreamItem → Type 0
 ItemTellsEnd Response = Unit {0}
 ItemTellsEnd (Carries head message) = TellsEnd message
 ItemTellsEnd (Alive keepalive) = IsEnd keepalive.position
@@ -69,24 +69,24 @@ message_end position (m.Update relation old new) tells h = h
 message_end position (m.Delete relation old) tells h = h
 message_end position (m.Truncate options relations) tells h = h
 
-item_end : (position : ℕ) (item : Item) → ItemTellsEnd item → IsEnd position → IsEnd (raised_by position item)
+item_end : (position : ℕ) (item : StreamItem) → ItemTellsEnd item → IsEnd position → IsEnd (raised_by position item)
 item_end position Response tells h = h
 item_end position (Carries head message) tells h = message_end position message tells h
 item_end position (Alive keepalive) tells h = greater_end position keepalive.position h tells
 
-items_end : (position : ℕ) (items : List Item) → All ItemTellsEnd items → IsEnd position
+items_end : (position : ℕ) (items : List StreamItem) → All ItemTellsEnd items → IsEnd position
     → IsEnd (position_after position items)
 items_end position [] tells h = h
 items_end position (item ∷ items) tells h =
     items_end (raised_by position item) items (All-tail ItemTellsEnd item items tells)
     (item_end position item (All-head ItemTellsEnd item items tells) h)
 
-if_end : (whole : Bool) (item : Item) (others : List Item) → ItemTellsEnd item → All ItemTellsEnd others
+if_end : (whole : Bool) (item : StreamItem) (others : List StreamItem) → ItemTellsEnd item → All ItemTellsEnd others
     → All ItemTellsEnd (if_whole whole item others)
 if_end true item others first later = All-cons ItemTellsEnd item others first later
 if_end false item others first later = All-nil ItemTellsEnd
 
-whole_end : (count : ℕ) (items : List Item) → All ItemTellsEnd items → All ItemTellsEnd (whole_in count items)
+whole_end : (count : ℕ) (items : List StreamItem) → All ItemTellsEnd items → All ItemTellsEnd (whole_in count items)
 whole_end count [] tells = All-nil ItemTellsEnd
 whole_end count (item ∷ items) tells =
     if_end (nat_le (length (spelled item)) count) item (whole_in (count - length (spelled item)) items)
@@ -96,7 +96,7 @@ whole_end count (item ∷ items) tells =
 -- ---- messages of a commit
 
 module _ (P : ℕ → Type 0) where
-  found_by : (number : ℕ) (found : Option Table) → All (TellsBy P) (relation_at number found)
+  found_by : (number : ℕ) (found : Option Table) → All (TellsBy P) (a_relation number found)
   found_by number None = All-nil (TellsBy P)
   found_by number (Some table) = All-cons (TellsBy P) (m.Relation _) [] tt (All-nil (TellsBy P))
 
@@ -142,9 +142,9 @@ module _ (P : ℕ → Type 0) where
       → All (TellsBy P) (enclosed commit messages)
   enclosed_by commit here [] all = All-nil (TellsBy P)
   enclosed_by commit here (first ∷ others) all =
-      All-cons (TellsBy P) (begin_of commit) ((first ∷ others) ++ commit_of commit ∷ []) tt
-      (All-append (TellsBy P) (first ∷ others) (commit_of commit ∷ []) all
-      (All-cons (TellsBy P) (commit_of commit) [] here (All-nil (TellsBy P))))
+      All-cons (TellsBy P) (begin_msg commit) ((first ∷ others) ++ commit_msg commit ∷ []) tt
+      (All-append (TellsBy P) (first ∷ others) (commit_msg commit ∷ []) all
+      (All-cons (TellsBy P) (commit_msg commit) [] here (All-nil (TellsBy P))))
 
   pub messages_tell : (checked : CheckedOf) (subscriber : ℕ) (sent : List Bool) (commit : CommitOf)
       → P (end_lsn_of commit.number) → All (TellsBy P) (messages_for checked subscriber sent commit)
@@ -154,7 +154,7 @@ module _ (P : ℕ → Type 0) where
 
 -- ---- items of a stream
 
-carried_end : (number clock : ℕ) (messages : List Msg) (rest : List Item) → All TellsEnd messages
+carried_end : (number clock : ℕ) (messages : List Msg) (rest : List StreamItem) → All TellsEnd messages
     → All ItemTellsEnd rest → All ItemTellsEnd (map (Carries (head_of number clock)) messages ++ rest)
 carried_end number clock [] rest all later = later
 carried_end number clock (message ∷ messages) rest all later =
@@ -195,7 +195,7 @@ pub stream_end : (checked : CheckedOf) (log : List CommitOf) (subscriber start :
     (stream_items (telling_of checked) log subscriber (length checked.catalog.tables) start moves)))
 stream_end checked log subscriber start moves count position begins h =
     let state : StreamStateOf = state_at subscriber (length checked.catalog.tables) start in
-    let items : List Item = all_items (telling_of checked) log state moves in
+    let items : List StreamItem = all_items (telling_of checked) log state moves in
     items_end position (whole_in count (Response ∷ items))
     (whole_end count (Response ∷ items)
     (All-cons ItemTellsEnd Response items tt (moves_end checked log moves state (first_end start begins)))) h

@@ -10,7 +10,7 @@ use Rattle.shard_world.specs.CatchingUp.{next_peer, take_many}
 use Rattle.stream_laws.specs.Cutting.{whole_in}
 use Rattle.stream_laws.specs.Following.{position_after, IsPublished}
 use Rattle.stream_laws.specs.LayoutRoom.{FitsLayouts}
-use Rattle.shard_world.specs.World.{Connection, Peer, World, PeerEvent, Open, Hear, Take, Keep, Deliver, Report, Lose, Event, Commit, On, Answer, first_world, down_items, position_in, position_now, state_of, takes, take_step, keep_step, open_step, shut_step, peer_step, broken, with_peer, with_transaction, StepsOn, Steps, Leads, Source, source_in, step_in, broken_in, in_part, log_in}
+use Rattle.shard_world.specs.World.{Connection, Peer, World, PeerEvent, Open, Hear, Take, Keep, Deliver, Report, Lose, Event, Commit, On, Answer, first_world, down_items, connection_position, position_now, stream_state, take_commit, take_step, keep_step, open_step, shut_step, peer_step, broken, with_peer, with_transaction, StepsPeer, Steps, Leads, StreamSource, source_in, step_in, broken_in, in_part, log_in}
 use Rattle.shard_world.proofs.EndLemmas.{IsEnd, stream_end}
 use Rattle.shard_world.proofs.WorldItems.{sayable_first}
 use Rattle.shard_world.proofs.WorldLemmas.{IsTimed, leads_grow, IsGoodWorld, published, step_good, first_good}
@@ -18,7 +18,7 @@ use Rattle.shard_world.proofs.WorldPeers.{StartsAt, IsConnectedAt, IsGood}
 use Rattle.shard_world.proofs.WorldSteps.{in_part_good, peer_good}
 use Rattle.filter_tree.proofs.Tests.{by_test}
 
-module _ (source : Source) where
+module _ (source : StreamSource) where
   delivered_end : (position : ℕ) → IsEnd position → (start : Option ℕ) → StartsAt position start → (c : Connection)
       → c.start ≡ start
       → IsEnd (position_after position (whole_in c.delivered (down_items source start c.moves)))
@@ -28,7 +28,7 @@ module _ (source : Source) where
       (subst IsEnd (sym at) h) h
 
   at_end : (peer : Peer) (connection : Option Connection) → IsConnectedAt source peer connection → IsEnd peer.position
-      → IsEnd (position_in source peer connection)
+      → IsEnd (connection_position source peer connection)
   at_end peer None connected h = h
   at_end peer (Some c) connected h = delivered_end peer.position h c.start connected.1.started c refl
 
@@ -39,14 +39,14 @@ module _ (source : Source) where
 
   takes_end : (now : ℕ) (peer : Peer) (c : Connection) (state : StreamStateOf) (found : Option CommitOf)
       → IsEnd peer.position
-      → IsEnd (takes source.checked now peer c state found).1.position
+      → IsEnd (take_commit source.checked now peer c state found).1.position
   takes_end now peer c state None h = h
   takes_end now peer c state (Some commit) h = h
 
   take_end : (now : ℕ) (peer : Peer) (c : Connection) (start : Option ℕ) → IsEnd peer.position
       → IsEnd (take_step source now peer c start).1.position
   take_end now peer c None h = h
-  take_end now peer c (Some start) h = takes_end now peer c (state_of source start c.moves) _ h
+  take_end now peer c (Some start) h = takes_end now peer c (stream_state source start c.moves) _ h
 
   keep_end : (now : ℕ) (want : Bool) (peer : Peer) (c : Connection) (start : Option ℕ) → IsEnd peer.position
       → IsEnd (keep_step now want peer c start).1.position
@@ -78,7 +78,7 @@ module _ (source : Source) where
   peer_end now event peer None good h = shut_end event peer h
   peer_end now event peer (Some c) good h = open_end now event peer c good h
 
-module _ (source : Source) (public : IsPublished source.checked source.transactions)
+module _ (source : StreamSource) (public : IsPublished source.checked source.transactions)
     (sayable : FitsLayouts source.checked source.transactions) (now : ℕ) (timed : now < 2 ^ 64) where
   in_part_end : (event : PeerEvent) (peer : Peer) (some : ℕ) (c : Connection) → IsEnd peer.position
       → IsEnd (in_part source now event peer some c).position
@@ -139,7 +139,7 @@ module _ (checked : CheckedOf) (covered : Covered (setting_in checked)) (keeps :
   step_end most world now (On subscriber event) answer next timed sayable good steps all =
       by_number (nat_lt subscriber (length checked.plan)) steps
     where
-      by_number : (known : Bool) → StepsOn known checked world subscriber now event answer next → AllEnd next
+      by_number : (known : Bool) → StepsPeer known checked world subscriber now event answer next → AllEnd next
       by_number false step = same_end next world step.1 all
       by_number true step = elim step [
         | inl moves ↦ same_end next (with_peer world subscriber (step_in checked world subscriber now event).1)

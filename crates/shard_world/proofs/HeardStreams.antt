@@ -25,11 +25,11 @@ use Rattle.test_subscriber.specs.Feeding.{limit}
 use Rattle.test_subscriber.specs.declared.subscriber.Subscriber.{Subscriber}
 use Rattle.stream_laws.specs.Cutting.{whole_in}
 use Rattle.stream_laws.specs.Following.{position_after}
-use Rattle.shard_world.specs.Joined.{IsLinked, IsOneStatus, IsSilent, Speaks, run_of, stream_of}
+use Rattle.shard_world.specs.Joined.{IsLinked, IsOneStatus, IsSilent, SendsStream, run_of, stream_of}
 use Rattle.shard_world.specs.PeerSteps.{Case, IsCase, peer_of, source_of}
 use Rattle.shard_world.specs.SubscriberFrames.{IsWithin}
 use Rattle.shard_world.specs.World as w
-use Rattle.shard_world.specs.World.{Connection, Session, down_bytes, down_items, state_of, position_now, down_of, log_in}
+use Rattle.shard_world.specs.World.{Connection, Session, down_bytes, down_items, stream_state, position_now, down_of, log_in}
 use Rattle.shard_world.proofs.CaseLemmas.{case_good, case_published, now_small}
 use Rattle.stream_laws.proofs.EntryLemmas.{entry_at, entries_length}
 use Rattle.shard_world.proofs.JoinedFeeding.{Connected}
@@ -56,14 +56,14 @@ module _ (case : Case) (is : IsCase case) (c : Connection) (some : (peer_of case
   both a b d h k = omega (arith, h, k)
 
   reached_is : (at : Connected case c) → at.reached ≡ position_now (source_of case) (peer_of case)
-  reached_is at = sym at.is.reached_is ∙ ap (w.position_in (source_of case) (peer_of case)) (sym some)
+  reached_is at = sym at.is.reached_is ∙ ap (w.connection_position (source_of case) (peer_of case)) (sym some)
 
   pub reached_small : (at : Connected case c) → at.reached < 2 ^ 64
   reached_small at = subst (λ n. n < 2 ^ 64) (sym (reached_is at)) (now_small case is)
 
   -- what was sent, if the stream started, or will be if it starts now
   pub sent_by : (at : Connected case c) (start : Option ℕ) (sent : ℕ) → c.start ≡ start
-      → ((begin : ℕ) → start ≡ Some begin → sent ≡ (state_of (source_of case) begin c.moves).sent)
+      → ((begin : ℕ) → start ≡ Some begin → sent ≡ (stream_state (source_of case) begin c.moves).sent)
       → at.reached ≤ min (sent_limit start (peer_of case).position sent) (end_after (length case.world.transactions))
   sent_by at None sent none is_sent =
       let here : (peer_of case).position ≡ at.reached =
@@ -76,8 +76,8 @@ module _ (case : Case) (is : IsCase case) (c : Connection) (some : (peer_of case
       let from : begin ≡ (peer_of case).position = subst (StartsAt (peer_of case).position) start at.is.started in
       let log = log_in (source_of case) in
       let there = at.is.there in
-      let low : at.reached ≤ (state_of (source_of case) (peer_of case).position c.moves).sent =
-      subst (λ n. n ≤ (state_of (source_of case) (peer_of case).position c.moves).sent)
+      let low : at.reached ≤ (stream_state (source_of case) (peer_of case).position c.moves).sent =
+      subst (λ n. n ≤ (stream_state (source_of case) (peer_of case).position c.moves).sent)
       (ap (λ its. position_after (peer_of case).position
       (whole_in c.delivered (down_items (source_of case) its c.moves))) (ap Some (sym from) ∙ sym start)
       ∙ at.is.reached_is)
@@ -85,8 +85,8 @@ module _ (case : Case) (is : IsCase case) (c : Connection) (some : (peer_of case
       c.delivered) in
       let ends = sent_is_there case.checked log (log_numbered case is) case.number (peer_of case).position c.moves there
       (omega (arith, (case_good case is).follows.within, log_long case)) in
-      let sent_here : sent ≡ (state_of (source_of case) (peer_of case).position c.moves).sent =
-      is_sent begin refl ∙ ap (λ n. (state_of (source_of case) n c.moves).sent) from in
+      let sent_here : sent ≡ (stream_state (source_of case) (peer_of case).position c.moves).sent =
+      is_sent begin refl ∙ ap (λ n. (stream_state (source_of case) n c.moves).sent) from in
       both at.reached sent (end_after (length case.world.transactions))
       (subst (λ n. at.reached ≤ n) (sym sent_here) low)
       (omega (arith, low, ends, log_long case))
@@ -122,7 +122,7 @@ pub record SpeaksOn (case : Case) (new : Link) (c : Connection) (session : Sessi
   pub within : c.delivered ≤ length (down_bytes (source_of case) session.start session.moves)
   pub same : take c.delivered (down_bytes (source_of case) session.start session.moves)
       ≡ take c.delivered (down_of (source_of case) c)
-  pub speaks : Speaks (source_of case) new session.moves c.delivered session.start
+  pub speaks : SendsStream (source_of case) new session.moves c.delivered session.start
 
 -- by what was passed on
 streams_on : (case : Case) (new : Link) (start : ℕ) (moves extra : List Move) (delivered : ℕ) (passed : List ℕ)
@@ -130,14 +130,14 @@ streams_on : (case : Case) (new : Link) (start : ℕ) (moves extra : List Move) 
     → IsStreaming new (with_moves (record (run_of (source_of case) start moves delivered) { passed = passed }) extra)
     state
     → (take delivered (down_bytes (source_of case) (Some start) (moves ++ extra)) ≡ passed)
-    × Speaks (source_of case) new (moves ++ extra) delivered (Some start)
+    × SendsStream (source_of case) new (moves ++ extra) delivered (Some start)
 streams_on case new start moves extra delivered passed state long streams =
     let first : take delivered (down_bytes (source_of case) (Some start) (moves ++ extra)) ≡ passed =
     ap (take delivered) (sym streams.says.bytes) ∙ take_at passed (link_output new) delivered long in (
       first,
       subst (λ its. IsStreaming new
           (record (run_of (source_of case) start (moves ++ extra) delivered) { passed = its })
-          (state_of (source_of case) start (moves ++ extra)))
+          (stream_state (source_of case) start (moves ++ extra)))
           (sym first) (subst (IsStreaming new _) streams.says.at streams),
     )
 
@@ -168,14 +168,14 @@ module _ (case : Case) (is : IsCase case) (slots : List Slot) (link new : Link) 
   to_session : (start : Option ℕ) (moves : List Move) → session.start ≡ start → session.moves ≡ moves
       → c.delivered ≤ length (down_bytes (source_of case) start moves)
       → take c.delivered (down_bytes (source_of case) start moves) ≡ take c.delivered (down_of (source_of case) c)
-      → Speaks (source_of case) new moves c.delivered start → SpeaksOn case new c session
+      → SendsStream (source_of case) new moves c.delivered start → SpeaksOn case new c session
   to_session start moves start_is moves_is within same speaks = record {
     within = subst (λ its. c.delivered ≤ length (down_bytes (source_of case) its session.moves)) (sym start_is)
         (subst (λ its. c.delivered ≤ length (down_bytes (source_of case) start its)) (sym moves_is) within);
     same = ap (λ its. take c.delivered (down_bytes (source_of case) its session.moves)) start_is
         ∙ ap (λ its. take c.delivered (down_bytes (source_of case) start its)) moves_is ∙ same;
-    speaks = subst (Speaks (source_of case) new session.moves c.delivered) (sym start_is)
-        (subst (λ its. Speaks (source_of case) new its c.delivered start) (sym moves_is) speaks);
+    speaks = subst (SendsStream (source_of case) new session.moves c.delivered) (sym start_is)
+        (subst (λ its. SendsStream (source_of case) new its c.delivered start) (sym moves_is) speaks);
   }
 
   abbrev kept : List Move
@@ -190,14 +190,14 @@ module _ (case : Case) (is : IsCase case) (slots : List Slot) (link new : Link) 
       let long : length passed ≡ c.delivered =
       length-take-le c.delivered (down_bytes (source_of case) (Some start) c.moves) within in
       let streams : IsStreaming link (run_of (source_of case) start c.moves c.delivered)
-      (state_of (source_of case) start c.moves) =
-      subst (Speaks (source_of case) link c.moves c.delivered) before linked.speaks in
+      (stream_state (source_of case) start c.moves) =
+      subst (SendsStream (source_of case) link c.moves c.delivered) before linked.speaks in
       let next = hears link new (run_of (source_of case) start c.moves c.delivered)
-      (state_of (source_of case) start c.moves) h heard case.now
+      (stream_state (source_of case) start c.moves) h heard case.now
       (Goes_on streams) goes_on says in
-      let on = streams_on case new start c.moves kept c.delivered passed (state_of (source_of case) start c.moves)
+      let on = streams_on case new start c.moves kept c.delivered passed (stream_state (source_of case) start c.moves)
       long next in
-      let low = streams_within case new start c.moves kept passed (state_of (source_of case) start c.moves) next in
+      let low = streams_within case new start c.moves kept passed (stream_state (source_of case) start c.moves) next in
       to_session (Some start) (c.moves ++ kept) after moves_are
       (subst (λ n. n ≤ length (down_bytes (source_of case) (Some start) (c.moves ++ kept))) long low)
       (on.0 ∙ ap (λ its. take c.delivered (down_bytes (source_of case) its c.moves)) (sym before)) on.1
@@ -206,7 +206,7 @@ module _ (case : Case) (is : IsCase case) (slots : List Slot) (link new : Link) 
   pub begins : (start : ℕ) → c.start ≡ None → session.start ≡ Some start → SpeaksOn case new c session
   begins start before after =
       let silent : IsSilent link c.moves =
-      subst (Speaks (source_of case) link c.moves c.delivered) before linked.speaks in
+      subst (SendsStream (source_of case) link c.moves c.delivered) before linked.speaks in
       let zero_is : c.delivered ≡ 0 = none_delivered case c before linked.delivered in
       let run = first_run case.checked (log_in (source_of case)) (case.number, start) in
       let next = hears link new run (first_state (started_at case.checked (case.number, start))) h heard case.now
@@ -223,13 +223,13 @@ module _ (case : Case) (is : IsCase case) (slots : List Slot) (link new : Link) 
       to_session (Some start) kept after (moves_are ∙ ap (λ its. its ++ kept) silent.none) (omega (arith, zero_is))
       (ap (λ n. take n (down_bytes (source_of case) (Some start) kept)) zero_is ∙ on.0
       ∙ sym (ap (λ n. take n (down_of (source_of case) c)) zero_is))
-      (subst (λ n. Speaks (source_of case) new kept n (Some start)) (sym zero_is) on.1)
+      (subst (λ n. SendsStream (source_of case) new kept n (Some start)) (sym zero_is) on.1)
 
   -- it still waits for the start: nothing was heard
   pub still_waits : c.start ≡ None → session.start ≡ None → h.heard.replies ≡ 0 → SpeaksOn case new c session
   still_waits before after replies =
       let silent : IsSilent link c.moves =
-      subst (Speaks (source_of case) link c.moves c.delivered) before linked.speaks in
+      subst (SendsStream (source_of case) link c.moves c.delivered) before linked.speaks in
       let idle : h.started ≡ None = started ∙ ap (stream_of case.number) after in
       let nothing : concat (frames_said (link_checked link) (link_stage link) h case.now) ≡ [] =
       ap (λ stage. concat (frames_said (link_checked link) stage h case.now)) silent.stage_is

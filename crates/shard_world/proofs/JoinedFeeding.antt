@@ -3,7 +3,7 @@ use Rattle.std.proofs.Common.{◌≡◌, ℕ, zero, suc, ◌+◌, ◌-◌, ◌�
 use Rattle.std.specs.Prelude.{Option, Some, None, min}
 use Rattle.std.proofs.Math.Seq.{take-add}
 use Rattle.std.proofs.lemmas.List.{length-take-le, drop_at}
-use Rattle.copy_frames.specs.Frames.{Cut, cut, fault_of, rest_of}
+use Rattle.copy_frames.specs.Frames.{FrameCut, cut, cut_fault, rest_of}
 use Rattle.copy_frames.proofs.PieceLemmas.{rest_with_more}
 use Rattle.copy_both.specs.LinkLaws.{IsStreaming}
 use Rattle.copy_both.specs.Links.{LinkPasses, link_output}
@@ -11,16 +11,16 @@ use Rattle.copy_both.specs.Streams.{frame_in, Move}
 use Rattle.copy_both.specs.declared.link.Link.{Link}
 use Rattle.copy_both.proofs.LinkStreams.{passes_on}
 use Rattle.test_subscriber.specs.Feeding.{limit}
-use Rattle.test_subscriber.specs.Frames.{Heard, hear_cut}
+use Rattle.test_subscriber.specs.Frames.{MachineHeard, hear_cut}
 use Rattle.test_subscriber.specs.Machine.{Alike, opened}
 use Rattle.test_subscriber.specs.Subscribers.{sub_held, sub_machine, fed_cut, fed_heard}
 use Rattle.test_subscriber.specs.declared.subscriber.Subscriber.{Subscriber}
 use Rattle.test_subscriber.proofs.FeedingLemmas.{while_open, hears_open, hears_no_fault, hears_more}
 use Rattle.shard_world.specs.Connections.{DeliversStep, front_of}
-use Rattle.shard_world.specs.Joined.{AlikeBut, Speaks, run_of}
+use Rattle.shard_world.specs.Joined.{AlikeBut, SendsStream, run_of}
 use Rattle.shard_world.specs.PeerSteps.{Case, IsCase, peer_of, source_of}
 use Rattle.shard_world.specs.World as w
-use Rattle.shard_world.specs.World.{Connection, as_many, down_items, down_bytes, state_of, down_of}
+use Rattle.shard_world.specs.World.{Connection, as_many, down_items, down_bytes, stream_state, down_of}
 use Rattle.shard_world.proofs.WorldSteps.{stays_within}
 use Rattle.shard_world.proofs.CaseLemmas.{case_good, case_published, case_sayable, is_open}
 use Rattle.stream_laws.proofs.CuttingLemmas.{IsPiece, pieces_are_cut}
@@ -32,7 +32,7 @@ use Rattle.shard_world.proofs.WorldPeers.{IsConnected, IsConnectedAt, down_sent,
 -- ---- what waits at the publisher's end
 
 pub output_by : (case : Case) (link : Link) (moves : List Move) (delivered : ℕ) (start : Option ℕ)
-    → Speaks (source_of case) link moves delivered start
+    → SendsStream (source_of case) link moves delivered start
     → delivered ≤ length (down_bytes (source_of case) start moves)
     → link_output link ≡ drop delivered (down_bytes (source_of case) start moves)
 output_by case link moves delivered None silent within = silent.output ∙ nothing delivered within
@@ -82,7 +82,7 @@ module _ (case : Case) (is : IsCase case) (c : Connection) (some : (peer_of case
       refl within
 
   -- what a subscriber does with a piece that comes after what was delivered
-  pub record Makes (more : ℕ) (subscriber : Subscriber) (heard : Heard) : Type 0 where
+  pub record Makes (more : ℕ) (subscriber : Subscriber) (heard : MachineHeard) : Type 0 where
     pub fault : heard.fault ≡ None
     pub machine : AlikeBut heard.machine
         (hear_cut (cut limit (take (c.delivered + more) downs)) (opened (peer_of case).machine)).machine
@@ -90,13 +90,13 @@ module _ (case : Case) (is : IsCase case) (c : Connection) (some : (peer_of case
         ≡ rest_of (cut limit (take (c.delivered + more) downs))
 
   module _ (more : ℕ) (within : c.delivered + more ≤ length downs) where
-    abbrev whole : Cut
+    abbrev whole : FrameCut
     whole = cut limit (take c.delivered downs)
 
     abbrev piece : List ℕ
     piece = take more (drop c.delivered downs)
 
-    good : fault_of (cut limit (take c.delivered downs)) ≡ None
+    good : cut_fault (cut limit (take c.delivered downs)) ≡ None
     good = hears_no_fault (cut limit (take c.delivered downs)) (opened (peer_of case).machine)
         (fine c.delivered (omega (arith, within)))
 
@@ -194,8 +194,8 @@ delivers_on case is slots old link new after count stands some feeds passes =
     passes_by : (case : Case) (link new : Link) (moves : List Move) (delivered more : ℕ) (start : Option ℕ)
         → LinkPasses link new more
         → link_output link ≡ drop delivered (down_bytes (source_of case) start moves)
-        → Speaks (source_of case) link moves delivered start
-        → Speaks (source_of case) new moves (delivered + more) start
+        → SendsStream (source_of case) link moves delivered start
+        → SendsStream (source_of case) new moves (delivered + more) start
     passes_by case link new moves delivered more None passes out silent = record {
       stage_is = passes.voice.stage_is ∙ silent.stage_is;
       output = passes.voice.output ∙ ap (drop more) silent.output ∙ nothing more;
@@ -207,8 +207,8 @@ delivers_on case is slots old link new after count stands some feeds passes =
         nothing (suc n) = refl
     passes_by case link new moves delivered more (Some start) passes out streams =
         subst (λ passed. IsStreaming new (record (run_of (source_of case) start moves delivered) { passed = passed })
-        (state_of (source_of case) start moves))
+        (stream_state (source_of case) start moves))
         (ap (λ bytes. take delivered (down_bytes (source_of case) (Some start) moves) ++ take more bytes) out
         ∙ sym (take-add delivered more (down_bytes (source_of case) (Some start) moves)))
-        (passes_on link new (run_of (source_of case) start moves delivered) (state_of (source_of case) start moves)
+        (passes_on link new (run_of (source_of case) start moves delivered) (stream_state (source_of case) start moves)
         more streams passes)

@@ -11,7 +11,7 @@ use Rattle.copy_frames.specs.FrameLaws.{AreFrames}
 use Rattle.copy_frames.specs.Frames.{framed}
 use Rattle.copy_frames.specs.declared.frame.Frame.{Frame}
 use Rattle.copy_frames.specs.declared.status.Status.{Status}
-use Rattle.copy_both.specs.Hearing.{HearingOf, Served, Begins, begun, frame_heard, frames_heard, is_over}
+use Rattle.copy_both.specs.Hearing.{HearingOf, ServedFrom, Begins, begun, frame_heard, frames_heard, is_over}
 use Rattle.copy_both.specs.Streams.{Move, Keep, first_sent}
 use Rattle.stream_laws.specs.Cutting.{if_whole, whole_by}
 use Rattle.shard_world.specs.Joined.{HasSlot, IsAsked, stream_of}
@@ -186,7 +186,7 @@ stream_is number (Some found) (Some start) own e =
     ap (λ (slot : ℕ). Some (slot, found.1)) own ∙ ap (λ (at : ℕ). Some (number, at)) (some_is found.1 start e)
 
 module _ (case : Case) (is : IsCase case) (c : Connection) (commits : ℕ) (h : HearingOf) where
-  abbrev pub served_of : Served
+  abbrev pub served_of : ServedFrom
   served_of = record { checked = case.checked; commits = commits }
 
   pub record Before : Type 0 where

@@ -71,5 +71,5 @@ loses_on case before after old link new subscriber stands some lost_link lost_su
     }
   where
     now_is : (c : w.Connection) → (peer_of case).connection ≡ Some c
-        → w.machine_in (source_of case) (peer_of case) (Some c) ≡ w.machine_now (source_of case) (peer_of case)
-    now_is c is = ap (w.machine_in (source_of case) (peer_of case)) (sym is)
+        → w.connection_machine (source_of case) (peer_of case) (Some c) ≡ w.machine_now (source_of case) (peer_of case)
+    now_is c is = ap (w.connection_machine (source_of case) (peer_of case)) (sym is)

@@ -5,7 +5,7 @@ use Rattle.std.proofs.lemmas.List.{drop-drop, length-take-le}
 use Rattle.tables_log.specs.BookView.{book_log, book_slots}
 use Rattle.tables_log.specs.Slots.{end_after}
 use Rattle.tables_log.specs.declared.book.Book.{Book}
-use Rattle.copy_frames.specs.Frames.{Rest, cut, after_frames, fault_of, frames_of, rest_of}
+use Rattle.copy_frames.specs.Frames.{Rest, cut, after_frames, cut_fault, frames_of, rest_of}
 use Rattle.copy_frames.specs.Inboxes.{Inbox}
 use Rattle.copy_frames.proofs.PieceLemmas.{frames_before, no_fault_after, rest_after}
 use Rattle.copy_both.specs.Ears.{HearLeaves, HearsPiece, Holds, ear_phase, hear_answer, answer_in}
@@ -28,10 +28,10 @@ use Rattle.test_subscriber.specs.declared.subscriber.Subscriber.{Subscriber}
 use Rattle.shard_world.specs.Connections.{HearsOn, HearsStep, front_of}
 use Rattle.stream_laws.specs.Cutting.{whole_in}
 use Rattle.stream_laws.specs.Following.{position_after}
-use Rattle.shard_world.specs.Joined.{AlikeBut, HasSlot, PeerOf, IsAsked, IsLinked, Speaks, run_of}
-use Rattle.shard_world.specs.PeerSteps.{Case, IsCase, HasLog, peer_of, StandsIn, source_of}
+use Rattle.shard_world.specs.Joined.{AlikeBut, HasSlot, PeerOf, IsAsked, IsLinked, SendsStream, run_of}
+use Rattle.shard_world.specs.PeerSteps.{Case, IsCase, HasLog, peer_of, MatchesPeer, source_of}
 use Rattle.shard_world.specs.World as w
-use Rattle.shard_world.specs.World.{Says, Connection, Session, hear_up, as_many, down_items, heard_of, newly, state_of, up_frame, ups_of, up_bytes, down_of, asking_length}
+use Rattle.shard_world.specs.World.{Says, Connection, Session, hear_up, as_many, down_items, heard_of, newly, stream_state, up_frame, ups_of, up_bytes, down_of, asking_length}
 use Rattle.shard_world.proofs.WorldSteps.{stays_within}
 use Rattle.shard_world.proofs.CaseLemmas.{Open, is_open}
 use Rattle.shard_world.proofs.CatchingUpLemmas.{HasStart, start_stays, starts_by}
@@ -46,7 +46,7 @@ use Rattle.shard_world.proofs.HeardStreams.{log_long, both, reached_small, sent_
 
 module _ (case : Case) (is : IsCase case) (before after : Book) (old : PeerOf) (link : Link) (count : ℕ)
     (log : HasLog case before)
-    (stands : StandsIn case (book_slots before) old) (some : old.link ≡ Some link) where
+    (stands : MatchesPeer case (book_slots before) old) (some : old.link ≡ Some link) where
   abbrev here : Open case (book_slots before) link old.subscriber
   here = is_open case (book_slots before) old link stands some
 
@@ -97,11 +97,11 @@ module _ (case : Case) (is : IsCase case) (before after : Book) (old : PeerOf) (
   at = connected case is connection here.some
 
   sent_is : (begin : ℕ) → connection.start ≡ Some begin
-      → link_sent link ≡ (state_of (source_of case) begin connection.moves).sent
+      → link_sent link ≡ (stream_state (source_of case) begin connection.moves).sent
   sent_is begin e =
       let streams : IsStreaming link (run_of (source_of case) begin connection.moves connection.delivered)
-      (state_of (source_of case) begin connection.moves) =
-      subst (Speaks (source_of case) link connection.moves connection.delivered) e linked.speaks in
+      (stream_state (source_of case) begin connection.moves) =
+      subst (SendsStream (source_of case) link connection.moves connection.delivered) e linked.speaks in
       ap (λ stage. unwrap_or (sent_of stage) 0) streams.stage_is
 
   pub heard_before : Before case is connection commits start_view
@@ -146,7 +146,7 @@ module _ (case : Case) (is : IsCase case) (before after : Book) (old : PeerOf) (
       let frames = map (up_frame case.checked case.number) (newly (source_of case) (peer_of case) connection more) in
       ap (λ served. bytes_heard served (link_ear link).frames.limit ((link_ear link).frames.bytes ++ piece)
       start_view) served_is
-      ∙ ap (λ its. then_fault (fault_of its)
+      ∙ ap (λ its. then_fault (cut_fault its)
       (frames_heard (served_of case is connection commits start_view) start_view (frames_of its))) cut_is
       ∙ ap (λ fault. then_fault fault
       (frames_heard (served_of case is connection commits start_view) start_view

@@ -33,10 +33,10 @@ use Rattle.test_subscriber.specs.Subscribers.{sub_machine, sub_output, sub_publi
 use Rattle.test_subscriber.specs.declared.fault.SubFault.{SubFault}
 use Rattle.test_subscriber.specs.declared.subscriber.Subscriber.{Subscriber}
 use Rattle.shard_world.specs.Connections.{OpensStep, TakesStep, KeepsStep, ReportsStep, answer_of, kept_or_not}
-use Rattle.shard_world.specs.Joined.{PeerOf, AlikeBut, StaysAlike, IsNamed, IsSilent, IsOneStatus, Hears, IsLinked, IsAt, PeerIs, Speaks, run_of}
-use Rattle.shard_world.specs.PeerSteps.{Case, IsCase, peer_of, StepsTo, source_of}
+use Rattle.shard_world.specs.Joined.{PeerOf, AlikeBut, StaysAlike, IsNamed, IsSilent, IsOneStatus, Hears, IsLinked, IsAt, PeerIs, SendsStream, run_of}
+use Rattle.shard_world.specs.PeerSteps.{Case, IsCase, peer_of, StepsPeerTo, source_of}
 use Rattle.shard_world.specs.World as w
-use Rattle.shard_world.specs.World.{Answer, Opened, Reported, Connection, PeerEvent, start_of, spelled_up, with_connection, moves_on, state_of, position_now, down_items, down_bytes, took, keep_step, take_step, peer_step, up_bytes, down_of, log_in}
+use Rattle.shard_world.specs.World.{Answer, Opened, Reported, Connection, PeerEvent, start_of, spelled_up, with_connection, moves_on, stream_state, position_now, down_items, down_bytes, took, keep_step, take_step, peer_step, up_bytes, down_of, log_in}
 use Rattle.shard_world.proofs.CaseLemmas.{case_asks, case_good, case_follows, opened_small, Open, is_shut, is_open}
 use Rattle.copy_both.proofs.StreamLemmas.{moved_append}
 use Rattle.stream_laws.proofs.CuttingLemmas.{cut_nothing}
@@ -51,7 +51,7 @@ pub steps_to : (case : Case) (event : PeerEvent) (answer : Answer) (slots : List
     (connection : Option Connection) → (peer_of case).connection ≡ connection
     → answer ≡ (peer_step (source_of case) case.now event (peer_of case) connection).0
     → PeerIs (source_of case) slots code (peer_step (source_of case) case.now event (peer_of case) connection).1
-    → StepsTo case event answer slots code
+    → StepsPeerTo case event answer slots code
 steps_to case event answer slots code connection is answer_is peer_is = record {
   answer_is = answer_is ∙ ap (λ its. (peer_step (source_of case) case.now event (peer_of case) its).0) (sym is);
   peer_is = subst (λ its. PeerIs (source_of case) slots code
@@ -147,7 +147,7 @@ reports case is slots old link after want stands some reported_is =
     let c = here.c in
     let at : (sub_machine old.subscriber).position ≡ position_now (source_of case) (peer_of case) =
     linked.machine.position
-    ∙ ap (λ connection. (w.machine_in (source_of case) (peer_of case) connection).position) (sym here.some)
+    ∙ ap (λ connection. (w.connection_machine (source_of case) (peer_of case) connection).position) (sym here.some)
     ∙ (case_follows case is).position_is in
     let status : Status = status_at (position_now (source_of case) (peer_of case)) case.now want in
     let more = ups_more case c status in
@@ -235,7 +235,7 @@ moves_linked : (case : Case) (slots : List Slot) (old new : Link) (subscriber : 
     (move : Move) (start : ℕ) → c.start ≡ Some start
     → IsLinked (source_of case) slots old subscriber (peer_of case) c
     → IsSameEar (link_ear old) (link_ear new) → link_checked new ≡ case.checked
-    → Speaks (source_of case) new (c.moves ++ move ∷ []) c.delivered (Some start)
+    → SendsStream (source_of case) new (c.moves ++ move ∷ []) c.delivered (Some start)
     → IsLinked (source_of case) slots new subscriber (moves_on (peer_of case) c move)
     (record c { moves = c.moves ++ move ∷ [] })
 moves_linked case slots old new subscriber c move start at linked same checked_is speaks =
@@ -261,7 +261,7 @@ moves_linked case slots old new subscriber c move start at linked same checked_i
         statuses = linked.hears.statuses;
         held = same.held ∙ linked.hears.held;
       };
-      speaks = subst (Speaks (source_of case) new (c.moves ++ move ∷ []) c.delivered) (sym at) speaks;
+      speaks = subst (SendsStream (source_of case) new (c.moves ++ move ∷ []) c.delivered) (sym at) speaks;
       slot = linked.slot;
     }
 
@@ -282,7 +282,7 @@ pub record Streaming (case : Case) (link : Link) (c : Connection) (start : ℕ) 
   pub at : c.start ≡ Some start
   pub within : c.delivered ≤ length (down_bytes (source_of case) (Some start) c.moves)
   pub streams : IsStreaming link (run_of (source_of case) start c.moves c.delivered)
-      (state_of (source_of case) start c.moves)
+      (stream_state (source_of case) start c.moves)
 
 streaming : (case : Case) (slots : List Slot) (link : Link) (subscriber : Subscriber) (c : Connection) (start : ℕ)
     → c.start ≡ Some start
@@ -290,7 +290,7 @@ streaming : (case : Case) (slots : List Slot) (link : Link) (subscriber : Subscr
 streaming case slots link subscriber c start at linked = record {
   at = at;
   within = subst (λ its. c.delivered ≤ length (down_bytes (source_of case) its c.moves)) at linked.delivered;
-  streams = subst (Speaks (source_of case) link c.moves c.delivered) at linked.speaks;
+  streams = subst (SendsStream (source_of case) link c.moves c.delivered) at linked.speaks;
 }
 
 -- the subscriber of a program whose end of the connection moved
@@ -302,12 +302,12 @@ moved_peer : (case : Case) (slots : List Slot) (old : PeerOf) (link new : Link) 
     → IsLinked (source_of case) slots link old.subscriber (peer_of case) c → IsSameEar (link_ear link) (link_ear new)
     → link_checked new ≡ case.checked
     → IsStreaming new (record (run_of (source_of case) start c.moves c.delivered) { moves = c.moves ++ move ∷ [] })
-    (state_of (source_of case) start (c.moves ++ move ∷ []))
+    (stream_state (source_of case) start (c.moves ++ move ∷ []))
     → PeerIs (source_of case) slots (with_link old new) (moves_on (peer_of case) c move)
 moved_peer case slots old link new c move start named at linked same checked_is streams = record {
   named = named;
   at = moves_linked case slots link new old.subscriber c move start at linked same checked_is
-      (subst (λ run. IsStreaming new run (state_of (source_of case) start (c.moves ++ move ∷ [])))
+      (subst (λ run. IsStreaming new run (stream_state (source_of case) start (c.moves ++ move ∷ [])))
       (run_more case start c.moves c.delivered move
       (streaming case slots link old.subscriber c start at linked).within) streams);
 }
@@ -315,7 +315,7 @@ moved_peer case slots old link new c move start named at linked same checked_is 
 still_linked : (case : Case) (slots : List Slot) (link new : Link) (subscriber : Subscriber) (c : Connection)
     → IsLinked (source_of case) slots link subscriber (peer_of case) c
     → IsSameEar (link_ear link) (link_ear new) → link_checked new ≡ case.checked
-    → Speaks (source_of case) new c.moves c.delivered c.start
+    → SendsStream (source_of case) new c.moves c.delivered c.start
     → IsLinked (source_of case) slots new subscriber (peer_of case) c
 still_linked case slots link new subscriber c linked same checked_is speaks = record {
   heard = linked.heard;
@@ -335,9 +335,10 @@ keeps_by : (case : Case) (slots : List Slot) (old : PeerOf) (link new : Link) (c
     → IsLinked (source_of case) slots link old.subscriber (peer_of case) c
     → LinkSays link new (kept_bytes (link_stage link) case.now want) (link_stage link) → (said : Bool)
     → Ok said ≡ keep_answer (link_stage link)
-    → StepsTo case (w.Keep want) (kept_or_not said) slots (with_link old new)
+    → StepsPeerTo case (w.Keep want) (kept_or_not said) slots (with_link old new)
 keeps_by case slots old link new c want None named some at linked says said answer =
-    let silent : IsSilent link c.moves = subst (Speaks (source_of case) link c.moves c.delivered) at linked.speaks in
+    let silent : IsSilent link c.moves =
+    subst (SendsStream (source_of case) link c.moves c.delivered) at linked.speaks in
     let not : said ≡ false = ok_of said false (answer ∙ ap keep_answer silent.stage_is) in
     let nothing : kept_bytes (link_stage link) case.now want ≡ [] =
     ap (λ stage. kept_bytes stage case.now want) silent.stage_is in
@@ -348,7 +349,7 @@ keeps_by case slots old link new c want None named some at linked says said answ
       named = named;
       at = subst (IsAt (source_of case) slots (Some new) old.subscriber (peer_of case)) (sym some)
           (still_linked case slots link new old.subscriber c linked says.ear (says.voice.checked ∙ linked.checked_is)
-          (subst (Speaks (source_of case) new c.moves c.delivered) (sym at) (record {
+          (subst (SendsStream (source_of case) new c.moves c.delivered) (sym at) (record {
             stage_is = says.voice.stage_is ∙ silent.stage_is;
             output = says.voice.output ∙ ap (λ bytes. link_output link ++ bytes) nothing
                 ∙ append-nil (link_output link) ∙ silent.output;
@@ -367,7 +368,7 @@ keeps_by case slots old link new c want (Some start) named some at linked says s
     (subst (IsStreaming new _)
     (sym (moved_append (telling_of case.checked) (log_in (source_of case))
     (state_at case.number (length case.checked.catalog.tables) start) c.moves (s.Keep case.now want)))
-    (keeps_on link new (run_of (source_of case) start c.moves c.delivered) (state_of (source_of case) start c.moves)
+    (keeps_on link new (run_of (source_of case) start c.moves c.delivered) (stream_state (source_of case) start c.moves)
     case.now want streams.streams says))))
 
 pub keeps : KeepsStep
@@ -390,11 +391,11 @@ takes_by : (case : Case) (slots : List Slot) (old : PeerOf) (link new : Link) (c
     (next_stage (link_checked link) (link_stage link) (log_in (source_of case)) case.now)
     → (found : Taken) → Ok found ≡ next_answer (link_checked link) (link_stage link) (log_in (source_of case))
     → (next : Option CommitOf)
-    → slice_get (log_in (source_of case)) (state_of (source_of case) start c.moves).done ≡ next
-    → StepsTo case w.Take (answer_of found) slots (with_link old new)
+    → slice_get (log_in (source_of case)) (stream_state (source_of case) start c.moves).done ≡ next
+    → StepsPeerTo case w.Take (answer_of found) slots (with_link old new)
 takes_by case slots old link new c start named some at linked says found answer next is =
     let log = log_in (source_of case) in
-    let state = state_of (source_of case) start c.moves in
+    let state = stream_state (source_of case) start c.moves in
     let streams = streaming case slots link old.subscriber c start at linked in
     let goes = takes_on link new (run_of (source_of case) start c.moves c.delivered) state case.now streams.streams
     says in
@@ -405,44 +406,45 @@ takes_by case slots old link new c start named some at linked says found answer 
     steps_to case w.Take (answer_of found) slots (with_link old new) (Some c) some
     (answered next told ∙ sym
     (ap (λ its. (take_step (source_of case) case.now (peer_of case) c its).0) at
-    ∙ ap (λ its. (w.takes case.checked case.now (peer_of case) c state its).0) is))
+    ∙ ap (λ its. (w.take_commit case.checked case.now (peer_of case) c state its).0) is))
     (subst (λ its. PeerIs (source_of case) slots (with_link old new)
     (take_step (source_of case) case.now (peer_of case) c its).1) (sym at)
     (subst (λ its. PeerIs (source_of case) slots (with_link old new)
-    (w.takes case.checked case.now (peer_of case) c state its).1) (sym is)
+    (w.take_commit case.checked case.now (peer_of case) c state its).1) (sym is)
     (left next is goes)))
   where
     answered : (its : Option CommitOf)
-        → Ok found ≡ found_answer case.checked (state_of (source_of case) start c.moves) its
-        → answer_of found ≡ (w.takes case.checked case.now (peer_of case) c (state_of (source_of case) start c.moves)
+        → Ok found ≡ found_answer case.checked (stream_state (source_of case) start c.moves) its
+        → answer_of found
+        ≡ (w.take_commit case.checked case.now (peer_of case) c (stream_state (source_of case) start c.moves)
         its).0
     answered None e = ap answer_of (ok_of found taken.Idle e)
     answered (Some commit) e =
-        let state = state_of (source_of case) start c.moves in
+        let state = stream_state (source_of case) start c.moves in
         ap answer_of (ok_of found
         (taken_of commit.number (messages_for case.checked state.slot state.relation_sent commit)) e)
         ∙ took_is commit.number (messages_for case.checked state.slot state.relation_sent commit)
 
     left : (its : Option CommitOf)
-        → slice_get (log_in (source_of case)) (state_of (source_of case) start c.moves).done ≡ its
+        → slice_get (log_in (source_of case)) (stream_state (source_of case) start c.moves).done ≡ its
         → IsStreaming new (with_moves (run_of (source_of case) start c.moves c.delivered)
-        (links.took (slice_get (log_in (source_of case)) (state_of (source_of case) start c.moves).done)
+        (links.take_moves (slice_get (log_in (source_of case)) (stream_state (source_of case) start c.moves).done)
         case.now))
-        (moved (telling_of case.checked) (log_in (source_of case)) (state_of (source_of case) start c.moves)
+        (moved (telling_of case.checked) (log_in (source_of case)) (stream_state (source_of case) start c.moves)
         (s.Take case.now))
         → PeerIs (source_of case) slots (with_link old new)
-        (w.takes case.checked case.now (peer_of case) c (state_of (source_of case) start c.moves) its).1
+        (w.take_commit case.checked case.now (peer_of case) c (stream_state (source_of case) start c.moves) its).1
     left None e goes = record {
       named = named;
       at = subst (IsAt (source_of case) slots (Some new) old.subscriber (peer_of case)) (sym some)
           (still_linked case slots link new old.subscriber c linked says.ear (says.voice.checked ∙ linked.checked_is)
-          (subst (Speaks (source_of case) new c.moves c.delivered) (sym at)
+          (subst (SendsStream (source_of case) new c.moves c.delivered) (sym at)
           (subst (λ moves. IsStreaming new
           (record (run_of (source_of case) start c.moves c.delivered) { moves = moves })
-          (state_of (source_of case) start c.moves)) (append-nil c.moves)
+          (stream_state (source_of case) start c.moves)) (append-nil c.moves)
           (subst (λ found. IsStreaming new
-          (with_moves (run_of (source_of case) start c.moves c.delivered) (links.took found case.now))
-          (taken_state (telling_of case.checked) (state_of (source_of case) start c.moves) found)) e goes))));
+          (with_moves (run_of (source_of case) start c.moves c.delivered) (links.take_moves found case.now))
+          (taken_state (telling_of case.checked) (stream_state (source_of case) start c.moves) found)) e goes))));
     }
     left (Some commit) e goes =
         moved_peer case slots old link new c (s.Take case.now) start named at linked says.ear
@@ -451,8 +453,8 @@ takes_by case slots old link new c start named some at linked says found answer 
         (sym (moved_append (telling_of case.checked) (log_in (source_of case))
         (state_at case.number (length case.checked.catalog.tables) start) c.moves (s.Take case.now)))
         (subst (λ found. IsStreaming new
-        (with_moves (run_of (source_of case) start c.moves c.delivered) (links.took found case.now))
-        (moved (telling_of case.checked) (log_in (source_of case)) (state_of (source_of case) start c.moves)
+        (with_moves (run_of (source_of case) start c.moves c.delivered) (links.take_moves found case.now))
+        (moved (telling_of case.checked) (log_in (source_of case)) (stream_state (source_of case) start c.moves)
         (s.Take case.now))) e goes))
 
 takes_before : (case : Case) (slots : List Slot) (old : PeerOf) (link new : Link) (c : Connection)
@@ -462,10 +464,11 @@ takes_before : (case : Case) (slots : List Slot) (old : PeerOf) (link new : Link
     → LinkSays link new (next_bytes (link_checked link) (link_stage link) (log_in (source_of case)) case.now)
     (next_stage (link_checked link) (link_stage link) (log_in (source_of case)) case.now)
     → (found : Taken) → Ok found ≡ next_answer (link_checked link) (link_stage link) (log_in (source_of case))
-    → StepsTo case w.Take (answer_of found) slots (with_link old new)
+    → StepsPeerTo case w.Take (answer_of found) slots (with_link old new)
 takes_before case slots old link new c named some at linked says found answer =
     let log = log_in (source_of case) in
-    let silent : IsSilent link c.moves = subst (Speaks (source_of case) link c.moves c.delivered) at linked.speaks in
+    let silent : IsSilent link c.moves =
+    subst (SendsStream (source_of case) link c.moves c.delivered) at linked.speaks in
     steps_to case w.Take (answer_of found) slots (with_link old new) (Some c) some
     (ap answer_of (ok_of found taken.NotStarted
     (answer ∙ ap (λ stage. next_answer (link_checked link) stage log) silent.stage_is))
@@ -475,7 +478,7 @@ takes_before case slots old link new c named some at linked says found answer =
       named = named;
       at = subst (IsAt (source_of case) slots (Some new) old.subscriber (peer_of case)) (sym some)
           (still_linked case slots link new old.subscriber c linked says.ear (says.voice.checked ∙ linked.checked_is)
-          (subst (Speaks (source_of case) new c.moves c.delivered) (sym at) (record {
+          (subst (SendsStream (source_of case) new c.moves c.delivered) (sym at) (record {
             stage_is = says.voice.stage_is
                 ∙ ap (λ stage. next_stage (link_checked link) stage log case.now) silent.stage_is;
             output = says.voice.output
@@ -490,7 +493,7 @@ takes case slots old link new stands some says found answer =
     let here = is_open case slots old link stands some in by_start here here.c.start refl
   where
     by_start : (here : Open case slots link old.subscriber) → (start : Option ℕ) → here.c.start ≡ start
-        → StepsTo case w.Take (answer_of found) slots (with_link old new)
+        → StepsPeerTo case w.Take (answer_of found) slots (with_link old new)
     by_start here None e =
         takes_before case slots old link new here.c stands.named here.some e here.linked says found answer
     by_start here (Some start) e =

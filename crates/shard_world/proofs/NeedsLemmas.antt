@@ -9,9 +9,9 @@ use Rattle.copy_both.specs.Links.{HasNext, link_stage}
 use Rattle.copy_both.specs.Streams.{StreamStateOf}
 use Rattle.copy_both.specs.Voices.{IsStarted}
 use Rattle.copy_both.specs.declared.link.Link.{Link}
-use Rattle.shard_world.specs.Joined.{PeerOf, Speaks}
-use Rattle.shard_world.specs.PeerSteps.{Case, StandsIn, peer_of, stepped, source_of}
-use Rattle.shard_world.specs.World.{AsksMemory, Connection, PeerEvent, Open, Hear, Take, Keep, Deliver, Report, keep_step, peer_step, state_of, take_step, takes, took, log_in}
+use Rattle.shard_world.specs.Joined.{PeerOf, SendsStream}
+use Rattle.shard_world.specs.PeerSteps.{Case, MatchesPeer, peer_of, stepped, source_of}
+use Rattle.shard_world.specs.World.{AsksMemory, Connection, PeerEvent, Open, Hear, Take, Keep, Deliver, Report, keep_step, peer_step, stream_state, take_step, take_commit, took, log_in}
 use Rattle.shard_world.proofs.CaseLemmas.{is_open, is_shut}
 
 -- by the connection of the subscriber, if it has one
@@ -21,38 +21,38 @@ needs_by : (case : Case) (event : PeerEvent) (connection : Option Connection) �
 needs_by case event connection is needs =
     subst (λ its. AsksMemory (peer_step (source_of case) case.now event (peer_of case) its).0) (sym is) needs
 
-pub open_needs : (case : Case) (slots : List Slot) (old : PeerOf) → StandsIn case slots old → old.link ≡ None
+pub open_needs : (case : Case) (slots : List Slot) (old : PeerOf) → MatchesPeer case slots old → old.link ≡ None
     → AsksMemory (stepped case Open).0
 open_needs case slots old stands none = needs_by case Open None (is_shut case slots old stands none).none tt
 
 module _ (case : Case) (slots : List Slot) (old : PeerOf) (link : Link) where
-  pub hear_needs : (count : ℕ) → StandsIn case slots old → old.link ≡ Some link
+  pub hear_needs : (count : ℕ) → MatchesPeer case slots old → old.link ≡ Some link
       → AsksMemory (stepped case (Hear count)).0
   hear_needs count stands some = let here = is_open case slots old link stands some in
       needs_by case (Hear count) (Some here.c) here.some tt
 
-  pub deliver_needs : (count : ℕ) → StandsIn case slots old → old.link ≡ Some link
+  pub deliver_needs : (count : ℕ) → MatchesPeer case slots old → old.link ≡ Some link
       → AsksMemory (stepped case (Deliver count)).0
   deliver_needs count stands some = let here = is_open case slots old link stands some in
       needs_by case (Deliver count) (Some here.c) here.some tt
 
-  pub report_needs : (want : Bool) → StandsIn case slots old → old.link ≡ Some link
+  pub report_needs : (want : Bool) → MatchesPeer case slots old → old.link ≡ Some link
       → AsksMemory (stepped case (Report want)).0
   report_needs want stands some = let here = is_open case slots old link stands some in
       needs_by case (Report want) (Some here.c) here.some tt
 
-  pub keep_needs : (want : Bool) → StandsIn case slots old → old.link ≡ Some link → IsStarted (link_stage link)
+  pub keep_needs : (want : Bool) → MatchesPeer case slots old → old.link ≡ Some link → IsStarted (link_stage link)
       → AsksMemory (stepped case (Keep want)).0
   keep_needs want stands some started =
       let here = is_open case slots old link stands some in
       needs_by case (Keep want) (Some here.c) here.some (by_start here.c here.c.start here.linked.speaks)
     where
-      by_start : (c : Connection) (start : Option ℕ) → Speaks (source_of case) link c.moves c.delivered start
+      by_start : (c : Connection) (start : Option ℕ) → SendsStream (source_of case) link c.moves c.delivered start
           → AsksMemory (keep_step case.now want (peer_of case) c start).0
       by_start c None silent = absurd (subst IsStarted silent.stage_is started)
       by_start c (Some start) streams = tt
 
-  pub take_needs : StandsIn case slots old → old.link ≡ Some link
+  pub take_needs : MatchesPeer case slots old → old.link ≡ Some link
       → HasNext (link_stage link) (log_in (source_of case)) → AsksMemory (stepped case Take).0
   take_needs stands some next =
       let here = is_open case slots old link stands some in
@@ -63,15 +63,15 @@ module _ (case : Case) (slots : List Slot) (old : PeerOf) (link : Link) where
       took_asks number (message ∷ messages) = tt
 
       found : (c : Connection) (state : StreamStateOf) (its : Option CommitOf) → IsSome its
-          → AsksMemory (takes case.checked case.now (peer_of case) c state its).0
+          → AsksMemory (take_commit case.checked case.now (peer_of case) c state its).0
       found c state None there = absurd cc
       found c state (Some commit) there =
           took_asks commit.number (messages_for case.checked state.slot state.relation_sent commit)
 
-      by_start : (c : Connection) (start : Option ℕ) → Speaks (source_of case) link c.moves c.delivered start
+      by_start : (c : Connection) (start : Option ℕ) → SendsStream (source_of case) link c.moves c.delivered start
           → AsksMemory (take_step (source_of case) case.now (peer_of case) c start).0
       by_start c None silent = absurd (subst (λ stage. HasNext stage (log_in (source_of case))) silent.stage_is next)
       by_start c (Some start) streams =
-          let state = state_of (source_of case) start c.moves in
+          let state = stream_state (source_of case) start c.moves in
           found c state (slice_get (log_in (source_of case)) state.done)
           (subst (λ stage. HasNext stage (log_in (source_of case))) streams.stage_is next)

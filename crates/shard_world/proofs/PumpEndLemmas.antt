@@ -11,9 +11,9 @@ use Rattle.copy_both.specs.Streams.{StreamStateOf}
 use Rattle.pgoutput_msgs.specs.declared.message.Msg.{Msg}
 use Rattle.shard_world.specs.CatchingUp.{next_peer}
 use Rattle.stream_laws.specs.Following.{IsPublished}
-use Rattle.shard_world.specs.Pumping.{EndsIdle, GoesOn, all_bytes}
+use Rattle.shard_world.specs.Pumping.{EndsIdle, KeepsConnection, all_bytes}
 use Rattle.stream_laws.specs.LayoutRoom.{FitsLayouts}
-use Rattle.shard_world.specs.World.{Asks, Says, Connection, Peer, Answer, Idle, PeerEvent, Hear, Take, Keep, Deliver, Report, down_bytes, position_in, position_now, spelled_up, hears, as_many, state_of, took, takes, take_step, moves_on, peer_step, Source, up_bytes, log_in, asking_length}
+use Rattle.shard_world.specs.World.{Asks, Says, Connection, Peer, Answer, Idle, PeerEvent, Hear, Take, Keep, Deliver, Report, down_bytes, connection_position, position_now, spelled_up, hears, as_many, stream_state, took, take_commit, take_step, moves_on, peer_step, StreamSource, up_bytes, log_in, asking_length}
 use Rattle.shard_world.proofs.AskingLemmas.{IsAskedAt}
 use Rattle.shard_world.proofs.CatchingUpLemmas.{CountsAll, IsLeft, as_step, hears_start, keeps_on, next_good, reaches_end, take_next}
 use Rattle.stream_laws.proofs.EntryLemmas.{entries_length, past_end}
@@ -34,35 +34,36 @@ reaches_first first total heard within few = omega (arith, within, few)
 
 -- ---- one answer
 
-one_answer : (source : Source) (now : ℕ) (event : PeerEvent) (answers : List Answer) (peer last : Peer)
-    → PeerRuns source now (event ∷ []) answers peer last → All GoesOn answers
-    → GoesOn (peer_step source now event peer peer.connection).0 × (last ≡ next_peer source now event peer)
+one_answer : (source : StreamSource) (now : ℕ) (event : PeerEvent) (answers : List Answer) (peer last : Peer)
+    → PeerRuns source now (event ∷ []) answers peer last → All KeepsConnection answers
+    → KeepsConnection (peer_step source now event peer peer.connection).0 × (last ≡ next_peer source now event peer)
 one_answer source now event [] peer last runs goes = absurd runs
 one_answer source now event (answer ∷ []) peer last runs goes =
-    (subst GoesOn runs.0 (All-head GoesOn answer [] goes), runs.1)
+    (subst KeepsConnection runs.0 (All-head KeepsConnection answer [] goes), runs.1)
 one_answer source now event (answer ∷ other ∷ more) peer last runs goes = absurd runs.1
 
 -- the first of several
-record FirstRuns (source : Source) (now : ℕ) (event : PeerEvent) (events : List PeerEvent) (peer last : Peer) : Type 0
+record FirstRuns (source : StreamSource) (now : ℕ) (event : PeerEvent) (events : List PeerEvent)
+    (peer last : Peer) : Type 0
   where
-    goes : GoesOn (peer_step source now event peer peer.connection).0
+    goes : KeepsConnection (peer_step source now event peer peer.connection).0
     others : List Answer
     runs : PeerRuns source now events others (next_peer source now event peer) last
-    all : All GoesOn others
+    all : All KeepsConnection others
 
-first_answer : (source : Source) (now : ℕ) (event : PeerEvent) (events : List PeerEvent) (answers : List Answer)
+first_answer : (source : StreamSource) (now : ℕ) (event : PeerEvent) (events : List PeerEvent) (answers : List Answer)
     (peer last : Peer)
-    → PeerRuns source now (event ∷ events) answers peer last → All GoesOn answers
+    → PeerRuns source now (event ∷ events) answers peer last → All KeepsConnection answers
     → FirstRuns source now event events peer last
 first_answer source now event events [] peer last runs goes = absurd runs
 first_answer source now event events (answer ∷ answers) peer last runs goes = record {
-  goes = subst GoesOn runs.0 (All-head GoesOn answer answers goes);
+  goes = subst KeepsConnection runs.0 (All-head KeepsConnection answer answers goes);
   others = answers;
   runs = runs.1;
-  all = All-tail GoesOn answer answers goes;
+  all = All-tail KeepsConnection answer answers goes;
 }
 
-module _ (source : Source) (published : IsPublished source.checked source.transactions)
+module _ (source : StreamSource) (published : IsPublished source.checked source.transactions)
     (sayable : FitsLayouts source.checked source.transactions) (now : ℕ) (timed : now < 2 ^ 64) where
   abbrev next : PeerEvent → Peer → Peer
   next event peer = next_peer source now event peer
@@ -78,7 +79,8 @@ module _ (source : Source) (published : IsPublished source.checked source.transa
 
   started_by : (peer : Peer) (connection : Option Connection) → peer.connection ≡ connection
       → IsAskedAt source.checked source.number peer.position connection → IsGood source peer
-      → GoesOn (peer_step source now (Hear all_bytes) peer connection).0 → IsStarted (next (Hear all_bytes) peer)
+      → KeepsConnection (peer_step source now (Hear all_bytes) peer connection).0
+      → IsStarted (next (Hear all_bytes) peer)
   started_by peer None is asked good goes = absurd goes
   started_by peer (Some c) is asked good goes =
       let total : ℕ = length (up_bytes source peer c) in
@@ -108,7 +110,7 @@ module _ (source : Source) (published : IsPublished source.checked source.transa
       }
 
   pub hears_all : (answers : List Answer) (peer last : Peer)
-      → PeerRuns source now (Hear all_bytes ∷ []) answers peer last → All GoesOn answers
+      → PeerRuns source now (Hear all_bytes ∷ []) answers peer last → All KeepsConnection answers
       → IsAskedAt source.checked source.number peer.position peer.connection → IsGood source peer → IsStarted last
   hears_all answers peer last runs goes asked good =
       let one = one_answer source now (Hear all_bytes) answers peer last runs goes in
@@ -137,8 +139,8 @@ module _ (source : Source) (published : IsPublished source.checked source.transa
   no_took number (message ∷ messages) is = cc
 
   none_found : (peer : Peer) (c : Connection) (state : StreamStateOf) (found : Option CommitOf)
-      → Idle ≡ (takes source.checked now peer c state found).0 → (found ≡ None)
-      × ((takes source.checked now peer c state found).1 ≡ peer)
+      → Idle ≡ (take_commit source.checked now peer c state found).0 → (found ≡ None)
+      × ((take_commit source.checked now peer c state found).1 ≡ peer)
   none_found peer c state None is = (refl, refl)
   none_found peer c state (Some commit) is = absurd (no_took commit.number _ is)
 
@@ -146,9 +148,9 @@ module _ (source : Source) (published : IsPublished source.checked source.transa
       → Idle ≡ (peer_step source now Take peer peer.connection).0 → Left start 0 (next Take peer)
   takes_none start count peer left idle =
       let c : Connection = left.running.c in
-      let state : StreamStateOf = state_of source start c.moves in
+      let state : StreamStateOf = stream_state source start c.moves in
       let step : peer_step source now Take peer peer.connection
-      ≡ takes source.checked now peer c state (slice_get (log_in source) state.done) =
+      ≡ take_commit source.checked now peer c state (slice_get (log_in source) state.done) =
       ap (λ connection. peer_step source now Take peer connection) left.running.is
       ∙ ap (take_step source now peer c) left.running.start_is in
       let none = none_found peer c state (slice_get (log_in source) state.done) (idle ∙ ap (λ both. both.0) step) in
@@ -189,7 +191,7 @@ module _ (source : Source) (published : IsPublished source.checked source.transa
   -- after the keepalive all is delivered, and a status is sent and heard
   tells_with : (start : ℕ) (peer : Peer) (c : Connection) → peer.connection ≡ Some c → c.start ≡ Some start
       → IsGood source peer
-      → length (log_in source) ≤ (state_of source start c.moves).done + 0
+      → length (log_in source) ≤ (stream_state source start c.moves).done + 0
       → as_many all_bytes (length (down_bytes source c.start (c.moves ++ s.Keep now false ∷ []))) c.delivered < 2 ^ 63
       → PastAll (position_now source
       (next (Hear all_bytes)
@@ -206,7 +208,7 @@ module _ (source : Source) (published : IsPublished source.checked source.transa
       subst PastAll (sym (hears_stay source now timed
       (next (Report false) (next (Deliver all_bytes) (moves_on peer c (s.Keep now false)))) _ _ reported))
       (subst (λ more. PastAll
-      (position_in source peer
+      (connection_position source peer
       (Some (record c { moves = c.moves ++ s.Keep now false ∷ []; delivered = c.delivered + more }))))
       (sym (all_waiting total c.delivered few))
       (reaches_end source published sayable now timed start peer.position c start_is left c.delivered
@@ -214,7 +216,7 @@ module _ (source : Source) (published : IsPublished source.checked source.transa
 
   tells_more : (start : ℕ) (peer last : Peer) (left : Left start 0 peer) (answers : List Answer)
       → PeerRuns source now (Deliver all_bytes ∷ Report false ∷ Hear all_bytes ∷ []) answers
-      (moves_on peer left.running.c (s.Keep now false)) last → All GoesOn answers
+      (moves_on peer left.running.c (s.Keep now false)) last → All KeepsConnection answers
       → PastAll (position_now source last)
   tells_more start peer last left answers runs goes =
       let kept : Peer = moves_on peer left.running.c (s.Keep now false) in
@@ -230,7 +232,7 @@ module _ (source : Source) (published : IsPublished source.checked source.transa
 
   pub tells_all : (start : ℕ) (peer last : Peer) (answers : List Answer)
       → PeerRuns source now (Keep false ∷ Deliver all_bytes ∷ Report false ∷ Hear all_bytes ∷ []) answers peer last
-      → All GoesOn answers
+      → All KeepsConnection answers
       → Left start 0 peer → PastAll (position_now source last)
   tells_all start peer last answers runs goes left =
       let keeps = first_answer source now (Keep false) (Deliver all_bytes ∷ Report false ∷ Hear all_bytes ∷ [])

@@ -5,10 +5,10 @@ use Rattle.std.proofs.lemmas.List.Elements.{All-nil, All-cons, All-append}
 use mathlib.Core.List.{map-append}
 use Rattle.shard_checker.specs.CheckedView.{CheckedOf}
 use Rattle.tables_log.specs.BookView.{book_log}
-use Rattle.shard_world.specs.Pumping.{EndsWalk, GoesOn, WalksAll, WalksSome, TakesAll, TakesSome, PumpsSome, all_bytes, on_clock, pump_events}
+use Rattle.shard_world.specs.Pumping.{EndsWalk, KeepsConnection, WalksAll, WalksSome, TakesAll, TakesSome, PumpsSome, all_bytes, on_clock, pump_events}
 use Rattle.shard_world.specs.World as w
 use Rattle.shard_world.specs.World.{Answer, Event, Idle, PeerEvent, Hear, Take, Keep, Deliver, Report}
-use Rattle.shard_world.specs.WorldCalls.{IsWorld, StepsOn, Runs, RunsInto, RunsOn, world_book, world_checked}
+use Rattle.shard_world.specs.WorldCalls.{IsWorld, StepsFromEach, Runs, RunsFrom, RunsFromEach, world_book, world_checked}
 use Rattle.shard_world.specs.declared.world.World.{World}
 use Rattle.shard_world.proofs.RunLemmas.{runs_none, runs_more}
 
@@ -25,11 +25,11 @@ runs_append checked most [] more (one ∷ answers) later world between next runs
 runs_append checked most (first ∷ asked) more [] later world between next runs then = absurd runs
 
 runs_then : (before between after : World) (asked more : List (ℕ × Event)) (answers later : List Answer)
-    → RunsOn before between asked answers → RunsOn between after more later
-    → RunsOn before after (asked ++ more) (answers ++ later)
+    → RunsFromEach before between asked answers → RunsFromEach between after more later
+    → RunsFromEach before after (asked ++ more) (answers ++ later)
 runs_then before between after asked more answers later runs then most events world is =
-    let first : RunsInto before between most events world asked answers = runs most events world is in
-    let second : RunsInto between after most (events ++ asked) first.next more later =
+    let first : RunsFrom before between most events world asked answers = runs most events world is in
+    let second : RunsFrom between after most (events ++ asked) first.next more later =
     then most (events ++ asked) first.next first.is in
     record {
       next = second.next;
@@ -53,27 +53,29 @@ module _ (now subscriber : ℕ) where
   -- ---- walks
 
   pub walks_none : (world : World) → WalksAll world world now subscriber []
-  walks_none world = record { answers = []; go_on = All-nil GoesOn; runs = runs_none world }
+  walks_none world = record { answers = []; go_on = All-nil KeepsConnection; runs = runs_none world }
 
-  one_more : (answers : List Answer) (answer : Answer) → All GoesOn answers → GoesOn answer
-      → All GoesOn (answers ++ answer ∷ [])
+  one_more : (answers : List Answer) (answer : Answer) → All KeepsConnection answers → KeepsConnection answer
+      → All KeepsConnection (answers ++ answer ∷ [])
   one_more answers answer all one =
-      All-append GoesOn answers (answer ∷ []) all (All-cons GoesOn answer [] one (All-nil GoesOn))
+      All-append KeepsConnection answers (answer ∷ []) all
+      (All-cons KeepsConnection answer [] one (All-nil KeepsConnection))
 
   pub walks_more : (before between after : World) (events : List PeerEvent) (event : PeerEvent) (answer : Answer)
       → WalksAll before between now subscriber events
-      → GoesOn answer → StepsOn between after now (w.On subscriber event) answer
+      → KeepsConnection answer → StepsFromEach between after now (w.On subscriber event) answer
       → WalksAll before after now subscriber (events ++ event ∷ [])
   walks_more before between after events event answer walks goes steps = record {
     answers = walks.answers ++ answer ∷ [];
     go_on = one_more walks.answers answer walks.go_on goes;
-    runs = subst (λ asked. RunsOn before after asked (walks.answers ++ answer ∷ [])) (on_append events (event ∷ []))
+    runs =
+        subst (λ asked. RunsFromEach before after asked (walks.answers ++ answer ∷ [])) (on_append events (event ∷ []))
         (runs_more before between after (on events) walks.answers now (w.On subscriber event) answer walks.runs steps);
   }
 
   pub walks_end : (before between after : World) (events others : List PeerEvent) (event : PeerEvent)
       (answer : Answer) → WalksAll before between now subscriber events
-      → EndsWalk answer → StepsOn between after now (w.On subscriber event) answer
+      → EndsWalk answer → StepsFromEach between after now (w.On subscriber event) answer
       → WalksSome before after now subscriber (events ++ event ∷ others) answer
   walks_end before between after events others event answer walks ends steps = record {
     done = events ++ event ∷ [];
@@ -82,7 +84,8 @@ module _ (now subscriber : ℕ) where
     answers = walks.answers;
     go_on = walks.go_on;
     ends = ends;
-    runs = subst (λ asked. RunsOn before after asked (walks.answers ++ answer ∷ [])) (on_append events (event ∷ []))
+    runs =
+        subst (λ asked. RunsFromEach before after asked (walks.answers ++ answer ∷ [])) (on_append events (event ∷ []))
         (runs_more before between after (on events) walks.answers now (w.On subscriber event) answer walks.runs steps);
   }
 
@@ -91,8 +94,8 @@ module _ (now subscriber : ℕ) where
       → WalksAll before after now subscriber (events ++ more)
   walks_then before between after events more walks then = record {
     answers = walks.answers ++ then.answers;
-    go_on = All-append GoesOn walks.answers then.answers walks.go_on then.go_on;
-    runs = subst (λ asked. RunsOn before after asked (walks.answers ++ then.answers)) (on_append events more)
+    go_on = All-append KeepsConnection walks.answers then.answers walks.go_on then.go_on;
+    runs = subst (λ asked. RunsFromEach before after asked (walks.answers ++ then.answers)) (on_append events more)
         (runs_then before between after (on events) (on more) walks.answers then.answers walks.runs then.runs);
   }
 
@@ -104,11 +107,11 @@ module _ (now subscriber : ℕ) where
     others = then.others;
     are = append_assoc events then.done then.others ∙ ap (λ rest. events ++ rest) then.are;
     answers = walks.answers ++ then.answers;
-    go_on = All-append GoesOn walks.answers then.answers walks.go_on then.go_on;
+    go_on = All-append KeepsConnection walks.answers then.answers walks.go_on then.go_on;
     ends = then.ends;
-    runs = subst (λ asked. RunsOn before after asked ((walks.answers ++ then.answers) ++ answer ∷ []))
+    runs = subst (λ asked. RunsFromEach before after asked ((walks.answers ++ then.answers) ++ answer ∷ []))
         (on_append events then.done)
-        (subst (RunsOn before after (on events ++ on then.done))
+        (subst (RunsFromEach before after (on events ++ on then.done))
         (sym (append_assoc walks.answers then.answers (answer ∷ [])))
         (runs_then before between after (on events) (on then.done) walks.answers (then.answers ++ answer ∷ [])
         walks.runs then.runs));
@@ -139,7 +142,7 @@ module _ (now subscriber : ℕ) where
 
   pub takes_more : (before between after : World) (takes : ℕ) (answer : Answer)
       → WalksAll before between now subscriber (replicate takes Take)
-      → GoesOn answer → StepsOn between after now (w.On subscriber Take) answer
+      → KeepsConnection answer → StepsFromEach between after now (w.On subscriber Take) answer
       → WalksAll before after now subscriber (replicate (suc takes) Take)
   takes_more before between after takes answer walks goes steps =
       subst (WalksAll before after now subscriber) (one_more_take takes)
@@ -147,14 +150,14 @@ module _ (now subscriber : ℕ) where
 
   pub takes_idle : (before between after : World) (takes : ℕ)
       → WalksAll before between now subscriber (replicate takes Take)
-      → StepsOn between after now (w.On subscriber Take) Idle → TakesAll before after now subscriber
+      → StepsFromEach between after now (w.On subscriber Take) Idle → TakesAll before after now subscriber
   takes_idle before between after takes walks steps = record {
     takes = suc takes;
     walks = record {
       answers = walks.answers ++ Idle ∷ [];
       go_on = one_more walks.answers Idle walks.go_on tt;
-      runs = subst (λ events. RunsOn before after (on events) (walks.answers ++ Idle ∷ [])) (one_more_take takes)
-          (subst (λ asked. RunsOn before after asked (walks.answers ++ Idle ∷ []))
+      runs = subst (λ events. RunsFromEach before after (on events) (walks.answers ++ Idle ∷ [])) (one_more_take takes)
+          (subst (λ asked. RunsFromEach before after asked (walks.answers ++ Idle ∷ []))
           (on_append (replicate takes Take) (Take ∷ []))
           (runs_more before between after (on (replicate takes Take)) walks.answers now (w.On subscriber Take) Idle
           walks.runs steps));
@@ -169,7 +172,7 @@ module _ (now subscriber : ℕ) where
 
   pub takes_end : (before between after : World) (takes : ℕ) (answer : Answer)
       → WalksAll before between now subscriber (replicate takes Take)
-      → EndsWalk answer → StepsOn between after now (w.On subscriber Take) answer
+      → EndsWalk answer → StepsFromEach between after now (w.On subscriber Take) answer
       → TakesSome before after now subscriber answer
   takes_end before between after takes answer walks ends steps = record {
     takes = suc takes;

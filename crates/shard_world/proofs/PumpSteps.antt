@@ -9,8 +9,8 @@ use Rattle.tables_log.specs.Commits.{CommitOf}
 use Rattle.copy_both.specs.Streams.{StreamStateOf}
 use Rattle.pgoutput_msgs.specs.declared.message.Msg.{Msg}
 use Rattle.shard_world.specs.CatchingUp.{next_peer}
-use Rattle.shard_world.specs.Pumping.{EndsWalk, GoesOn, on_clock}
-use Rattle.shard_world.specs.World.{Connection, Peer, World, PeerEvent, Open, Hear, Take, Keep, Deliver, Report, Lose, On, Answer, OutOfMemory, state_of, took, takes, take_step, keep_step, open_step, peer_step, with_peer, Steps, StepsOn, Source, source_in, step_in}
+use Rattle.shard_world.specs.Pumping.{EndsWalk, KeepsConnection, on_clock}
+use Rattle.shard_world.specs.World.{Connection, Peer, World, PeerEvent, Open, Hear, Take, Keep, Deliver, Report, Lose, On, Answer, OutOfMemory, stream_state, took, take_commit, take_step, keep_step, open_step, peer_step, with_peer, Steps, StepsPeer, StreamSource, source_in, step_in}
 use Rattle.shard_world.specs.WorldCalls.{Runs}
 
 -- ---- one event
@@ -28,14 +28,14 @@ record IsMade (checked : CheckedOf) (world : World) (subscriber now : ℕ) (even
   peer_is : next.peers subscriber ≡ next_peer (source_in checked world subscriber) now event (world.peers subscriber)
 
 -- this number of answers, each of the peer's own step
-abbrev pub PeerRuns : Source → ℕ → List PeerEvent → List Answer → Peer → Peer → Type 0
+abbrev pub PeerRuns : StreamSource → ℕ → List PeerEvent → List Answer → Peer → Peer → Type 0
 PeerRuns source now [] [] peer last = last ≡ peer
 PeerRuns source now (event ∷ events) (answer ∷ answers) peer last =
     (answer ≡ (peer_step source now event peer peer.connection).0)
     × PeerRuns source now events answers (next_peer source now event peer) last
 PeerRuns source now events answers peer last = ⊥
 
-pub record RunsAs (source : Source) (now : ℕ) (events : List PeerEvent) (answers : List Answer) (peer : Peer)
+pub record RunsAs (source : StreamSource) (now : ℕ) (events : List PeerEvent) (answers : List Answer) (peer : Peer)
     (next : World) : Type 0 where
   pub transactions_are : next.transactions ≡ source.transactions
   pub runs : PeerRuns source now events answers peer (next.peers source.number)
@@ -50,16 +50,16 @@ abbrev pub KeepsOpen : PeerEvent → Type 0
 KeepsOpen Lose = ⊥
 KeepsOpen event = Unit {0}
 
-module _ (source : Source) (now : ℕ) where
+module _ (source : StreamSource) (now : ℕ) where
   takes_keep : (peer : Peer) (c : Connection) (state : StreamStateOf) (found : Option CommitOf) → HasConnection peer
-      → HasConnection (takes source.checked now peer c state found).1
+      → HasConnection (take_commit source.checked now peer c state found).1
   takes_keep peer c state None has = has
   takes_keep peer c state (Some commit) has = record { c = _; is = refl }
 
   take_keeps : (peer : Peer) (c : Connection) (start : Option ℕ) → HasConnection peer
       → HasConnection (take_step source now peer c start).1
   take_keeps peer c None has = has
-  take_keeps peer c (Some start) has = takes_keep peer c (state_of source start c.moves) _ has
+  take_keeps peer c (Some start) has = takes_keep peer c (stream_state source start c.moves) _ has
 
   keep_keeps : (want : Bool) (peer : Peer) (c : Connection) (start : Option ℕ) → HasConnection peer
       → HasConnection (keep_step now want peer c start).1
@@ -88,13 +88,13 @@ module _ (source : Source) (now : ℕ) where
   took_on number (message ∷ messages) ends = ends
 
   takes_on : (peer : Peer) (c : Connection) (state : StreamStateOf) (found : Option CommitOf)
-      → EndsWalk (takes source.checked now peer c state found).0 → ⊥
+      → EndsWalk (take_commit source.checked now peer c state found).0 → ⊥
   takes_on peer c state None ends = ends
   takes_on peer c state (Some commit) ends = took_on commit.number _ ends
 
   take_on : (peer : Peer) (c : Connection) (start : Option ℕ) → EndsWalk (take_step source now peer c start).0 → ⊥
   take_on peer c None ends = ends
-  take_on peer c (Some start) ends = takes_on peer c (state_of source start c.moves) _ ends
+  take_on peer c (Some start) ends = takes_on peer c (stream_state source start c.moves) _ ends
 
   keep_on : (want : Bool) (peer : Peer) (c : Connection) (start : Option ℕ)
       → EndsWalk (keep_step now want peer c start).0 → ⊥
@@ -115,12 +115,12 @@ module _ (source : Source) (now : ℕ) where
 module _ (checked : CheckedOf) (most subscriber now : ℕ) (there : subscriber < length checked.plan) where
   step_there : (world next : World) (event : PeerEvent) (answer : Answer)
       → Steps checked most world now (On subscriber event) answer next
-      → StepsOn true checked world subscriber now event answer next
+      → StepsPeer true checked world subscriber now event answer next
   step_there world next event answer steps =
-      subst (λ known. StepsOn known checked world subscriber now event answer next)
+      subst (λ known. StepsPeer known checked world subscriber now event answer next)
       (lt-ltb subscriber (length checked.plan) there) steps
 
-  is_made : (world next : World) (event : PeerEvent) (answer : Answer) → GoesOn answer
+  is_made : (world next : World) (event : PeerEvent) (answer : Answer) → KeepsConnection answer
       → Steps checked most world now (On subscriber event) answer next
       → IsMade checked world subscriber now event answer next
   is_made world next event answer goes steps = elim (step_there world next event answer steps) [
@@ -129,10 +129,10 @@ module _ (checked : CheckedOf) (most subscriber now : ℕ) (there : subscriber <
       transactions_are = ap (λ (its : World). its.transactions) moves.next_is;
       peer_is = ap (λ (its : World). its.peers subscriber) moves.next_is ∙ own_peer world subscriber _;
     }
-    | inr breaks ↦ absurd (subst GoesOn breaks.answer_is goes)
+    | inr breaks ↦ absurd (subst KeepsConnection breaks.answer_is goes)
   ]
 
-  pub runs_as : (events : List PeerEvent) (answers : List Answer) (world next : World) → All GoesOn answers
+  pub runs_as : (events : List PeerEvent) (answers : List Answer) (world next : World) → All KeepsConnection answers
       → Runs checked most (map (on_clock now subscriber) events) answers world next
       → RunsAs (source_in checked world subscriber) now events answers (world.peers subscriber) next
   runs_as [] [] world next goes runs =
@@ -142,8 +142,8 @@ module _ (checked : CheckedOf) (most subscriber now : ℕ) (there : subscriber <
             ap (λ (its : World). its.peers subscriber) runs;
       }
   runs_as (event ∷ events) (answer ∷ answers) world next goes runs =
-      let made = is_made world runs.0 event answer (All-head GoesOn answer answers goes) runs.1 in
-      let later = runs_as events answers runs.0 next (All-tail GoesOn answer answers goes) runs.2 in
+      let made = is_made world runs.0 event answer (All-head KeepsConnection answer answers goes) runs.1 in
+      let later = runs_as events answers runs.0 next (All-tail KeepsConnection answer answers goes) runs.2 in
       record {
         transactions_are = later.transactions_are ∙ made.transactions_are;
         runs = (
@@ -159,7 +159,7 @@ module _ (checked : CheckedOf) (most subscriber now : ℕ) (there : subscriber <
 
   -- if there was memory for all but the last
   pub last_answer : (events : List PeerEvent) (answers : List Answer) (answer : Answer) (world next : World)
-      → All KeepsOpen events → All GoesOn answers → EndsWalk answer
+      → All KeepsOpen events → All KeepsConnection answers → EndsWalk answer
       → Runs checked most (map (on_clock now subscriber) events) (answers ++ answer ∷ []) world next
       → (c : Connection) → (world.peers subscriber).connection ≡ Some c → answer ≡ OutOfMemory
   last_answer [] [] answer world next keeps goes ends runs c is = absurd runs
@@ -173,9 +173,9 @@ module _ (checked : CheckedOf) (most subscriber now : ℕ) (there : subscriber <
         | inr breaks ↦ breaks.answer_is
       ]
   last_answer (event ∷ events) (first ∷ answers) answer world next keeps goes ends runs c is =
-      let made = is_made world runs.0 event first (All-head GoesOn first answers goes) runs.1 in
+      let made = is_made world runs.0 event first (All-head KeepsConnection first answers goes) runs.1 in
       let kept = next_keeps (source_in checked world subscriber) now event (world.peers subscriber)
       (All-head KeepsOpen event events keeps) (record { c = c; is = is }) in
       last_answer events answers answer runs.0 next (All-tail KeepsOpen event events keeps)
-      (All-tail GoesOn first answers goes) ends runs.2 kept.c
+      (All-tail KeepsConnection first answers goes) ends runs.2 kept.c
       (ap (λ (peer : Peer). peer.connection) made.peer_is ∙ kept.is)

@@ -11,8 +11,8 @@ use Rattle.tables_log.specs.StandsFor.{Transaction}
 use Rattle.stream_laws.specs.Following.{log_of}
 use Rattle.shard_world.specs.Pumping.{EndsIdle, IsPosition, IsEndOfLog, InEach, ReachesEnd, TakesEnough, WantsMemory, WalksAll, TakesAll, PumpsAll, PumpsSome, PumpsThrough, Walks, all_bytes, on_clock, pump_events}
 use Rattle.shard_world.specs.World as w
-use Rattle.shard_world.specs.World.{Answer, Event, Peer, PeerEvent, Hear, Take, Keep, Deliver, Report, position_now, first_world, Source, source_in, position_of, log_in}
-use Rattle.shard_world.specs.WorldCalls.{IsWorld, Runs, RunsInto, world_book, world_checked, world_peers}
+use Rattle.shard_world.specs.World.{Answer, Event, Peer, PeerEvent, Hear, Take, Keep, Deliver, Report, position_now, first_world, StreamSource, source_in, position_of, log_in}
+use Rattle.shard_world.specs.WorldCalls.{IsWorld, Runs, RunsFrom, world_book, world_checked, world_peers}
 use Rattle.shard_world.specs.declared.world.World.{World}
 use Rattle.shard_world.proofs.AskingLemmas.{end_of_count, leads_asked}
 use Rattle.shard_world.proofs.EndSteps.{ends_at, now_end}
@@ -64,7 +64,7 @@ end_of_log before after subscriber position reaches at there most events world i
     end.is ∙ end.position_is
 
 -- a position that counts all commits, and isn't 0
-record IsPast (source : Source) (peer : Peer) : Type 0 where
+record IsPast (source : StreamSource) (peer : Peer) : Type 0 where
   all : length (log_in source) ≤ commits_before (position_now source peer)
   some : 1 ≤ position_now source peer
 
@@ -127,9 +127,9 @@ module _ (before between later after : World) (now subscriber : ℕ) (timed : no
   -- in the world after it
   told_past : (most : ℕ) (events : List (ℕ × Event)) (world : w.World)
       → subscriber < length (world_checked before).plan → IsWorld before most events world
-      → (heard : RunsInto before between most events world hearing hears.answers)
-      → (taken : RunsInto between later most (events ++ hearing) heard.next taking takes.walks.answers)
-      → (told : RunsInto later after most ((events ++ hearing) ++ taking) taken.next telling tells.answers)
+      → (heard : RunsFrom before between most events world hearing hears.answers)
+      → (taken : RunsFrom between later most (events ++ hearing) heard.next taking takes.walks.answers)
+      → (told : RunsFrom later after most ((events ++ hearing) ++ taking) taken.next telling tells.answers)
       → IsPast (source_in (world_checked before) world subscriber) (told.next.peers subscriber)
       × (told.next.transactions ≡ world.transactions)
   told_past most events world there is heard taken told =

@@ -23,11 +23,11 @@ use Rattle.test_subscriber.specs.declared.phase.Phase.{Phase}
 use Rattle.test_subscriber.specs.declared.phase.Phase.TheVariants.{Shut, Waiting, Idle, Busy}
 use Rattle.test_subscriber.specs.declared.subscriber.Subscriber.{Subscriber}
 use Rattle.test_subscriber.proofs.FeedingLemmas.{IsOpen, cut_open}
-use Rattle.shard_world.specs.Joined.{IsLinked, Speaks}
+use Rattle.shard_world.specs.Joined.{IsLinked, SendsStream}
 use Rattle.shard_world.specs.PeerSteps.{Case, peer_of, source_of}
 use Rattle.shard_world.specs.Refusals.{IsAnswered, HearsAreAnswered, KeepsAreAnswered, OpensAreAnswered, ReportsAreAnswered, TakesAreAnswered}
 use Rattle.shard_world.specs.World as w
-use Rattle.shard_world.specs.World.{Connection, state_of, spelled_up, down_of, log_in}
+use Rattle.shard_world.specs.World.{Connection, stream_state, spelled_up, down_of, log_in}
 use Rattle.shard_world.proofs.CaseLemmas.{is_open, is_shut}
 use Rattle.shard_world.proofs.JoinedPieces.{commits, connection, heard_all, heard_before, heard_is, linked, more, piece, start_view}
 use Rattle.shard_world.proofs.HeardStreams.{not_over}
@@ -49,7 +49,7 @@ pub keeps_are_answered : KeepsAreAnswered
 keeps_are_answered case slots old link stands some =
     let here = is_open case slots old link stands some in by_start here.c here.c.start here.linked.speaks
   where
-    by_start : (c : Connection) (start : Option ℕ) → Speaks (source_of case) link c.moves c.delivered start
+    by_start : (c : Connection) (start : Option ℕ) → SendsStream (source_of case) link c.moves c.delivered start
         → IsAnswered (keep_answer (link_stage link))
     by_start c None silent = record { value = false; is = ap keep_answer silent.stage_is }
     by_start c (Some start) streams = record { value = true; is = ap keep_answer streams.stage_is }
@@ -72,7 +72,7 @@ takes_are_answered case is slots old link stands some =
           is = refl;
         }
 
-    by_start : (c : Connection) (start : Option ℕ) → Speaks (source_of case) link c.moves c.delivered start
+    by_start : (c : Connection) (start : Option ℕ) → SendsStream (source_of case) link c.moves c.delivered start
         → IsAnswered (next_answer case.checked (link_stage link) (log_in (source_of case)))
     by_start c None silent =
         record {
@@ -81,7 +81,7 @@ takes_are_answered case is slots old link stands some =
               ap (λ stage. next_answer case.checked stage (log_in (source_of case))) silent.stage_is;
         }
     by_start c (Some start) streams =
-        let state = state_of (source_of case) start c.moves in
+        let state = stream_state (source_of case) start c.moves in
         subst (λ stage. IsAnswered (next_answer case.checked stage (log_in (source_of case)))) (sym streams.stage_is)
         (found state (slice_get (log_in (source_of case)) state.done) refl)
 

@@ -3,15 +3,15 @@ use Rattle.std.proofs.Common.{◌≡◌, ℕ, ◌+◌, ◌≤◌, List, [], ◌�
 use Rattle.std.specs.Prelude.{Option, Some, None, Ok, Err, min}
 use Rattle.std.proofs.lemmas.List.{take_at}
 use Rattle.tables_log.specs.declared.slots.Slot.{Slot}
-use Rattle.copy_frames.specs.Frames.{Cut, Rest, cut, after_frames}
+use Rattle.copy_frames.specs.Frames.{FrameCut, Rest, cut, after_frames}
 use Rattle.copy_frames.specs.declared.frame.Frame.{Frame}
-use Rattle.copy_both.specs.Streams.{Item, frame_in}
+use Rattle.copy_both.specs.Streams.{StreamItem, frame_in}
 use Rattle.copy_both.specs.Links.{link_output}
 use Rattle.copy_both.specs.declared.link.Link.{Link}
-use Rattle.test_subscriber.specs.Copies.{told}
+use Rattle.test_subscriber.specs.Copies.{sub_fault}
 use Rattle.test_subscriber.specs.Feeding.{limit, hear_frames, next_heard, StaysOf, StopsFor}
-use Rattle.test_subscriber.specs.Frames.{Heard, hear_cut, hear_frame, heard_then}
-use Rattle.test_subscriber.specs.Hearing.{Outcome}
+use Rattle.test_subscriber.specs.Frames.{MachineHeard, hear_cut, hear_frame, heard_then}
+use Rattle.test_subscriber.specs.Hearing.{MachineResult}
 use Rattle.test_subscriber.specs.Machine.{Alike, Machine, stopped}
 use Rattle.test_subscriber.specs.Subscribers.{SameNames, fed_cut, fed_heard, sub_held, sub_machine}
 use Rattle.test_subscriber.specs.declared.fault.SubFault.{SubFault}
@@ -19,7 +19,7 @@ use Rattle.test_subscriber.specs.declared.subscriber.Subscriber.{Subscriber}
 use Rattle.test_subscriber.proofs.FeedingLemmas.{hears_open}
 use Rattle.shard_world.specs.Connections.{front_of}
 use Rattle.shard_world.specs.Joined.{IsLinked, PeerOf}
-use Rattle.shard_world.specs.PeerSteps.{Case, Halts, HasStreamBy, IsCase, IsHalf, StandsIn, peer_of, source_of}
+use Rattle.shard_world.specs.PeerSteps.{Case, Halts, HasStreamBy, IsCase, IsHalf, MatchesPeer, peer_of, source_of}
 use Rattle.shard_world.specs.Refusals.{DeliverHalts, DeliversAreAnswered}
 use Rattle.shard_world.specs.World as w
 use Rattle.shard_world.specs.World.{Connection, as_many, delivers, down_items, down_of}
@@ -34,7 +34,7 @@ use Rattle.shard_world.proofs.RefusedSteps.{halts_with, stream_stays}
 
 -- ---- a machine that stopped after frames
 
-stays_on : (machine new : Machine) (outcome : Outcome) (frames : List Frame) (more : Cut)
+stays_on : (machine new : Machine) (outcome : MachineResult) (frames : List Frame) (more : FrameCut)
     → ((next : Machine) → StaysOf (hear_frames frames next) new → Alike new (stopped (hear_cut more next).machine))
     → StaysOf (next_heard outcome (hear_frames frames)) new
     → Alike new (stopped (heard_then machine outcome (hear_cut more)).machine)
@@ -54,7 +54,7 @@ pub as_part : (some count all done : ℕ) → some ≤ as_many count all done �
 as_part some count all done h = omega (arith, h)
 
 module _ (case : Case) (is : IsCase case) (slots : List Slot) (old : PeerOf) (link : Link) (count : ℕ)
-    (stands : StandsIn case slots old) (some : old.link ≡ Some link) where
+    (stands : MatchesPeer case slots old) (some : old.link ≡ Some link) where
   abbrev c : Connection
   c = (is_open case slots old link stands some).c
 
@@ -67,7 +67,7 @@ module _ (case : Case) (is : IsCase case) (slots : List Slot) (old : PeerOf) (li
   abbrev downs : List ℕ
   downs = down_of (source_of case) c
 
-  abbrev items : List Item
+  abbrev items : List StreamItem
   items = down_items (source_of case) c.start c.moves
 
   abbrev more : ℕ
@@ -82,7 +82,7 @@ module _ (case : Case) (is : IsCase case) (slots : List Slot) (old : PeerOf) (li
 
   no_fault : (fed_heard old.subscriber (front_of count (link_output link))).fault ≡ None
   no_fault =
-      ap (λ (heard : Heard). heard.fault)
+      ap (λ (heard : MachineHeard). heard.fault)
       (hears_open (sub_machine old.subscriber).phase (fed_cut old.subscriber (front_of count (link_output link)))
       (sub_machine old.subscriber)
       (linked_open case slots link old.subscriber c linked))
@@ -152,7 +152,7 @@ module _ (case : Case) (is : IsCase case) (slots : List Slot) (old : PeerOf) (li
 
 pub deliver_halts : DeliverHalts
 deliver_halts case is slots old link after count error stands some stops =
-    stopped_by case is slots old link count stands some after stops.cleared.names (told error) stops.machine
+    stopped_by case is slots old link count stands some after stops.cleared.names (sub_fault error) stops.machine
 
 pub delivers_are_answered : DeliversAreAnswered
 delivers_are_answered case is slots old link count stands some = no_fault case is slots old link count stands some

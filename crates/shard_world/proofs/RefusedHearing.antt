@@ -23,7 +23,7 @@ use Rattle.test_subscriber.specs.Machine.{opened}
 use Rattle.test_subscriber.specs.Subscribers.{sub_machine, sub_output}
 use Rattle.shard_world.specs.Connections.{front_of}
 use Rattle.shard_world.specs.Joined.{HasSlot, PeerOf, StaysAlike}
-use Rattle.shard_world.specs.PeerSteps.{Case, HasLog, IsCase, IsHalf, StandsIn, peer_of, source_of}
+use Rattle.shard_world.specs.PeerSteps.{Case, HasLog, IsCase, IsHalf, MatchesPeer, peer_of, source_of}
 use Rattle.shard_world.specs.Refusals.{HaltsOn, HearHalts}
 use Rattle.shard_world.specs.World as w
 use Rattle.shard_world.specs.World.{Connection, Session, down_bytes, heard_of, hears, newly, up_frame, ups_of, down_of}
@@ -85,7 +85,7 @@ same_down case c session extra within goes_on moves_are = by_start c.start refl
 
 module _ (case : Case) (is : IsCase case) (before after : Book) (old : PeerOf) (link : Link) (count : ℕ)
     (log : HasLog case before)
-    (stands : StandsIn case (book_slots before) old) (some : old.link ≡ Some link) where
+    (stands : MatchesPeer case (book_slots before) old) (some : old.link ≡ Some link) where
   abbrev c : Connection
   c = ear.connection case is before after old link count log stands some
 

@@ -17,7 +17,7 @@ use Rattle.shard_world.specs.Joined.{AlikeBut, HasSlot, IsAt, IsLinked, PeerIs, 
 use Rattle.shard_world.specs.PeerSteps.{Case, Halts, HasStream, HasStreamBy, IsHalf, IsOwnStream, before_loss, peer_of, source_of}
 use Rattle.shard_world.specs.Refusals.{KeepHalts, LossBreaks, OpenBreaks, OpenStays, ReportHalts, StepBreaks, TakeHalts}
 use Rattle.shard_world.specs.World as w
-use Rattle.shard_world.specs.World.{Connection, PeerEvent, machine_in, machine_now, broken}
+use Rattle.shard_world.specs.World.{Connection, PeerEvent, connection_machine, machine_now, broken}
 use Rattle.shard_world.proofs.CaseLemmas.{is_open, is_shut}
 use Rattle.shard_world.proofs.JoinedSteps.{still_named}
 use Rattle.shard_world.proofs.SlotLemmas.{others_stay, streams_slot}
@@ -33,10 +33,10 @@ stays_lost old new machine alike loses = record {
 }
 
 pub stays_now : (case : Case) (c : Connection) → (peer_of case).connection ≡ Some c → (machine : Machine)
-    → AlikeBut machine (machine_in (source_of case) (peer_of case) (Some c))
+    → AlikeBut machine (connection_machine (source_of case) (peer_of case) (Some c))
     → StaysAlike machine (machine_now (source_of case) (peer_of case))
 stays_now case c some machine alike =
-    subst (λ connection. StaysAlike machine (machine_in (source_of case) (peer_of case) connection)) (sym some)
+    subst (λ connection. StaysAlike machine (connection_machine (source_of case) (peer_of case) connection)) (sym some)
     (record { position = alike.position; kept = alike.kept; rows = alike.rows })
 
 pub own_stream : (number : ℕ) (start : Option ℕ) → IsOwnStream number (stream_of number start)
@@ -183,7 +183,7 @@ module _ (case : Case) (event : PeerEvent) (some : ℕ) (before after : List Slo
     named = still_named case old new half.named loses.cleared.names;
     at = subst (IsAt (source_of case) after None new (peer_of case)) (sym e) (record {
       machine = subst (λ connection. StaysAlike (sub_machine new)
-          (machine_in (source_of case) (peer_of case) connection)) e
+          (connection_machine (source_of case) (peer_of case) connection)) e
           (stays_lost old new (machine_now (source_of case) (peer_of case)) half.machine loses);
       slot = slot;
     });

@@ -4,7 +4,7 @@ use Rattle.std.proofs.lemmas.List.{append-nil}
 use Rattle.shard_checker.specs.CheckedView.{CheckedOf}
 use Rattle.shard_world.specs.World as w
 use Rattle.shard_world.specs.World.{Answer, Event, Steps}
-use Rattle.shard_world.specs.WorldCalls.{IsWorld, StepsInto, StepsOn, Runs, RunsInto, RunsOn, world_checked}
+use Rattle.shard_world.specs.WorldCalls.{IsWorld, StepsFrom, StepsFromEach, Runs, RunsFrom, RunsFromEach, world_checked}
 use Rattle.shard_world.specs.declared.world.World.{World}
 
 runs_one_more : (checked : CheckedOf) (most : ℕ) (asked : List (ℕ × Event)) (answers : List Answer)
@@ -18,7 +18,7 @@ runs_one_more checked most (first ∷ asked) (one ∷ answers) world between nex
 runs_one_more checked most [] (one ∷ answers) world between next event answer runs steps = absurd runs
 runs_one_more checked most (first ∷ asked) [] world between next event answer runs steps = absurd runs
 
-pub runs_none : (world : World) → RunsOn world world [] []
+pub runs_none : (world : World) → RunsFromEach world world [] []
 runs_none code most events world is = record {
   next = world;
   runs = refl;
@@ -27,11 +27,12 @@ runs_none code most events world is = record {
 }
 
 pub runs_more : (before between after : World) (asked : List (ℕ × Event)) (answers : List Answer) (now : ℕ)
-    (event : Event) (answer : Answer) → RunsOn before between asked answers
-    → StepsOn between after now event answer → RunsOn before after (asked ++ (now, event) ∷ []) (answers ++ answer ∷ [])
+    (event : Event) (answer : Answer) → RunsFromEach before between asked answers
+    → StepsFromEach between after now event answer
+    → RunsFromEach before after (asked ++ (now, event) ∷ []) (answers ++ answer ∷ [])
 runs_more before between after asked answers now event answer runs steps most events world is =
-    let first : RunsInto before between most events world asked answers = runs most events world is in
-    let then : StepsInto between after most (events ++ asked) first.next now event answer =
+    let first : RunsFrom before between most events world asked answers = runs most events world is in
+    let then : StepsFrom between after most (events ++ asked) first.next now event answer =
     steps most (events ++ asked) first.next first.is in
     record {
       next = then.next;

@@ -10,7 +10,7 @@ use Rattle.pgoutput_msgs.specs.declared.message.Msg.{Msg}
 use Rattle.pgoutput_msgs.specs.declared.message.Msg.TheVariants as m
 use Rattle.copy_both.specs.Streams as s
 use Rattle.copy_both.specs.StreamLaws.{AllThere}
-use Rattle.copy_both.specs.Streams.{Item, Response, Carries, Alive, frame_in, StreamStateOf, Move, state_at, state_after, taken_state, moved, all_moved, head_of, take_items, keep_item, all_items, stream_items}
+use Rattle.copy_both.specs.Streams.{StreamItem, Response, Carries, Alive, frame_in, StreamStateOf, Move, state_at, state_after, taken_state, moved, all_moved, head_of, take_items, keep_item, all_items, stream_items}
 use Rattle.copy_both.specs.Tellings.{telling_of}
 use Rattle.copy_frames.specs.Frames.{framed}
 use Rattle.stream_laws.specs.Cutting.{if_whole, whole_in}
@@ -20,7 +20,7 @@ use Rattle.filter_tree.proofs.Tests.{by_test}
 
 -- ---- items that report no more than a position
 
-abbrev pub IsWithinItem : ℕ → Item → Type 0
+abbrev pub IsWithinItem : ℕ → StreamItem → Type 0
 IsWithinItem most Response = Unit {0}
 IsWithinItem most (Carries head message) = TellsBy (λ end. end ≤ most) message
 IsWithinItem most (Alive keepalive) = keepalive.position ≤ most
@@ -35,25 +35,26 @@ message_within most position (m.Update relation old new) tells h = h
 message_within most position (m.Delete relation old) tells h = h
 message_within most position (m.Truncate options relations) tells h = h
 
-item_within : (most position : ℕ) (item : Item) → IsWithinItem most item → position ≤ most
+item_within : (most position : ℕ) (item : StreamItem) → IsWithinItem most item → position ≤ most
     → raised_by position item ≤ most
 item_within most position Response tells h = h
 item_within most position (Carries head message) tells h = message_within most position message tells h
 item_within most position (Alive keepalive) tells h = omega (arith, tells, h)
 
-items_within : (most position : ℕ) (items : List Item) → All (IsWithinItem most) items → position ≤ most
+items_within : (most position : ℕ) (items : List StreamItem) → All (IsWithinItem most) items → position ≤ most
     → position_after position items ≤ most
 items_within most position [] all h = h
 items_within most position (item ∷ items) all h =
     items_within most (raised_by position item) items (All-tail (IsWithinItem most) item items all)
     (item_within most position item (All-head (IsWithinItem most) item items all) h)
 
-if_within : (P : Item → Type 0) (whole : Bool) (item : Item) (others : List Item) → P item → All P others
-    → All P (if_whole whole item others)
+if_within : (P : StreamItem → Type 0) (whole : Bool) (item : StreamItem) (others : List StreamItem) → P item
+    → All P others → All P (if_whole whole item others)
 if_within P true item others here later = All-cons P item others here later
 if_within P false item others here later = All-nil P
 
-whole_within : (P : Item → Type 0) (count : ℕ) (items : List Item) → All P items → All P (whole_in count items)
+whole_within : (P : StreamItem → Type 0) (count : ℕ) (items : List StreamItem) → All P items
+    → All P (whole_in count items)
 whole_within P count [] all = All-nil P
 whole_within P count (item ∷ items) all =
     if_within P (nat_le (length (framed (frame_in item))) count) item
@@ -92,7 +93,7 @@ module _ (checked : CheckedOf) (log : List CommitOf)
       let later = all_sent moves (moved (telling_of checked) log state move) here.sent in
       record { sent = later.sent; more = le_trans here.more later.more }
 
-  carried_within : (most number clock : ℕ) (messages : List Msg) (rest : List Item)
+  carried_within : (most number clock : ℕ) (messages : List Msg) (rest : List StreamItem)
       → All (TellsBy (λ end. end ≤ most)) messages → All (IsWithinItem most) rest
       → All (IsWithinItem most) (map (Carries (head_of number clock)) messages ++ rest)
   carried_within most number clock [] rest all later = later
@@ -153,7 +154,7 @@ pub reached_is_sent : (checked : CheckedOf) (log : List CommitOf)
     (all_moved (telling_of checked) log (state_at subscriber (length checked.catalog.tables) position) moves).sent
 reached_is_sent checked log numbered subscriber position moves count =
     let state = state_at subscriber (length checked.catalog.tables) position in
-    let items : List Item = all_items (telling_of checked) log state moves in
+    let items : List StreamItem = all_items (telling_of checked) log state moves in
     let first = first_sent_place subscriber (length checked.catalog.tables) position in
     let last = all_sent checked log numbered moves state first in
     let most = (all_moved (telling_of checked) log state moves).sent in

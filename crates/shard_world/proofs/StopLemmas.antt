@@ -19,7 +19,7 @@ use Rattle.test_subscriber.specs.declared.fault.SubFault.{SubFault}
 use Rattle.test_subscriber.specs.declared.subscriber.Subscriber.{Subscriber}
 use Rattle.shard_world.specs.Connections.{front_of}
 use Rattle.shard_world.specs.Joined.{PeerOf, PeerIs, IsAt}
-use Rattle.shard_world.specs.PeerCalls.{Makes, IsStopped, Stops, LosesIfThere, Drops, Moves}
+use Rattle.shard_world.specs.PeerCalls.{MakesFromEach, IsStopped, StopsFromEach, LosesIfThere, Drops, MovesFromEach}
 use Rattle.shard_world.specs.PeerSteps.{Case, ChangesOwn, Halts, peer_of, source_of}
 use Rattle.shard_world.specs.Refusals.{BreaksOn, HaltsOn}
 use Rattle.shard_world.specs.World as w
@@ -35,7 +35,7 @@ use Rattle.shard_world.proofs.RefusedSteps.{open_stays, open_breaks, take_halts,
 -- ---- open
 
 pub open_stays_shut : (checked : CheckedOf) (now : ℕ) (book : Book) (old : PeerOf) → old.link ≡ None
-    → Stops checked now Open book book old old
+    → StopsFromEach checked now Open book book old old
 open_stays_shut checked now book old none case stands = record {
   needed = open_needs case (book_slots book) old stands.peer none;
   stopped = subst (IsStopped case Open book book old) (sym none)
@@ -44,7 +44,7 @@ open_stays_shut checked now book old none case stands = record {
 
 pub open_is_refused : (checked : CheckedOf) (now : ℕ) (book : Book) (old : PeerOf) (after : Subscriber)
     → old.link ≡ None → Loses old.subscriber after
-    → Stops checked now Open book book old (record { link = old.link; subscriber = after })
+    → StopsFromEach checked now Open book book old (record { link = old.link; subscriber = after })
 open_is_refused checked now book old after none loses case stands = record {
   needed = open_needs case (book_slots book) old stands.peer none;
   stopped = subst (λ link. IsStopped case Open book book (record { link = link; subscriber = after }) link) (sym none)
@@ -65,7 +65,7 @@ pub take_stops : (checked : CheckedOf) (now : ℕ) (book : Book) (old : PeerOf) 
     → old.link ≡ Some link → LinkCloses link new
     → TellsFault (told_fault error) (next_answer (link_checked link) (link_stage link) (book_log book))
     → (error ≡ fault.OutOfMemory → HasNext (link_stage link) (book_log book))
-    → Stops checked now Take book book old (record { link = Some new; subscriber = old.subscriber })
+    → StopsFromEach checked now Take book book old (record { link = Some new; subscriber = old.subscriber })
 take_stops checked now book old link new error some closes told memory case stands = record {
   needed =
       let answered = takes_are_answered case stands.is (book_slots book) old link stands.peer some in
@@ -83,7 +83,7 @@ pub keep_stops : (checked : CheckedOf) (now : ℕ) (book : Book) (old : PeerOf) 
     (error : LinkFault) → old.link ≡ Some link → LinkCloses link new
     → TellsFault (told_fault error) (keep_answer (link_stage link))
     → (error ≡ fault.OutOfMemory → IsStarted (link_stage link))
-    → Stops checked now (Keep want) book book old (record { link = Some new; subscriber = old.subscriber })
+    → StopsFromEach checked now (Keep want) book book old (record { link = Some new; subscriber = old.subscriber })
 keep_stops checked now book old link new want error some closes told memory case stands = record {
   needed = keep_needs case (book_slots book) old link want stands.peer some
       (memory (only_memory error (keep_answer (link_stage link)) told
@@ -94,7 +94,7 @@ keep_stops checked now book old link new want error some closes told memory case
 
 pub report_stops : (checked : CheckedOf) (now : ℕ) (book : Book) (old : PeerOf) (link : Link) (after : Subscriber)
     (want : Bool) → old.link ≡ Some link → Loses old.subscriber after
-    → Stops checked now (Report want) book book old (record { link = old.link; subscriber = after })
+    → StopsFromEach checked now (Report want) book book old (record { link = old.link; subscriber = after })
 report_stops checked now book old link after want some loses case stands = record {
   needed = report_needs case (book_slots book) old link want stands.peer some;
   stopped = subst (IsStopped case (Report want) book book (record { link = old.link; subscriber = after })) (sym some)
@@ -108,7 +108,7 @@ pub hear_stops : (checked : CheckedOf) (now : ℕ) (before after : Book) (old : 
     → TellsFault (told_fault error) (hear_answer (link_ear link) before piece (link_sent link))
     → HearLeaves (ear_phase (link_ear link)) (link_ear link) (link_ear new) before after piece (link_sent link)
     (Err error)
-    → Stops checked now (Hear count) before after old (record { link = Some new; subscriber = old.subscriber })
+    → StopsFromEach checked now (Hear count) before after old (record { link = Some new; subscriber = old.subscriber })
 hear_stops checked now before after old link new count error piece some is told leaves case stands = record {
   needed = hear_needs case (book_slots before) old link count stands.peer some;
   stopped = hear_halts case stands.is before after old link count stands.log stands.peer some new error
@@ -120,7 +120,7 @@ hear_stops checked now before after old link new count error piece some is told 
 pub deliver_stops : (checked : CheckedOf) (now : ℕ) (book : Book) (old : PeerOf) (link : Link) (after : Subscriber)
     (count : ℕ) (error : SubFault) (piece : List ℕ) → old.link ≡ Some link
     → piece ≡ front_of count (link_output link) → FeedStops old.subscriber piece error after
-    → Stops checked now (Deliver count) book book old (record { link = Some link; subscriber = after })
+    → StopsFromEach checked now (Deliver count) book book old (record { link = Some link; subscriber = after })
 deliver_stops checked now book old link after count error piece some is fed case stands = record {
   needed = deliver_needs case (book_slots book) old link count stands.peer some;
   stopped = halts_so case (Deliver count) book (record { link = Some link; subscriber = after })
@@ -187,8 +187,8 @@ module _ (case : Case) (event : PeerEvent) (before between after : Book) (subscr
       record { breaks = broke.breaks; own = own_then case.number before between after stopped.own broke.own }
 
 pub drops_connection : (checked : CheckedOf) (now : ℕ) (event : PeerEvent) (before between after : Book)
-    (old middle new : PeerOf) → Stops checked now event before between old middle
-    → Drops middle new between after → Moves checked now event before after old new w.OutOfMemory
+    (old middle new : PeerOf) → StopsFromEach checked now event before between old middle
+    → Drops middle new between after → MovesFromEach checked now event before after old new w.OutOfMemory
 drops_connection checked now event before between after old middle new stops drops case stands = inr (record {
   needed = (stops case stands).needed;
   answer_is = refl;
@@ -199,6 +199,6 @@ drops_connection checked now event before between after old middle new stops dro
 })
 
 pub makes_moves : (checked : CheckedOf) (now : ℕ) (event : PeerEvent) (before after : Book) (old new : PeerOf)
-    (answer : Answer) → Makes checked now event before after old new answer
-    → Moves checked now event before after old new answer
+    (answer : Answer) → MakesFromEach checked now event before after old new answer
+    → MovesFromEach checked now event before after old new answer
 makes_moves checked now event before after old new answer makes case stands = inl (makes case stands)

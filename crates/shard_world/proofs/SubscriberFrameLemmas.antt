@@ -11,11 +11,11 @@ use Rattle.tables_log.specs.declared.slots.Slot.{Slot}
 use Rattle.copy_frames.proofs.ContentLemmas.{status_is_read}
 use Rattle.copy_frames.specs.declared.status.Status.{Status}
 use Rattle.copy_both.specs.Events.{read_event}
-use Rattle.copy_both.specs.Hearing.{HearingOf, Served, Begins, begun, one_more, confirmed_by, event_heard, next_heard, unless_over, frame_heard, frames_heard, is_over}
+use Rattle.copy_both.specs.Hearing.{HearingOf, ServedFrom, Begins, begun, one_more, confirmed_by, event_heard, next_heard, unless_over, frame_heard, frames_heard, is_over}
 use Rattle.copy_both.specs.Streams.{Move, Keep}
 use Rattle.stream_laws.specs.Asking.{CanAsk}
 use Rattle.shard_world.specs.SubscriberFrames.{start_in, session_of, IsBegun, IsHearing, IsWithin, IsHeard, StartsAreHeard, StatusesAreHeard}
-use Rattle.shard_world.specs.World.{Asks, Says, Session, start_at, replied, hear_up, up_frame}
+use Rattle.shard_world.specs.World.{Asks, Says, Session, start_at, replies_to, hear_up, up_frame}
 use Rattle.shard_world.specs.Joined.{HasSlot}
 use Rattle.shard_world.proofs.SlotLemmas.{others_stay, raised_slot}
 use Rattle.stream_laws.proofs.StartAnswered.{starts_are_answered}
@@ -54,13 +54,13 @@ session confirmed start moves = record { confirmed = confirmed; start = start; m
 
 replies_more : (wants : Bool) (replies now : ℕ) (moves : List Move)
     → moves ++ replicate (one_more wants replies) (Keep now false) ≡ (moves ++ replicate replies (Keep now false))
-    ++ replied wants now
+    ++ replies_to wants now
 replies_more false replies now moves = sym (append-nil (moves ++ replicate replies (Keep now false)))
 replies_more true replies now moves =
     ap (λ more. moves ++ more) (sym (replicate-append-replicate replies 1 (Keep now false)))
     ∙ sym (append_assoc moves (replicate replies (Keep now false)) (Keep now false ∷ []))
 
-module _ (served : Served) (subscriber start now : ℕ) (moves : List Move) where
+module _ (served : ServedFrom) (subscriber start now : ℕ) (moves : List Move) where
   abbrev after : Status → HearingOf → HearingOf
   after status h = confirmed_by false subscriber status h
 
@@ -121,7 +121,7 @@ statuses_are_heard served subscriber start now moves statuses h hearing is withi
 
 -- ---- the start
 
-pub start_step : (served : Served) (subscriber position : ℕ) (subscription : Subscription) (h : HearingOf)
+pub start_step : (served : ServedFrom) (subscriber position : ℕ) (subscription : Subscription) (h : HearingOf)
     → CanAsk served.checked.catalog subscriber subscription → position < 2 ^ 64
     → start_fault h.slots (end_after served.commits) subscriber position ≡ None → is_over h ≡ false → h.started ≡ None
     → frame_heard served h (up_frame served.checked subscriber (Asks position))
@@ -186,7 +186,7 @@ slots_both number first second last one two = record {
   own = λ confirmed taken has. two.own (one.own confirmed taken has).confirmed taken (one.own confirmed taken has).has;
 }
 
-module _ (served : Served) (subscriber start now : ℕ) (moves : List Move) where
+module _ (served : ServedFrom) (subscriber start now : ℕ) (moves : List Move) where
   pub statuses_go : (statuses : List Status) (h : HearingOf) → IsHearing subscriber h
       → h.started ≡ Some (subscriber, start)
       → All (IsWithin (min h.sent (end_after served.commits))) statuses

@@ -28,7 +28,7 @@ use Rattle.shard_world.specs.Joined.{PeerOf, PeerIs, IsAt, StaysAlike}
 use Rattle.shard_world.specs.ViewContents.{AllAt, FoundIn, FoundBy, IsSeen, SeenAt, AreSeen}
 use Rattle.shard_world.specs.ViewMeaning.{AreRows, ShowsSubscriber, ShowsWorld, is_let_through, tables_after}
 use Rattle.shard_world.specs.World as w
-use Rattle.shard_world.specs.World.{Connection, Event, machine_in, machine_now, position_now, source_in, position_of, machine_of}
+use Rattle.shard_world.specs.World.{Connection, Event, connection_machine, machine_now, position_now, source_in, position_of, machine_of}
 use Rattle.shard_world.specs.Pumping.{IsPosition}
 use Rattle.shard_world.specs.WorldCalls.{PeerAt, IsWorldBy, world_book, world_checked, world_peers}
 use Rattle.shard_world.specs.declared.world.World.{World}
@@ -146,10 +146,10 @@ module _ (checked : CheckedOf) (most : ℕ) (book : Book) (peers : List PeerOf) 
           → StaysAlike (sub_machine code.subscriber) (machine_of checked world number)
       by_link None None e at =
           subst (λ its. StaysAlike (sub_machine code.subscriber)
-          (machine_in (source_in checked world number) (world.peers number) its)) (sym e) at.machine
+          (connection_machine (source_in checked world number) (world.peers number) its)) (sym e) at.machine
       by_link (Some link) (Some c) e at =
           subst (λ its. StaysAlike (sub_machine code.subscriber)
-          (machine_in (source_in checked world number) (world.peers number) its)) (sym e)
+          (connection_machine (source_in checked world number) (world.peers number) its)) (sym e)
           (record { position = at.machine.position; kept = at.machine.kept; rows = at.machine.rows })
       by_link None (Some c) e at = absurd at
       by_link (Some link) None e at = absurd at

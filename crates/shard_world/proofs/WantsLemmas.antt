@@ -3,7 +3,7 @@ use Rattle.std.proofs.Common.{◌≡◌, ℕ, Bool, List, [], ◌∷◌, length,
 use Rattle.std.specs.Prelude.{Option, Some, None, Result, Ok, Err, ◌==◌, slice_index}
 use Rattle.std.specs.Str.{bytes_eq}
 use Rattle.copy_frames.specs.Contents.{xlog_data_in, keepalive_in}
-use Rattle.copy_frames.specs.Frames.{Cut, Rest, Bad, Then}
+use Rattle.copy_frames.specs.Frames.{FrameCut, Rest, Bad, Then}
 use Rattle.copy_frames.specs.declared.frame.Frame.{Frame}
 use Rattle.copy_frames.specs.declared.keepalive.Keepalive.{Keepalive}
 use Rattle.copy_frames.specs.declared.xlog_data.XLogData.{XLogData}
@@ -13,8 +13,8 @@ use Rattle.pgoutput_msgs.specs.declared.message.Msg.{Msg}
 use Rattle.pgoutput_msgs.specs.declared.message.Msg.TheVariants as m
 use Rattle.pgoutput_msgs.specs.declared.relation.Relation.{Relation}
 use Rattle.test_subscriber.specs.Answers.{SameOutcome}
-use Rattle.test_subscriber.specs.Frames.{Heard, heard_then, hear_cut, hear_response, hear_start, hear_stream, hear_content, hear_data, hear_decoded, hear_keepalive, hear_frame_in, hear_frame}
-use Rattle.test_subscriber.specs.Hearing.{Outcome, Change, table_of, change_of, change_in, staged, learn_as, learn_new, hear_commit, hear_in, hear, hear_truncate, hear_empty, empty_rest, emptied}
+use Rattle.test_subscriber.specs.Frames.{MachineHeard, heard_then, hear_cut, hear_response, hear_start, hear_stream, hear_content, hear_data, hear_decoded, hear_keepalive, hear_frame_in, hear_frame}
+use Rattle.test_subscriber.specs.Hearing.{MachineResult, RowsChange, known_shape, changed_rows, change_in, staged, learn_as, learn_new, hear_commit, hear_in, hear, hear_truncate, hear_empty, empty_rest, without_rows}
 use Rattle.test_subscriber.specs.Machine.{Machine, Alike}
 use Rattle.test_subscriber.specs.RowChanges.{Found}
 use Rattle.test_subscriber.specs.SameRelation.{same_relation}
@@ -32,7 +32,7 @@ with_wants wants machine = record machine { wants_reply = wants }
 
 -- ---- messages
 
-abbrev then_wants : Bool → Outcome → Outcome
+abbrev then_wants : Bool → MachineResult → MachineResult
 then_wants wants (Ok machine) = Ok (with_wants wants machine)
 then_wants wants (Err fault) = Err fault
 
@@ -42,17 +42,17 @@ module _ (wants : Bool) where
   staged_wants machine oid (Ok found) = refl
   staged_wants machine oid (Err fault) = refl
 
-  change_of_wants : (shape : Option TableShape) (found : Found) (oid : ℕ) (change : Change) (machine : Machine)
-      → change_of shape found oid change (with_wants wants machine)
-      ≡ then_wants wants (change_of shape found oid change machine)
+  change_of_wants : (shape : Option TableShape) (found : Found) (oid : ℕ) (change : RowsChange) (machine : Machine)
+      → changed_rows shape found oid change (with_wants wants machine)
+      ≡ then_wants wants (changed_rows shape found oid change machine)
   change_of_wants None found oid change machine = refl
   change_of_wants (Some shape) found oid change machine = staged_wants machine oid (change shape found)
 
-  change_wants : (oid : ℕ) (change : Change) (machine : Machine)
+  change_wants : (oid : ℕ) (change : RowsChange) (machine : Machine)
       → change_in oid change (with_wants wants machine) ≡ then_wants wants (change_in oid change machine)
-  change_wants oid change machine = change_of_wants (table_of machine oid) (machine.work oid) oid change machine
+  change_wants oid change machine = change_of_wants (known_shape machine oid) (machine.work oid) oid change machine
 
-  rest_wants : (oids : List ℕ) (outcome : Outcome)
+  rest_wants : (oids : List ℕ) (outcome : MachineResult)
       → ((machine : Machine)
       → hear_truncate oids (with_wants wants machine) ≡ then_wants wants (hear_truncate oids machine))
       → empty_rest (then_wants wants outcome) (hear_truncate oids)
@@ -65,7 +65,7 @@ module _ (wants : Bool) where
   unfolding hear_truncate
   truncate_wants [] machine = refl
   truncate_wants (oid ∷ oids) machine =
-      ap (λ outcome. empty_rest outcome (hear_truncate oids)) (change_wants oid emptied machine)
+      ap (λ outcome. empty_rest outcome (hear_truncate oids)) (change_wants oid without_rows machine)
       ∙ rest_wants oids (hear_empty oid machine) (λ next. truncate_wants oids next)
 
   learn_wants : (shape : Option TableShape) (oid : ℕ) (machine : Machine)
@@ -105,7 +105,7 @@ module _ (wants : Bool) where
 
 -- ---- outcomes
 
-abbrev pub SameBut : Outcome → Outcome → Type 0
+abbrev pub SameBut : MachineResult → MachineResult → Type 0
 SameBut (Ok one) (Ok other) = AlikeBut one other
 SameBut (Err one) (Err other) = one ≡ other
 SameBut one other = ⊥
@@ -121,7 +121,7 @@ alike_self machine = record {
       λ oid key. refl;
 }
 
-same_wants : (wants : Bool) (outcome : Outcome) → SameBut (then_wants wants outcome) outcome
+same_wants : (wants : Bool) (outcome : MachineResult) → SameBut (then_wants wants outcome) outcome
 same_wants wants (Ok machine) =
     record {
       phase = refl;
@@ -134,7 +134,7 @@ same_wants wants (Ok machine) =
     }
 same_wants wants (Err fault) = refl
 
-pub same_then : (one other last : Outcome) → SameOutcome one other → SameBut other last → SameBut one last
+pub same_then : (one other last : MachineResult) → SameOutcome one other → SameBut other last → SameBut one last
 same_then (Ok one) (Ok other) (Ok last) first second = record {
   phase = first.phase ∙ second.phase;
   position = first.position ∙ second.position;
@@ -232,11 +232,11 @@ frame_but frame one other alike =
 
 -- ---- bytes that are cut into frames
 
-pub record HeardBut (one other : Heard) : Type 0 where
+pub record HeardBut (one other : MachineHeard) : Type 0 where
   pub fault : one.fault ≡ other.fault
   pub machine : AlikeBut one.machine other.machine
 
-then_but : (one other : Machine) (left right : Outcome) (more : Machine → Heard) → AlikeBut one other
+then_but : (one other : Machine) (left right : MachineResult) (more : Machine → MachineHeard) → AlikeBut one other
     → SameBut left right
     → ((a b : Machine) → AlikeBut a b → HeardBut (more a) (more b))
     → HeardBut (heard_then one left more) (heard_then other right more)
@@ -245,7 +245,8 @@ then_but one other (Err left) (Err right) more alike same later = record { fault
 then_but one other (Ok left) (Err right) more alike same later = absurd same
 then_but one other (Err left) (Ok right) more alike same later = absurd same
 
-pub cut_but : (cut : Cut) (one other : Machine) → AlikeBut one other → HeardBut (hear_cut cut one) (hear_cut cut other)
+pub cut_but : (cut : FrameCut) (one other : Machine) → AlikeBut one other
+    → HeardBut (hear_cut cut one) (hear_cut cut other)
 cut_but (Rest bytes) one other alike = record { fault = refl; machine = alike }
 cut_but (Bad fault bytes) one other alike = record { fault = refl; machine = alike }
 cut_but (Then frame more) one other alike =

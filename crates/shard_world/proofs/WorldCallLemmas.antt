@@ -20,9 +20,9 @@ use Rattle.test_subscriber.specs.Machine.{opened}
 use Rattle.test_subscriber.specs.Subscribers.{sub_machine}
 use Rattle.test_subscriber.specs.declared.subscriber.Subscriber.{Subscriber}
 use Rattle.stream_laws.specs.Following.{log_of}
-use Rattle.shard_world.specs.Joined.{PeerOf, PeerIs, IsAt, IsLinked, AlikeBut, Speaks, run_of}
+use Rattle.shard_world.specs.Joined.{PeerOf, PeerIs, IsAt, IsLinked, AlikeBut, SendsStream, run_of}
 use Rattle.shard_world.specs.World as w
-use Rattle.shard_world.specs.World.{Connection, Event, Answer, Steps, Leads, down_bytes, state_of, Source, log_in}
+use Rattle.shard_world.specs.World.{Connection, Event, Answer, Steps, Leads, down_bytes, stream_state, StreamSource, log_in}
 use Rattle.shard_world.proofs.WorldHearing.{down_longer}
 use Rattle.shard_world.proofs.WorldItems.{log_goes_on, with_more}
 use Rattle.shard_world.proofs.WorldPeers.{StartsAt, IsConnected, IsConnectedAt, IsGood}
@@ -40,7 +40,7 @@ leads_one_more checked most (one ∷ events) first world now event answer next l
 
 -- ---- another slot changes
 
-module _ (source : Source) (before after : List Slot)
+module _ (source : StreamSource) (before after : List Slot)
     (same : slice_get after source.number ≡ slice_get before source.number) where
   at_elsewhere : (link : Option Link) (subscriber : Subscriber) (peer : w.Peer) (connection : Option Connection)
       → IsAt source before link subscriber peer connection
@@ -66,7 +66,7 @@ module _ (source : Source) (before after : List Slot)
 
 -- ---- the log grows
 
-module _ (source : Source) (more : List Transaction) (position : ℕ) where
+module _ (source : StreamSource) (more : List Transaction) (position : ℕ) where
   abbrev IsThereAt : List Move → Type 0
   IsThereAt moves = AllThere (telling_of source.checked) (log_in source)
       (state_at source.number (length source.checked.catalog.tables) position) moves
@@ -76,7 +76,7 @@ module _ (source : Source) (more : List Transaction) (position : ℕ) where
   bytes_longer start at moves there = ap (flat_map spelled) (down_longer source more position start at moves there)
 
   state_longer : (start : ℕ) → start ≡ position → (moves : List Move) → IsThereAt moves
-      → state_of (with_more source more) start moves ≡ state_of source start moves
+      → stream_state (with_more source more) start moves ≡ stream_state source start moves
   state_longer start at moves there =
       let on = log_goes_on source.checked source.transactions more in
       ap (λ log. all_moved (telling_of source.checked) log
@@ -91,11 +91,11 @@ module _ (source : Source) (more : List Transaction) (position : ℕ) where
 
   speaks_longer : (link : Link) (moves : List Move) (delivered : ℕ) → IsThereAt moves → (start : Option ℕ)
       → StartsAt position start
-      → Speaks source link moves delivered start → Speaks (with_more source more) link moves delivered start
+      → SendsStream source link moves delivered start → SendsStream (with_more source more) link moves delivered start
   speaks_longer link moves delivered there None at speaks = speaks
   speaks_longer link moves delivered there (Some start) at speaks =
       let on = log_goes_on source.checked source.transactions more in
-      let state : StreamStateOf = state_of source start moves in
+      let state : StreamStateOf = stream_state source start moves in
       let grown : IsStreaming link
       (run_with start moves (log_in source ++ on.others) (take delivered (down_bytes source (Some start) moves)))
       state =
@@ -109,7 +109,7 @@ module _ (source : Source) (more : List Transaction) (position : ℕ) where
       (run_with start moves log (take delivered (down_bytes source (Some start) moves))) state) (sym on.is)
       grown))
 
-module _ (source : Source) (more : List Transaction) where
+module _ (source : StreamSource) (more : List Transaction) where
   linked_longer : (slots : List Slot) (link : Link) (subscriber : Subscriber) (peer : w.Peer) (reached : ℕ)
       (c : Connection) → IsConnected source peer.position peer.confirmed reached c
       → IsLinked source slots link subscriber peer c → IsLinked (with_more source more) slots link subscriber peer c

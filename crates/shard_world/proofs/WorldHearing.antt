@@ -13,7 +13,7 @@ use Rattle.copy_both.proofs.StreamLemmas.{items_longer, all_there_longer}
 use Rattle.copy_frames.specs.declared.status.Status.{Status}
 use Rattle.stream_laws.specs.Cutting.{if_whole, whole_in}
 use Rattle.stream_laws.specs.Following.{position_after}
-use Rattle.shard_world.specs.World.{Up, Asks, Says, Connection, Peer, Session, down_items, position_in, position_now, spelled_up, whole_up, ups_of, start_at, replied, hear_up, newly, heard_of, hears, Source, log_in}
+use Rattle.shard_world.specs.World.{Up, Asks, Says, Connection, Peer, Session, down_items, connection_position, position_now, spelled_up, whole_up, ups_of, start_at, replies_to, hear_up, newly, heard_of, hears, StreamSource, log_in}
 use Rattle.stream_laws.proofs.FollowingBytesLemmas.{follows_longer}
 use Rattle.shard_world.proofs.WorldItems.{none_in_nothing, log_goes_on, with_more}
 use Rattle.shard_world.proofs.WorldPeers.{StartsAt, IsReported, IsConnected, IsConnectedAt, IsGood, moves_connected}
@@ -48,7 +48,7 @@ whole_fair checked subscriber P count (up ∷ ups) fair =
 
 -- ---- one command or status
 
-module _ (source : Source) (position reached now : ℕ) (timed : now < 2 ^ 64) (reports : List Status)
+module _ (source : StreamSource) (position reached now : ℕ) (timed : now < 2 ^ 64) (reports : List Status)
     (heard delivered : ℕ) where
   -- the connection that a session makes
   abbrev IsHeardTo : Session → Type 0
@@ -85,7 +85,7 @@ module _ (source : Source) (position reached now : ℕ) (timed : now < 2 ^ 64) (
 
   replies_connected : (confirmed : ℕ) (start : Option ℕ) (moves : List Move) (wants : Bool)
       → IsHeardTo (record { confirmed = confirmed; start = start; moves = moves })
-      → IsHeardTo (record { confirmed = confirmed; start = start; moves = moves ++ replied wants now })
+      → IsHeardTo (record { confirmed = confirmed; start = start; moves = moves ++ replies_to wants now })
   replies_connected confirmed start moves true connected =
       moves_connected source position confirmed reached
       (record { start = start; moves = moves; reports = reports; heard = heard; delivered = delivered })
@@ -133,7 +133,7 @@ module _ (source : Source) (position reached now : ℕ) (timed : now < 2 ^ 64) (
       (up_connected session up (All-head (IsFair position reached) up ups fair) connected)
 
 -- when a connection hears more bytes
-heard_connected : (source : Source) (now : ℕ) → now < 2 ^ 64 → (peer : Peer) (c : Connection) (more : ℕ)
+heard_connected : (source : StreamSource) (now : ℕ) → now < 2 ^ 64 → (peer : Peer) (c : Connection) (more : ℕ)
     → (good : IsGood source (record peer { connection = Some c }))
     → IsConnected source peer.position (heard_of source now peer c more).confirmed good.connected.0
     (record c {
@@ -161,21 +161,21 @@ heard_connected source now timed peer c more good =
       reports = good.connected.1.reports;
     })
 
-pub hears_good : (source : Source) (now : ℕ) → now < 2 ^ 64 → (peer : Peer) (c : Connection) (more : ℕ)
+pub hears_good : (source : StreamSource) (now : ℕ) → now < 2 ^ 64 → (peer : Peer) (c : Connection) (more : ℕ)
     → IsGood source (record peer { connection = Some c }) → IsGood source (hears source now peer c more)
 hears_good source now timed peer c more good =
     record { follows = good.follows; connected = (good.connected.0, heard_connected source now timed peer c more good) }
 
 -- the subscriber stays where it is
-pub hears_stay : (source : Source) (now : ℕ) → now < 2 ^ 64 → (peer : Peer) (c : Connection) (more : ℕ)
+pub hears_stay : (source : StreamSource) (now : ℕ) → now < 2 ^ 64 → (peer : Peer) (c : Connection) (more : ℕ)
     → IsGood source (record peer { connection = Some c })
-    → position_now source (hears source now peer c more) ≡ position_in source peer (Some c)
+    → position_now source (hears source now peer c more) ≡ connection_position source peer (Some c)
 hears_stay source now timed peer c more good =
     (heard_connected source now timed peer c more good).reached_is ∙ sym good.connected.1.reached_is
 
 -- ---- the log grows
 
-pub down_longer : (source : Source) (more : List Transaction) (position : ℕ) (start : Option ℕ)
+pub down_longer : (source : StreamSource) (more : List Transaction) (position : ℕ) (start : Option ℕ)
     → StartsAt position start → (moves : List Move)
     → AllThere (telling_of source.checked) (log_in source)
     (state_at source.number (length source.checked.catalog.tables) position) moves
@@ -191,7 +191,7 @@ down_longer source more position (Some start) at moves there =
     (items_longer (telling_of source.checked) (log_in source) on.others
     (state_at source.number (length source.checked.catalog.tables) start) moves there_at)
 
-longer_connected : (source : Source) (more : List Transaction) (position confirmed reached : ℕ) (c : Connection)
+longer_connected : (source : StreamSource) (more : List Transaction) (position confirmed reached : ℕ) (c : Connection)
     → IsConnected source position confirmed reached c → IsConnected (with_more source more) position confirmed reached c
 longer_connected source more position confirmed reached c connected =
     let on = log_goes_on source.checked source.transactions more in
@@ -209,13 +209,13 @@ longer_connected source more position confirmed reached c connected =
       reports = connected.reports;
     }
 
-longer_at : (source : Source) (more : List Transaction) (peer : Peer) (connection : Option Connection)
+longer_at : (source : StreamSource) (more : List Transaction) (peer : Peer) (connection : Option Connection)
     → IsConnectedAt source peer connection → IsConnectedAt (with_more source more) peer connection
 longer_at source more peer None connected = connected
 longer_at source more peer (Some c) connected =
     (connected.0, longer_connected source more peer.position peer.confirmed connected.0 c connected.1)
 
-pub longer_good : (source : Source) (more : List Transaction) (peer : Peer) → IsGood source peer
+pub longer_good : (source : StreamSource) (more : List Transaction) (peer : Peer) → IsGood source peer
     → IsGood (with_more source more) peer
 longer_good source more peer good = record {
   follows = follows_longer source.checked source.transactions more source.number peer.position peer.machine

@@ -13,20 +13,20 @@ use Rattle.tables_log.specs.Commits.{CommitOf}
 use Rattle.tables_log.specs.StandsFor.{Transaction, left_by, entries_from}
 use Rattle.pgoutput_msgs.specs.declared.message.Msg.{Msg}
 use Rattle.pgoutput_msgs.specs.declared.message.Msg.TheVariants as m
-use Rattle.copy_both.specs.Streams.{Item, Response, Carries, Alive, spelled}
+use Rattle.copy_both.specs.Streams.{StreamItem, Response, Carries, Alive, spelled}
 use Rattle.copy_both.proofs.StreamLemmas.{got_longer}
 use Rattle.stream_laws.specs.Cutting.{if_whole, whole_in}
 use Rattle.stream_laws.specs.Following.{raised_by_message, raised_by, position_after, log_of}
 use Rattle.stream_laws.specs.LayoutRoom.{FitsLayouts}
-use Rattle.shard_world.specs.World.{Source}
+use Rattle.shard_world.specs.World.{StreamSource}
 use Rattle.filter_tree.proofs.Tests.{by_test}
 
 -- ---- items that are whole
 
-long_item : (item : Item) → 1 ≤ length (spelled item)
+long_item : (item : StreamItem) → 1 ≤ length (spelled item)
 long_item item = omega arith
 
-pub none_in_nothing : (items : List Item) → whole_in 0 items ≡ []
+pub none_in_nothing : (items : List StreamItem) → whole_in 0 items ≡ []
 none_in_nothing [] = refl
 none_in_nothing (item ∷ items) = by_test (nat_le (length (spelled item)) 0)
     (λ fits. let short : length (spelled item) ≤ 0 = leb-true (length (spelled item)) 0 fits in
@@ -34,7 +34,7 @@ none_in_nothing (item ∷ items) = by_test (nat_le (length (spelled item)) 0)
     (λ over. ap (λ b. if_whole b item (whole_in (0 - length (spelled item)) items)) over)
 
 -- more items do not change the bytes of the existing ones
-pub whole_more : (count : ℕ) (items more : List Item) → count ≤ length (flat_map spelled items)
+pub whole_more : (count : ℕ) (items more : List StreamItem) → count ≤ length (flat_map spelled items)
     → whole_in count (items ++ more) ≡ whole_in count items
 whole_more count [] more h = subst (λ n. whole_in n more ≡ []) (sym nothing) (none_in_nothing more)
   where
@@ -60,12 +60,12 @@ message_raises position (m.Update relation old new) = omega arith
 message_raises position (m.Delete relation old) = omega arith
 message_raises position (m.Truncate options relations) = omega arith
 
-item_raises : (position : ℕ) (item : Item) → position ≤ raised_by position item
+item_raises : (position : ℕ) (item : StreamItem) → position ≤ raised_by position item
 item_raises position Response = omega arith
 item_raises position (Carries head message) = message_raises position message
 item_raises position (Alive keepalive) = omega arith
 
-pub items_raise : (position : ℕ) (items : List Item) → position ≤ position_after position items
+pub items_raise : (position : ℕ) (items : List StreamItem) → position ≤ position_after position items
 items_raise position [] = omega arith
 items_raise position (item ∷ items) =
     let first = item_raises position item in
@@ -73,7 +73,7 @@ items_raise position (item ∷ items) =
     items_raise (raised_by position item) items in
     omega (arith, first, others)
 
-pub more_raise : (position count more : ℕ) (items : List Item) → count ≤ more
+pub more_raise : (position count more : ℕ) (items : List StreamItem) → count ≤ more
     → position_after position (whole_in count items) ≤ position_after position (whole_in more items)
 more_raise position count more [] h = omega arith
 more_raise position count more (item ∷ items) h = by_test (nat_le (length (spelled item)) count)
@@ -92,7 +92,7 @@ more_raise position count more (item ∷ items) h = by_test (nat_le (length (spe
 
 -- ---- a longer log
 
-abbrev pub with_more : Source → List Transaction → Source
+abbrev pub with_more : StreamSource → List Transaction → StreamSource
 with_more source more = record source { transactions = source.transactions ++ more }
 
 entries_append : (setting : Setting) (tables : Tables) (number : ℕ) (transactions more : List Transaction)

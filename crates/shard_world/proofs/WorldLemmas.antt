@@ -16,7 +16,7 @@ use Rattle.shard_checker.specs.CheckedView.{CheckedOf, setting_in}
 use Rattle.tables_log.specs.StandsFor.{Transaction, after, AreAccepted}
 use Rattle.stream_laws.specs.ShardRows.{in_shard}
 use Rattle.stream_laws.specs.Following.{IsPublished}
-use Rattle.shard_world.specs.World.{Connection, Peer, World, Event, Commit, On, Answer, first_world, with_peer, with_transaction, StepsOn, Steps, Leads, source_in, step_in, broken_in}
+use Rattle.shard_world.specs.World.{Connection, Peer, World, Event, Commit, On, Answer, first_world, with_peer, with_transaction, StepsPeer, Steps, Leads, source_in, step_in, broken_in}
 use Rattle.stream_laws.specs.LayoutRoom.{IsTimedTransaction, FitsLayouts}
 use Rattle.shard_world.specs.WorldLaws.{IsPublisher, HasTime, IsTimedEvent, HoldsExactly, WorldsHoldExactly, IsStartedAsAsked, WorldsStartAsAsked, has_row, WorldsDivideRows}
 use Rattle.stream_laws.proofs.CommandSteps.{IsRight}
@@ -61,7 +61,7 @@ step_grows checked most world now (Commit commands time) answer next steps = eli
 step_grows checked most world now (On subscriber event) answer next steps =
     by_number (nat_lt subscriber (length checked.plan)) steps
   where
-    by_number : (known : Bool) → StepsOn known checked world subscriber now event answer next
+    by_number : (known : Bool) → StepsPeer known checked world subscriber now event answer next
         → GrowsTo world.transactions next.transactions
     by_number false step = stays world.transactions next (transactions_of next world step.1)
     by_number true step = elim step [
@@ -121,7 +121,7 @@ module _ (checked : CheckedOf) (covered : Covered (setting_in checked)) (keeps :
   step_good most world now (On subscriber event) answer next timed sayable good steps =
       by_number (nat_lt subscriber (length checked.plan)) steps
     where
-      by_number : (known : Bool) → StepsOn known checked world subscriber now event answer next
+      by_number : (known : Bool) → StepsPeer known checked world subscriber now event answer next
           → IsGoodWorld checked next
       by_number false step = same_world next world step.1 good
       by_number true step = elim step [
@@ -217,7 +217,7 @@ step_timed checked most world event answer next timed steps so = by_event event.
     ]
     by_event (On subscriber peer_event) fits step = by_number (nat_lt subscriber (length checked.plan)) step
       where
-        by_number : (known : Bool) → StepsOn known checked world subscriber event.0 peer_event answer next
+        by_number : (known : Bool) → StepsPeer known checked world subscriber event.0 peer_event answer next
             → IsTimedLog checked most next.transactions
         by_number false moved = stays_so (transactions_of next world moved.1)
         by_number true moved = elim moved [

@@ -11,11 +11,11 @@ use Rattle.tables_log.specs.declared.error.CommitError.{CommitError}
 use Rattle.tables_log.specs.declared.error.CommitError.TheVariants as e
 use Rattle.tables_log.proofs.StandLemmas.{slots_keep_it}
 use Rattle.shard_world.specs.Joined.{PeerOf, PeerIs}
-use Rattle.shard_world.specs.PeerCalls.{Made, Breaks, Moves}
+use Rattle.shard_world.specs.PeerCalls.{MakesFrom, BreaksFrom, MovesFromEach}
 use Rattle.shard_world.specs.PeerSteps.{Case, HasLog, IsCase}
 use Rattle.shard_world.specs.World as w
 use Rattle.shard_world.specs.World.{Answer, Event, PeerEvent, Commit, On, Committed, Refused, NoSubscriber, Steps, with_peer, with_transaction, source_in}
-use Rattle.shard_world.specs.WorldCalls.{PeerAt, IsWorldBy, IsWorld, StepsOn, world_book, world_checked, world_peers}
+use Rattle.shard_world.specs.WorldCalls.{PeerAt, IsWorldBy, IsWorld, StepsFromEach, world_book, world_checked, world_peers}
 use Rattle.shard_world.specs.declared.world.World.{World}
 use Rattle.shard_world.proofs.WorldStepLemmas.{commit_after, commit_steps, refused_after, refusal_steps, world_after, log_there, one_timed}
 use Rattle.shard_world.proofs.WorldCallLemmas.{leads_one_more}
@@ -33,7 +33,7 @@ module _ (before after : World) (same : world_checked after ≡ world_checked be
   pub commits_one : (commands : List Command) (time number now : ℕ) → now < 2 ^ 64 → time < 2 ^ 64
       → world_peers after ≡ world_peers before
       → c.Commits (world_book before) (world_book after) commands time number
-      → StepsOn before after now (Commit commands time) (Committed number)
+      → StepsFromEach before after now (Commit commands time) (Committed number)
   commits_one commands time number now timed time_fits peers commits most events world is =
       let steps = commit_steps (world_checked before) most (world_book before) (world_peers before) events world is
       (world_book after) commands time number now commits in
@@ -52,7 +52,7 @@ module _ (before after : World) (same : world_checked after ≡ world_checked be
       → RefusedBy (world_book before) commands error
       → (error ≡ e.OutOfMemory → HasRoomFor (world_book before) commands)
       → IsKept (world_book before) (world_book after)
-      → StepsOn before after now (Commit commands time) (Refused error)
+      → StepsFromEach before after now (Commit commands time) (Refused error)
   refuses_one commands time now error timed time_fits peers refused memory kept most events world is =
       let steps = refusal_steps (world_checked before) most (world_book before) (world_peers before) events world is
       commands time now error refused memory in
@@ -70,8 +70,8 @@ module _ (before after : World) (same : world_checked after ≡ world_checked be
   pub moves_one : (number now : ℕ) (event : PeerEvent) (old new : PeerOf) (answer : Answer) → now < 2 ^ 64
       → slice_get (world_peers before) number ≡ Some old
       → world_peers after ≡ slice_set (world_peers before) number new
-      → Moves (world_checked before) now event (world_book before) (world_book after) old new answer
-      → StepsOn before after now (On number event) answer
+      → MovesFromEach (world_checked before) now event (world_book before) (world_book after) old new answer
+      → StepsFromEach before after now (On number event) answer
   moves_one number now event old new answer timed at peers moves most events world is =
       elim (moves case (record { is = is_case; checked_is = refl; now_is = refl; log = log; peer = peer_there })) [
         | inl made ↦ record {
@@ -133,17 +133,17 @@ module _ (before after : World) (same : world_checked after ≡ world_checked be
       known : nat_lt number (length (world_checked before).plan) ≡ true
       known = lt-ltb number (length (world_checked before).plan) there
 
-      made_steps : Made case event answer (world_book before) (world_book after) new
+      made_steps : MakesFrom case event answer (world_book before) (world_book after) new
           → Steps (world_checked before) most world now (On number event) answer
           (with_peer world number (w.step_in (world_checked before) world number now event).1)
-      made_steps made = subst (λ its. w.StepsOn its (world_checked before) world number now event answer
+      made_steps made = subst (λ its. w.StepsPeer its (world_checked before) world number now event answer
           (with_peer world number (w.step_in (world_checked before) world number now event).1)) (sym known)
           (inl (record { answer_is = made.steps.answer_is; next_is = refl }))
 
-      broke_steps : (broke : Breaks case event answer (world_book before) (world_book after) new)
+      broke_steps : (broke : BreaksFrom case event answer (world_book before) (world_book after) new)
           → Steps (world_checked before) most world now (On number event) answer
           (with_peer world number (w.broken_in (world_checked before) world number now event broke.on.breaks.some))
-      broke_steps broke = subst (λ its. w.StepsOn its (world_checked before) world number now event answer
+      broke_steps broke = subst (λ its. w.StepsPeer its (world_checked before) world number now event answer
           (with_peer world number (w.broken_in (world_checked before) world number now event broke.on.breaks.some)))
           (sym known)
           (inr (record {
@@ -158,7 +158,7 @@ module _ (before after : World) (same : world_checked after ≡ world_checked be
 
   pub none_there : (number now : ℕ) (event : PeerEvent) → now < 2 ^ 64 → length (world_peers before) ≤ number
       → world_peers after ≡ world_peers before → IsKept (world_book before) (world_book after)
-      → StepsOn before after now (On number event) NoSubscriber
+      → StepsFromEach before after now (On number event) NoSubscriber
   none_there number now event timed past peers kept most events world is =
       let steps = nobody_steps most events world is in
       record {
@@ -172,7 +172,7 @@ module _ (before after : World) (same : world_checked after ≡ world_checked be
       nobody_steps : (most : ℕ) (events : List (ℕ × Event)) (world : w.World) → IsWorld before most events world
           → Steps (world_checked before) most world now (On number event) NoSubscriber world
       nobody_steps most events world is =
-          subst (λ its. w.StepsOn its (world_checked before) world number now event NoSubscriber world)
+          subst (λ its. w.StepsPeer its (world_checked before) world number now event NoSubscriber world)
           (sym (le-ltb number (length (world_checked before).plan) (omega (arith, past, is.count)))) (refl, refl)
 
       nobody_after : (most : ℕ) (events : List (ℕ × Event)) (world : w.World) → IsWorld before most events world

@@ -6,19 +6,19 @@ use Rattle.std.proofs.lemmas.List.{length-take-le, take-append-drop}
 use Rattle.std.proofs.lemmas.List.Concat.{flat_map-append}
 use Rattle.std.proofs.lemmas.List.Elements.{All-nil, All-cons, All-head, All-tail, All-append}
 use Rattle.copy_both.specs.StreamLaws.{IsThere, AllThere}
-use Rattle.copy_both.specs.Streams.{Item, Response, spelled, Move, state_at, all_moved, move_items}
+use Rattle.copy_both.specs.Streams.{StreamItem, Response, spelled, Move, state_at, all_moved, move_items}
 use Rattle.copy_both.specs.Tellings.{telling_of}
 use Rattle.copy_both.proofs.StreamLemmas.{items_append, there_append}
 use Rattle.copy_frames.specs.Frames.{cut}
 use Rattle.copy_frames.specs.declared.status.Status.{Status}
 use Rattle.test_subscriber.specs.Feeding.{limit}
-use Rattle.test_subscriber.specs.Frames.{Heard, hear_cut}
+use Rattle.test_subscriber.specs.Frames.{MachineHeard, hear_cut}
 use Rattle.test_subscriber.specs.Machine.{Machine, lost, opened}
 use Rattle.stream_laws.specs.Cutting.{whole_in}
 use Rattle.stream_laws.specs.Following.{position_after, Follows, IsPublished, IsSentItem}
 use Rattle.stream_laws.specs.FollowingBytes.{IsFollowed}
 use Rattle.stream_laws.specs.LayoutRoom.{FitsLayouts}
-use Rattle.shard_world.specs.World.{Connection, Peer, down_items, down_bytes, position_in, machine_in, position_now, machine_now, loses, Source, log_in}
+use Rattle.shard_world.specs.World.{Connection, Peer, down_items, down_bytes, connection_position, connection_machine, position_now, machine_now, loses, StreamSource, log_in}
 pub use Rattle.shard_world.specs.WorldLaws.{StartsAt}
 use Rattle.stream_laws.proofs.CuttingLemmas.{cut_nothing}
 use Rattle.stream_laws.proofs.FollowingBytesLemmas.{follows_alike, opened_followed}
@@ -28,7 +28,7 @@ use Rattle.stream_laws.proofs.SentItems.{stream_sent}
 
 -- ---- what holds of a connection
 
-abbrev pub FollowsIn : Source → ℕ → Machine → Type 0
+abbrev pub FollowsIn : StreamSource → ℕ → Machine → Type 0
 FollowsIn source position machine = Follows source.checked source.transactions source.number position machine
 
 -- it reports no more than what it reached
@@ -37,7 +37,7 @@ IsReported reached status = status.flushed ≤ reached
 
 -- Its stream starts where it was opened, takes commits that exist, and was delivered so far; it reached this position,
 -- and nothing beyond it was reported or confirmed.
-pub record IsConnected (source : Source) (position confirmed reached : ℕ) (c : Connection) : Type 0 where
+pub record IsConnected (source : StreamSource) (position confirmed reached : ℕ) (c : Connection) : Type 0 where
   pub started : StartsAt position c.start
   pub there : AllThere (telling_of source.checked) (log_in source)
       (state_at source.number (length source.checked.catalog.tables) position) c.moves
@@ -47,20 +47,20 @@ pub record IsConnected (source : Source) (position confirmed reached : ℕ) (c :
   pub confirmed_is : confirmed ≤ reached
   pub reports : All (IsReported reached) c.reports
 
-abbrev pub IsConnectedAt : Source → Peer → Option Connection → Type 0
+abbrev pub IsConnectedAt : StreamSource → Peer → Option Connection → Type 0
 IsConnectedAt source peer None = peer.confirmed ≤ peer.position
 IsConnectedAt source peer (Some c) = (reached : ℕ) × IsConnected source peer.position peer.confirmed reached c
 
-pub record IsGood (source : Source) (peer : Peer) : Type 0 where
+pub record IsGood (source : StreamSource) (peer : Peer) : Type 0 where
   pub follows : FollowsIn source peer.position peer.machine
   pub connected : IsConnectedAt source peer peer.connection
 
 -- ---- it has its shard now
 
-abbrev IsFollowedIn : Source → ℕ → Heard → Type 0
+abbrev IsFollowedIn : StreamSource → ℕ → MachineHeard → Type 0
 IsFollowedIn source position heard = IsFollowed source.checked source.transactions source.number position heard
 
-module _ (source : Source) (published : IsPublished source.checked source.transactions)
+module _ (source : StreamSource) (published : IsPublished source.checked source.transactions)
     (sayable : FitsLayouts source.checked source.transactions) where
   -- what it is sent can be spelled
   pub down_sent : (position : ℕ) (machine : Machine) → FollowsIn source position machine → (start : Option ℕ)
@@ -122,7 +122,7 @@ module _ (source : Source) (published : IsPublished source.checked source.transa
 
   follows_at : (peer : Peer) (connection : Option Connection) → FollowsIn source peer.position peer.machine
       → IsConnectedAt source peer connection
-      → FollowsIn source (position_in source peer connection) (machine_in source peer connection)
+      → FollowsIn source (connection_position source peer connection) (connection_machine source peer connection)
   follows_at peer None follows connected = follows
   follows_at peer (Some c) follows connected =
       (delivered_followed peer.position peer.machine follows c.start connected.1.started c.moves connected.1.clocked
@@ -134,7 +134,7 @@ module _ (source : Source) (published : IsPublished source.checked source.transa
 
   -- a connection that is lost
   confirmed_below : (peer : Peer) (connection : Option Connection) → IsConnectedAt source peer connection
-      → peer.confirmed ≤ position_in source peer connection
+      → peer.confirmed ≤ connection_position source peer connection
   confirmed_below peer None connected = connected
   confirmed_below peer (Some c) connected =
       subst (λ n. peer.confirmed ≤ n) (sym connected.1.reached_is) connected.1.confirmed_is
@@ -149,15 +149,15 @@ module _ (source : Source) (published : IsPublished source.checked source.transa
 
 -- ---- one more move
 
-spelled_longer : (xs ys : List Item) → length (flat_map spelled xs) ≤ length (flat_map spelled (xs ++ ys))
+spelled_longer : (xs ys : List StreamItem) → length (flat_map spelled xs) ≤ length (flat_map spelled (xs ++ ys))
 spelled_longer xs ys =
     omega (arith, ap length (flat_map-append spelled xs ys), length-append (flat_map spelled xs) (flat_map spelled ys))
 
-pub record Grows (source : Source) (start : Option ℕ) (moves : List Move) (move : Move) : Type 0 where
-  pub more : List Item
+pub record Grows (source : StreamSource) (start : Option ℕ) (moves : List Move) (move : Move) : Type 0 where
+  pub more : List StreamItem
   pub is : down_items source start (moves ++ move ∷ []) ≡ down_items source start moves ++ more
 
-pub grows : (source : Source) (start : Option ℕ) (moves : List Move) (move : Move) → Grows source start moves move
+pub grows : (source : StreamSource) (start : Option ℕ) (moves : List Move) (move : Move) → Grows source start moves move
 grows source None moves move = record { more = []; is = refl }
 grows source (Some start) moves move = record {
   more = move_items (telling_of source.checked) (log_in source)
@@ -168,7 +168,7 @@ grows source (Some start) moves move = record {
       (state_at source.number (length source.checked.catalog.tables) start) moves move);
 }
 
-module _ (source : Source) (position confirmed reached : ℕ) where
+module _ (source : StreamSource) (position confirmed reached : ℕ) where
   pub moves_connected : (c : Connection) (move : Move) → IsConnected source position confirmed reached c
       → IsClocked move
       → IsThere (log_in source)

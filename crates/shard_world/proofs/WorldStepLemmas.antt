@@ -22,7 +22,7 @@ use Rattle.stream_laws.specs.Following.{log_of}
 use Rattle.shard_world.specs.Joined.{PeerOf, PeerIs}
 use Rattle.shard_world.specs.PeerSteps.{ChangesOwn, HasLog}
 use Rattle.shard_world.specs.World as w
-use Rattle.shard_world.specs.World.{Answer, Event, PeerEvent, Commit, On, Committed, Refused, RefusedFor, Steps, first_world, with_peer, with_transaction, Source, source_in}
+use Rattle.shard_world.specs.World.{Answer, Event, PeerEvent, Commit, On, Committed, Refused, RefusedFor, Steps, first_world, with_peer, with_transaction, StreamSource, source_in}
 use Rattle.shard_world.specs.WorldCalls.{PeerAt, IsWorldBy}
 use Rattle.shard_world.specs.WorldLaws.{IsTimedEvent}
 use Rattle.shard_world.proofs.WorldCallLemmas.{leads_one_more, is_elsewhere, is_longer}
@@ -33,13 +33,13 @@ use Rattle.filter_tree.proofs.Tests.{by_test}
 
 -- ---- subscribers
 
-at_elsewhere : (source : Source) (before after : List Slot) (peer : w.Peer)
+at_elsewhere : (source : StreamSource) (before after : List Slot) (peer : w.Peer)
     → slice_get after source.number ≡ slice_get before source.number → (code : Option PeerOf)
     → PeerAt source before peer code → PeerAt source after peer code
 at_elsewhere source before after peer same None at = at
 at_elsewhere source before after peer same (Some code) at = is_elsewhere source before after same code peer at
 
-at_longer : (source : Source) (more : List Transaction) (slots : List Slot) (peer : w.Peer) → IsGood source peer
+at_longer : (source : StreamSource) (more : List Transaction) (slots : List Slot) (peer : w.Peer) → IsGood source peer
     → (code : Option PeerOf)
     → PeerAt source slots peer code → PeerAt (with_more source more) slots peer code
 at_longer source more slots peer good None at = at

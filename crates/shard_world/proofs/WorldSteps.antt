@@ -8,7 +8,7 @@ use Rattle.copy_both.specs.StreamLaws.{IsThere}
 use Rattle.copy_both.specs.Streams as s
 use Rattle.copy_both.specs.Streams.{StreamStateOf, Move}
 use Rattle.stream_laws.specs.Following.{IsPublished}
-use Rattle.shard_world.specs.World.{Connection, Peer, PeerEvent, Open, Hear, Take, Keep, Deliver, Report, Lose, down_bytes, ups_of, spelled_up, as_many, hears, delivers, moves_on, state_of, take_step, keep_step, open_step, shut_step, peer_step, broken, Source, up_bytes, down_of, in_part, log_in}
+use Rattle.shard_world.specs.World.{Connection, Peer, PeerEvent, Open, Hear, Take, Keep, Deliver, Report, Lose, down_bytes, ups_of, spelled_up, as_many, hears, delivers, moves_on, stream_state, take_step, keep_step, open_step, shut_step, peer_step, broken, StreamSource, up_bytes, down_of, in_part, log_in}
 use Rattle.shard_world.specs.World as w
 use Rattle.stream_laws.specs.LayoutRoom.{FitsLayouts}
 use Rattle.shard_world.proofs.WorldHearing.{hears_good}
@@ -21,12 +21,12 @@ pub stays_within : (asked all done : ℕ) → done ≤ all → done + as_many as
 stays_within asked all done h = omega (arith, h)
 
 -- the connection of a subscriber that has one
-pub as_open : {source : Source} (peer : Peer) (c : Connection) → peer.connection ≡ Some c → IsGood source peer
+pub as_open : {source : StreamSource} (peer : Peer) (c : Connection) → peer.connection ≡ Some c → IsGood source peer
     → IsGood source (record peer { connection = Some c })
 as_open {source = source} peer c is good =
     record { follows = good.follows; connected = subst (IsConnectedAt source peer) is good.connected }
 
-module _ (source : Source) (published : IsPublished source.checked source.transactions)
+module _ (source : StreamSource) (published : IsPublished source.checked source.transactions)
     (sayable : FitsLayouts source.checked source.transactions) (now : ℕ) (timed : now < 2 ^ 64) where
   pub delivers_good : (peer : Peer) (c : Connection) (asked : ℕ) → IsGood source (record peer { connection = Some c })
       → IsGood source (delivers peer c (as_many asked (length (down_of source c)) c.delivered))
@@ -40,7 +40,7 @@ module _ (source : Source) (published : IsPublished source.checked source.transa
 
   moves_good : (peer : Peer) (c : Connection) (move : Move) → IsGood source (record peer { connection = Some c })
       → IsClocked move
-      → IsThere (log_in source) (state_of source peer.position c.moves) move
+      → IsThere (log_in source) (stream_state source peer.position c.moves) move
       → IsGood source (moves_on peer c move)
   moves_good peer c move good clock here = record {
     follows = good.follows;
@@ -52,10 +52,10 @@ module _ (source : Source) (published : IsPublished source.checked source.transa
 
   takes_good : (peer : Peer) (c : Connection) (state : StreamStateOf) (found : Option CommitOf)
       → slice_get (log_in source) state.done ≡ found
-      → state ≡ state_of source peer.position c.moves
+      → state ≡ stream_state source peer.position c.moves
       → (connection : Option Connection) → peer.connection ≡ connection → IsGood source peer
       → IsGood source (record peer { connection = Some c })
-      → IsGood source (w.takes source.checked now peer c state found).1
+      → IsGood source (w.take_commit source.checked now peer c state found).1
   takes_good peer c state None e at connection is whole good = whole
   takes_good peer c state (Some commit) e at connection is whole good =
       moves_good peer c (s.Take now) good timed
@@ -66,9 +66,9 @@ module _ (source : Source) (published : IsPublished source.checked source.transa
       → IsGood source (take_step source now peer c start).1
   take_good peer c None e whole good = whole
   take_good peer c (Some start) e whole good =
-      takes_good peer c (state_of source start c.moves)
-      (slice_get (log_in source) (state_of source start c.moves).done) refl
-      (ap (λ p. state_of source p c.moves) at) peer.connection refl whole good
+      takes_good peer c (stream_state source start c.moves)
+      (slice_get (log_in source) (stream_state source start c.moves).done) refl
+      (ap (λ p. stream_state source p c.moves) at) peer.connection refl whole good
     where
       at : start ≡ peer.position
       at = subst (StartsAt peer.position) e good.connected.1.started
@@ -96,7 +96,7 @@ module _ (source : Source) (published : IsPublished source.checked source.transa
           opened_good.connected.0,
           reports_connected source peer.position peer.confirmed opened_good.connected.0 c _
               (subst (λ n. n ≤ opened_good.connected.0)
-              (sym (ap (w.position_in source peer) is ∙ opened_good.connected.1.reached_is)) (omega arith))
+              (sym (ap (w.connection_position source peer) is ∙ opened_good.connected.1.reached_is)) (omega arith))
               opened_good.connected.1,
         );
       }

@@ -14,7 +14,7 @@ use Rattle.copy_both.specs.declared.taken.Taken.TheVariants as taken
 use Rattle.test_subscriber.specs.Subscribers.{Feeds, Loses, Opens, Passes, Reports, sub_output}
 use Rattle.test_subscriber.specs.declared.subscriber.Subscriber.{Subscriber}
 use Rattle.shard_world.specs.Joined.{PeerOf}
-use Rattle.shard_world.specs.PeerSteps.{Case, ChangesOwn, HasLog, IsCase, StandsIn, StepsTo, source_of}
+use Rattle.shard_world.specs.PeerSteps.{Case, ChangesOwn, HasLog, IsCase, MatchesPeer, StepsPeerTo, source_of}
 use Rattle.shard_world.specs.World.{Answer, Delivered, Idle, Kept, Lost, NotStarted, Opened, Reported, Sent, Skipped, Open, Hear, Take, Keep, Deliver, Report, Lose, log_in}
 use Rattle.shard_world.specs.World as w
 
@@ -36,20 +36,20 @@ kept_or_not said = if said then Kept else NotStarted
 
 abbrev pub OpensStep : Type 0
 OpensStep = (case : Case) → IsCase case → (slots : List Slot) (old : PeerOf) (link : Link) (after : Subscriber)
-    → StandsIn case slots old → old.link ≡ None
+    → MatchesPeer case slots old → old.link ≡ None
     → IsNewLink link case.checked → Opens old.subscriber after
-    → StepsTo case Open Opened slots (record { link = Some link; subscriber = after })
+    → StepsPeerTo case Open Opened slots (record { link = Some link; subscriber = after })
 
 -- ---- with a connection
 
 -- some of what the subscriber sent is heard, and only its own slot changes
 pub record HearsOn (case : Case) (count heard : ℕ) (before after : Book) (code : PeerOf) : Type 0 where
-  pub steps : StepsTo case (Hear count) (w.Heard heard) (book_slots after) code
+  pub steps : StepsPeerTo case (Hear count) (w.Heard heard) (book_slots after) code
   pub own : ChangesOwn case.number before after
 
 abbrev pub HearsStep : Type 0
 HearsStep = (case : Case) → IsCase case → (before after : Book) (old : PeerOf) (link : Link) (count : ℕ)
-    → HasLog case before → StandsIn case (book_slots before) old → old.link ≡ Some link
+    → HasLog case before → MatchesPeer case (book_slots before) old → old.link ≡ Some link
     → (new : Link) (subscriber : Subscriber) (heard : h.Heard)
     → Ok heard ≡ hear_answer (link_ear link) before (front_of count (sub_output old.subscriber)) (link_sent link)
     → HearLeaves (ear_phase (link_ear link)) (link_ear link) (link_ear new) before after
@@ -61,46 +61,46 @@ HearsStep = (case : Case) → IsCase case → (before after : Book) (old : PeerO
 
 -- the next commit is taken
 abbrev pub TakesStep : Type 0
-TakesStep = (case : Case) (slots : List Slot) (old : PeerOf) (link new : Link) → StandsIn case slots old
+TakesStep = (case : Case) (slots : List Slot) (old : PeerOf) (link new : Link) → MatchesPeer case slots old
     → old.link ≡ Some link
     → LinkSays link new (next_bytes (link_checked link) (link_stage link) (log_in (source_of case)) case.now)
     (next_stage (link_checked link) (link_stage link) (log_in (source_of case)) case.now)
     → (found : Taken) → Ok found ≡ next_answer (link_checked link) (link_stage link) (log_in (source_of case))
-    → StepsTo case Take (answer_of found) slots (record { link = Some new; subscriber = old.subscriber })
+    → StepsPeerTo case Take (answer_of found) slots (record { link = Some new; subscriber = old.subscriber })
 
 -- a keepalive is sent
 abbrev pub KeepsStep : Type 0
-KeepsStep = (case : Case) (slots : List Slot) (old : PeerOf) (link new : Link) (want : Bool) → StandsIn case slots old
-    → old.link ≡ Some link
+KeepsStep = (case : Case) (slots : List Slot) (old : PeerOf) (link new : Link) (want : Bool)
+    → MatchesPeer case slots old → old.link ≡ Some link
     → LinkSays link new (kept_bytes (link_stage link) case.now want) (link_stage link) → (said : Bool)
     → Ok said ≡ keep_answer (link_stage link)
-    → StepsTo case (Keep want) (kept_or_not said) slots (record { link = Some new; subscriber = old.subscriber })
+    → StepsPeerTo case (Keep want) (kept_or_not said) slots (record { link = Some new; subscriber = old.subscriber })
 
 -- some of what waits at the publisher's end is delivered to the subscriber
 abbrev pub DeliversStep : Type 0
 DeliversStep = (case : Case) → IsCase case
-    → (slots : List Slot) (old : PeerOf) (link new : Link) (after : Subscriber) (count : ℕ) → StandsIn case slots old
+    → (slots : List Slot) (old : PeerOf) (link new : Link) (after : Subscriber) (count : ℕ) → MatchesPeer case slots old
     → old.link ≡ Some link
     → Feeds old.subscriber (front_of count (link_output link)) after
     → LinkPasses link new (length (front_of count (link_output link)))
-    → StepsTo case (Deliver count) (Delivered (length (front_of count (link_output link)))) slots
+    → StepsPeerTo case (Deliver count) (Delivered (length (front_of count (link_output link)))) slots
     (record { link = Some new; subscriber = after })
 
 -- the subscriber reports its position
 abbrev pub ReportsStep : Type 0
 ReportsStep = (case : Case) → IsCase case
-    → (slots : List Slot) (old : PeerOf) (link : Link) (after : Subscriber) (want : Bool) → StandsIn case slots old
+    → (slots : List Slot) (old : PeerOf) (link : Link) (after : Subscriber) (want : Bool) → MatchesPeer case slots old
     → old.link ≡ Some link
     → Reports old.subscriber case.now want after
-    → StepsTo case (Report want) Reported slots (record { link = old.link; subscriber = after })
+    → StepsPeerTo case (Report want) Reported slots (record { link = old.link; subscriber = after })
 
 -- the connection is lost
 pub record LosesOn (case : Case) (before after : Book) (code : PeerOf) : Type 0 where
-  pub steps : StepsTo case Lose Lost (book_slots after) code
+  pub steps : StepsPeerTo case Lose Lost (book_slots after) code
   pub own : ChangesOwn case.number before after
 
 abbrev pub LosesStep : Type 0
 LosesStep = (case : Case) (before after : Book) (old : PeerOf) (link new : Link) (subscriber : Subscriber)
-    → StandsIn case (book_slots before) old → old.link ≡ Some link
+    → MatchesPeer case (book_slots before) old → old.link ≡ Some link
     → LinkLoses link new before after → Loses old.subscriber subscriber
     → LosesOn case before after (record { link = None; subscriber = subscriber })

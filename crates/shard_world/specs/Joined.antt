@@ -19,7 +19,7 @@ use Rattle.test_subscriber.specs.Subscribers.{sub_held, sub_machine, sub_output,
 use Rattle.test_subscriber.specs.declared.subscriber.Subscriber.{Subscriber}
 use Rattle.shard_world.specs.World as w
 use Rattle.shard_world.specs.declared.peer.Peer.{Peer}
-use Rattle.shard_world.specs.World.{Connection, down_bytes, machine_in, Source, up_bytes, down_of, log_in, asking_length}
+use Rattle.shard_world.specs.World.{Connection, down_bytes, connection_machine, StreamSource, up_bytes, down_of, log_in, asking_length}
 
 -- ---- machines
 
@@ -63,7 +63,7 @@ pub record IsSilent (link : Link) (moves : List Move) : Type 0 where
   pub none : moves ≡ []
 
 -- and then the stream, of which this number of bytes was delivered
-abbrev pub run_of : Source → ℕ → List Move → ℕ → Run
+abbrev pub run_of : StreamSource → ℕ → List Move → ℕ → Run
 run_of source start moves delivered = record {
   checked = source.checked;
   log = log_in source;
@@ -72,10 +72,10 @@ run_of source start moves delivered = record {
   passed = take delivered (down_bytes source (Some start) moves);
 }
 
-abbrev pub Speaks : Source → Link → List Move → ℕ → Option ℕ → Type 0
-Speaks source link moves delivered None = IsSilent link moves
-Speaks source link moves delivered (Some start) =
-    IsStreaming link (run_of source start moves delivered) (w.state_of source start moves)
+abbrev pub SendsStream : StreamSource → Link → List Move → ℕ → Option ℕ → Type 0
+SendsStream source link moves delivered None = IsSilent link moves
+SendsStream source link moves delivered (Some start) =
+    IsStreaming link (run_of source start moves delivered) (w.stream_state source start moves)
 
 abbrev pub stream_of : ℕ → Option ℕ → Option (ℕ × ℕ)
 stream_of number None = None
@@ -93,7 +93,7 @@ pub record IsOneStatus (status : Status) : Type 0 where
   pub timed : status.clock < 2 ^ 64
 
 -- what the publisher heard of what the subscriber sent
-pub record Hears (source : Source) (link : Link) (peer : w.Peer) (c : Connection) : Type 0 where
+pub record Hears (source : StreamSource) (link : Link) (peer : w.Peer) (c : Connection) : Type 0 where
   pub checked_is : ear_checked (link_ear link) ≡ source.checked
   pub phase_is : ear_phase (link_ear link) ≡ phase.Open
   pub started : ear_started (link_ear link) ≡ stream_of source.number c.start
@@ -102,19 +102,19 @@ pub record Hears (source : Source) (link : Link) (peer : w.Peer) (c : Connection
   pub held : ear_held (link_ear link) ≡ rest_of (cut 65536 (take c.heard (up_bytes source peer c)))
 
 -- with a connection: what waits is what was not heard and not delivered, and what is held is not a whole frame
-pub record IsLinked (source : Source) (slots : List Slot) (link : Link) (subscriber : Subscriber) (peer : w.Peer)
+pub record IsLinked (source : StreamSource) (slots : List Slot) (link : Link) (subscriber : Subscriber) (peer : w.Peer)
     (c : Connection) : Type 0 where
   pub heard : c.heard ≤ length (up_bytes source peer c)
   pub delivered : c.delivered ≤ length (down_of source c)
   pub sends : sub_output subscriber ≡ drop c.heard (up_bytes source peer c)
   pub held : sub_held subscriber ≡ rest_of (cut limit (take c.delivered (down_of source c)))
-  pub machine : AlikeBut (sub_machine subscriber) (machine_in source peer (Some c))
+  pub machine : AlikeBut (sub_machine subscriber) (connection_machine source peer (Some c))
   pub checked_is : link_checked link ≡ source.checked
   pub hears : Hears source link peer c
-  pub speaks : Speaks source link c.moves c.delivered c.start
+  pub speaks : SendsStream source link c.moves c.delivered c.start
   pub slot : HasSlot slots source.number peer.confirmed (is_some c.start)
 
-abbrev pub IsAt : Source → List Slot → Option Link → Subscriber → w.Peer → Option Connection → Type 0
+abbrev pub IsAt : StreamSource → List Slot → Option Link → Subscriber → w.Peer → Option Connection → Type 0
 IsAt source slots None subscriber peer None = IsApart source.number slots subscriber peer
 IsAt source slots (Some link) subscriber peer (Some c) = IsLinked source slots link subscriber peer c
 IsAt source slots link subscriber peer connection = ⊥
@@ -123,6 +123,6 @@ IsAt source slots link subscriber peer connection = ⊥
 abbrev pub PeerOf : Type 0
 PeerOf = Peer
 
-pub record PeerIs (source : Source) (slots : List Slot) (code : PeerOf) (peer : w.Peer) : Type 0 where
+pub record PeerIs (source : StreamSource) (slots : List Slot) (code : PeerOf) (peer : w.Peer) : Type 0 where
   pub named : IsNamed source.checked source.number code.subscriber
   pub at : IsAt source slots code.link code.subscriber peer peer.connection

@@ -9,7 +9,7 @@ use Rattle.copy_both.specs.Links.{LinkLoses}
 use Rattle.copy_both.specs.declared.link.Link.{Link}
 use Rattle.test_subscriber.specs.Subscribers.{Loses}
 use Rattle.shard_world.specs.Joined.{PeerOf}
-use Rattle.shard_world.specs.PeerSteps.{Case, ChangesOwn, HasLog, IsCase, StandsIn, StepsTo, stepped}
+use Rattle.shard_world.specs.PeerSteps.{Case, ChangesOwn, HasLog, IsCase, MatchesPeer, StepsPeerTo, stepped}
 use Rattle.shard_world.specs.Refusals.{BreaksOn, HaltsOn}
 use Rattle.shard_world.specs.World.{Answer, AsksMemory, Heard, Delivered, OutOfMemory, PeerEvent}
 use Rattle.shard_world.specs.declared.halted.Halted.{Halted}
@@ -17,21 +17,22 @@ use Rattle.shard_world.specs.declared.halted.Halted.{Halted}
 -- ---- memory is not refused
 
 -- a world that they match at this time
-pub record Stands (checked : CheckedOf) (now : ℕ) (book : Book) (code : PeerOf) (case : Case) : Type 0 where
+pub record MatchesCase (checked : CheckedOf) (now : ℕ) (book : Book) (code : PeerOf) (case : Case) : Type 0 where
   pub is : IsCase case
   pub checked_is : case.checked ≡ checked
   pub now_is : case.now ≡ now
   pub log : HasLog case book
-  pub peer : StandsIn case (book_slots book) code
+  pub peer : MatchesPeer case (book_slots book) code
 
 -- the step of the world is made, and only its own slot changes
-pub record Made (case : Case) (event : PeerEvent) (answer : Answer) (before after : Book) (new : PeerOf) : Type 0 where
-  pub steps : StepsTo case event answer (book_slots after) new
+pub record MakesFrom (case : Case) (event : PeerEvent) (answer : Answer) (before after : Book)
+    (new : PeerOf) : Type 0 where
+  pub steps : StepsPeerTo case event answer (book_slots after) new
   pub own : ChangesOwn case.number before after
 
-abbrev pub Makes : CheckedOf → ℕ → PeerEvent → Book → Book → PeerOf → PeerOf → Answer → Type 0
-Makes checked now event before after old new answer = (case : Case) → Stands checked now before old case
-    → Made case event answer before after new
+abbrev pub MakesFromEach : CheckedOf → ℕ → PeerEvent → Book → Book → PeerOf → PeerOf → Answer → Type 0
+MakesFromEach checked now event before after old new answer = (case : Case) → MatchesCase checked now before old case
+    → MakesFrom case event answer before after new
 
 -- ---- memory is refused
 
@@ -41,13 +42,13 @@ IsStopped case event before after new None = BreaksOn case event before after ne
 IsStopped case event before after new (Some link) = HaltsOn case event before after new
 
 -- the step would have done something
-pub record StopsIn (case : Case) (event : PeerEvent) (before after : Book) (new : PeerOf) : Type 0 where
+pub record StopsFrom (case : Case) (event : PeerEvent) (before after : Book) (new : PeerOf) : Type 0 where
   pub needed : AsksMemory (stepped case event).0
   pub stopped : IsStopped case event before after new new.link
 
-abbrev pub Stops : CheckedOf → ℕ → PeerEvent → Book → Book → PeerOf → PeerOf → Type 0
-Stops checked now event before after old new = (case : Case) → Stands checked now before old case
-    → StopsIn case event before after new
+abbrev pub StopsFromEach : CheckedOf → ℕ → PeerEvent → Book → Book → PeerOf → PeerOf → Type 0
+StopsFromEach checked now event before after old new = (case : Case) → MatchesCase checked now before old case
+    → StopsFrom case event before after new
 
 -- the connection's end at the publisher is lost
 pub record LosesLink (link : Link) (before after : Book) : Type 0 where
@@ -66,16 +67,16 @@ pub record Drops (old new : PeerOf) (before after : Book) : Type 0 where
 
 -- ---- the step of the world, or what out of memory leaves
 
-pub record Breaks (case : Case) (event : PeerEvent) (answer : Answer) (before after : Book) (new : PeerOf) : Type 0
+pub record BreaksFrom (case : Case) (event : PeerEvent) (answer : Answer) (before after : Book) (new : PeerOf) : Type 0
   where
     pub needed : AsksMemory (stepped case event).0
     pub answer_is : answer ≡ OutOfMemory
     pub on : BreaksOn case event before after new
 
-abbrev pub Moves : CheckedOf → ℕ → PeerEvent → Book → Book → PeerOf → PeerOf → Answer → Type 0
-Moves checked now event before after old new answer =
-    (case : Case) → Stands checked now before old case
-    → Made case event answer before after new ⊎ Breaks case event answer before after new
+abbrev pub MovesFromEach : CheckedOf → ℕ → PeerEvent → Book → Book → PeerOf → PeerOf → Answer → Type 0
+MovesFromEach checked now event before after old new answer =
+    (case : Case) → MatchesCase checked now before old case
+    → MakesFrom case event answer before after new ⊎ BreaksFrom case event answer before after new
 
 -- ---- how many bytes can be heard or delivered at once
 
@@ -90,6 +91,6 @@ IsCounted answer = Unit {0}
 -- its step is made, with this answer, or the connection can't continue
 pub record Tries (checked : CheckedOf) (now : ℕ) (event : PeerEvent) (before after : Book) (old : PeerOf)
     (result : Result Answer Halted) (new : PeerOf) : Type 0 where
-  pub made : IfOk result (λ answer. Makes checked now event before after old new answer)
+  pub made : IfOk result (λ answer. MakesFromEach checked now event before after old new answer)
   pub counted : IfOk result IsCounted
-  pub stops : OnErr result (Stops checked now event before after old new)
+  pub stops : OnErr result (StopsFromEach checked now event before after old new)

@@ -14,7 +14,7 @@ use Rattle.test_subscriber.specs.Subscribers.{sub_machine}
 use Rattle.test_subscriber.specs.declared.subscriber.Subscriber.{Subscriber}
 use Rattle.shard_world.specs.Joined.{HasSlot, IsNamed, PeerOf, PeerIs, StaysAlike}
 use Rattle.shard_world.specs.World as w
-use Rattle.shard_world.specs.World.{Answer, Connection, Event, PeerEvent, Open, Hear, Take, Keep, Deliver, Report, Lose, Leads, first_world, as_many, hears, delivers, machine_now, peer_step, Source, source_in, step_in, in_part, log_in}
+use Rattle.shard_world.specs.World.{Answer, Connection, Event, PeerEvent, Open, Hear, Take, Keep, Deliver, Report, Lose, Leads, first_world, as_many, hears, delivers, machine_now, peer_step, StreamSource, source_in, step_in, in_part, log_in}
 use Rattle.shard_world.specs.WorldLaws.{IsPublisher, IsTimedEvent}
 
 -- ---- in which world
@@ -28,7 +28,7 @@ pub record Case : Type 0 where
   pub number : ℕ
   pub now : ℕ
 
-abbrev pub source_of : Case → Source
+abbrev pub source_of : Case → StreamSource
 source_of case = source_in case.checked case.world case.number
 
 abbrev pub peer_of : Case → w.Peer
@@ -43,8 +43,8 @@ pub record IsCase (case : Case) : Type 0 where
   pub timed : case.now < 2 ^ 64
 
 -- the subscriber of a program matches that of the world
-abbrev pub StandsIn : Case → List Slot → PeerOf → Type 0
-StandsIn case slots code = PeerIs (source_of case) slots code (peer_of case)
+abbrev pub MatchesPeer : Case → List Slot → PeerOf → Type 0
+MatchesPeer case slots code = PeerIs (source_of case) slots code (peer_of case)
 
 -- the book has the log of the world
 pub record HasLog (case : Case) (book : Book) : Type 0 where
@@ -57,7 +57,7 @@ abbrev pub stepped : Case → PeerEvent → Answer × w.Peer
 stepped case event = step_in case.checked case.world case.number case.now event
 
 -- it returns what the world's step answers, and leaves what matches what that step leaves
-pub record StepsTo (case : Case) (event : PeerEvent) (answer : Answer) (slots : List Slot) (code : PeerOf) : Type 0
+pub record StepsPeerTo (case : Case) (event : PeerEvent) (answer : Answer) (slots : List Slot) (code : PeerOf) : Type 0
   where
     pub answer_is : answer ≡ (stepped case event).0
     pub peer_is : PeerIs (source_of case) slots code (stepped case event).1

@@ -6,7 +6,7 @@ use Rattle.tables_log.specs.Lsn.{end_lsn_of}
 use Rattle.shard_world.specs.PeerCalls.{IsCounted}
 use Rattle.shard_world.specs.World as w
 use Rattle.shard_world.specs.World.{Answer, At, Connection, Event, Idle, NoSubscriber, NotOpen, On, OutOfMemory, PeerEvent, Hear, Take, Keep, Deliver, Report, position_now, position_of}
-use Rattle.shard_world.specs.WorldCalls.{IsWorld, RunsOn, world_book, world_checked}
+use Rattle.shard_world.specs.WorldCalls.{IsWorld, RunsFromEach, world_book, world_checked}
 use Rattle.shard_world.specs.declared.world.World.{World}
 
 -- as many bytes as can wait
@@ -26,17 +26,17 @@ EndsWalk OutOfMemory = Unit {0}
 EndsWalk answer = ⊥
 
 -- after the others there is one
-abbrev pub GoesOn : Answer → Type 0
-GoesOn NoSubscriber = ⊥
-GoesOn NotOpen = ⊥
-GoesOn OutOfMemory = ⊥
-GoesOn answer = IsCounted answer
+abbrev pub KeepsConnection : Answer → Type 0
+KeepsConnection NoSubscriber = ⊥
+KeepsConnection NotOpen = ⊥
+KeepsConnection OutOfMemory = ⊥
+KeepsConnection answer = IsCounted answer
 
 -- they happen one after another
 pub record WalksAll (before after : World) (now subscriber : ℕ) (events : List PeerEvent) : Type 0 where
   pub answers : List Answer
-  pub go_on : All GoesOn answers
-  pub runs : RunsOn before after (map (on_clock now subscriber) events) answers
+  pub go_on : All KeepsConnection answers
+  pub runs : RunsFromEach before after (map (on_clock now subscriber) events) answers
 
 -- the first of them happen, the last of these has this answer, and no more happens
 pub record WalksSome (before after : World) (now subscriber : ℕ) (events : List PeerEvent) (answer : Answer) : Type 0
@@ -45,9 +45,9 @@ pub record WalksSome (before after : World) (now subscriber : ℕ) (events : Lis
     pub others : List PeerEvent
     pub are : done ++ others ≡ events
     pub answers : List Answer
-    pub go_on : All GoesOn answers
+    pub go_on : All KeepsConnection answers
     pub ends : EndsWalk answer
-    pub runs : RunsOn before after (map (on_clock now subscriber) done) (answers ++ answer ∷ [])
+    pub runs : RunsFromEach before after (map (on_clock now subscriber) done) (answers ++ answer ∷ [])
 
 abbrev pub Walks : World → World → ℕ → ℕ → List PeerEvent → Result (Unit {0}) Answer → Type 0
 Walks before after now subscriber events (Ok done) = WalksAll before after now subscriber events
@@ -144,9 +144,9 @@ PumpsThrough before after now subscriber (Ok done) = PumpsAll before after now s
 PumpsThrough before after now subscriber (Err answer) = PumpsSome before after now subscriber answer
 
 -- its answer is the subscriber's position, or else the answer that ends it
-pub data PumpsOn (before after : World) (now subscriber : ℕ) : Answer → Type 0 where
+pub data PumpsFromEach (before after : World) (now subscriber : ℕ) : Answer → Type 0 where
   Pumped : (position : ℕ) → PumpsAll before after now subscriber → IsPosition after subscriber position
       → IsEndOfLog before subscriber position
-      → PumpsOn before after now subscriber (At position)
+      → PumpsFromEach before after now subscriber (At position)
   Ended : (answer : Answer) → PumpsSome before after now subscriber answer → WantsMemory before subscriber answer
-      → PumpsOn before after now subscriber answer
+      → PumpsFromEach before after now subscriber answer

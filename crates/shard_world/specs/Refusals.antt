@@ -16,7 +16,7 @@ use Rattle.test_subscriber.specs.declared.fault.SubFault.{SubFault}
 use Rattle.test_subscriber.specs.declared.subscriber.Subscriber.{Subscriber}
 use Rattle.shard_world.specs.Connections.{front_of}
 use Rattle.shard_world.specs.Joined.{PeerIs, PeerOf}
-use Rattle.shard_world.specs.PeerSteps.{Case, ChangesOwn, Halts, HasLog, IsCase, StandsIn, source_of}
+use Rattle.shard_world.specs.PeerSteps.{Case, ChangesOwn, Halts, HasLog, IsCase, MatchesPeer, source_of}
 use Rattle.shard_world.specs.World.{PeerEvent, Open, Hear, Take, Keep, Deliver, Report, broken_in, log_in}
 
 -- ---- the result is not a fault, so that an error means that memory was refused
@@ -26,32 +26,32 @@ pub record IsAnswered {A F : Type 0} (answer : Result A F) : Type 0 where
   pub is : answer ≡ Ok value
 
 abbrev pub OpensAreAnswered : Type 0
-OpensAreAnswered = (case : Case) → IsCase case → (slots : List Slot) (old : PeerOf) → StandsIn case slots old
+OpensAreAnswered = (case : Case) → IsCase case → (slots : List Slot) (old : PeerOf) → MatchesPeer case slots old
     → old.link ≡ None
     → IsAnswered (start_query (sub_slot old.subscriber) (sub_publications old.subscriber)
     (sub_machine old.subscriber).position)
 
 abbrev pub HearsAreAnswered : Type 0
 HearsAreAnswered = (case : Case) → IsCase case → (book : Book) (old : PeerOf) (link : Link) (count : ℕ)
-    → HasLog case book → StandsIn case (book_slots book) old → old.link ≡ Some link
+    → HasLog case book → MatchesPeer case (book_slots book) old → old.link ≡ Some link
     → IsAnswered (hear_answer (link_ear link) book (front_of count (sub_output old.subscriber)) (link_sent link))
 
 abbrev pub TakesAreAnswered : Type 0
 TakesAreAnswered = (case : Case) → IsCase case → (slots : List Slot) (old : PeerOf) (link : Link)
-    → StandsIn case slots old → old.link ≡ Some link
+    → MatchesPeer case slots old → old.link ≡ Some link
     → IsAnswered (next_answer (link_checked link) (link_stage link) (log_in (source_of case)))
 
 abbrev pub KeepsAreAnswered : Type 0
-KeepsAreAnswered = (case : Case) (slots : List Slot) (old : PeerOf) (link : Link) → StandsIn case slots old
+KeepsAreAnswered = (case : Case) (slots : List Slot) (old : PeerOf) (link : Link) → MatchesPeer case slots old
     → old.link ≡ Some link → IsAnswered (keep_answer (link_stage link))
 
 abbrev pub DeliversAreAnswered : Type 0
 DeliversAreAnswered = (case : Case) → IsCase case → (slots : List Slot) (old : PeerOf) (link : Link) (count : ℕ)
-    → StandsIn case slots old → old.link ≡ Some link
+    → MatchesPeer case slots old → old.link ≡ Some link
     → (fed_heard old.subscriber (front_of count (link_output link))).fault ≡ None
 
 abbrev pub ReportsAreAnswered : Type 0
-ReportsAreAnswered = (case : Case) (slots : List Slot) (old : PeerOf) (link : Link) → StandsIn case slots old
+ReportsAreAnswered = (case : Case) (slots : List Slot) (old : PeerOf) (link : Link) → MatchesPeer case slots old
     → old.link ≡ Some link → IsAnswered (status_answer (sub_machine old.subscriber).phase)
 
 -- ---- a subscriber without a connection, whose connection can't be opened, stays without one
@@ -63,12 +63,12 @@ pub record StepBreaks (case : Case) (event : PeerEvent) (slots : List Slot) (cod
 
 -- nothing changed
 abbrev pub OpenStays : Type 0
-OpenStays = (case : Case) (slots : List Slot) (old : PeerOf) → StandsIn case slots old → old.link ≡ None
+OpenStays = (case : Case) (slots : List Slot) (old : PeerOf) → MatchesPeer case slots old → old.link ≡ None
     → StepBreaks case Open slots old
 
 -- the command was refused
 abbrev pub OpenBreaks : Type 0
-OpenBreaks = (case : Case) (slots : List Slot) (old : PeerOf) (after : Subscriber) → StandsIn case slots old
+OpenBreaks = (case : Case) (slots : List Slot) (old : PeerOf) (after : Subscriber) → MatchesPeer case slots old
     → old.link ≡ None → Loses old.subscriber after
     → StepBreaks case Open slots (record { link = None; subscriber = after })
 
@@ -81,7 +81,7 @@ pub record HaltsOn (case : Case) (event : PeerEvent) (before after : Book) (code
 
 abbrev pub HearHalts : Type 0
 HearHalts = (case : Case) → IsCase case → (before after : Book) (old : PeerOf) (link : Link) (count : ℕ)
-    → HasLog case before → StandsIn case (book_slots before) old → old.link ≡ Some link
+    → HasLog case before → MatchesPeer case (book_slots before) old → old.link ≡ Some link
     → (new : Link) (error : LinkFault)
     → TellsFault (told_fault error)
     (hear_answer (link_ear link) before (front_of count (sub_output old.subscriber)) (link_sent link))
@@ -91,26 +91,26 @@ HearHalts = (case : Case) → IsCase case → (before after : Book) (old : PeerO
 
 -- nothing is sent
 abbrev pub TakeHalts : Type 0
-TakeHalts = (case : Case) (slots : List Slot) (old : PeerOf) (link new : Link) → StandsIn case slots old
+TakeHalts = (case : Case) (slots : List Slot) (old : PeerOf) (link new : Link) → MatchesPeer case slots old
     → old.link ≡ Some link → LinkCloses link new
     → Halts case Take slots (record { link = Some new; subscriber = old.subscriber })
 
 abbrev pub KeepHalts : Type 0
-KeepHalts = (case : Case) (slots : List Slot) (old : PeerOf) (link new : Link) (want : Bool) → StandsIn case slots old
-    → old.link ≡ Some link → LinkCloses link new
+KeepHalts = (case : Case) (slots : List Slot) (old : PeerOf) (link new : Link) (want : Bool)
+    → MatchesPeer case slots old → old.link ≡ Some link → LinkCloses link new
     → Halts case (Keep want) slots (record { link = Some new; subscriber = old.subscriber })
 
 -- the first few frames are applied
 abbrev pub DeliverHalts : Type 0
 DeliverHalts = (case : Case) → IsCase case
     → (slots : List Slot) (old : PeerOf) (link : Link) (after : Subscriber) (count : ℕ) (error : SubFault)
-    → StandsIn case slots old → old.link ≡ Some link
+    → MatchesPeer case slots old → old.link ≡ Some link
     → FeedStops old.subscriber (front_of count (link_output link)) error after
     → Halts case (Deliver count) slots (record { link = old.link; subscriber = after })
 
 abbrev pub ReportHalts : Type 0
 ReportHalts = (case : Case) (slots : List Slot) (old : PeerOf) (link : Link) (after : Subscriber) (want : Bool)
-    → StandsIn case slots old → old.link ≡ Some link
+    → MatchesPeer case slots old → old.link ≡ Some link
     → Loses old.subscriber after → Halts case (Report want) slots (record { link = old.link; subscriber = after })
 
 -- ---- and then the connection is lost

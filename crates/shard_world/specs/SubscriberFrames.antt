@@ -4,7 +4,7 @@ use Rattle.std.specs.Prelude.{◌≡◌, ◌<◌, ◌≤◌, ◌^◌, ℕ, max, 
 use Rattle.pub_catalog.specs.declared.catalog.Subscription.{Subscription}
 use Rattle.tables_log.specs.Slots.{end_after, confirmed_at, start_fault}
 use Rattle.copy_frames.specs.declared.status.Status.{Status}
-use Rattle.copy_both.specs.Hearing.{HearingOf, Served, frame_heard, frames_heard, is_over}
+use Rattle.copy_both.specs.Hearing.{HearingOf, ServedFrom, frame_heard, frames_heard, is_over}
 use Rattle.copy_both.specs.Streams.{Move, Keep, first_sent}
 use Rattle.stream_laws.specs.Asking.{CanAsk}
 use Rattle.shard_world.specs.World.{Asks, Says, Session, hear_up, up_frame}
@@ -53,7 +53,7 @@ pub record IsBegun (subscriber start : ℕ) (h : HearingOf) : Type 0 where
 
 -- the command that requests the stream, if there is none yet
 abbrev pub StartsAreHeard : Type 0
-StartsAreHeard = (served : Served) (subscriber position now : ℕ) (subscription : Subscription) (moves : List Move)
+StartsAreHeard = (served : ServedFrom) (subscriber position now : ℕ) (subscription : Subscription) (moves : List Move)
     (h : HearingOf)
     → CanAsk served.checked.catalog subscriber subscription → position < 2 ^ 64
     → start_fault h.slots (end_after served.commits) subscriber position ≡ None
@@ -65,7 +65,7 @@ StartsAreHeard = (served : Served) (subscriber position now : ℕ) (subscription
 
 -- Statuses, which report no more than what was sent and what the log has. Each that requests a reply has one.
 abbrev pub StatusesAreHeard : Type 0
-StatusesAreHeard = (served : Served) (subscriber start now : ℕ) (moves : List Move) (statuses : List Status)
+StatusesAreHeard = (served : ServedFrom) (subscriber start now : ℕ) (moves : List Move) (statuses : List Status)
     (h : HearingOf)
     → IsHearing subscriber h → h.started ≡ Some (subscriber, start)
     → All (IsWithin (min h.sent (end_after served.commits))) statuses

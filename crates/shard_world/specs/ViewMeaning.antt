@@ -13,7 +13,7 @@ use Rattle.tables_log.specs.StandsFor.{Transaction, after}
 use Rattle.stream_laws.specs.ShardRows.{in_shard}
 use Rattle.shard_world.specs.ViewContents.{AllAt}
 use Rattle.shard_world.specs.World as w
-use Rattle.shard_world.specs.World.{position_now, Source, source_in}
+use Rattle.shard_world.specs.World.{position_now, StreamSource, source_in}
 use Rattle.shard_world.specs.declared.view.SubscriberView.{SubscriberView}
 use Rattle.shard_world.specs.declared.view.View.{View}
 
@@ -34,7 +34,7 @@ is_let_through checked number tables table row =
 
 -- A subscriber's position, how many commits that counts, and its rows: those of its shard of the publisher's tables
 -- after these commits, which are those that its publications let through.
-pub record ShowsSubscriber (source : Source) (peer : w.Peer) (shown : SubscriberView) : Type 0 where
+pub record ShowsSubscriber (source : StreamSource) (peer : w.Peer) (shown : SubscriberView) : Type 0 where
   pub position_is : shown.position ≡ position_now source peer
   pub applied_is : shown.applied ≡ commits_before shown.position
   pub confirmed_is : shown.confirmed ≡ peer.confirmed

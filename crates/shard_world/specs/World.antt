@@ -4,7 +4,7 @@
 use Rattle.std.specs.Prelude.{◌≡◌, ◌<◌, ◌⊎◌, ℕ, ◌+◌, ◌-◌, ◌==◌, max, min, nat_lt, Bool, true, false, if◌then◌else◌, List, [], ◌∷◌, ◌++◌, drop, fold, length, map, slice_get, take, Option, Some, None}
 use Rattle.std.specs.List.{flat_map}
 use Rattle.copy_both.specs.Streams as s
-use Rattle.copy_both.specs.Streams.{Item, spelled, StreamStateOf, Move, state_at, all_moved}
+use Rattle.copy_both.specs.Streams.{StreamItem, spelled, StreamStateOf, Move, state_at, all_moved}
 use Rattle.copy_both.specs.Tellings.{telling_of}
 use Rattle.copy_frames.specs.Frames.{cut}
 use Rattle.copy_frames.specs.declared.status.Status.{Status}
@@ -65,42 +65,42 @@ first_world = record { transactions = []; peers = λ subscriber. first_peer }
 -- ---- what is seen of a subscriber
 
 -- what the stream of a subscriber is made of: the publisher's catalog, what was committed, and the subscriber's number
-pub record Source : Type 0 where
+pub record StreamSource : Type 0 where
   pub checked : CheckedOf
   pub transactions : List Transaction
   pub number : ℕ
 
-abbrev pub source_in : CheckedOf → World → ℕ → Source
+abbrev pub source_in : CheckedOf → World → ℕ → StreamSource
 source_in checked world subscriber =
     record { checked = checked; transactions = world.transactions; number = subscriber }
 
-abbrev pub log_in : Source → List CommitOf
+abbrev pub log_in : StreamSource → List CommitOf
 log_in source = log_of source.checked source.transactions
 
 -- the items of its stream, and their bytes; none before the start
-abbrev pub down_items : Source → Option ℕ → List Move → List Item
+abbrev pub down_items : StreamSource → Option ℕ → List Move → List StreamItem
 down_items source None moves = []
 down_items source (Some start) moves = items_from source.checked source.transactions source.number start moves
 
-abbrev pub down_bytes : Source → Option ℕ → List Move → List ℕ
+abbrev pub down_bytes : StreamSource → Option ℕ → List Move → List ℕ
 down_bytes source start moves = flat_map spelled (down_items source start moves)
 
-abbrev pub position_in : Source → Peer → Option Connection → ℕ
-position_in source peer None = peer.position
-position_in source peer (Some c) =
+abbrev pub connection_position : StreamSource → Peer → Option Connection → ℕ
+connection_position source peer None = peer.position
+connection_position source peer (Some c) =
     position_after peer.position (whole_in c.delivered (down_items source c.start c.moves))
 
-abbrev pub machine_in : Source → Peer → Option Connection → Machine
-machine_in source peer None = peer.machine
-machine_in source peer (Some c) =
+abbrev pub connection_machine : StreamSource → Peer → Option Connection → Machine
+connection_machine source peer None = peer.machine
+connection_machine source peer (Some c) =
     (hear_cut (cut limit (take c.delivered (down_bytes source c.start c.moves))) (opened peer.machine)).machine
 
 -- the position and the machine now
-abbrev pub position_now : Source → Peer → ℕ
-position_now source peer = position_in source peer peer.connection
+abbrev pub position_now : StreamSource → Peer → ℕ
+position_now source peer = connection_position source peer peer.connection
 
-abbrev pub machine_now : Source → Peer → Machine
-machine_now source peer = machine_in source peer peer.connection
+abbrev pub machine_now : StreamSource → Peer → Machine
+machine_now source peer = connection_machine source peer peer.connection
 
 -- in a world
 abbrev pub position_of : CheckedOf → World → ℕ → ℕ
@@ -133,14 +133,14 @@ abbrev pub ups_of : Peer → Connection → List Up
 ups_of peer c = Asks peer.position ∷ map Says c.reports
 
 -- the number of bytes of the command with which it requests its stream
-abbrev pub asking_length : Source → ℕ → ℕ
+abbrev pub asking_length : StreamSource → ℕ → ℕ
 asking_length source position = length (spelled_up source.checked source.number (Asks position))
 
 -- all that it sends, and all of its stream
-abbrev pub up_bytes : Source → Peer → Connection → List ℕ
+abbrev pub up_bytes : StreamSource → Peer → Connection → List ℕ
 up_bytes source peer c = flat_map (spelled_up source.checked source.number) (ups_of peer c)
 
-abbrev pub down_of : Source → Connection → List ℕ
+abbrev pub down_of : StreamSource → Connection → List ℕ
 down_of source c = down_bytes source c.start c.moves
 
 pub record Session : Type 0 where
@@ -154,9 +154,9 @@ abbrev pub start_at : Option ℕ → ℕ → ℕ → Option ℕ
 start_at None position confirmed = Some (max position confirmed)
 start_at (Some start) position confirmed = Some start
 
-abbrev pub replied : Bool → ℕ → List Move
-replied true now = s.Keep now false ∷ []
-replied false now = []
+abbrev pub replies_to : Bool → ℕ → List Move
+replies_to true now = s.Keep now false ∷ []
+replies_to false now = []
 
 -- a status confirms what it reports as flushed, and is answered if it requests a reply
 abbrev pub hear_up : ℕ → Session → Up → Session
@@ -165,16 +165,16 @@ hear_up now session (Says status) =
     record session {
       confirmed = max session.confirmed status.flushed;
       moves =
-          session.moves ++ replied status.wants_reply now;
+          session.moves ++ replies_to status.wants_reply now;
     }
 
 -- what is whole in these bytes and wasn't in those heard before
-abbrev pub newly : Source → Peer → Connection → ℕ → List Up
+abbrev pub newly : StreamSource → Peer → Connection → ℕ → List Up
 newly source peer c more =
     drop (length (whole_up source.checked source.number c.heard (ups_of peer c)))
     (whole_up source.checked source.number (c.heard + more) (ups_of peer c))
 
-abbrev pub heard_of : Source → ℕ → Peer → Connection → ℕ → Session
+abbrev pub heard_of : StreamSource → ℕ → Peer → Connection → ℕ → Session
 heard_of source now peer c more =
     fold (hear_up now) (record { confirmed = peer.confirmed; start = c.start; moves = c.moves })
     (newly source peer c more)
@@ -188,7 +188,7 @@ as_many asked all done = min asked (all - done)
 abbrev pub with_connection : Peer → Connection → Peer
 with_connection peer c = record peer { connection = Some c }
 
-abbrev pub hears : Source → ℕ → Peer → Connection → ℕ → Peer
+abbrev pub hears : StreamSource → ℕ → Peer → Connection → ℕ → Peer
 hears source now peer c more =
     let session = heard_of source now peer c more in
     record peer {
@@ -201,7 +201,7 @@ abbrev pub delivers : Peer → Connection → ℕ → Peer
 delivers peer c more = with_connection peer (record c { delivered = c.delivered + more })
 
 -- the connection is lost: what was half read is dropped, and the position and rows stay
-abbrev pub loses : Source → Peer → Peer
+abbrev pub loses : StreamSource → Peer → Peer
 loses source peer =
     record peer { position = position_now source peer; machine = lost (machine_now source peer); connection = None }
 
@@ -209,8 +209,8 @@ abbrev pub moves_on : Peer → Connection → Move → Peer
 moves_on peer c move = with_connection peer (record c { moves = c.moves ++ move ∷ [] })
 
 -- where a stream of these moves is
-abbrev pub state_of : Source → ℕ → List Move → StreamStateOf
-state_of source start moves =
+abbrev pub stream_state : StreamSource → ℕ → List Move → StreamStateOf
+stream_state source start moves =
     all_moved (telling_of source.checked) (log_in source)
     (state_at source.number (length source.checked.catalog.tables) start) moves
 
@@ -218,22 +218,22 @@ abbrev pub took : ℕ → List Msg → Answer
 took number [] = Skipped number
 took number (message ∷ messages) = Sent number
 
-abbrev pub takes : CheckedOf → ℕ → Peer → Connection → StreamStateOf → Option CommitOf → Answer × Peer
-takes checked now peer c state None = (Idle, peer)
-takes checked now peer c state (Some commit) =
+abbrev pub take_commit : CheckedOf → ℕ → Peer → Connection → StreamStateOf → Option CommitOf → Answer × Peer
+take_commit checked now peer c state None = (Idle, peer)
+take_commit checked now peer c state (Some commit) =
     (took commit.number (messages_for checked state.slot state.relation_sent commit), moves_on peer c (s.Take now))
 
-abbrev pub take_step : Source → ℕ → Peer → Connection → Option ℕ → Answer × Peer
+abbrev pub take_step : StreamSource → ℕ → Peer → Connection → Option ℕ → Answer × Peer
 take_step source now peer c None = (NotStarted, peer)
 take_step source now peer c (Some start) =
-    let state = state_of source start c.moves in
-    takes source.checked now peer c state (slice_get (log_in source) state.done)
+    let state = stream_state source start c.moves in
+    take_commit source.checked now peer c state (slice_get (log_in source) state.done)
 
 abbrev pub keep_step : ℕ → Bool → Peer → Connection → Option ℕ → Answer × Peer
 keep_step now want peer c None = (NotStarted, peer)
 keep_step now want peer c (Some start) = (Kept, moves_on peer c (s.Keep now want))
 
-abbrev pub open_step : Source → ℕ → PeerEvent → Peer → Connection → Answer × Peer
+abbrev pub open_step : StreamSource → ℕ → PeerEvent → Peer → Connection → Answer × Peer
 open_step source now Open peer c = (AlreadyOpen, peer)
 open_step source now (Hear count) peer c =
     let more = as_many count (length (up_bytes source peer c)) c.heard in (Heard more, hears source now peer c more)
@@ -257,12 +257,12 @@ shut_step (Deliver count) peer = (NotOpen, peer)
 shut_step (Report want) peer = (NotOpen, peer)
 shut_step Lose peer = (NotOpen, peer)
 
-abbrev pub peer_step : Source → ℕ → PeerEvent → Peer → Option Connection → Answer × Peer
+abbrev pub peer_step : StreamSource → ℕ → PeerEvent → Peer → Option Connection → Answer × Peer
 peer_step source now event peer None = shut_step event peer
 peer_step source now event peer (Some c) = open_step source now event peer c
 
 -- some of the bytes that were to be heard or delivered
-abbrev pub in_part : Source → ℕ → PeerEvent → Peer → ℕ → Connection → Peer
+abbrev pub in_part : StreamSource → ℕ → PeerEvent → Peer → ℕ → Connection → Peer
 in_part source now (Hear count) peer some c =
     hears source now peer c (as_many (min some count) (length (up_bytes source peer c)) c.heard)
 in_part source now (Deliver count) peer some c =
@@ -274,7 +274,7 @@ in_part source now (Report want) peer some c = peer
 in_part source now Lose peer some c = peer
 
 -- If memory was refused, the connection is lost, after some of the bytes that were to be heard or delivered.
-abbrev pub broken : Source → ℕ → PeerEvent → Peer → ℕ → Option Connection → Peer
+abbrev pub broken : StreamSource → ℕ → PeerEvent → Peer → ℕ → Option Connection → Peer
 broken source now event peer some None = peer
 broken source now event peer some (Some c) = loses source (in_part source now event peer some c)
 
@@ -299,7 +299,7 @@ RefusedFor checked most world commands (e.At number fault) = IsTransaction comma
 RefusedFor checked most world commands e.OutOfMemory = IsTransaction commands × (length world.transactions < most)
 
 -- it is accepted, or refused and nothing changes; the log has at most this number
-pub record Commits (checked : CheckedOf) (most : ℕ) (world : World) (commands : List Command) (time : ℕ)
+pub record IsCommitted (checked : CheckedOf) (most : ℕ) (world : World) (commands : List Command) (time : ℕ)
     (answer : Answer) (next : World) : Type 0 where
   pub accepted : IsAccepted (setting_in checked) (after (setting_in checked) world.transactions)
       (record { commands = commands; time = time })
@@ -307,7 +307,7 @@ pub record Commits (checked : CheckedOf) (most : ℕ) (world : World) (commands 
   pub answer_is : answer ≡ Committed (length world.transactions + 1)
   pub next_is : next ≡ with_transaction world commands time
 
-pub record Refuses (checked : CheckedOf) (most : ℕ) (world : World) (commands : List Command) (answer : Answer)
+pub record RefusesCommit (checked : CheckedOf) (most : ℕ) (world : World) (commands : List Command) (answer : Answer)
     (next : World) : Type 0 where
   pub error : CommitError
   pub refused : RefusedFor checked most world commands error
@@ -325,7 +325,7 @@ broken_in checked world subscriber now event some =
     (world.peers subscriber).connection
 
 -- the connection's own step, or memory was refused
-pub record Moves (checked : CheckedOf) (world : World) (subscriber now : ℕ) (event : PeerEvent) (answer : Answer)
+pub record MovesPeer (checked : CheckedOf) (world : World) (subscriber now : ℕ) (event : PeerEvent) (answer : Answer)
     (next : World) : Type 0 where
   pub answer_is : answer ≡ (step_in checked world subscriber now event).0
   pub next_is : next ≡ with_peer world subscriber (step_in checked world subscriber now event).1
@@ -339,24 +339,24 @@ AsksMemory Idle = ⊥
 AsksMemory Lost = ⊥
 AsksMemory answer = Unit {0}
 
-pub record Breaks (checked : CheckedOf) (world : World) (subscriber now : ℕ) (event : PeerEvent) (answer : Answer)
+pub record BreaksPeer (checked : CheckedOf) (world : World) (subscriber now : ℕ) (event : PeerEvent) (answer : Answer)
     (next : World) : Type 0 where
   pub needed : AsksMemory (step_in checked world subscriber now event).0
   pub some : ℕ
   pub answer_is : answer ≡ OutOfMemory
   pub next_is : next ≡ with_peer world subscriber (broken_in checked world subscriber now event some)
 
-abbrev pub StepsOn : Bool → CheckedOf → World → ℕ → ℕ → PeerEvent → Answer → World → Type 0
-StepsOn false checked world subscriber now event answer next = (answer ≡ NoSubscriber) × (next ≡ world)
-StepsOn true checked world subscriber now event answer next =
-    Moves checked world subscriber now event answer next ⊎ Breaks checked world subscriber now event answer next
+abbrev pub StepsPeer : Bool → CheckedOf → World → ℕ → ℕ → PeerEvent → Answer → World → Type 0
+StepsPeer false checked world subscriber now event answer next = (answer ≡ NoSubscriber) × (next ≡ world)
+StepsPeer true checked world subscriber now event answer next =
+    MovesPeer checked world subscriber now event answer next ⊎ BreaksPeer checked world subscriber now event answer next
 
 -- at a time, an event has this answer, and leaves this
 abbrev pub Steps : CheckedOf → ℕ → World → ℕ → Event → Answer → World → Type 0
 Steps checked most world now (Commit commands time) answer next =
-    Commits checked most world commands time answer next ⊎ Refuses checked most world commands answer next
+    IsCommitted checked most world commands time answer next ⊎ RefusesCommit checked most world commands answer next
 Steps checked most world now (On subscriber event) answer next =
-    StepsOn (nat_lt subscriber (length checked.plan)) checked world subscriber now event answer next
+    StepsPeer (nat_lt subscriber (length checked.plan)) checked world subscriber now event answer next
 
 -- events, each with its time, lead from one world to another
 abbrev pub Leads : CheckedOf → ℕ → List (ℕ × Event) → World → World → Type 0

@@ -9,7 +9,7 @@ use Rattle.tables_log.specs.declared.book.Book.{Book}
 use Rattle.tables_log.specs.declared.slots.Slot.{Slot}
 use Rattle.shard_world.specs.Joined.{PeerOf, PeerIs}
 use Rattle.shard_world.specs.World as w
-use Rattle.shard_world.specs.World.{Answer, Event, first_world, Steps, Leads, Source, source_in}
+use Rattle.shard_world.specs.World.{Answer, Event, first_world, Steps, Leads, StreamSource, source_in}
 use Rattle.shard_world.specs.WorldLaws.{IsPublisher, IsTimedEvent}
 use Rattle.shard_world.specs.declared.world.World.{World}
 
@@ -28,7 +28,7 @@ world_peers world = world.peers.items
 -- ---- which world it matches
 
 -- the subscriber of this number exists, and matches that of the world
-abbrev pub PeerAt : Source → List Slot → w.Peer → Option PeerOf → Type 0
+abbrev pub PeerAt : StreamSource → List Slot → w.Peer → Option PeerOf → Type 0
 PeerAt source slots peer None = ⊥
 PeerAt source slots peer (Some code) = PeerIs source slots code peer
 
@@ -52,7 +52,7 @@ IsWorld code most events world = IsWorldBy (world_checked code) most (world_book
 -- ---- what calls do
 
 -- an event has this answer, and leaves what matches what the step of the world leaves
-pub record StepsInto (before after : World) (most : ℕ) (events : List (ℕ × Event)) (world : w.World) (now : ℕ)
+pub record StepsFrom (before after : World) (most : ℕ) (events : List (ℕ × Event)) (world : w.World) (now : ℕ)
     (event : Event) (answer : Answer) : Type 0 where
   pub next : w.World
   pub steps : Steps (world_checked before) most world now event answer next
@@ -60,10 +60,10 @@ pub record StepsInto (before after : World) (most : ℕ) (events : List (ℕ × 
   pub checked : world_checked after ≡ world_checked before
 
 -- in each world that it matches
-abbrev pub StepsOn : World → World → ℕ → Event → Answer → Type 0
-StepsOn before after now event answer =
+abbrev pub StepsFromEach : World → World → ℕ → Event → Answer → Type 0
+StepsFromEach before after now event answer =
     (most : ℕ) (events : List (ℕ × Event)) (world : w.World) → IsWorld before most events world
-    → StepsInto before after most events world now event answer
+    → StepsFrom before after most events world now event answer
 
 -- ---- several events
 
@@ -74,7 +74,7 @@ Runs checked most (event ∷ events) (answer ∷ answers) world last =
     (next : w.World) × Steps checked most world event.0 event.1 answer next × Runs checked most events answers next last
 Runs checked most events answers world last = ⊥
 
-pub record RunsInto (before after : World) (most : ℕ) (events : List (ℕ × Event)) (world : w.World)
+pub record RunsFrom (before after : World) (most : ℕ) (events : List (ℕ × Event)) (world : w.World)
     (asked : List (ℕ × Event)) (answers : List Answer) : Type 0 where
   pub next : w.World
   pub runs : Runs (world_checked before) most asked answers world next
@@ -82,7 +82,7 @@ pub record RunsInto (before after : World) (most : ℕ) (events : List (ℕ × E
   pub checked : world_checked after ≡ world_checked before
 
 -- in each world that it matches
-abbrev pub RunsOn : World → World → List (ℕ × Event) → List Answer → Type 0
-RunsOn before after asked answers =
+abbrev pub RunsFromEach : World → World → List (ℕ × Event) → List Answer → Type 0
+RunsFromEach before after asked answers =
     (most : ℕ) (events : List (ℕ × Event)) (world : w.World) → IsWorld before most events world
-    → RunsInto before after most events world asked answers
+    → RunsFrom before after most events world asked answers

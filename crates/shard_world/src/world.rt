@@ -42,9 +42,9 @@ impl World {
     ghost use Rattle.shard_world.specs.World.{event_view, timed_view};
     ghost use Rattle.shard_world.specs.World as w;
     ghost use Rattle.shard_world.specs.PeerCalls.{IsCounted};
-    ghost use Rattle.shard_world.specs.Pumping.{EndsWalk, GoesOn, IsPosition, PumpsOn, PumpsThrough, Takes, Walks};
+    ghost use Rattle.shard_world.specs.Pumping.{EndsWalk, KeepsConnection, IsPosition, PumpsFromEach, PumpsThrough, Takes, Walks};
     ghost use Rattle.shard_world.specs.ViewMeaning.{ShowsWorld};
-    ghost use Rattle.shard_world.specs.WorldCalls.{IsWorld, RunsOn, StepsOn, world_checked};
+    ghost use Rattle.shard_world.specs.WorldCalls.{IsWorld, RunsFromEach, StepsFromEach, world_checked};
 
     /// A publisher without rows, whose log may have at most `limit` commits, and subscribers without rows, at position
     /// 0 and without connections. The only error is out of memory.
@@ -73,7 +73,7 @@ impl World {
     #[tactic(auto, using(crate::proofs::WorldMoves::commits_one, crate::proofs::WorldMoves::refuses_one))]
     fn commit(&mut self, commands: &[Command], time: u64) -> Answer
         ensures { (now : ℕ) → now < 2 ^ 64
-            → StepsOn self.old self.new now (w.Commit (map command_view commands.now) time) result }
+            → StepsFromEach self.old self.new now (w.Commit (map command_view commands.now) time) result }
     {
         match self.book.commit(commands, time) {
             Ok(number) => Answer::Committed(number),
@@ -84,7 +84,7 @@ impl World {
     /// Something happens on the connection of a subscriber.
     #[tactic(auto, using(crate::proofs::WorldMoves::moves_one, crate::proofs::WorldMoves::none_there))]
     fn on(&mut self, now: u64, subscriber: usize, event: PeerEvent) -> Answer
-        ensures steps { StepsOn self.old self.new now (w.On subscriber event) result }
+        ensures steps { StepsFromEach self.old self.new now (w.On subscriber event) result }
         ensures counted { IsCounted result }
     {
         match self.peers.get_mut(subscriber) {
@@ -95,7 +95,7 @@ impl World {
 
     /// One event happens, at this clock, in microseconds since 2000-01-01.
     pub fn step(&mut self, now: u64, event: &Event) -> Answer
-        ensures { StepsOn self.old self.new now (event_view event.now) result }
+        ensures { StepsFromEach self.old self.new now (event_view event.now) result }
     {
         match event {
             Event::Commit { commands, time } => self.commit(commands.as_slice(), *time),
@@ -107,7 +107,7 @@ impl World {
     /// refused, which is the only error, nothing happens.
     #[tactic(auto, using(crate::proofs::RunLemmas::runs_none, crate::proofs::RunLemmas::runs_more))]
     pub fn run(&mut self, events: &[(u64, Event)]) -> Result<Vec<Answer>, AllocError>
-        ensures ok { IfOk result (λ answers. RunsOn self.old self.new (map timed_view events.now) answers.items) }
+        ensures ok { IfOk result (λ answers. RunsFromEach self.old self.new (map timed_view events.now) answers.items) }
         ensures err { OnErr result (self.new ≡ self.old) }
     {
         let mut answers = Vec::with_capacity(self.alloc, events.len())?;
@@ -119,9 +119,9 @@ impl World {
 
     /// An event of a pump happens; an answer after which there is no connection ends the pump.
     fn go_on(&mut self, now: u64, subscriber: usize, event: PeerEvent) -> Result<Answer, Answer>
-        ensures ok { IfOk result (StepsOn self.old self.new now (w.On subscriber event)) }
-        ensures err { IfErr result (StepsOn self.old self.new now (w.On subscriber event)) }
-        ensures goes { IfOk result GoesOn }
+        ensures ok { IfOk result (StepsFromEach self.old self.new now (w.On subscriber event)) }
+        ensures err { IfErr result (StepsFromEach self.old self.new now (w.On subscriber event)) }
+        ensures goes { IfOk result KeepsConnection }
         ensures ends { IfErr result EndsWalk }
     {
         match self.on(now, subscriber, event) {
@@ -195,7 +195,7 @@ impl World {
     /// is heard. Returns `At` with 64 times the log's length plus 64. Out of memory ends the pump and loses the
     /// connection. Without a connection, or without the subscriber, nothing happens.
     pub fn pump(&mut self, now: u64, subscriber: usize) -> Answer
-        ensures { PumpsOn self.old self.new now subscriber result }
+        ensures { PumpsFromEach self.old self.new now subscriber result }
     {
         match self.pump_through(now, subscriber) {
             Ok(()) => Answer::At(self.position(subscriber)),

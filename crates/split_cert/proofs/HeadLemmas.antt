@@ -7,7 +7,7 @@ use Rattle.split_cert.specs.declared.error.CertError.TheVariants.{TooLarge, TooD
 use Rattle.split_cert.specs.declared.head.Head.{Head}
 use Rattle.split_cert.specs.declared.head.Kind.{Kind}
 use Rattle.split_cert.specs.declared.head.Kind.TheVariants.{Split, Owner, Empty, NeverNull}
-use Rattle.split_cert.specs.Reading.{Here, ◌>>=◌, ◌>>◌, pure, space, letter_of, letter, number, is_split, count, head}
+use Rattle.split_cert.specs.Reading.{Here, ◌>>=◌, ◌>>◌, pure, space, letter_of, letter, numeral, is_split, count, head}
 use Rattle.split_cert.specs.Text.{words_of}
 use Rattle.split_cert.specs.Tree.{max_nodes}
 use Rattle.split_cert.proofs.WordLemmas.{at, bind_ok, ok_is, EndsWord, not_zero, letter_takes, letter_again, number_takes, number_again, space_takes}
@@ -74,11 +74,11 @@ pub head_takes : (may_open : ℕ) (here : Here) (y : Head × Here) → head may_
 unfolding head
 head_takes may_open here y e =
     let a = bind_ok (letter here)
-    (λ kind. count may_open kind >> space >> number >>= (λ n. pure (record { kind = kind; number = n }))) y e in
+    (λ kind. count may_open kind >> space >> numeral >>= (λ n. pure (record { kind = kind; number = n }))) y e in
     let kind = a.0.0 in
-    let d = bind_ok ((count may_open kind >> space >> number) a.0.1) (λ n. pure (record { kind = kind; number = n }))
+    let d = bind_ok ((count may_open kind >> space >> numeral) a.0.1) (λ n. pure (record { kind = kind; number = n }))
     y a.2 in
-    let c = bind_ok ((count may_open kind >> space) a.0.1) (λ _. number) d.0 d.1 in
+    let c = bind_ok ((count may_open kind >> space) a.0.1) (λ _. numeral) d.0 d.1 in
     let b = bind_ok (count may_open kind a.0.1) (λ _. space) c.0 c.1 in
     let letters = letter_takes here a.0 a.1 in
     let counts = count_takes may_open kind a.0.1 b.0 b.1 in

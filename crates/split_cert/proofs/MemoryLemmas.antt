@@ -6,8 +6,8 @@ use Rattle.split_cert.specs.declared.error.CertError.TheVariants.{BadToken, Ende
 use Rattle.split_cert.specs.declared.head.Head.{Head}
 use Rattle.split_cert.specs.declared.head.Kind.{Kind}
 use Rattle.split_cert.specs.declared.head.Kind.TheVariants.{Split}
-use Rattle.split_cert.specs.Numbers.{number_of}
-use Rattle.split_cert.specs.Reading.{Here, Outcome, Rule, and_then, ◌>>=◌, ◌>>◌, pure, word_len, past, word, space_first, space, meant, kind_of, letter, number, is_split, count, head}
+use Rattle.split_cert.specs.Numbers.{word_number}
+use Rattle.split_cert.specs.Reading.{Here, Outcome, Rule, and_then, ◌>>=◌, ◌>>◌, pure, word_len, past, word, space_first, space, meant, kind_of, letter, numeral, is_split, count, head}
 use Rattle.split_cert.specs.Text.{words_of, BeginsWithSplit}
 use Rattle.split_cert.specs.Tree.{max_nodes}
 use Rattle.split_cert.proofs.HeadLemmas.{head_takes}
@@ -41,11 +41,11 @@ letter_needs_none here =
     bind_needs_none (word here) (λ bytes. meant here.place (kind_of bytes)) (word_needs_none here)
     (λ bytes behind. meant_needs_none here.place (kind_of bytes) behind)
 
-number_needs_none : (here : Here) → NeedsNone (number here)
-unfolding number
+number_needs_none : (here : Here) → NeedsNone (numeral here)
+unfolding numeral
 number_needs_none here =
-    bind_needs_none (word here) (λ bytes. meant here.place (number_of bytes)) (word_needs_none here)
-    (λ bytes behind. meant_needs_none here.place (number_of bytes) behind)
+    bind_needs_none (word here) (λ bytes. meant here.place (word_number bytes)) (word_needs_none here)
+    (λ bytes behind. meant_needs_none here.place (word_number bytes) behind)
 
 if_space : (b : Bool) (place : ℕ) (x : Unit {0} × Here) → NeedsNone (if b then Ok x else Err (BadToken place))
 if_space true place x e = cc
@@ -76,10 +76,10 @@ pub head_needs_none : (may_open : ℕ) (here : Here) → NeedsNone (head may_ope
 unfolding head
 head_needs_none may_open here =
     bind_needs_none (letter here)
-    (λ kind. count may_open kind >> space >> number >>= (λ n. pure (record { kind = kind; number = n })))
+    (λ kind. count may_open kind >> space >> numeral >>= (λ n. pure (record { kind = kind; number = n })))
     (letter_needs_none here) (λ kind behind.
-    bind_needs_none ((count may_open kind >> space >> number) behind) (λ n. pure (record { kind = kind; number = n }))
-    (bind_needs_none ((count may_open kind >> space) behind) (λ _. number)
+    bind_needs_none ((count may_open kind >> space >> numeral) behind) (λ n. pure (record { kind = kind; number = n }))
+    (bind_needs_none ((count may_open kind >> space) behind) (λ _. numeral)
     (bind_needs_none (count may_open kind behind) (λ _. space) (count_needs_none may_open kind behind)
     (λ _ here. space_needs_none here))
     (λ _ here. number_needs_none here))

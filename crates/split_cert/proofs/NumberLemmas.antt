@@ -8,7 +8,7 @@ use Rattle.std.proofs.lemmas.Fmt.{decimal-digits_value, digits_decimal, first_de
 use Rattle.std.proofs.lemmas.List.{drop_more, drop_all}
 use Rattle.std.proofs.lemmas.Slice.Eq.{bytes_eq-Decides}
 use Rattle.std.proofs.lemmas.Str.Parse.{IsNumeralModel, numerals_by_fold}
-use Rattle.split_cert.specs.Numbers.{number_from, number_of}
+use Rattle.split_cert.specs.Numbers.{number_from, word_number}
 use Rattle.filter_tree.proofs.Tests.{by_test}
 
 same_tests : (a b : Bool) → (a ≡ true → b ≡ true) → (b ≡ true → a ≡ true) → a ≡ b
@@ -86,8 +86,8 @@ own = numerals_by_fold _ (search rules) number_from (search rules)
 is_text : (word : List ℕ) (n : ℕ) → bytes_eq word (decimal n) ≡ true → word ≡ decimal n
 is_text word n e = (bytes_eq-Decides word (decimal n)).0 e
 
-pub no_word : (word : List ℕ) → length word ≡ 0 → number_of word ≡ None
-unfolding number_of
+pub no_word : (word : List ℕ) → length word ≡ 0 → word_number word ≡ None
+unfolding word_number
 no_word word none = no_small (bytes_eq word (decimal (number_from 0 word))) (number_from 0 word) (λ same few.
     let some = decimal_nonempty (number_from 0 word) (omega arith) in
     omega (arith, ap length (is_text word (number_from 0 word) same)))
@@ -97,17 +97,17 @@ zero_text : (n : ℕ) → n < 2 ^ 64 → get_or (decimal n) 0 0 ≡ 48 → lengt
 zero_text zero few first = ap length (decimal_digit 0 (omega arith))
 zero_text (suc n) few first = absurd (omega (arith, first_decimal (suc n) (omega arith) few))
 
-pub leading_zero : (word : List ℕ) → 1 < length word → get_or word 0 0 ≡ 48 → number_of word ≡ None
-unfolding number_of
+pub leading_zero : (word : List ℕ) → 1 < length word → get_or word 0 0 ≡ 48 → word_number word ≡ None
+unfolding word_number
 leading_zero word long first = no_small (bytes_eq word (decimal (number_from 0 word))) (number_from 0 word) (λ same few.
     let e = is_text word (number_from 0 word) same in
     omega (arith, ap length e, zero_text (number_from 0 word) (omega arith) (rw e at first)))
 
 -- otherwise the digits are the decimal text of their number
 pub plain_number : (word : List ℕ) → 0 < length word → (get_or word 0 0 ≡ 48 → length word ≡ 1)
-    → number_of word ≡ (if all_ascii_digits word && nat_lt (number_from 0 word) (2 ^ 32) then
+    → word_number word ≡ (if all_ascii_digits word && nat_lt (number_from 0 word) (2 ^ 32) then
     Some (number_from 0 word) else None)
-unfolding number_of
+unfolding word_number
 plain_number word some plain =
     same_small _ _ (number_from 0 word) (λ few. same_tests _ _
     (λ same. rw (← is_text word (number_from 0 word) same) at (digits_decimal own (number_from 0 word) (omega arith)))

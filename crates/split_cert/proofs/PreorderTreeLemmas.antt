@@ -8,7 +8,7 @@ use Rattle.split_cert.specs.declared.node.Node.{Node}
 use Rattle.split_cert.specs.declared.node.Node.TheVariants.{Split}
 use Rattle.split_cert.specs.PreorderTrees.{all_led, HasNoTree}
 use Rattle.split_cert.specs.Nodes.{Stream, fault, over, led, nodes_in, preorder, AreNodesOf}
-use Rattle.split_cert.specs.Reading.{told}
+use Rattle.split_cert.specs.Reading.{cert_fault}
 use Rattle.split_cert.specs.Text.{certificate_of}
 use Rattle.split_cert.specs.Tree.{Tree}
 use Rattle.split_cert.specs.Tree as T
@@ -179,7 +179,7 @@ lack_is (Err other) stream error are lacks = ap Err (lacks.told other are)
 
 -- an error other than out of memory reports itself
 tells : (expected : Result Tree CertError) (error : CertError) → (error ≢ OutOfMemory → expected ≡ Err error)
-    → TellsFault (told error) expected
+    → TellsFault (cert_fault error) expected
 tells expected (BadToken place) h = h (λ e. absurd cc)
 tells expected Ended h = h (λ e. absurd cc)
 tells expected (Trailing place) h = h (λ e. absurd cc)
@@ -193,14 +193,14 @@ text_grows text after t grown ends =
     whole_is (certificate_of text) (nodes_in text) after t (nodes_of_texts text) grown ends
 
 pub text_lacks : (text : List ℕ) (error : CertError) → (error ≢ OutOfMemory → HasNoTree (nodes_in text) error)
-    → TellsFault (told error) (certificate_of text)
+    → TellsFault (cert_fault error) (certificate_of text)
 text_lacks text error lacks =
     tells (certificate_of text) error
     (λ other. lack_is (certificate_of text) (nodes_in text) error (nodes_of_texts text) (lacks other))
 
 pub text_faults : (text : List ℕ) (after : Stream) (t : Tree) (error : CertError)
     → nodes_in text ≡ all_led (preorder t) after → after.end ≡ Err error
-    → TellsFault (told error) (certificate_of text)
+    → TellsFault (cert_fault error) (certificate_of text)
 text_faults text after t error grown ends =
     tells (certificate_of text) error
     (λ other. rest_is (certificate_of text) (nodes_in text) after t error (nodes_of_texts text) grown ends)

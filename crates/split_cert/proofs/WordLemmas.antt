@@ -13,8 +13,8 @@ use Rattle.split_cert.specs.declared.error.CertError.{CertError}
 use Rattle.split_cert.specs.declared.error.CertError.TheVariants.{Ended, BadToken}
 use Rattle.split_cert.specs.declared.head.Kind.{Kind}
 use Rattle.split_cert.specs.declared.head.Kind.TheVariants.{Split, Owner, Empty, NeverNull}
-use Rattle.split_cert.specs.Numbers.{number_from, number_of}
-use Rattle.split_cert.specs.Reading.{Here, Outcome, Rule, and_then, is_of_word, word_len, past, word, space_first, space, meant, letter_of, kind_of_letter, kind_of, letter, number}
+use Rattle.split_cert.specs.Numbers.{number_from, word_number}
+use Rattle.split_cert.specs.Reading.{Here, Outcome, Rule, and_then, is_of_word, word_len, past, word, space_first, space, meant, letter_of, kind_of_letter, kind_of, letter, numeral}
 use Rattle.split_cert.proofs.NumberLemmas.{own}
 use Rattle.filter_tree.proofs.Tests.{by_test}
 
@@ -125,8 +125,8 @@ if_some : (b : Bool) (n m : ℕ) → (if b then Some n else None) ≡ Some m →
 if_some true n m e = (refl, some_is n m e)
 if_some false n m e = absurd cc
 
-number_is : (bytes : List ℕ) (n : ℕ) → number_of bytes ≡ Some n → (bytes ≡ decimal n) × (n < 2 ^ 32)
-unfolding number_of
+number_is : (bytes : List ℕ) (n : ℕ) → word_number bytes ≡ Some n → (bytes ≡ decimal n) × (n < 2 ^ 32)
+unfolding word_number
 number_is bytes n e =
     let m = number_from 0 bytes in
     let found = if_some (bytes_eq bytes (decimal m) && nat_lt m (2 ^ 32)) m n e in
@@ -134,8 +134,8 @@ number_is bytes n e =
     subst (λ n. (bytes ≡ decimal n) × (n < 2 ^ 32)) found.1
     ((bytes_eq-Decides bytes (decimal m)).0 both.0, ltb-true _ _ both.1)
 
-number_text : (n : ℕ) → n < 2 ^ 32 → number_of (decimal n) ≡ Some n
-unfolding number_of
+number_text : (n : ℕ) → n < 2 ^ 32 → word_number (decimal n) ≡ Some n
+unfolding word_number
 number_text n few =
     let same : number_from 0 (decimal n) ≡ n = digits_value-decimal own n (omega arith) in
     rw (same, (bytes_eq-Decides (decimal n) (decimal n)).1 refl, lt-ltb n (2 ^ 32) few) refl
@@ -181,18 +181,18 @@ letter_again place nodes kind rest ends =
       letter_means kind,
     ) refl
 
-pub number_takes : (here : Here) (y : ℕ × Here) → number here ≡ Ok y → Takes here (decimal y.0) y.1 × (y.0 < 2 ^ 32)
-unfolding number
+pub number_takes : (here : Here) (y : ℕ × Here) → numeral here ≡ Ok y → Takes here (decimal y.0) y.1 × (y.0 < 2 ^ 32)
+unfolding numeral
 number_takes here y e =
-    let a = bind_ok (word here) (λ bytes. meant here.place (number_of bytes)) y e in
+    let a = bind_ok (word here) (λ bytes. meant here.place (word_number bytes)) y e in
     let takes = word_takes here a.0 a.1 in
-    let means = meant_is here.place (number_of a.0.0) a.0.1 y a.2 in
+    let means = meant_is here.place (word_number a.0.0) a.0.1 y a.2 in
     let is = number_is a.0.0 y.0 means.0 in
     (Takes-are here a.0.1 y.1 a.0.0 (decimal y.0) is.0 means.1 takes, is.1)
 
 pub number_again : (place nodes n : ℕ) (rest : List ℕ) → n < 2 ^ 32 → EndsWord rest
-    → number (at place nodes (decimal n ++ rest)) ≡ Ok (n, at (place + length (decimal n)) nodes rest)
-unfolding number
+    → numeral (at place nodes (decimal n ++ rest)) ≡ Ok (n, at (place + length (decimal n)) nodes rest)
+unfolding numeral
 number_again place nodes n rest few ends =
     rw (
       word_again place nodes (decimal n) rest (decimal_nonempty n (omega arith))

@@ -10,7 +10,7 @@ number_from n [] = n
 number_from n (digit ∷ digits) = number_from (10 * n + (digit - 48)) digits
 
 -- the number of which a word is the decimal text, if it has 32 bits
-unfoldable pub number_of : List ℕ → Option ℕ
-number_of bytes =
+unfoldable pub word_number : List ℕ → Option ℕ
+word_number bytes =
     let number = number_from 0 bytes in
     if bytes_eq bytes (decimal number) && nat_lt number (2 ^ 32) then Some number else None

@@ -7,7 +7,7 @@ use Rattle.split_cert.specs.declared.error.CertError.TheVariants.{BadToken, Ende
 use Rattle.split_cert.specs.declared.head.Head.{Head}
 use Rattle.split_cert.specs.declared.head.Kind.{Kind}
 use Rattle.split_cert.specs.declared.head.Kind.TheVariants.{Split, Owner, Empty, NeverNull}
-use Rattle.split_cert.specs.Numbers.{number_of}
+use Rattle.split_cert.specs.Numbers.{word_number}
 use Rattle.split_cert.specs.Tree.{max_nodes}
 
 -- where a reader is: the place of the next byte in the text, how many nodes it has read, and the bytes from there on
@@ -97,8 +97,8 @@ kind_of (byte ∷ other ∷ bytes) = None
 unfoldable pub letter : Rule Kind
 letter here = (word >>= (λ bytes. meant here.place (kind_of bytes))) here
 
-unfoldable pub number : Rule ℕ
-number here = (word >>= (λ bytes. meant here.place (number_of bytes))) here
+unfoldable pub numeral : Rule ℕ
+numeral here = (word >>= (λ bytes. meant here.place (word_number bytes))) here
 
 abbrev pub is_split : Kind → Bool
 is_split Split = true
@@ -116,15 +116,15 @@ count may_open kind here =
 -- the letter and the number of a node. It is counted as soon as its letter is read
 unfoldable pub head : ℕ → Rule Head
 head may_open =
-    letter >>= (λ kind. count may_open kind >> space >> number >>= (λ n. pure (record { kind = kind; number = n })))
+    letter >>= (λ kind. count may_open kind >> space >> numeral >>= (λ n. pure (record { kind = kind; number = n })))
 
 -- ---- what an error reports
 
 -- the fault that an error reports: none if memory ran out
-abbrev pub told : CertError → Option CertError
-told OutOfMemory = None
-told (BadToken place) = Some (BadToken place)
-told Ended = Some Ended
-told (Trailing place) = Some (Trailing place)
-told TooLarge = Some TooLarge
-told TooDeep = Some TooDeep
+abbrev pub cert_fault : CertError → Option CertError
+cert_fault OutOfMemory = None
+cert_fault (BadToken place) = Some (BadToken place)
+cert_fault Ended = Some Ended
+cert_fault (Trailing place) = Some (Trailing place)
+cert_fault TooLarge = Some TooLarge
+cert_fault TooDeep = Some TooDeep

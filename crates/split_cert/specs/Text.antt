@@ -17,17 +17,17 @@ use Rattle.split_cert.specs.Tree as T
 abbrev pub words_of : Kind → ℕ → List ℕ
 words_of kind number = letter_of kind ∷ 32 ∷ decimal number
 
-abbrev pub spelling_of : Tree → List ℕ
-spelling_of (T.Split atom if_true if_false if_null) =
-    words_of Split atom ++ 32 ∷ spelling_of if_true ++ 32 ∷ spelling_of if_false ++ 32 ∷ spelling_of if_null
-spelling_of (T.Owner subscriber) = words_of Owner subscriber
-spelling_of (T.Empty term) = words_of Empty term
-spelling_of (T.NeverNull atom) = words_of NeverNull atom
+abbrev pub cert_text : Tree → List ℕ
+cert_text (T.Split atom if_true if_false if_null) =
+    words_of Split atom ++ 32 ∷ cert_text if_true ++ 32 ∷ cert_text if_false ++ 32 ∷ cert_text if_null
+cert_text (T.Owner subscriber) = words_of Owner subscriber
+cert_text (T.Empty term) = words_of Empty term
+cert_text (T.NeverNull atom) = words_of NeverNull atom
 
 -- the tree is within the limits, and the text is the tree's
 pub record IsCertificateOf (tree : Tree) (text : List ℕ) : Type 0 where
   pub limits : IsWithinLimits tree
-  pub spelled : text ≡ spelling_of tree
+  pub spelled : text ≡ cert_text tree
 
 -- the text begins with a split: only a split allocates memory
 abbrev pub BeginsWithSplit : List ℕ → Type 0

@@ -88,9 +88,9 @@ impl<'a> Cursor<'a> {
     }
 
     /// Reads the number of a node.
-    #[tactic(auto, unfolding(crate::specs::Reading::number))]
+    #[tactic(auto, unfolding(crate::specs::Reading::numeral))]
     fn number(&mut self) -> Result<u32, CertError>
-        ensures { Finds (λ number. number) spec.number self.old self.new result }
+        ensures { Finds (λ number. number) spec.numeral self.old self.new result }
     {
         let place = self.place;
         let word = self.word()?;

@@ -24,7 +24,7 @@ fn value_of(digits: &[u8]) -> Option<u32>
 /// The number of which a word is the decimal text, if it is at most 4294967295.
 #[tactic(auto, using(crate::proofs::NumberLemmas::numbers))]
 pub(crate) fn number_of(word: &[u8]) -> Option<u32>
-    ensures { result ≡ spec.number_of word.now }
+    ensures { result ≡ spec.word_number word.now }
 {
     let has_leading_zero = 1 < word.len() && word[0] == b'0';
     if word.is_empty() || has_leading_zero {

@@ -5,7 +5,7 @@ ghost use Rattle.filter_tree.specs.Memory.{Answers, NeedsMemoryOnlyIf};
 ghost use Rattle.split_cert.specs.declared.error.CertError.TheVariants.{Trailing};
 ghost use Rattle.split_cert.specs.PreorderTrees.{ReadsTree, BeginsBySplit};
 ghost use Rattle.split_cert.specs.Nodes.{led};
-ghost use Rattle.split_cert.specs.Reading.{told};
+ghost use Rattle.split_cert.specs.Reading.{cert_fault};
 ghost use Rattle.split_cert.specs.Text as spec;
 ghost use Rattle.split_cert.specs.Tree.{Tree, IsWithinLimits};
 ghost use Rattle.split_cert.specs.Where.{tree_view};
@@ -79,7 +79,7 @@ fn branch<A: Allocator + Clone>(
 /// The certificate of a whole text.
 #[tactic(auto, using(crate::proofs::PreorderTreeMemory::texts))]
 fn certificate<A: Allocator + Clone>(alloc: &A, text: &str) -> Result<Cert<A>, CertError>
-    ensures exact { Answers tree_view told (spec.certificate_of text.now) result }
+    ensures exact { Answers tree_view cert_fault (spec.certificate_of text.now) result }
     ensures memory { NeedsMemoryOnlyIf CertError.OutOfMemory (spec.BeginsWithSplit text.now) result }
 {
     let mut reader = NodeReader::new(text);
@@ -101,17 +101,17 @@ fn certificate<A: Allocator + Clone>(alloc: &A, text: &str) -> Result<Cert<A>, C
 #[tactic(auto, using(crate::proofs::RoundTrip::is_found))]
 pub fn read_in<A: Allocator + Clone>(alloc: A, text: &str) -> Result<Cert<A>, CertError>
     // The result is the certificate of the text, or its first fault.
-    ensures exact { Answers tree_view told (spec.certificate_of text.now) result }
+    ensures exact { Answers tree_view cert_fault (spec.certificate_of text.now) result }
     // `OutOfMemory` is returned only for a text that begins with a split.
     ensures memory { NeedsMemoryOnlyIf CertError.OutOfMemory (spec.BeginsWithSplit text.now) result }
     // What is read is within the limits, and the text is what `write` gives for it.
     ensures found { IfOk result (λ cert. spec.IsCertificateOf (tree_view cert) text.now) }
     // What `write` gives for a certificate within the limits is read as that certificate.
-    ensures only { (tree : Tree) → spec.IsCertificateOf tree text.now → Answers tree_view told (Ok tree) result }
+    ensures only { (tree : Tree) → spec.IsCertificateOf tree text.now → Answers tree_view cert_fault (Ok tree) result }
     // With a space and anything else after it, it is refused there.
     ensures trailing { (tree : Tree) (more : List ℕ) → IsWithinLimits tree
-        → text.now ≡ spec.spelling_of tree ++ 32 ∷ more
-        → Answers tree_view told (Err (Trailing (length (spec.spelling_of tree)))) result }
+        → text.now ≡ spec.cert_text tree ++ 32 ∷ more
+        → Answers tree_view cert_fault (Err (Trailing (length (spec.cert_text tree)))) result }
 {
     certificate(&alloc, text)
 }

@@ -2,7 +2,7 @@
 
 ghost use Rattle.std.specs.Prelude.{◌≡◌, ◌≤◌, ◌++◌, IfOk, OnOk, Ok};
 ghost use Rattle.std.specs.String.{string_bytes};
-ghost use Rattle.split_cert.specs.Text.{certificate_of, spelling_of, words_of};
+ghost use Rattle.split_cert.specs.Text.{certificate_of, cert_text, words_of};
 ghost use Rattle.split_cert.specs.Tree.{nodes, splits_deep, HasNumbers, max_nodes, max_splits};
 ghost use Rattle.split_cert.specs.Where.{tree_view};
 
@@ -14,7 +14,7 @@ use std::alloc::{AllocError, Allocator, Global};
 /// grows with the splits on a path. The only error is out of memory.
 #[tactic(auto, using(crate::proofs::RoundTrip::is_read_again))]
 pub fn write<A: Allocator>(alloc: Global, cert: &Cert<A>) -> Result<String, AllocError>
-    ensures spelled { IfOk result (λ text. string_bytes text ≡ spelling_of (tree_view cert.now)) }
+    ensures spelled { IfOk result (λ text. string_bytes text ≡ cert_text (tree_view cert.now)) }
     // Within the limits it is read as that certificate.
     ensures again { IfOk result (λ text. nodes (tree_view cert.now) ≤ max_nodes
         → splits_deep (tree_view cert.now) ≤ max_splits
@@ -27,7 +27,7 @@ pub fn write<A: Allocator>(alloc: Global, cert: &Cert<A>) -> Result<String, Allo
 
 fn write_tree<A: Allocator>(cert: &Cert<A>, text: &mut String) -> Result<(), AllocError>
     ensures numbers { OnOk result (HasNumbers (tree_view cert.now)) }
-    ensures spelled { OnOk result (string_bytes text.new ≡ string_bytes text.old ++ spelling_of (tree_view cert.now)) }
+    ensures spelled { OnOk result (string_bytes text.new ≡ string_bytes text.old ++ cert_text (tree_view cert.now)) }
 {
     match cert {
         Cert::Split(atom, if_true, if_false, if_null) => {

@@ -11,7 +11,7 @@ use Rattle.filter_tree.specs.Datum.{Constant, Known}
 use Rattle.filter_tree.specs.Order.{row_cmp}
 use Rattle.filter_tree.specs.Same.{same_constant}
 use Rattle.filter_tree.proofs.OrderLemmas.{datum_total, row_tie}
-use Rattle.sql_reader.specs.Ascending.{constant_cmp, placed, ascending, ListsAscend}
+use Rattle.sql_reader.specs.Ascending.{constant_cmp, inserted_in_order, ascending, ListsAscend}
 use Rattle.filter_tree.proofs.Tests.{or_false}
 
 -- ---- the order
@@ -40,37 +40,38 @@ all_after one other (constant ∷ constants) less h =
     (constant_total.trans one other constant less h.0, all_after one other constants less h.1)
 
 placed_after : (one constant : Constant) (constants : List Constant) → constant_cmp one constant ≡ Less
-    → AllAfter one constants → AllAfter one (placed constants constant)
+    → AllAfter one constants → AllAfter one (inserted_in_order constants constant)
 placed_after one constant [] less h = (less, h)
 placed_after one constant (first ∷ rest) less h =
     by (constant_cmp constant first) (placed_after one constant rest less h.1)
   where
-    by : (order : Ordering) → AllAfter one (placed rest constant)
-        → AllAfter one (match_ordering order (constant ∷ first ∷ rest) (first ∷ rest) (first ∷ placed rest constant))
+    by : (order : Ordering) → AllAfter one (inserted_in_order rest constant)
+        → AllAfter one
+        (match_ordering order (constant ∷ first ∷ rest) (first ∷ rest) (first ∷ inserted_in_order rest constant))
     by Less later = (less, h)
     by Equal later = h
     by Greater later = (h.0, later)
 
 placed_strictly : (constant : Constant) (constants : List Constant) → IsStrictlySortedBy constant_cmp constants
-    → IsStrictlySortedBy constant_cmp (placed constants constant)
+    → IsStrictlySortedBy constant_cmp (inserted_in_order constants constant)
 unfolding IsStrictlySortedBy
 placed_strictly constant [] h = (tt, tt)
 placed_strictly constant (first ∷ rest) h =
     by (constant_cmp constant first) refl (placed_strictly constant rest h.1)
   where
     by : (order : Ordering) → constant_cmp constant first ≡ order
-        → IsStrictlySortedBy constant_cmp (placed rest constant)
+        → IsStrictlySortedBy constant_cmp (inserted_in_order rest constant)
         → IsStrictlySortedBy constant_cmp
-        (match_ordering order (constant ∷ first ∷ rest) (first ∷ rest) (first ∷ placed rest constant))
+        (match_ordering order (constant ∷ first ∷ rest) (first ∷ rest) (first ∷ inserted_in_order rest constant))
     by Less e later = ((e, all_after constant first rest e h.0), h)
     by Equal e later = h
     by Greater e later = (placed_after first constant rest (is_after first constant e) h.0, later)
 
 all_strictly : (held constants : List Constant) → IsStrictlySortedBy constant_cmp held
-    → IsStrictlySortedBy constant_cmp (fold placed held constants)
+    → IsStrictlySortedBy constant_cmp (fold inserted_in_order held constants)
 all_strictly held [] h = h
 all_strictly held (constant ∷ constants) h =
-    all_strictly (placed held constant) constants (placed_strictly constant held h)
+    all_strictly (inserted_in_order held constant) constants (placed_strictly constant held h)
 
 ascending_strictly : (constants : List Constant) → IsStrictlySortedBy constant_cmp (ascending constants)
 unfolding ascending IsStrictlySortedBy
@@ -95,14 +96,15 @@ or_turn false true r = refl
 or_turn false false r = refl
 
 any_placed : (p : Constant → Bool) (constant : Constant) (constants : List Constant)
-    → list_any p (placed constants constant) ≡ (p constant || list_any p constants)
+    → list_any p (inserted_in_order constants constant) ≡ (p constant || list_any p constants)
 any_placed p constant [] = refl
 any_placed p constant (first ∷ rest) =
     by (constant_cmp constant first) refl (any_placed p constant rest)
   where
     by : (order : Ordering) → constant_cmp constant first ≡ order
-        → list_any p (placed rest constant) ≡ (p constant || list_any p rest)
-        → list_any p (match_ordering order (constant ∷ first ∷ rest) (first ∷ rest) (first ∷ placed rest constant))
+        → list_any p (inserted_in_order rest constant) ≡ (p constant || list_any p rest)
+        → list_any p
+        (match_ordering order (constant ∷ first ∷ rest) (first ∷ rest) (first ∷ inserted_in_order rest constant))
         ≡ (p constant || (p first || list_any p rest))
     by Less e later = refl
     by Equal e later = or_twice (p first) (list_any p rest)
@@ -110,10 +112,10 @@ any_placed p constant (first ∷ rest) =
     by Greater e later = ap (λ q. p first || q) later ∙ or_swap (p first) (p constant) (list_any p rest)
 
 any_of_all : (p : Constant → Bool) (held constants : List Constant)
-    → list_any p (fold placed held constants) ≡ (list_any p held || list_any p constants)
+    → list_any p (fold inserted_in_order held constants) ≡ (list_any p held || list_any p constants)
 any_of_all p held [] = sym (or_false (list_any p held))
 any_of_all p held (constant ∷ constants) =
-    any_of_all p (placed held constant) constants
+    any_of_all p (inserted_in_order held constant) constants
     ∙ ap (λ q. q || list_any p constants) (any_placed p constant held)
     ∙ or_turn (p constant) (list_any p held) (list_any p constants)
 

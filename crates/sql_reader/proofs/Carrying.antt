@@ -10,7 +10,7 @@ use Rattle.sql_reader.specs.declared.item.Item.{Item}
 use Rattle.sql_reader.specs.Items.{Items, size}
 use Rattle.sql_reader.specs.Operands.{Forms}
 use Rattle.sql_reader.specs.Reading.{Fault, Outcome, Rule, and_then, next_is, rest_of}
-use Rattle.sql_reader.specs.Repetitions.{Step, after_step, goes, at_most, repeat, link, linked, one_more, each, guarded}
+use Rattle.sql_reader.specs.Repetitions.{RepeatStep, after_step, goes, at_most, repeat, link, linked, one_more, each, guarded}
 use Rattle.filter_tree.proofs.Tests.{by_test}
 
 -- an outcome with its value carried over
@@ -58,7 +58,7 @@ step_mapped h (Ok (Some read)) = Ok (Some (h read.0, read.1))
 step_mapped h (Ok None) = Ok None
 step_mapped h (Err fault) = Err fault
 
-after-carried : {S T : Type 0} (h : S → T) (n : ℕ) (step : Step S) (other : Step T) (s : S) (ts : Items) →
+after-carried : {S T : Type 0} (h : S → T) (n : ℕ) (step : RepeatStep S) (other : RepeatStep T) (s : S) (ts : Items) →
     ((x : S × Items) → at_most n other (h x.0) x.1 ≡ mapped h (at_most n step x.0 x.1)) →
     (read : Result (Option (S × Items)) Fault)
     → after_step (step_mapped h read) (goes (at_most n other) (h s) ts)
@@ -68,7 +68,7 @@ after-carried h n step other s ts again (Ok None) = refl
 after-carried h n step other s ts again (Ok (Some x)) =
     by_test (nat_lt (size x.1) (size ts)) (λ e. rw e (again x)) (λ e. rw e refl)
 
-at_most-carried : {S T : Type 0} (h : S → T) (n : ℕ) (step : Step S) (other : Step T) →
+at_most-carried : {S T : Type 0} (h : S → T) (n : ℕ) (step : RepeatStep S) (other : RepeatStep T) →
     ((s : S) (ts : Items) → other (h s) ts ≡ step_mapped h (step s ts)) →
     (s : S) (ts : Items) → at_most n other (h s) ts ≡ mapped h (at_most n step s ts)
 unfolding at_most
@@ -77,7 +77,7 @@ at_most-carried h (suc n) step other e s ts =
     ap (λ read. after_step read (goes (at_most n other) (h s) ts)) (e s ts)
     ∙ after-carried h n step other s ts (λ x. at_most-carried h n step other e x.0 x.1) (step s ts)
 
-pub repeat-carried : {S T : Type 0} (h : S → T) (step : Step S) (other : Step T) →
+pub repeat-carried : {S T : Type 0} (h : S → T) (step : RepeatStep S) (other : RepeatStep T) →
     ((s : S) (ts : Items) → other (h s) ts ≡ step_mapped h (step s ts)) →
     (s : S) (ts : Items) → repeat other (h s) ts ≡ mapped h (repeat step s ts)
 unfolding repeat

@@ -14,10 +14,10 @@ use Rattle.sql_reader.specs.declared.truth_test.TestAhead.TheVariants as b
 use Rattle.sql_reader.specs.declared.membership.Membership.{Membership}
 use Rattle.sql_reader.specs.declared.membership.Membership.TheVariants as m
 use Rattle.sql_reader.specs.declared.membership.MembershipWord.{MembershipWord}
-use Rattle.sql_reader.specs.Expressions.{column, no_cast, no_operator, membership_or_none, test_or_none, Nested, AfterNot, InParentheses, InList, primary, divisor, divisor_or_none, term, side, right_side, one_entry, other_entries, in_list, bounds, member_by, member_or_none, right_side_by, right_side_or_none, comparison, distinct_side, tested_by, tested, predicate, negation, one_more_negation, conjunction, one_more_conjunction, disjunction, after_not, in_parentheses, nested, expression}
+use Rattle.sql_reader.specs.Expressions.{column, no_cast, no_operator, membership_or_none, test_or_none, Nested, AfterNot, InParentheses, InList, primary, divisor, divisor_or_none, term, side, right_side, one_entry, other_entries, in_list, bounds, member_by, member_or_none, right_side_by, right_side_or_none, comparison, distinct_side, tested_by, maybe_tested, predicate, negation, one_more_negation, conjunction, one_more_conjunction, disjunction, after_not, in_parentheses, nested, expression}
 use Rattle.sql_reader.specs.Items.{Items}
 use Rattle.sql_reader.specs.Memberships.{among_part, between_part, distinct_part, room_in_list}
-use Rattle.sql_reader.specs.Operands.{Forms, OperandOf, PartOf, verdict_map, wanted, negated, joined, dividend, remainder, comparison_by, compared_part, tested as tested_part}
+use Rattle.sql_reader.specs.Operands.{Forms, OperandOf, ParsedPart, verdict_map, wanted, negated, joined, dividend, remainder, comparison_by, compared_part, tested as tested_part}
 use Rattle.sql_reader.specs.Reading.{Rule, Verdict, and_then, with_rest, is_ahead, item_ahead, place_ahead, next_is, expect, rest_of}
 use Rattle.sql_reader.specs.Repetitions.{link}
 use Rattle.sql_reader.proofs.Carrying.{mapped, Carries, then-same, then-carried, repeat-carried, link-carried}
@@ -31,11 +31,12 @@ module _ {S T : Type 0} (from : Forms S) (to : Forms T) (h : S → T) (carries :
   nested_map InParentheses = InParentheses
   nested_map (InList word left) = InList word (part_map h left)
 
-  abbrev Alike : (Nested S → Rule (PartOf S)) → (Nested T → Rule (PartOf T)) → Type 0
+  abbrev Alike : (Nested S → Rule (ParsedPart S)) → (Nested T → Rule (ParsedPart T)) → Type 0
   Alike below other = (inner : Nested S) (ts : Items)
       → other (nested_map inner) ts ≡ mapped (part_map h) (below inner ts)
 
-  module _ (below : Nested S → Rule (PartOf S)) (other : Nested T → Rule (PartOf T)) (alike : Alike below other) where
+  module _ (below : Nested S → Rule (ParsedPart S)) (other : Nested T → Rule (ParsedPart T))
+      (alike : Alike below other) where
     primary-carried : (ts : Items) → primary to columns other ts ≡ mapped (part_map h) (primary from columns below ts)
     unfolding primary
     primary-carried ts = by_test (is_ahead i.Open ts) (λ e. rw e (alike InParentheses ts))
@@ -52,7 +53,7 @@ module _ {S T : Type 0} (from : Forms S) (to : Forms T) (h : S → T) (carries :
         (remainder place first column (operand_map h right.operand))
         (remainder-carried h place first column right.operand) ts3))
 
-    divisor_or_none-carried : (left : PartOf S) (ts : Items)
+    divisor_or_none-carried : (left : ParsedPart S) (ts : Items)
         → divisor_or_none to columns other (part_map h left) ts
         ≡ mapped (part_map h) (divisor_or_none from columns below left ts)
     unfolding divisor_or_none
@@ -82,12 +83,12 @@ module _ {S T : Type 0} (from : Forms S) (to : Forms T) (h : S → T) (carries :
         (λ read ts2. then-same (part_map h) (no_operator ts2) _ _ (λ u ts3. refl))
 
     -- what ends a side of a comparison
-    ended-carried : (whole : PartOf S) (ts : Items)
+    ended-carried : (whole : ParsedPart S) (ts : Items)
         → and_then (no_operator ts) (λ u ts2. Ok (part_map h whole, ts2))
         ≡ mapped (part_map h) (and_then (no_operator ts) (λ u ts2. Ok (whole, ts2)))
     ended-carried whole ts = then-same (part_map h) (no_operator ts) _ _ (λ u ts2. refl)
 
-    checked-carried : (verdict : Verdict (PartOf S)) (found : Verdict (PartOf T))
+    checked-carried : (verdict : Verdict (ParsedPart S)) (found : Verdict (ParsedPart T))
         → found ≡ verdict_map (part_map h) verdict → (ts : Items) →
         and_then (with_rest found ts) (λ whole ts2. and_then (no_operator ts2) (λ u ts3. Ok (whole, ts3)))
         ≡ mapped (part_map h)
@@ -96,7 +97,7 @@ module _ {S T : Type 0} (from : Forms S) (to : Forms T) (h : S → T) (carries :
         then-carried (part_map h) (part_map h) (with_rest verdict ts) (with_rest found ts) _ _
         (check-carried (part_map h) verdict found is ts) ended-carried
 
-    right_side-carried : (left : PartOf S) (op : Op) (ts : Items)
+    right_side-carried : (left : ParsedPart S) (op : Op) (ts : Items)
         → right_side to columns other (part_map h left) op ts
         ≡ mapped (part_map h) (right_side from columns below left op ts)
     unfolding right_side
@@ -129,7 +130,7 @@ module _ {S T : Type 0} (from : Forms S) (to : Forms T) (h : S → T) (carries :
         (link-carried (map (operand_map h)) i.Comma (one_entry from columns below) (one_entry to columns other)
         one_entry-carried) [] ts
 
-    in_list-carried : (word : MembershipWord) (left : PartOf S) (ts : Items)
+    in_list-carried : (word : MembershipWord) (left : ParsedPart S) (ts : Items)
         → in_list to columns other word (part_map h left) ts
         ≡ mapped (part_map h) (in_list from columns below word left ts)
     unfolding in_list
@@ -144,7 +145,7 @@ module _ {S T : Type 0} (from : Forms S) (to : Forms T) (h : S → T) (carries :
         (among_part to word (part_map h left) (operand_map h first.operand) (map (operand_map h) others))
         (among_part-carried from to h carries word left first.operand others) ts5))))
 
-    bounds-carried : (word : MembershipWord) (left : PartOf S) (ts : Items)
+    bounds-carried : (word : MembershipWord) (left : ParsedPart S) (ts : Items)
         → bounds to columns other word (part_map h left) ts
         ≡ mapped (part_map h) (bounds from columns below word left ts)
     unfolding bounds
@@ -159,20 +160,20 @@ module _ {S T : Type 0} (from : Forms S) (to : Forms T) (h : S → T) (carries :
         (between_part to word (part_map h left) (operand_map h low.operand) (operand_map h high.operand))
         (between_part-carried from to h carries word left low.operand high.operand) ts5))))
 
-    member_by-carried : (left : PartOf S) (membership : Option Membership) (ts : Items)
+    member_by-carried : (left : ParsedPart S) (membership : Option Membership) (ts : Items)
         → member_by to columns other (part_map h left) membership ts
         ≡ mapped (part_map h) (member_by from columns below left membership ts)
     member_by-carried left (Some (m.List word)) ts = alike (InList word left) ts
     member_by-carried left (Some (m.Range word)) ts = bounds-carried word left ts
     member_by-carried left None ts = refl
 
-    member_or_none-carried : (left : PartOf S) (ts : Items)
+    member_or_none-carried : (left : ParsedPart S) (ts : Items)
         → member_or_none to columns other (part_map h left) ts
         ≡ mapped (part_map h) (member_or_none from columns below left ts)
     unfolding member_or_none
     member_or_none-carried left ts = then-same (part_map h) (membership_or_none ts) _ _ (member_by-carried left)
 
-    right_side_by-carried : (left : PartOf S) (op : Option Op) (ts : Items)
+    right_side_by-carried : (left : ParsedPart S) (op : Option Op) (ts : Items)
         → right_side_by to columns other (part_map h left) op ts
         ≡ mapped (part_map h) (right_side_by from columns below left op ts)
     right_side_by-carried left (Some op) ts = right_side-carried left op ts
@@ -186,7 +187,7 @@ module _ {S T : Type 0} (from : Forms S) (to : Forms T) (h : S → T) (carries :
         (side-carried ts)
         (λ left ts2. right_side_by-carried left (comparison_by (item_ahead ts2)) ts2)
 
-    distinct_side-carried : (left : PartOf S) (words : DistinctWords) (ts : Items)
+    distinct_side-carried : (left : ParsedPart S) (words : DistinctWords) (ts : Items)
         → distinct_side to columns other (part_map h left) words ts
         ≡ mapped (part_map h) (distinct_side from columns below left words ts)
     unfolding distinct_side
@@ -198,7 +199,7 @@ module _ {S T : Type 0} (from : Forms S) (to : Forms T) (h : S → T) (carries :
         (distinct_part to words (part_map h left) (operand_map h right.operand))
         (distinct_part-carried from to h carries words left right.operand) ts3))
 
-    tested_by-carried : (left : PartOf S) (asking : Option TestAhead) (ts : Items)
+    tested_by-carried : (left : ParsedPart S) (asking : Option TestAhead) (ts : Items)
         → tested_by to columns other (part_map h left) asking ts
         ≡ mapped (part_map h) (tested_by from columns below left asking ts)
     tested_by-carried left (Some (b.Truth test)) ts =
@@ -207,9 +208,10 @@ module _ {S T : Type 0} (from : Forms S) (to : Forms T) (h : S → T) (carries :
     tested_by-carried left (Some (b.Distinct words)) ts = distinct_side-carried left words ts
     tested_by-carried left None ts = refl
 
-    tested-carried : (left : PartOf S) (ts : Items)
-        → tested to columns other (part_map h left) ts ≡ mapped (part_map h) (tested from columns below left ts)
-    unfolding tested
+    tested-carried : (left : ParsedPart S) (ts : Items)
+        → maybe_tested to columns other (part_map h left) ts
+        ≡ mapped (part_map h) (maybe_tested from columns below left ts)
+    unfolding maybe_tested
     tested-carried left ts = then-same (part_map h) (test_or_none ts) _ _ (tested_by-carried left)
 
     predicate-carried : (ts : Items)
@@ -225,7 +227,7 @@ module _ {S T : Type 0} (from : Forms S) (to : Forms T) (h : S → T) (carries :
     negation-carried ts =
         by_test (is_ahead (i.Keyword k.Not) ts) (λ e. rw e (alike AfterNot ts)) (λ e. rw e (predicate-carried ts))
 
-    one_more_negation-carried : (left : PartOf S) (ts : Items)
+    one_more_negation-carried : (left : ParsedPart S) (ts : Items)
         → one_more_negation to columns other (part_map h left) ts
         ≡ mapped (part_map h) (one_more_negation from columns below left ts)
     unfolding one_more_negation
@@ -250,7 +252,7 @@ module _ {S T : Type 0} (from : Forms S) (to : Forms T) (h : S → T) (carries :
         (link-carried (part_map h) (i.Keyword k.And) (one_more_negation from columns below)
         (one_more_negation to columns other) one_more_negation-carried))
 
-    one_more_conjunction-carried : (left : PartOf S) (ts : Items)
+    one_more_conjunction-carried : (left : ParsedPart S) (ts : Items)
         → one_more_conjunction to columns other (part_map h left) ts
         ≡ mapped (part_map h) (one_more_conjunction from columns below left ts)
     unfolding one_more_conjunction

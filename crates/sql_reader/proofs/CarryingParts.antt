@@ -23,9 +23,9 @@ use Rattle.sql_reader.specs.declared.truth_test.DistinctWords.{DistinctWords}
 use Rattle.sql_reader.specs.declared.membership.MembershipWord.{MembershipWord}
 use Rattle.sql_reader.specs.Expressions.{column, column_part, number_part, cast_or_none, string_part, truth_part, simple_by, simple, divisor, term}
 use Rattle.sql_reader.specs.Items.{Items}
-use Rattle.sql_reader.specs.Memberships.{subject_of, beside, all_beside, bound, among, between, distinct, formed, among_part, between_part, distinct_part}
+use Rattle.sql_reader.specs.Memberships.{subject_before, beside, all_beside, bound, among, between, distinct_from, formed, among_part, between_part, distinct_part}
 use Rattle.sql_reader.specs.Numbers.{placed_number}
-use Rattle.sql_reader.specs.Operands.{Forms, OperandOf, OfTerm, OfLiteral, OfFormula, PartOf, part, verdict_map, verdict_then, truth, true_or_clash, wanted, negated, joined, dividend, divided, remainder, fits, fitting, compared, compared_part, asking, answered, negated_if, tested as tested_part}
+use Rattle.sql_reader.specs.Operands.{Forms, OperandOf, OfTerm, OfLiteral, OfFormula, ParsedPart, part, verdict_map, verdict_then, truth, true_or_clash, wanted, negated, joined, dividend, divided, remainder, comparable, fitting, compared, compared_part, truth_asked, answered, negated_if, tested as tested_part}
 use Rattle.sql_reader.specs.Reading.{Verdict, with_rest, item_ahead, rest_of}
 use Rattle.sql_reader.proofs.Carrying.{mapped, Carries, then-same}
 use Rattle.filter_tree.proofs.Tests.{by_test}
@@ -35,7 +35,7 @@ operand_map h (OfTerm term kind) = OfTerm term kind
 operand_map h (OfLiteral place constant) = OfLiteral place constant
 operand_map h (OfFormula s) = OfFormula (h s)
 
-abbrev pub part_map : {S T : Type 0} → (S → T) → PartOf S → PartOf T
+abbrev pub part_map : {S T : Type 0} → (S → T) → ParsedPart S → ParsedPart T
 part_map h part = record { place = part.place; operand = operand_map h part.operand }
 
 -- a check in a sequence of rules
@@ -86,7 +86,7 @@ remainder-carried h place first None operand = refl
 
 -- the operands of IN, BETWEEN and IS DISTINCT FROM, which no form makes
 subject-same : {S T : Type 0} (h : S → T) (place : ℕ) (operand : OperandOf S)
-    → subject_of place (operand_map h operand) ≡ subject_of place operand
+    → subject_before place (operand_map h operand) ≡ subject_before place operand
 subject-same h place (OfTerm term kind) = refl
 subject-same h place (OfLiteral at constant) = refl
 subject-same h place (OfFormula s) = refl
@@ -150,13 +150,13 @@ module _ {S T : Type 0} (from : Forms S) (to : Forms T) (h : S → T) (carries :
   true_or_clash-carried place None found e = ap (true_or_clash place) e
   true_or_clash-carried place (Some s) found e = ap (true_or_clash place) e
 
-  pub wanted-carried : (part : PartOf S) → wanted to (part_map h part) ≡ verdict_map h (wanted from part)
+  pub wanted-carried : (part : ParsedPart S) → wanted to (part_map h part) ≡ verdict_map h (wanted from part)
   unfolding wanted
   wanted-carried part =
       true_or_clash-carried part.place (truth from part.operand) (truth to (operand_map h part.operand))
       (truth-carried part.operand)
 
-  pub negated-carried : (place : ℕ) (part : PartOf S)
+  pub negated-carried : (place : ℕ) (part : ParsedPart S)
       → negated to place (part_map h part) ≡ verdict_map (part_map h) (negated from place part)
   unfolding negated
   negated-carried place right =
@@ -165,7 +165,7 @@ module _ {S T : Type 0} (from : Forms S) (to : Forms T) (h : S → T) (carries :
 
   pub joined-carried : (join : S → S → S) (other : T → T → T)
       → ((left right : S) → other (h left) (h right) ≡ h (join left right))
-      → (place : ℕ) (left : S) (right : PartOf S) →
+      → (place : ℕ) (left : S) (right : ParsedPart S) →
       joined to other place (h left) (part_map h right) ≡ verdict_map (part_map h) (joined from join place left right)
   unfolding joined
   joined-carried join other e place left right =
@@ -178,11 +178,11 @@ module _ {S T : Type 0} (from : Forms S) (to : Forms T) (h : S → T) (carries :
   unfolding compared
   compared-carried place (OfTerm term kind) op (OfTerm other other_kind) = refl
   compared-carried place (OfTerm term kind) op (OfLiteral at constant) =
-      fitting-carried h (fits place kind op constant) (from.compared term op constant) (to.compared term op constant)
-      (carries.compared term op constant)
+      fitting-carried h (comparable place kind op constant) (from.compared term op constant)
+      (to.compared term op constant) (carries.compared term op constant)
   compared-carried place (OfTerm term kind) op (OfFormula s) = refl
   compared-carried place (OfLiteral at constant) op (OfTerm term kind) =
-      fitting-carried h (fits place kind op constant) (from.compared_from constant op term)
+      fitting-carried h (comparable place kind op constant) (from.compared_from constant op term)
       (to.compared_from constant op term) (carries.compared_from constant op term)
   compared-carried place (OfLiteral at constant) op (OfLiteral other_at other) = refl
   compared-carried place (OfLiteral at (Number number)) op (OfFormula s) = refl
@@ -194,7 +194,7 @@ module _ {S T : Type 0} (from : Forms S) (to : Forms T) (h : S → T) (carries :
   compared-carried place (OfFormula s) op (OfLiteral at (Bytes text)) = refl
   compared-carried place (OfFormula s) op (OfFormula other) = refl
 
-  pub compared_part-carried : (place : ℕ) (left : PartOf S) (op : Op) (right : PartOf S) →
+  pub compared_part-carried : (place : ℕ) (left : ParsedPart S) (op : Op) (right : ParsedPart S) →
       compared_part to place (part_map h left) op (part_map h right)
       ≡ verdict_map (part_map h) (compared_part from place left op right)
   compared_part-carried place left op right =
@@ -203,13 +203,13 @@ module _ {S T : Type 0} (from : Forms S) (to : Forms T) (h : S → T) (carries :
       (compared-carried place left.operand op right.operand) (λ s. refl)
 
   asking-carried : (place : ℕ) (test : Test) (read : Option S) (found : Option T) → found ≡ option_map h read
-      → asking to place test found ≡ verdict_map h (asking from place test read)
-  asking-carried place test None found e = ap (asking to place test) e
-  asking-carried place test (Some s) found e = ap (asking to place test) e ∙ ap Ok (carries.asked test s)
+      → truth_asked to place test found ≡ verdict_map h (truth_asked from place test read)
+  asking-carried place test None found e = ap (truth_asked to place test) e
+  asking-carried place test (Some s) found e = ap (truth_asked to place test) e ∙ ap Ok (carries.asked test s)
 
   asking_truth-carried : (place : ℕ) (test : Test) (operand : OperandOf S)
-      → asking to place test (truth to (operand_map h operand))
-      ≡ verdict_map h (asking from place test (truth from operand))
+      → truth_asked to place test (truth to (operand_map h operand))
+      ≡ verdict_map h (truth_asked from place test (truth from operand))
   asking_truth-carried place test operand =
       asking-carried place test (truth from operand) (truth to (operand_map h operand)) (truth-carried operand)
 
@@ -232,7 +232,7 @@ module _ {S T : Type 0} (from : Forms S) (to : Forms T) (h : S → T) (carries :
   negated_if-carried true s = carries.negated s
   negated_if-carried false s = refl
 
-  pub tested_part-carried : (truth_test : TruthTest) (asked_part : PartOf S)
+  pub tested_part-carried : (truth_test : TruthTest) (asked_part : ParsedPart S)
       → tested_part to truth_test (part_map h asked_part)
       ≡ verdict_map (part_map h) (tested_part from truth_test asked_part)
   unfolding tested_part
@@ -260,8 +260,8 @@ module _ {S T : Type 0} (from : Forms S) (to : Forms T) (h : S → T) (carries :
       ≡ verdict_map h (among from place left first others)
   unfolding among
   among-carried place left first others =
-      next-carried (subject_of place left) (subject_of place (operand_map h left)) _ _ (subject-same h place left)
-      (λ on.
+      next-carried (subject_before place left) (subject_before place (operand_map h left)) _ _
+      (subject-same h place left) (λ on.
       next-carried (beside place on.kind first) (beside place on.kind (operand_map h first)) _ _
       (beside-same h place on.kind first) (λ constant.
       last-carried (all_beside place on.kind others) (all_beside place on.kind (map (operand_map h) others)) _ _
@@ -273,8 +273,8 @@ module _ {S T : Type 0} (from : Forms S) (to : Forms T) (h : S → T) (carries :
       ≡ verdict_map h (between from place left low high)
   unfolding between
   between-carried place left low high =
-      next-carried (subject_of place left) (subject_of place (operand_map h left)) _ _ (subject-same h place left)
-      (λ on.
+      next-carried (subject_before place left) (subject_before place (operand_map h left)) _ _
+      (subject-same h place left) (λ on.
       next-carried (bound place on.kind low) (bound place on.kind (operand_map h low)) _ _
       (bound-same h place on.kind low) (λ lowest.
       last-carried (bound place on.kind high) (bound place on.kind (operand_map h high)) _ _
@@ -282,12 +282,12 @@ module _ {S T : Type 0} (from : Forms S) (to : Forms T) (h : S → T) (carries :
       (λ highest. carries.between on.term lowest highest)))
 
   distinct-carried : (place distinct_place : ℕ) (left right : OperandOf S) →
-      distinct to place distinct_place (operand_map h left) (operand_map h right)
-      ≡ verdict_map h (distinct from place distinct_place left right)
-  unfolding distinct
+      distinct_from to place distinct_place (operand_map h left) (operand_map h right)
+      ≡ verdict_map h (distinct_from from place distinct_place left right)
+  unfolding distinct_from
   distinct-carried place distinct_place left right =
-      next-carried (subject_of place left) (subject_of place (operand_map h left)) _ _ (subject-same h place left)
-      (λ on.
+      next-carried (subject_before place left) (subject_before place (operand_map h left)) _ _
+      (subject-same h place left) (λ on.
       last-carried (beside distinct_place on.kind right) (beside distinct_place on.kind (operand_map h right)) _ _
       (beside-same h distinct_place on.kind right)
       (λ constant. carries.distinct on.term constant))
@@ -299,7 +299,7 @@ module _ {S T : Type 0} (from : Forms S) (to : Forms T) (h : S → T) (carries :
       verdict_map-carried h (part_map h) _ _ verdict found is
       (λ s. ap (λ t. part place (OfFormula t)) (negated_if-carried is_negated s))
 
-  pub among_part-carried : (word : MembershipWord) (left : PartOf S) (first : OperandOf S)
+  pub among_part-carried : (word : MembershipWord) (left : ParsedPart S) (first : OperandOf S)
       (others : List (OperandOf S)) →
       among_part to word (part_map h left) (operand_map h first) (map (operand_map h) others)
       ≡ verdict_map (part_map h) (among_part from word left first others)
@@ -308,7 +308,7 @@ module _ {S T : Type 0} (from : Forms S) (to : Forms T) (h : S → T) (carries :
       (among to word.place (operand_map h left.operand) (operand_map h first) (map (operand_map h) others))
       (among-carried word.place left.operand first others)
 
-  pub between_part-carried : (word : MembershipWord) (left : PartOf S) (low high : OperandOf S) →
+  pub between_part-carried : (word : MembershipWord) (left : ParsedPart S) (low high : OperandOf S) →
       between_part to word (part_map h left) (operand_map h low) (operand_map h high)
       ≡ verdict_map (part_map h) (between_part from word left low high)
   between_part-carried word left low high =
@@ -316,10 +316,11 @@ module _ {S T : Type 0} (from : Forms S) (to : Forms T) (h : S → T) (carries :
       (between to word.place (operand_map h left.operand) (operand_map h low) (operand_map h high))
       (between-carried word.place left.operand low high)
 
-  pub distinct_part-carried : (words : DistinctWords) (left : PartOf S) (right : OperandOf S) →
+  pub distinct_part-carried : (words : DistinctWords) (left : ParsedPart S) (right : OperandOf S) →
       distinct_part to words (part_map h left) (operand_map h right)
       ≡ verdict_map (part_map h) (distinct_part from words left right)
   distinct_part-carried words left right =
-      formed-carried words.is_negated left.place (distinct from words.place words.distinct_place left.operand right)
-      (distinct to words.place words.distinct_place (operand_map h left.operand) (operand_map h right))
+      formed-carried words.is_negated left.place
+      (distinct_from from words.place words.distinct_place left.operand right)
+      (distinct_from to words.place words.distinct_place (operand_map h left.operand) (operand_map h right))
       (distinct-carried words.place words.distinct_place left.operand right)

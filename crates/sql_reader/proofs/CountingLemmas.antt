@@ -8,7 +8,7 @@ use Rattle.filter_tree.specs.Expr.{AtomOf, Expr, Const, Atom, Not, And, Or, Is}
 use Rattle.filter_tree.specs.Lists.{atoms_in, with_item}
 use Rattle.filter_tree.specs.Same.{same_atom}
 use Rattle.sql_reader.specs.Counting.{AreWithin, all_places, atoms_backwards, gathered}
-use Rattle.sql_reader.specs.Limits.{nodes, all_nodes, distinct_count}
+use Rattle.sql_reader.specs.Limits.{expr_nodes, all_nodes, distinct_count}
 use Rattle.sql_reader.proofs.OrderLemmas.{all_backwards_alike}
 use Rattle.filter_tree.proofs.Tests.{by_test}
 
@@ -44,7 +44,7 @@ pub gathered_passes : (filters : List Expr)
 gathered_passes filters =
     passes_from [] (flat_map atoms_backwards filters) ∙ ap (λ n. nat_lt 64 n) (all_backwards_alike filters []).lengths
 
-pub nodes_positive : (filter : Expr) → 1 ≤ nodes filter
+pub nodes_positive : (filter : Expr) → 1 ≤ expr_nodes filter
 nodes_positive (Const known) = omega arith
 nodes_positive (Atom atom) = omega arith
 nodes_positive (Not part) = omega arith
@@ -67,7 +67,7 @@ distinct_small held (c ∷ found) =
     let later = distinct_small (with_item same_atom held c) found in
     omega arith
 
-atoms_half : (filter : Expr) → 2 * length (atoms_in filter) ≤ nodes filter + 1
+atoms_half : (filter : Expr) → 2 * length (atoms_in filter) ≤ expr_nodes filter + 1
 atoms_half (Const known) = omega arith
 atoms_half (Atom atom) = omega arith
 atoms_half (Not part) = omega (arith, atoms_half part)

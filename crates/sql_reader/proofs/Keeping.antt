@@ -4,7 +4,7 @@ use Rattle.std.specs.Prelude.{nat_lt, if◌then◌else◌, Option, Some, None, R
 use Rattle.sql_reader.specs.declared.item.Item.{Item}
 use Rattle.sql_reader.specs.Items.{Items, size}
 use Rattle.sql_reader.specs.Reading.{Fault, Outcome, Rule, and_then, next_is, rest_of}
-use Rattle.sql_reader.specs.Repetitions.{Step, after_step, goes, at_most, repeat, link, linked, one_more, each, guarded}
+use Rattle.sql_reader.specs.Repetitions.{RepeatStep, after_step, goes, at_most, repeat, link, linked, one_more, each, guarded}
 
 -- P holds for what was read, if nothing is wrong
 abbrev pub Gives : {A : Type 0} → (A → Type 0) → Outcome A → Type 0
@@ -40,7 +40,7 @@ chosen_rule-gives P false one other ts h k = k
 
 -- ---- turns
 
-after-gives : {S : Type 0} (P : S → Type 0) (n : ℕ) (step : Step S) (s : S) (ts : Items) → P s →
+after-gives : {S : Type 0} (P : S → Type 0) (n : ℕ) (step : RepeatStep S) (s : S) (ts : Items) → P s →
     ((s2 : S) (ts2 : Items) → P s2 → Gives P (at_most n step s2 ts2)) →
     (read : Result (Option (S × Items)) Fault) → GivesMore P read
     → Gives P (after_step read (goes (at_most n step) s ts))
@@ -49,7 +49,7 @@ after-gives P n step s ts p again (Ok None) h = p
 after-gives P n step s ts p again (Ok (Some x)) h =
     chosen-gives P (nat_lt (size x.1) (size ts)) (at_most n step x.0 x.1) (Ok x) (again x.0 x.1 h) h
 
-at_most-gives : {S : Type 0} (P : S → Type 0) (n : ℕ) (step : Step S)
+at_most-gives : {S : Type 0} (P : S → Type 0) (n : ℕ) (step : RepeatStep S)
     → ((s : S) (ts : Items) → P s → GivesMore P (step s ts)) →
     (s : S) (ts : Items) → P s → Gives P (at_most n step s ts)
 unfolding at_most
@@ -57,7 +57,7 @@ at_most-gives P zero step e s ts p = p
 at_most-gives P (suc n) step e s ts p =
     after-gives P n step s ts p (λ s2 ts2 p2. at_most-gives P n step e s2 ts2 p2) (step s ts) (e s ts p)
 
-pub repeat-gives : {S : Type 0} (P : S → Type 0) (step : Step S)
+pub repeat-gives : {S : Type 0} (P : S → Type 0) (step : RepeatStep S)
     → ((s : S) (ts : Items) → P s → GivesMore P (step s ts)) →
     (s : S) (ts : Items) → P s → Gives P (repeat step s ts)
 unfolding repeat

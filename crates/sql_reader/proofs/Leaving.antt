@@ -4,7 +4,7 @@ use Rattle.std.specs.Prelude.{nat_lt, if◌then◌else◌, Option, Some, None, R
 use Rattle.sql_reader.specs.declared.item.Item.{Item}
 use Rattle.sql_reader.specs.Items.{Items, size}
 use Rattle.sql_reader.specs.Reading.{Fault, Outcome, Rule, and_then, next_is, rest_of}
-use Rattle.sql_reader.specs.Repetitions.{Step, after_step, goes, at_most, repeat, link, linked, one_more, each, guarded}
+use Rattle.sql_reader.specs.Repetitions.{RepeatStep, after_step, goes, at_most, repeat, link, linked, one_more, each, guarded}
 
 -- P holds for what was read and for the tokens left, if nothing is wrong
 abbrev pub Leaves : {A : Type 0} → (A → Items → Type 0) → Outcome A → Type 0
@@ -33,10 +33,10 @@ chosen-leaves P false one other h k = k
 abbrev Keeps : {S : Type 0} → (S → Items → Type 0) → (S → Rule S) → Type 0
 Keeps P read = (s : _) (ts : Items) → P s ts → Leaves P (read s ts)
 
-abbrev StepKeeps : {S : Type 0} → (S → Items → Type 0) → Step S → Type 0
+abbrev StepKeeps : {S : Type 0} → (S → Items → Type 0) → RepeatStep S → Type 0
 StepKeeps P step = (s : _) (ts : Items) → P s ts → LeavesMore P (step s ts)
 
-after-leaves : {S : Type 0} (P : S → Items → Type 0) (n : ℕ) (step : Step S) (s : S) (ts : Items) → P s ts →
+after-leaves : {S : Type 0} (P : S → Items → Type 0) (n : ℕ) (step : RepeatStep S) (s : S) (ts : Items) → P s ts →
     ((s2 : S) (ts2 : Items) → P s2 ts2 → Leaves P (at_most n step s2 ts2)) →
     (read : Result (Option (S × Items)) Fault) → LeavesMore P read
     → Leaves P (after_step read (goes (at_most n step) s ts))
@@ -45,14 +45,14 @@ after-leaves P n step s ts p again (Ok None) h = p
 after-leaves P n step s ts p again (Ok (Some x)) h =
     chosen-leaves P (nat_lt (size x.1) (size ts)) (at_most n step x.0 x.1) (Ok x) (again x.0 x.1 h) h
 
-at_most-leaves : {S : Type 0} (P : S → Items → Type 0) (n : ℕ) (step : Step S) → StepKeeps P step
+at_most-leaves : {S : Type 0} (P : S → Items → Type 0) (n : ℕ) (step : RepeatStep S) → StepKeeps P step
     → (s : S) (ts : Items) → P s ts → Leaves P (at_most n step s ts)
 unfolding at_most
 at_most-leaves P zero step e s ts p = p
 at_most-leaves P (suc n) step e s ts p =
     after-leaves P n step s ts p (λ s2 ts2 p2. at_most-leaves P n step e s2 ts2 p2) (step s ts) (e s ts p)
 
-repeat-leaves : {S : Type 0} (P : S → Items → Type 0) (step : Step S) → StepKeeps P step → (s : S) (ts : Items)
+repeat-leaves : {S : Type 0} (P : S → Items → Type 0) (step : RepeatStep S) → StepKeeps P step → (s : S) (ts : Items)
     → P s ts → Leaves P (repeat step s ts)
 unfolding repeat
 repeat-leaves P step e s ts p = at_most-leaves P (suc (size ts)) step e s ts p

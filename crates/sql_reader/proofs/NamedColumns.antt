@@ -16,12 +16,12 @@ use Rattle.sql_reader.specs.declared.truth_test.TestAhead.TheVariants as b
 use Rattle.sql_reader.specs.declared.membership.Membership.{Membership}
 use Rattle.sql_reader.specs.declared.membership.Membership.TheVariants as m
 use Rattle.sql_reader.specs.declared.membership.MembershipWord.{MembershipWord}
-use Rattle.sql_reader.specs.Expressions.{no_call, column, column_part, number_part, cast_or_none, string_part, truth_part, simple_by, simple, no_cast, no_operator, membership_or_none, test_or_none, Nested, AfterNot, InParentheses, InList, primary, divisor, divisor_or_none, term, side, right_side, other_entries, in_list, bounds, member_by, member_or_none, right_side_by, right_side_or_none, comparison, distinct_side, tested_by, tested, predicate, negation, one_more_negation, conjunction, one_more_conjunction, disjunction, after_not, in_parentheses, nested, expression}
+use Rattle.sql_reader.specs.Expressions.{no_call, column, column_part, number_part, cast_or_none, string_part, truth_part, simple_by, simple, no_cast, no_operator, membership_or_none, test_or_none, Nested, AfterNot, InParentheses, InList, primary, divisor, divisor_or_none, term, side, right_side, other_entries, in_list, bounds, member_by, member_or_none, right_side_by, right_side_or_none, comparison, distinct_side, tested_by, maybe_tested, predicate, negation, one_more_negation, conjunction, one_more_conjunction, disjunction, after_not, in_parentheses, nested, expression}
 use Rattle.sql_reader.specs.Items.{Items}
-use Rattle.sql_reader.specs.Memberships.{among, between, distinct, among_part, between_part, distinct_part}
+use Rattle.sql_reader.specs.Memberships.{among, between, distinct_from, among_part, between_part, distinct_part}
 use Rattle.sql_reader.specs.Names.{name}
 use Rattle.sql_reader.specs.Numbers.{placed_number}
-use Rattle.sql_reader.specs.Operands.{PartOf, part, wanted, negated, joined, dividend, remainder, comparison_by, compared_part, tested as tested_part}
+use Rattle.sql_reader.specs.Operands.{ParsedPart, part, wanted, negated, joined, dividend, remainder, comparison_by, compared_part, tested as tested_part}
 use Rattle.sql_reader.specs.Reading.{Rule, Verdict, and_then, with_rest, is_ahead, item_ahead, place_ahead, next_is, expect, rest_of}
 use Rattle.sql_reader.specs.Repetitions.{link}
 use Rattle.sql_reader.specs.Written.{as_filter}
@@ -31,7 +31,7 @@ use Rattle.sql_reader.proofs.NamedParts.{known_column-gives, Says, check-gives, 
 -- ---- the rules
 
 module _ (columns : List Column) where
-  abbrev Fits : PartOf Expr → Type 0
+  abbrev Fits : ParsedPart Expr → Type 0
   Fits part = NamedPart (length columns) part
 
   simple_by-fits : (item : Option Item) (ts : Items) → Gives Fits (simple_by columns item ts)
@@ -62,10 +62,10 @@ module _ (columns : List Column) where
   FitsNested InParentheses = Unit {0}
   FitsNested (InList word left) = Fits left
 
-  abbrev AllFit : (Nested Expr → Rule (PartOf Expr)) → Type 0
+  abbrev AllFit : (Nested Expr → Rule (ParsedPart Expr)) → Type 0
   AllFit below = (inner : Nested Expr) (ts : Items) → FitsNested inner → Gives Fits (below inner ts)
 
-  module _ (below : Nested Expr → Rule (PartOf Expr)) (all : AllFit below) where
+  module _ (below : Nested Expr → Rule (ParsedPart Expr)) (all : AllFit below) where
     primary-fits : (ts : Items) → Gives Fits (primary as_filter columns below ts)
     unfolding primary
     primary-fits ts = chosen-gives Fits (is_ahead i.Open ts) (below InParentheses ts) (simple columns ts)
@@ -80,7 +80,7 @@ module _ (columns : List Column) where
         check-gives Fits (remainder place first column right.operand) ts3
         (remainder-named (length columns) place first column right.operand h)))
 
-    divisor_or_none-fits : (left : PartOf Expr) (ts : Items) → Fits left
+    divisor_or_none-fits : (left : ParsedPart Expr) (ts : Items) → Fits left
         → Gives Fits (divisor_or_none as_filter columns below left ts)
     unfolding divisor_or_none
     divisor_or_none-fits left ts h =
@@ -97,7 +97,7 @@ module _ (columns : List Column) where
     unfolding term
     term-fits ts = then-gives Fits Fits (primary as_filter columns below ts) _ (primary-fits ts) divisor_or_none-fits
 
-    ended-fits : (whole : PartOf Expr) (ts : Items) → Fits whole
+    ended-fits : (whole : ParsedPart Expr) (ts : Items) → Fits whole
         → Gives Fits (and_then (no_operator ts) (λ u ts2. Ok (whole, ts2)))
     ended-fits whole ts h = any-gives Fits (no_operator ts) _ (λ u ts2. h)
 
@@ -105,12 +105,12 @@ module _ (columns : List Column) where
     unfolding side
     side-fits ts = then-gives Fits Fits (term as_filter columns below ts) _ (term-fits ts) ended-fits
 
-    checked-fits : (verdict : Verdict (PartOf Expr)) → Says Fits verdict → (ts : Items)
+    checked-fits : (verdict : Verdict (ParsedPart Expr)) → Says Fits verdict → (ts : Items)
         → Gives Fits (and_then (with_rest verdict ts)
         (λ whole ts2. and_then (no_operator ts2) (λ u ts3. Ok (whole, ts3))))
     checked-fits verdict h ts = then-gives Fits Fits (with_rest verdict ts) _ (check-gives Fits verdict ts h) ended-fits
 
-    right_side-fits : (left : PartOf Expr) (op : Op) (ts : Items) → Fits left
+    right_side-fits : (left : ParsedPart Expr) (op : Op) (ts : Items) → Fits left
         → Gives Fits (right_side as_filter columns below left op ts)
     unfolding right_side
     right_side-fits left op ts h =
@@ -119,7 +119,7 @@ module _ (columns : List Column) where
         checked-fits (compared_part as_filter (place_ahead ts) left op right)
         (compared_part-named (length columns) (place_ahead ts) left op right h r) ts3))
 
-    in_list-fits : (word : MembershipWord) (left : PartOf Expr) (ts : Items) → Fits left
+    in_list-fits : (word : MembershipWord) (left : ParsedPart Expr) (ts : Items) → Fits left
         → Gives Fits (in_list as_filter columns below word left ts)
     unfolding in_list
     in_list-fits word left ts h =
@@ -132,7 +132,7 @@ module _ (columns : List Column) where
         (among as_filter word.place left.operand first.operand others)
         (among-named (length columns) word.place left.operand first.operand others h)) ts5))))
 
-    bounds-fits : (word : MembershipWord) (left : PartOf Expr) (ts : Items) → Fits left
+    bounds-fits : (word : MembershipWord) (left : ParsedPart Expr) (ts : Items) → Fits left
         → Gives Fits (bounds as_filter columns below word left ts)
     unfolding bounds
     bounds-fits word left ts h =
@@ -145,13 +145,13 @@ module _ (columns : List Column) where
         (between as_filter word.place left.operand low.operand high.operand)
         (between-named (length columns) word.place left.operand low.operand high.operand h)) ts5))))
 
-    member_by-fits : (left : PartOf Expr) (membership : Option Membership) (ts : Items) → Fits left
+    member_by-fits : (left : ParsedPart Expr) (membership : Option Membership) (ts : Items) → Fits left
         → Gives Fits (member_by as_filter columns below left membership ts)
     member_by-fits left (Some (m.List word)) ts h = all (InList word left) ts h
     member_by-fits left (Some (m.Range word)) ts h = bounds-fits word left ts h
     member_by-fits left None ts h = h
 
-    right_side_by-fits : (left : PartOf Expr) (op : Option Op) (ts : Items) → Fits left
+    right_side_by-fits : (left : ParsedPart Expr) (op : Option Op) (ts : Items) → Fits left
         → Gives Fits (right_side_by as_filter columns below left op ts)
     unfolding member_or_none
     right_side_by-fits left (Some op) ts h = right_side-fits left op ts h
@@ -164,7 +164,7 @@ module _ (columns : List Column) where
         then-gives Fits Fits (side as_filter columns below ts) _ (side-fits ts)
         (λ left ts2 h. right_side_by-fits left (comparison_by (item_ahead ts2)) ts2 h)
 
-    distinct_side-fits : (left : PartOf Expr) (words : DistinctWords) (ts : Items) → Fits left
+    distinct_side-fits : (left : ParsedPart Expr) (words : DistinctWords) (ts : Items) → Fits left
         → Gives Fits (distinct_side as_filter columns below left words ts)
     unfolding distinct_side
     distinct_side-fits left words ts h =
@@ -172,10 +172,10 @@ module _ (columns : List Column) where
         any-gives Fits (no_cast ts2) _ (λ u ts3.
         checked-fits (distinct_part as_filter words left right.operand)
         (formed-named (length columns) words.is_negated left.place
-        (distinct as_filter words.place words.distinct_place left.operand right.operand)
+        (distinct_from as_filter words.place words.distinct_place left.operand right.operand)
         (distinct-named (length columns) words.place words.distinct_place left.operand right.operand h)) ts3))
 
-    tested_by-fits : (left : PartOf Expr) (asking : Option TestAhead) (ts : Items) → Fits left
+    tested_by-fits : (left : ParsedPart Expr) (asking : Option TestAhead) (ts : Items) → Fits left
         → Gives Fits (tested_by as_filter columns below left asking ts)
     tested_by-fits left (Some (b.Truth test)) ts h =
         check-gives Fits (tested_part as_filter test left) ts (tested_part-named (length columns) test left h)
@@ -183,7 +183,7 @@ module _ (columns : List Column) where
     tested_by-fits left None ts h = h
 
     predicate-fits : (ts : Items) → Gives Fits (predicate as_filter columns below ts)
-    unfolding predicate tested
+    unfolding predicate maybe_tested
     predicate-fits ts =
         then-gives Fits Fits (comparison as_filter columns below ts) _ (comparison-fits ts) (λ left ts2 h.
         any-gives Fits (test_or_none ts2) _ (λ test ts3. tested_by-fits left test ts3 h))
@@ -193,7 +193,7 @@ module _ (columns : List Column) where
     negation-fits ts = chosen-gives Fits (is_ahead (i.Keyword k.Not) ts) (below AfterNot ts)
         (predicate as_filter columns below ts) (all AfterNot ts tt) (predicate-fits ts)
 
-    one_more_negation-fits : (left : PartOf Expr) (ts : Items) → Fits left
+    one_more_negation-fits : (left : ParsedPart Expr) (ts : Items) → Fits left
         → Gives Fits (one_more_negation as_filter columns below left ts)
     unfolding one_more_negation
     one_more_negation-fits left ts h =
@@ -211,7 +211,7 @@ module _ (columns : List Column) where
         (repeat-gives Fits (link (i.Keyword k.And) (one_more_negation as_filter columns below))
         (link-gives Fits (i.Keyword k.And) (one_more_negation as_filter columns below) one_more_negation-fits))
 
-    one_more_conjunction-fits : (left : PartOf Expr) (ts : Items) → Fits left
+    one_more_conjunction-fits : (left : ParsedPart Expr) (ts : Items) → Fits left
         → Gives Fits (one_more_conjunction as_filter columns below left ts)
     unfolding one_more_conjunction
     one_more_conjunction-fits left ts h =

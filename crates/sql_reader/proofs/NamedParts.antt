@@ -23,8 +23,8 @@ use Rattle.sql_reader.specs.declared.truth_test.TestedValue.TheVariants as a
 use Rattle.sql_reader.specs.declared.truth_test.TruthTest.{TruthTest}
 use Rattle.sql_reader.specs.Expressions.{found_from, find_column, known, known_column, column, divisor, term}
 use Rattle.sql_reader.specs.Items.{Items}
-use Rattle.sql_reader.specs.Memberships.{subject_of, beside, all_beside, bound, among, between, distinct, formed}
-use Rattle.sql_reader.specs.Operands.{OperandOf, OfTerm, OfLiteral, OfFormula, PartOf, part, verdict_map, verdict_then, truth, true_or_clash, wanted, negated, joined, dividend, remainder, fits, fitting, compared, compared_part, asking, answered, negated_if, tested as tested_part}
+use Rattle.sql_reader.specs.Memberships.{subject_before, beside, all_beside, bound, among, between, distinct_from, formed}
+use Rattle.sql_reader.specs.Operands.{OperandOf, OfTerm, OfLiteral, OfFormula, ParsedPart, part, verdict_map, verdict_then, truth, true_or_clash, wanted, negated, joined, dividend, remainder, comparable, fitting, compared, compared_part, truth_asked, answered, negated_if, tested as tested_part}
 use Rattle.sql_reader.specs.Reading.{Fault, Verdict, with_rest}
 use Rattle.sql_reader.specs.Ascending.{ascending}
 use Rattle.sql_reader.specs.Written.{as_filter, compared_expr, compared_from_expr, turned}
@@ -110,7 +110,7 @@ module _ (count : ℕ) where
   NamedOperand (OfLiteral place constant) = Unit {0}
   NamedOperand (OfFormula filter) = Named filter
 
-  abbrev pub NamedPart : PartOf Expr → Type 0
+  abbrev pub NamedPart : ParsedPart Expr → Type 0
   NamedPart part = NamedOperand part.operand
 
   abbrev NamedOption : Option Expr → Type 0
@@ -150,11 +150,11 @@ module _ (count : ℕ) where
   true_or_clash-named place None h = tt
   true_or_clash-named place (Some filter) h = h
 
-  pub wanted-named : (part : PartOf Expr) → NamedPart part → Says Named (wanted as_filter part)
+  pub wanted-named : (part : ParsedPart Expr) → NamedPart part → Says Named (wanted as_filter part)
   unfolding wanted
   wanted-named part h = true_or_clash-named part.place (truth as_filter part.operand) (truth-named part.operand h)
 
-  pub negated-named : (place : ℕ) (right : PartOf Expr) → NamedPart right
+  pub negated-named : (place : ℕ) (right : ParsedPart Expr) → NamedPart right
       → Says NamedPart (negated as_filter place right)
   unfolding negated
   negated-named place right h =
@@ -162,7 +162,7 @@ module _ (count : ℕ) where
 
   pub joined-named : (join : Expr → Expr → Expr)
       → ((left right : Expr) → Named left → Named right → Named (join left right))
-      → (place : ℕ) (left : Expr) (right : PartOf Expr) → Named left → NamedPart right
+      → (place : ℕ) (left : Expr) (right : ParsedPart Expr) → Named left → NamedPart right
       → Says NamedPart (joined as_filter join place left right)
   unfolding joined
   joined-named join joins place left right one other =
@@ -205,11 +205,11 @@ module _ (count : ℕ) where
   unfolding compared
   compared-named place (OfTerm term kind) op (OfTerm other other_kind) h r = tt
   compared-named place (OfTerm term kind) op (OfLiteral at constant) h r =
-      fitting-says Named (fits place kind op constant) (compared_expr term op constant)
+      fitting-says Named (comparable place kind op constant) (compared_expr term op constant)
       (atom-named (Cmp term op constant) h)
   compared-named place (OfTerm term kind) op (OfFormula filter) h r = tt
   compared-named place (OfLiteral at constant) op (OfTerm term kind) h r =
-      fitting-says Named (fits place kind op constant) (compared_from_expr constant op term)
+      fitting-says Named (comparable place kind op constant) (compared_from_expr constant op term)
       (atom-named (Cmp term (turned op) constant) r)
   compared-named place (OfLiteral at constant) op (OfLiteral other_at other) h r = tt
   compared-named place (OfLiteral at (Number number)) op (OfFormula filter) h r = tt
@@ -221,7 +221,7 @@ module _ (count : ℕ) where
   compared-named place (OfFormula filter) op (OfLiteral at (Bytes text)) h r = tt
   compared-named place (OfFormula filter) op (OfFormula other) h r = tt
 
-  pub compared_part-named : (place : ℕ) (left : PartOf Expr) (op : Op) (right : PartOf Expr) → NamedPart left
+  pub compared_part-named : (place : ℕ) (left : ParsedPart Expr) (op : Op) (right : ParsedPart Expr) → NamedPart left
       → NamedPart right
       → Says NamedPart (compared_part as_filter place left op right)
   compared_part-named place left op right h r =
@@ -229,7 +229,7 @@ module _ (count : ℕ) where
       (compared-named place left.operand op right.operand h r) (λ filter n. n)
 
   asking-named : (place : ℕ) (test : Test) (read : Option Expr) → NamedOption read
-      → Says Named (asking as_filter place test read)
+      → Says Named (truth_asked as_filter place test read)
   asking-named place test None h = tt
   asking-named place test (Some filter) h = h
 
@@ -256,7 +256,7 @@ module _ (count : ℕ) where
   negated_if-named true filter h = h
   negated_if-named false filter h = h
 
-  pub tested_part-named : (truth_test : TruthTest) (asked_part : PartOf Expr) → NamedPart asked_part
+  pub tested_part-named : (truth_test : TruthTest) (asked_part : ParsedPart Expr) → NamedPart asked_part
       → Says NamedPart (tested_part as_filter truth_test asked_part)
   unfolding tested_part
   tested_part-named truth_test asked_part h =
@@ -270,7 +270,7 @@ module _ (count : ℕ) where
   NamedSubject on = NamedTerm on.term
 
   subject-named : (place : ℕ) (operand : OperandOf Expr) → NamedOperand operand
-      → Says NamedSubject (subject_of place operand)
+      → Says NamedSubject (subject_before place operand)
   subject-named place (OfTerm term kind) h = h
   subject-named place (OfLiteral at constant) h = tt
   subject-named place (OfFormula filter) h = tt
@@ -284,7 +284,7 @@ module _ (count : ℕ) where
       → Says Named (among as_filter place left first others)
   unfolding among
   among-named place left first others h =
-      then-says NamedSubject Named (subject_of place left) _ (subject-named place left h) (λ on n.
+      then-says NamedSubject Named (subject_before place left) _ (subject-named place left h) (λ on n.
       any_then-says Named (beside place on.kind first) _ (λ constant.
       any_map-says Named _ (all_beside place on.kind others)
       (λ constants. atom-named (In on.term (ascending (constant ∷ constants))) n)))
@@ -293,13 +293,13 @@ module _ (count : ℕ) where
       → Says Named (between as_filter place left low high)
   unfolding between
   between-named place left low high h =
-      then-says NamedSubject Named (subject_of place left) _ (subject-named place left h) (λ on n.
+      then-says NamedSubject Named (subject_before place left) _ (subject-named place left h) (λ on n.
       any_then-says Named (bound place on.kind low) _ (λ lowest.
       any_map-says Named _ (bound place on.kind high) (λ highest. atom-named (Between on.term lowest highest) n)))
 
   pub distinct-named : (place distinct_place : ℕ) (left right : OperandOf Expr) → NamedOperand left
-      → Says Named (distinct as_filter place distinct_place left right)
-  unfolding distinct
+      → Says Named (distinct_from as_filter place distinct_place left right)
+  unfolding distinct_from
   distinct-named place distinct_place left right h =
-      then-says NamedSubject Named (subject_of place left) _ (subject-named place left h) (λ on n.
+      then-says NamedSubject Named (subject_before place left) _ (subject-named place left h) (λ on n.
       any_map-says Named _ (beside distinct_place on.kind right) (λ constant. atom-named (Distinct on.term constant) n))

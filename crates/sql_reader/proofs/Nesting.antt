@@ -4,7 +4,7 @@ use Rattle.filter_tree.specs.declared.table.Column.{Column}
 use Rattle.sql_reader.specs.declared.membership.MembershipWord.{MembershipWord}
 use Rattle.sql_reader.specs.Expressions.{Forms, Nested, AfterNot, InParentheses, InList, nested, after_not, in_parentheses, in_list}
 use Rattle.sql_reader.specs.Items.{Items}
-use Rattle.sql_reader.specs.Operands.{PartOf}
+use Rattle.sql_reader.specs.Operands.{ParsedPart}
 use Rattle.sql_reader.specs.Reading.{refuse_as}
 use Rattle.sql_reader.specs.ErrorKinds as w
 
@@ -31,7 +31,7 @@ nested-in_parentheses forms columns (suc n) ts h =
     ap (λ m. in_parentheses forms columns (nested forms columns m) ts) (one_less n)
 
 pub nested-in_list : {S : Type 0} (forms : Forms S) (columns : List Column) (n : ℕ) (word : MembershipWord)
-    (left : PartOf S) (ts : Items) → n ≢ 0 →
+    (left : ParsedPart S) (ts : Items) → n ≢ 0 →
     nested forms columns n (InList word left) ts ≡ in_list forms columns (nested forms columns (n - 1)) word left ts
 unfolding nested
 nested-in_list forms columns zero word left ts h = absurd (h refl)

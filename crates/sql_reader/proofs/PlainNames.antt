@@ -20,7 +20,7 @@ use Rattle.sql_reader.specs.declared.reader.Ahead.TheVariants as a
 use Rattle.sql_reader.specs.declared.reader.Reader.{Reader}
 use Rattle.sql_reader.specs.declared.word.Keyword.{Keyword}
 use Rattle.sql_reader.specs.declared.word.Keyword.TheVariants as k
-use Rattle.sql_reader.specs.Items.{ahead_of, to_read, Items, Stop, Broken, Then, Seen, word_or_keyword, is_name, item_of, within_quotes, items}
+use Rattle.sql_reader.specs.Items.{ahead_of, to_read, Items, Stop, Broken, Then, SeenItem, word_or_keyword, is_name, item_of, within_quotes, items}
 use Rattle.sql_reader.specs.Columns.{Parts, no_parts, new_column, required, type_taken, column_type, given_by, constraint_by, constraint, constraint_ahead, no_constraints, constraints, has_key, column_element, once_in_key, key_column, key_columns, first_key, key_element, element_by, element, elements}
 use Rattle.sql_reader.specs.Expressions.{known_column}
 use Rattle.sql_reader.specs.Keywords.{keyword_of}
@@ -31,7 +31,7 @@ use Rattle.sql_reader.proofs.Leaving.{Leaves, then-leaves, chosen-leaves, links-
 -- ---- tokens
 
 -- a token that may be a name means a plain name
-abbrev IsPlainItem : Seen → Type 0
+abbrev IsPlainItem : SeenItem → Type 0
 IsPlainItem token = is_name token.item ≡ true → IsPlainName (name_meant (Some token.item) token.written)
 
 abbrev pub ArePlain : Items → Type 0

@@ -25,7 +25,7 @@ use Rattle.sql_tokens.proofs.Lexing.{at-token}
 use Rattle.sql_tokens.proofs.SpelledTokens.{EndsValue, lexeme, space_passes, minus_len}
 use Rattle.sql_reader.specs.declared.item.Item.TheVariants as i
 use Rattle.sql_reader.specs.declared.plain_row.Digits.{Digits}
-use Rattle.sql_reader.specs.Items.{Items, Then, seen, items, size}
+use Rattle.sql_reader.specs.Items.{Items, Then, seen_item, items, size}
 use Rattle.sql_reader.specs.Numbers as r
 use Rattle.sql_reader.specs.Numbers.{placed_number, signed_number}
 use Rattle.sql_reader.specs.PlainRows.{is_end, is_plain, AreDigits, tokens_at, ReadsValue, IsPlain, IsWord}
@@ -67,9 +67,9 @@ first_digit bytes digits are = prefix_len_passes is_ascii_digit bytes 0 0 (omega
 number_at : (text : List ℕ) (place : ℕ) (digits : Digits) → AreDigits (drop place text) digits
     → place + digits.length < length text → EndsValue (slice_index text (place + digits.length))
     → tokens_at text place
-    ≡ Then (seen (lexeme (t.Number digits.number) place (take digits.length (drop place text))))
+    ≡ Then (seen_item (lexeme (t.Number digits.number) place (take digits.length (drop place text))))
     (tokens_at text (place + digits.length))
-unfolding items n.number
+unfolding items n.front_number
 number_at text place digits are within ends =
     let next : slice_index (drop place text) digits.length ≡ slice_index text (place + digits.length) =
     get_or-drop place text digits.length 0 in
@@ -105,7 +105,7 @@ minus_front (digit ∷ rest) e =
 minus_at : (text : List ℕ) (place : ℕ) (digits : Digits) → place < length text → slice_index text place ≡ 45
     → AreDigits (drop (place + 1) text) digits
     → tokens_at text place
-    ≡ Then (seen (lexeme (t.Operator Minus) place (take 1 (drop place text)))) (tokens_at text (place + 1))
+    ≡ Then (seen_item (lexeme (t.Operator Minus) place (take 1 (drop place text)))) (tokens_at text (place + 1))
 unfolding items front operator
 minus_at text place digits within minus are =
     ap items (at-token text place (t.Operator Minus) 1 within
@@ -301,8 +301,8 @@ wants_next text cells cell place after next wants takes within comma same = λ m
     let rest = drop (after + 1) text in
     let read = cells ++ (cell ∷ []) in
     let here : tokens_at text after ≡ ahead after (44 ∷ rest) = ap (ahead after) (at_byte text after 44 within comma) in
-    let tokens : ahead after (44 ∷ rest) ≡ Then (seen (lexeme t.Comma after (44 ∷ []))) (tokens_at text next) =
-    comma_ahead after rest ∙ ap (Then (seen (lexeme t.Comma after (44 ∷ [])))) (sym same) in
+    let tokens : ahead after (44 ∷ rest) ≡ Then (seen_item (lexeme t.Comma after (44 ∷ []))) (tokens_at text next) =
+    comma_ahead after rest ∙ ap (Then (seen_item (lexeme t.Comma after (44 ∷ [])))) (sym same) in
     let read_next : one_value read (rest_of (ahead after (44 ∷ rest))) ≡ Ok (read ++ (more ∷ []), later) =
     ap (λ ts. one_value read (rest_of ts)) tokens ∙ one_more read more (tokens_at text next) later takes_more in
     let fewer : size later < size (ahead after (44 ∷ rest)) = omega (arith, takes_more.fewer, ap size tokens) in

@@ -18,12 +18,12 @@ use Rattle.sql_tokens.specs.Doubled.{in_quotes}
 use Rattle.sql_tokens.specs.Lexed.{tokens_from}
 use Rattle.sql_tokens.proofs.SpelledTokens.{EndsValue, Begins, lexeme, space_passes, open_token, close_token, comma_token, null_token, true_token, false_token, number_token, minus_token, string_token, string_says}
 use Rattle.sql_reader.specs.declared.item.Item.TheVariants as i
-use Rattle.sql_reader.specs.Items.{Items, Stop, Then, seen, items, items_of, size}
+use Rattle.sql_reader.specs.Items.{Items, Stop, Then, seen_item, items, items_of, size}
 use Rattle.sql_reader.specs.Keywords.{keyword_of, early_keyword, late_keyword}
 use Rattle.sql_reader.specs.Numbers.{number, placed_number, signed_number}
 use Rattle.sql_reader.specs.PlainRows.{ReadsValue}
 use Rattle.sql_reader.specs.Reading.{look, is_ahead, next_is, expect, rest_of}
-use Rattle.sql_reader.specs.Rows.{cast_or_none, string_value, number_value, value, one_value, values, end, in_parentheses, row, row_of}
+use Rattle.sql_reader.specs.Rows.{cast_or_none, string_value, number_value, value, one_value, values, end, row_in_parentheses, row, row_of}
 use Rattle.sql_reader.specs.Repetitions.{link, repeat}
 use Rattle.sql_reader.specs.WrittenRows.{value_text, row_text, IsReadable, IsReadableRow, least}
 use Rattle.sql_reader.proofs.RepetitionLemmas.{link-goes_on, link-ends}
@@ -33,16 +33,16 @@ abbrev pub ahead : ℕ → List ℕ → Items
 ahead place text = items (tokens_from place 0 text)
 
 token_ahead : (kind : TokenKind) (place : ℕ) (text rest : List ℕ) → Begins kind place text rest
-    → ahead place (text ++ rest) ≡ Then (seen (lexeme kind place text)) (ahead (place + length text) rest)
+    → ahead place (text ++ rest) ≡ Then (seen_item (lexeme kind place text)) (ahead (place + length text) rest)
 unfolding items
 token_ahead kind place text rest begins = ap items begins
 
 pub comma_ahead : (place : ℕ) (rest : List ℕ)
-    → ahead place (44 ∷ rest) ≡ Then (seen (lexeme t.Comma place (44 ∷ []))) (ahead (place + 1) rest)
+    → ahead place (44 ∷ rest) ≡ Then (seen_item (lexeme t.Comma place (44 ∷ []))) (ahead (place + 1) rest)
 comma_ahead place rest = token_ahead t.Comma place (44 ∷ []) rest (comma_token place rest)
 
 close_ahead : (place : ℕ) (rest : List ℕ)
-    → ahead place (41 ∷ rest) ≡ Then (seen (lexeme t.Close place (41 ∷ []))) (ahead (place + 1) rest)
+    → ahead place (41 ∷ rest) ≡ Then (seen_item (lexeme t.Close place (41 ∷ []))) (ahead (place + 1) rest)
 close_ahead place rest = token_ahead t.Close place (41 ∷ []) rest (close_token place rest)
 
 -- ---- a value
@@ -182,9 +182,9 @@ step read cell place following is ends =
     let text = value_text cell ++ following in
     let start = place + 1 + 1 in
     let takes = value_again cell start following is ends in
-    let tokens : ahead place (44 ∷ 32 ∷ text) ≡ Then (seen (lexeme t.Comma place (44 ∷ []))) (ahead start text) =
+    let tokens : ahead place (44 ∷ 32 ∷ text) ≡ Then (seen_item (lexeme t.Comma place (44 ∷ []))) (ahead start text) =
     comma_ahead place (32 ∷ text)
-    ∙ ap (λ tokens. Then (seen (lexeme t.Comma place (44 ∷ []))) (items tokens)) (space_passes (place + 1) text)
+    ∙ ap (λ tokens. Then (seen_item (lexeme t.Comma place (44 ∷ []))) (items tokens)) (space_passes (place + 1) text)
     in
     let read_next = ap (one_value read) (ap rest_of tokens)
     ∙ one_more read cell (ahead start text) (ahead (start + length (value_text cell)) following) takes in
@@ -220,7 +220,7 @@ values_again cell cells place first each =
     let one = one_more [] cell _ _ (value_again cell place (others_text cells) first (others_end cells)) in
     rw one (others_again cells (cell ∷ []) (place + length (value_text cell)) each)
 
-open_ahead : (rest : List ℕ) → ahead 0 (40 ∷ rest) ≡ Then (seen (lexeme t.Open 0 (40 ∷ []))) (ahead 1 rest)
+open_ahead : (rest : List ℕ) → ahead 0 (40 ∷ rest) ≡ Then (seen_item (lexeme t.Open 0 (40 ∷ []))) (ahead 1 rest)
 open_ahead rest = token_ahead t.Open 0 (40 ∷ []) rest (open_token 0 rest)
 
 nothing_ahead : (place : ℕ) → ahead place [] ≡ Stop place
@@ -229,7 +229,7 @@ nothing_ahead place = refl
 
 pub between_parentheses : (text : List ℕ) (cells : List Datum) (place : ℕ)
     → values (ahead 1 text) ≡ Ok (cells, closing place) → row_of (40 ∷ text) ≡ Ok cells
-unfolding row_of row in_parentheses items_of expect end is_ahead
+unfolding row_of row row_in_parentheses items_of expect end is_ahead
 between_parentheses text cells place e = rw (open_ahead text, e, close_ahead place [], nothing_ahead (place + 1)) refl
 
 row_again : (row : List Datum) → IsReadableRow row → row_of (row_text row) ≡ Ok row

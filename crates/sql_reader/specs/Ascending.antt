@@ -6,7 +6,7 @@ use Rattle.std.specs.List.{list_any}
 use Rattle.std.specs.List.Sorted.{IsStrictlySortedBy}
 use Rattle.std.specs.declared.cmp.Ordering.{Ordering}
 use Rattle.filter_tree.specs.Datum.{Constant, Known}
-use Rattle.filter_tree.specs.Order.{rank_of, datum_cmp}
+use Rattle.filter_tree.specs.Order.{datum_rank, datum_cmp}
 use Rattle.filter_tree.specs.Same.{same_constant}
 
 -- the order of the values of two constants
@@ -15,14 +15,14 @@ constant_cmp one other = datum_cmp (Known one) (Known other)
 
 -- numbers come before truth values, and these before texts; no list that was read has constants of two kinds
 abbrev pub constant_rank : Constant → ℕ
-constant_rank constant = rank_of (Known constant)
+constant_rank constant = datum_rank (Known constant)
 
 -- an ordered list, with the constant added in its place unless it is in the list
-abbrev pub placed : List Constant → Constant → List Constant
-placed constants constant = insert_key constant_cmp constants constant
+abbrev pub inserted_in_order : List Constant → Constant → List Constant
+inserted_in_order constants constant = insert_key constant_cmp constants constant
 
 unfoldable pub ascending : List Constant → List Constant
-ascending constants = fold placed [] constants
+ascending constants = fold inserted_in_order [] constants
 
 -- ---- laws
 

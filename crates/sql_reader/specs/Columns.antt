@@ -19,7 +19,7 @@ use Rattle.sql_reader.specs.ErrorKinds as w
 use Rattle.sql_reader.specs.Expressions.{find_column, known_column}
 use Rattle.sql_reader.specs.Items.{Items, Broken}
 use Rattle.sql_reader.specs.Names.{name, name_ahead}
-use Rattle.sql_reader.specs.Reading.{Fault, Rule, Verdict, fault, place_ahead, ◌>>=◌, ◌>>◌, pure, check, refuse, refuse_as, refusal, advance, expect, item_ahead, written_ahead, rest_of}
+use Rattle.sql_reader.specs.Reading.{Fault, Rule, Verdict, fault, place_ahead, ◌>>=◌, ◌>>◌, pure, check, refuse, refuse_as, unexpected, advance, expect, item_ahead, written_ahead, rest_of}
 use Rattle.sql_reader.specs.Repetitions.{link, each, repeat}
 use Rattle.sql_reader.specs.declared.column_rule.Constraints.{Constraints}
 use Rattle.sql_reader.specs.declared.element.TableParts.{TableParts}
@@ -69,7 +69,7 @@ type_taken None = refuse_as (w.LeftOut DataType)
 unfoldable pub column_type : Rule ColType
 column_type ts =
     if name_ahead ts then type_taken (type_by (item_ahead ts) (written_ahead ts)) ts
-    else Err (refusal ts)
+    else Err (unexpected ts)
 
 -- ---- constraints of a column, each at most once
 
@@ -86,7 +86,7 @@ is_constraint (Some (i.Keyword k.Constraint)) = true
 is_constraint _ = false
 
 abbrev pub constraint_looked : Items → Verdict Bool
-constraint_looked (Broken place kind) = Err (refusal (Broken place kind))
+constraint_looked (Broken place kind) = Err (unexpected (Broken place kind))
 constraint_looked ts = Ok (is_constraint (item_ahead ts))
 
 unfoldable pub constraint_ahead : Items → Verdict Bool

@@ -3,7 +3,7 @@ use Rattle.std.specs.Prelude.{◌≡◌, ℕ, ◌+◌, ◌-◌, false, List, [],
 use Rattle.filter_tree.specs.Expr.{AtomOf, Expr, Const, Atom, Not, And, Or, Is}
 use Rattle.filter_tree.specs.Lists.{with_item}
 use Rattle.filter_tree.specs.Same.{same_atom}
-use Rattle.sql_reader.specs.Limits.{nodes, all_nodes, distinct_count}
+use Rattle.sql_reader.specs.Limits.{expr_nodes, all_nodes, distinct_count}
 
 -- the atoms of a filter from right to left
 abbrev pub atoms_backwards : Expr → List AtomOf
@@ -25,7 +25,7 @@ left_after taken left = if nat_le taken left then Some (left - taken) else None
 -- the nodes of filters, and one more for each filter
 abbrev pub all_places : List Expr → ℕ
 all_places [] = 0
-all_places (filter ∷ filters) = (nodes filter + 1) + all_places filters
+all_places (filter ∷ filters) = (expr_nodes filter + 1) + all_places filters
 
 -- the filters exceed no limit
 pub record AreWithin (filters : List Expr) : Type 0 where

@@ -28,7 +28,7 @@ use Rattle.sql_reader.specs.Items.{is_name}
 use Rattle.sql_reader.specs.Names.{name, string_meant}
 use Rattle.sql_reader.specs.Memberships.{among_part, between_part, distinct_part, room_in_list}
 use Rattle.sql_reader.specs.Numbers.{placed_number}
-use Rattle.sql_reader.specs.Operands.{OperandOf, PartOf, OfTerm, OfLiteral, part, wanted, negated, joined, dividend, remainder, comparison_by, compared_part, tested as tested_part}
+use Rattle.sql_reader.specs.Operands.{OperandOf, ParsedPart, OfTerm, OfLiteral, part, wanted, negated, joined, dividend, remainder, comparison_by, compared_part, tested as tested_part}
 pub use Rattle.sql_reader.specs.Operands.{Forms}
 use Rattle.sql_reader.specs.Reading.{Rule, Verdict, fault, ◌>>=◌, ◌>>◌, pure, check, here, refuse, refuse_as, advance, look, eat, expect, next_is, is_ahead, item_ahead, place_ahead, written_ahead}
 use Rattle.sql_reader.specs.Repetitions.{link, repeat}
@@ -74,13 +74,13 @@ column columns = do
 unfoldable pub no_cast : Rule (Unit {0})
 no_cast ts = if is_ahead i.DoubleColon ts then refuse_as (w.LeftOut l.Cast) ts else Ok (tt, ts)
 
-unfoldable pub column_part : {S : Type 0} → List Column → Rule (PartOf S)
+unfoldable pub column_part : {S : Type 0} → List Column → Rule (ParsedPart S)
 column_part columns = do
   place ← here
   found ← column columns
   pure (part place (OfTerm (Col found.number) found.kind))
 
-unfoldable pub number_part : {S : Type 0} → Rule (PartOf S)
+unfoldable pub number_part : {S : Type 0} → Rule (ParsedPart S)
 number_part = do
   place ← here
   digits ← placed_number
@@ -104,15 +104,15 @@ cast_or_none = do
   has_cast ← next_is i.DoubleColon
   if has_cast then text_cast else pure tt
 
-unfoldable pub string_part : {S : Type 0} → Rule (PartOf S)
+unfoldable pub string_part : {S : Type 0} → Rule (ParsedPart S)
 string_part = λ ts. (advance >> cast_or_none >> pure
     (part (place_ahead ts) (OfLiteral (place_ahead ts) (Bytes (string_meant (written_ahead ts)))))) ts
 
-unfoldable pub truth_part : {S : Type 0} → Bool → Rule (PartOf S)
+unfoldable pub truth_part : {S : Type 0} → Bool → Rule (ParsedPart S)
 truth_part known = λ ts. (advance >> pure (part (place_ahead ts) (OfLiteral (place_ahead ts) (Truth known)))) ts
 
 -- NULL and CASE are not operands here, and not names
-abbrev pub simple_by : {S : Type 0} → List Column → Option Item → Rule (PartOf S)
+abbrev pub simple_by : {S : Type 0} → List Column → Option Item → Rule (ParsedPart S)
 simple_by columns (Some (i.Operator o.Minus)) = number_part
 simple_by columns (Some (i.Number number)) = number_part
 simple_by columns (Some i.Text) = string_part
@@ -122,7 +122,7 @@ simple_by columns (Some (i.Keyword k.Null)) = refuse_as (w.LeftOut l.Constant)
 simple_by columns (Some (i.Keyword k.Case)) = refuse_as (w.LeftOut l.Function)
 simple_by columns _ = column_part columns
 
-unfoldable pub simple : {S : Type 0} → List Column → Rule (PartOf S)
+unfoldable pub simple : {S : Type 0} → List Column → Rule (ParsedPart S)
 simple columns ts = simple_by columns (item_ahead ts) ts
 
 -- ---- operators after an operand that are not supported
@@ -193,15 +193,15 @@ membership_or_none ts = membership_by (item_ahead ts) ts
 
 -- ---- IS tests
 
-abbrev pub asked_by : Option Item → Rule TestedValue
-asked_by (Some (i.Keyword k.Null)) = advance >> pure a.Null
-asked_by (Some (i.Keyword k.True)) = advance >> pure (a.Truth t.True)
-asked_by (Some (i.Keyword k.False)) = advance >> pure (a.Truth t.False)
-asked_by (Some (i.Keyword k.Unknown)) = advance >> pure (a.Truth t.Unknown)
-asked_by _ = refuse
+abbrev pub tested_value_by : Option Item → Rule TestedValue
+tested_value_by (Some (i.Keyword k.Null)) = advance >> pure a.Null
+tested_value_by (Some (i.Keyword k.True)) = advance >> pure (a.Truth t.True)
+tested_value_by (Some (i.Keyword k.False)) = advance >> pure (a.Truth t.False)
+tested_value_by (Some (i.Keyword k.Unknown)) = advance >> pure (a.Truth t.Unknown)
+tested_value_by _ = refuse
 
 unfoldable pub asked_for : Rule TestedValue
-asked_for ts = asked_by (item_ahead ts) ts
+asked_for ts = tested_value_by (item_ahead ts) ts
 
 -- after IS, which is at this place, or IS NOT
 unfoldable pub truth_test : ℕ → Bool → Rule (Option TestAhead)
@@ -244,48 +244,48 @@ test_or_none ts = test_by (item_ahead ts) ts
 -- ---- expressions
 
 -- looks at what follows a side of a comparison
-abbrev pub side_ended : {S : Type 0} → PartOf S → Rule (PartOf S)
+abbrev pub side_ended : {S : Type 0} → ParsedPart S → Rule (ParsedPart S)
 side_ended read = no_operator >> pure read
 
 -- the parenthesis after a part; with its parentheses the part begins at this place
-abbrev pub closed : {S : Type 0} → ℕ → PartOf S → Rule (PartOf S)
+abbrev pub closed : {S : Type 0} → ℕ → ParsedPart S → Rule (ParsedPart S)
 closed place inner = expect i.Close >> pure (part place inner.operand)
 
 -- what is nested: what is after NOT, an expression in parentheses, or the list of IN with its left side
 pub data Nested (S : Type 0) : Type 0 where
   AfterNot : Nested S
   InParentheses : Nested S
-  InList : MembershipWord → PartOf S → Nested S
+  InList : MembershipWord → ParsedPart S → Nested S
 
 module _ {S : Type 0} (forms : Forms S) (columns : List Column) where
   -- Each of these adds one level of nesting, which is refused at the parenthesis or the NOT that passes the limit.
   abbrev Below : Type 0
-  Below = Nested S → Rule (PartOf S)
+  Below = Nested S → Rule (ParsedPart S)
 
-  unfoldable pub primary : Below → Rule (PartOf S)
+  unfoldable pub primary : Below → Rule (ParsedPart S)
   primary below ts = if is_ahead i.Open ts then below InParentheses ts else simple columns ts
 
   -- `%` and the divisor, after what begins at this place
-  unfoldable pub divisor : Below → ℕ → Option FoundColumn → Rule (PartOf S)
+  unfoldable pub divisor : Below → ℕ → Option FoundColumn → Rule (ParsedPart S)
   divisor below first column = do
     place ← expect (i.Operator o.Percent)
     right ← primary below
     check (remainder place first column right.operand)
 
-  unfoldable pub divisor_or_none : Below → PartOf S → Rule (PartOf S)
+  unfoldable pub divisor_or_none : Below → ParsedPart S → Rule (ParsedPart S)
   divisor_or_none below left = do
     is_divided ← next_is (i.Operator o.Percent)
     if is_divided then divisor below left.place (dividend left.operand) else pure left
 
-  unfoldable pub term : Below → Rule (PartOf S)
+  unfoldable pub term : Below → Rule (ParsedPart S)
   term below = primary below >>= divisor_or_none below
 
   -- a side of a comparison
-  unfoldable pub side : Below → Rule (PartOf S)
+  unfoldable pub side : Below → Rule (ParsedPart S)
   side below = term below >>= side_ended
 
   -- a comparison is checked before what follows it, except for a cast
-  unfoldable pub right_side : Below → PartOf S → Op → Rule (PartOf S)
+  unfoldable pub right_side : Below → ParsedPart S → Op → Rule (ParsedPart S)
   right_side below left operator = do
     place ← here
     advance
@@ -305,7 +305,7 @@ module _ {S : Type 0} (forms : Forms S) (columns : List Column) where
   other_entries below = repeat (link i.Comma (one_entry below)) []
 
   -- a list after IN, which is checked at its parenthesis
-  unfoldable pub in_list : Below → MembershipWord → PartOf S → Rule (PartOf S)
+  unfoldable pub in_list : Below → MembershipWord → ParsedPart S → Rule (ParsedPart S)
   in_list below word left = do
     expect i.Open
     first ← side below
@@ -315,7 +315,7 @@ module _ {S : Type 0} (forms : Forms S) (columns : List Column) where
     side_ended whole
 
   -- the bounds after BETWEEN, which are checked as a comparison is
-  unfoldable pub bounds : Below → MembershipWord → PartOf S → Rule (PartOf S)
+  unfoldable pub bounds : Below → MembershipWord → ParsedPart S → Rule (ParsedPart S)
   bounds below word left = do
     low ← side below
     expect (i.Keyword k.And)
@@ -324,73 +324,73 @@ module _ {S : Type 0} (forms : Forms S) (columns : List Column) where
     whole ← check (between_part forms word left low.operand high.operand)
     side_ended whole
 
-  abbrev pub member_by : Below → PartOf S → Option Membership → Rule (PartOf S)
+  abbrev pub member_by : Below → ParsedPart S → Option Membership → Rule (ParsedPart S)
   member_by below left (Some (m.List word)) = below (InList word left)
   member_by below left (Some (m.Range word)) = bounds below word left
   member_by below left None = pure left
 
   -- the list or the bounds after IN or BETWEEN, if one of these is ahead
-  unfoldable pub member_or_none : Below → PartOf S → Rule (PartOf S)
+  unfoldable pub member_or_none : Below → ParsedPart S → Rule (ParsedPart S)
   member_or_none below left = membership_or_none >>= member_by below left
 
-  abbrev pub right_side_by : Below → PartOf S → Option Op → Rule (PartOf S)
+  abbrev pub right_side_by : Below → ParsedPart S → Option Op → Rule (ParsedPart S)
   right_side_by below left (Some operator) = right_side below left operator
   right_side_by below left None = member_or_none below left
 
-  unfoldable pub right_side_or_none : Below → PartOf S → Rule (PartOf S)
+  unfoldable pub right_side_or_none : Below → ParsedPart S → Rule (ParsedPart S)
   right_side_or_none below left ts = right_side_by below left (comparison_by (item_ahead ts)) ts
 
-  unfoldable pub comparison : Below → Rule (PartOf S)
+  unfoldable pub comparison : Below → Rule (ParsedPart S)
   comparison below = side below >>= right_side_or_none below
 
   -- what is after IS DISTINCT FROM
-  unfoldable pub distinct_side : Below → PartOf S → DistinctWords → Rule (PartOf S)
+  unfoldable pub distinct_side : Below → ParsedPart S → DistinctWords → Rule (ParsedPart S)
   distinct_side below left words = do
     right ← term below
     no_cast
     whole ← check (distinct_part forms words left right.operand)
     side_ended whole
 
-  abbrev pub tested_by : Below → PartOf S → Option TestAhead → Rule (PartOf S)
+  abbrev pub tested_by : Below → ParsedPart S → Option TestAhead → Rule (ParsedPart S)
   tested_by below left (Some (b.Truth test)) = check (tested_part forms test left)
   tested_by below left (Some (b.Distinct words)) = distinct_side below left words
   tested_by below left None = pure left
 
-  unfoldable pub tested : Below → PartOf S → Rule (PartOf S)
-  tested below left = test_or_none >>= tested_by below left
+  unfoldable pub maybe_tested : Below → ParsedPart S → Rule (ParsedPart S)
+  maybe_tested below left = test_or_none >>= tested_by below left
 
-  unfoldable pub predicate : Below → Rule (PartOf S)
-  predicate below = comparison below >>= tested below
+  unfoldable pub predicate : Below → Rule (ParsedPart S)
+  predicate below = comparison below >>= maybe_tested below
 
-  unfoldable pub negation : Below → Rule (PartOf S)
+  unfoldable pub negation : Below → Rule (ParsedPart S)
   negation below ts = if is_ahead (i.Keyword k.Not) ts then below AfterNot ts else predicate below ts
 
-  unfoldable pub after_not : Below → Rule (PartOf S)
+  unfoldable pub after_not : Below → Rule (ParsedPart S)
   after_not below = do
     place ← expect (i.Keyword k.Not)
     right ← negation below
     check (negated forms place right)
 
   -- AND requires filters: the one before it is checked once AND is seen, and the one after it once it has ended
-  unfoldable pub one_more_negation : Below → PartOf S → Rule (PartOf S)
+  unfoldable pub one_more_negation : Below → ParsedPart S → Rule (ParsedPart S)
   one_more_negation below left = do
     filter ← check (wanted forms left)
     right ← negation below
     check (joined forms forms.both left.place filter right)
 
-  unfoldable pub conjunction : Below → Rule (PartOf S)
+  unfoldable pub conjunction : Below → Rule (ParsedPart S)
   conjunction below = negation below >>= repeat (link (i.Keyword k.And) (one_more_negation below))
 
-  unfoldable pub one_more_conjunction : Below → PartOf S → Rule (PartOf S)
+  unfoldable pub one_more_conjunction : Below → ParsedPart S → Rule (ParsedPart S)
   one_more_conjunction below left = do
     filter ← check (wanted forms left)
     right ← conjunction below
     check (joined forms forms.either left.place filter right)
 
-  unfoldable pub disjunction : Below → Rule (PartOf S)
+  unfoldable pub disjunction : Below → Rule (ParsedPart S)
   disjunction below = conjunction below >>= repeat (link (i.Keyword k.Or) (one_more_conjunction below))
 
-  unfoldable pub in_parentheses : Below → Rule (PartOf S)
+  unfoldable pub in_parentheses : Below → Rule (ParsedPart S)
   in_parentheses below = do
     place ← expect i.Open
     inner ← disjunction below

@@ -64,7 +64,7 @@ is_name _ = false
 
 -- a token as the grammar sees it: `written` is what is between the quotes of a quoted name or a string, and the whole
 -- token of any other kind
-pub record Seen : Type 0 where
+pub record SeenItem : Type 0 where
   pub item : Item
   pub place : ℕ
   pub written : List ℕ
@@ -73,15 +73,15 @@ pub record Seen : Type 0 where
 pub data Items : Type 0 where
   Stop : ℕ → Items
   Broken : ℕ → FaultKind → Items
-  Then : Seen → Items → Items
+  Then : SeenItem → Items → Items
 
 abbrev pub within_quotes : TokenKind → List ℕ → List ℕ
 within_quotes t.QuotedName text = between_quotes text
 within_quotes t.Text text = between_quotes text
 within_quotes _ text = text
 
-abbrev pub seen : Lexeme → Seen
-seen lexeme = record {
+abbrev pub seen_item : Lexeme → SeenItem
+seen_item lexeme = record {
   item = item_of lexeme.kind lexeme.text;
   place = lexeme.place;
   written =
@@ -91,7 +91,7 @@ seen lexeme = record {
 unfoldable pub items : Lexed → Items
 items (End place) = Stop place
 items (Bad place fault) = Broken place fault
-items (After lexeme rest) = Then (seen lexeme) (items rest)
+items (After lexeme rest) = Then (seen_item lexeme) (items rest)
 
 unfoldable pub items_of : List ℕ → Items
 items_of text = items (tokens_of text)

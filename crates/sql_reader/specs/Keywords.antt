@@ -80,14 +80,14 @@ late_free_keyword word =
     if str_eq_ignore_ascii_case word (codes "unknown") then Some k.Unknown else
     None
 
-abbrev pub or_else : Option Keyword → Option Keyword → Option Keyword
-or_else (Some keyword) other = Some keyword
-or_else None other = other
+abbrev pub or_keyword : Option Keyword → Option Keyword → Option Keyword
+or_keyword (Some keyword) other = Some keyword
+or_keyword None other = other
 
 -- the keyword that a word spells, in upper or lower case
 unfoldable pub keyword_of : List ℕ → Option Keyword
-keyword_of word = or_else (early_keyword word)
-    (or_else (late_keyword word) (or_else (early_free_keyword word) (late_free_keyword word)))
+keyword_of word = or_keyword (early_keyword word)
+    (or_keyword (late_keyword word) (or_keyword (early_free_keyword word) (late_free_keyword word)))
 
 -- whether a keyword cannot be an unquoted name
 abbrev pub is_reserved : Keyword → Bool

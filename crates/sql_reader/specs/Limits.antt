@@ -12,17 +12,17 @@ use Rattle.sql_reader.specs.declared.error.Limit.{Limit}
 use Rattle.sql_reader.specs.declared.error.Limit.TheVariants.{Atoms, Nodes}
 
 -- each constant, atom, NOT, AND, OR and IS test counts as one
-abbrev pub nodes : Expr → ℕ
-nodes (Const known) = 1
-nodes (Atom atom) = 1
-nodes (Not part) = 1 + nodes part
-nodes (And left right) = 1 + (nodes left + nodes right)
-nodes (Or left right) = 1 + (nodes left + nodes right)
-nodes (Is test part) = 1 + nodes part
+abbrev pub expr_nodes : Expr → ℕ
+expr_nodes (Const known) = 1
+expr_nodes (Atom atom) = 1
+expr_nodes (Not part) = 1 + expr_nodes part
+expr_nodes (And left right) = 1 + (expr_nodes left + expr_nodes right)
+expr_nodes (Or left right) = 1 + (expr_nodes left + expr_nodes right)
+expr_nodes (Is test part) = 1 + expr_nodes part
 
 abbrev pub all_nodes : List Expr → ℕ
 all_nodes [] = 0
-all_nodes (filter ∷ filters) = nodes filter + all_nodes filters
+all_nodes (filter ∷ filters) = expr_nodes filter + all_nodes filters
 
 abbrev pub all_atoms : List Expr → List AtomOf
 all_atoms filters = flat_map atoms_in filters

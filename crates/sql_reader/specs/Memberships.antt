@@ -16,23 +16,23 @@ use Rattle.sql_reader.specs.declared.truth_test.DistinctWords.{DistinctWords}
 use Rattle.sql_reader.specs.declared.error.Limit.TheVariants.{InList}
 use Rattle.sql_reader.specs.declared.error.Omitted.TheVariants as l
 use Rattle.sql_reader.specs.Items.{is_name}
-use Rattle.sql_reader.specs.Operands.{Forms, OperandOf, OfTerm, OfLiteral, OfFormula, PartOf, part, verdict_map, verdict_then, fits, fitting, negated_if}
+use Rattle.sql_reader.specs.Operands.{Forms, OperandOf, OfTerm, OfLiteral, OfFormula, ParsedPart, part, verdict_map, verdict_then, comparable, fitting, negated_if}
 use Rattle.sql_reader.specs.Reading.{Rule, Verdict, fault, refuse, refuse_as, item_ahead}
 use Rattle.sql_reader.specs.ErrorKinds as w
 
 -- ---- the operands
 
 -- what is before these words is a column or a remainder of one; `place` is that of IN, BETWEEN or IS
-abbrev pub subject_of : {S : Type 0} → ℕ → OperandOf S → Verdict Subject
-subject_of place (OfTerm term kind) = Ok (record { term = term; kind = kind })
-subject_of place (OfLiteral at constant) = Err (fault place (w.LeftOut l.Constant))
-subject_of place (OfFormula s) = Err (fault place w.TypeClash)
+abbrev pub subject_before : {S : Type 0} → ℕ → OperandOf S → Verdict Subject
+subject_before place (OfTerm term kind) = Ok (record { term = term; kind = kind })
+subject_before place (OfLiteral at constant) = Err (fault place (w.LeftOut l.Constant))
+subject_before place (OfFormula s) = Err (fault place w.TypeClash)
 
 -- what follows IN or DISTINCT FROM is a literal that `=` can compare with a column of this type; `place` is that of IN
 -- or DISTINCT
 abbrev pub beside : {S : Type 0} → ℕ → ColType → OperandOf S → Verdict Constant
 beside place kind (OfTerm term other) = Err (fault place (w.LeftOut l.TwoColumns))
-beside place kind (OfLiteral at constant) = fitting (fits place kind Eq constant) constant
+beside place kind (OfLiteral at constant) = fitting (comparable place kind Eq constant) constant
 beside place kind (OfFormula s) = Err (fault place w.TypeClash)
 
 -- a list has a fault if one of its entries has one; its fault is that of the first such entry
@@ -64,40 +64,40 @@ bound place kind (OfFormula s) = Err (fault place w.TypeClash)
 
 unfoldable pub among : {S : Type 0} → Forms S → ℕ → OperandOf S → OperandOf S → List (OperandOf S) → Verdict S
 among forms place left first others =
-    verdict_then (subject_of place left) (λ on.
+    verdict_then (subject_before place left) (λ on.
     verdict_then (beside place on.kind first) (λ constant.
     verdict_map (forms.among on.term constant) (all_beside place on.kind others)))
 
 unfoldable pub between : {S : Type 0} → Forms S → ℕ → OperandOf S → OperandOf S → OperandOf S → Verdict S
 between forms place left low high =
-    verdict_then (subject_of place left) (λ on.
+    verdict_then (subject_before place left) (λ on.
     verdict_then (bound place on.kind low) (λ lowest.
     verdict_map (forms.between on.term lowest) (bound place on.kind high)))
 
 -- the first place is that of IS, the second that of DISTINCT
-unfoldable pub distinct : {S : Type 0} → Forms S → ℕ → ℕ → OperandOf S → OperandOf S → Verdict S
-distinct forms place distinct_place left right =
-    verdict_then (subject_of place left) (λ on.
+unfoldable pub distinct_from : {S : Type 0} → Forms S → ℕ → ℕ → OperandOf S → OperandOf S → Verdict S
+distinct_from forms place distinct_place left right =
+    verdict_then (subject_before place left) (λ on.
     verdict_map (forms.distinct on.term) (beside distinct_place on.kind right))
 
 -- NOT negates them, and the part begins where its left side does
-abbrev pub formed : {S : Type 0} → Forms S → Bool → ℕ → Verdict S → Verdict (PartOf S)
+abbrev pub formed : {S : Type 0} → Forms S → Bool → ℕ → Verdict S → Verdict (ParsedPart S)
 formed forms is_negated place verdict =
     verdict_map (λ s. part place (OfFormula (negated_if forms is_negated s))) verdict
 
-abbrev pub among_part : {S : Type 0} → Forms S → MembershipWord → PartOf S → OperandOf S → List (OperandOf S)
-    → Verdict (PartOf S)
+abbrev pub among_part : {S : Type 0} → Forms S → MembershipWord → ParsedPart S → OperandOf S → List (OperandOf S)
+    → Verdict (ParsedPart S)
 among_part forms word left first others =
     formed forms word.is_negated left.place (among forms word.place left.operand first others)
 
-abbrev pub between_part : {S : Type 0} → Forms S → MembershipWord → PartOf S → OperandOf S → OperandOf S
-    → Verdict (PartOf S)
+abbrev pub between_part : {S : Type 0} → Forms S → MembershipWord → ParsedPart S → OperandOf S → OperandOf S
+    → Verdict (ParsedPart S)
 between_part forms word left low high =
     formed forms word.is_negated left.place (between forms word.place left.operand low high)
 
-abbrev pub distinct_part : {S : Type 0} → Forms S → DistinctWords → PartOf S → OperandOf S → Verdict (PartOf S)
+abbrev pub distinct_part : {S : Type 0} → Forms S → DistinctWords → ParsedPart S → OperandOf S → Verdict (ParsedPart S)
 distinct_part forms words left right =
-    formed forms words.is_negated left.place (distinct forms words.place words.distinct_place left.operand right)
+    formed forms words.is_negated left.place (distinct_from forms words.place words.distinct_place left.operand right)
 
 -- ---- how many entries a list may have
 

@@ -7,7 +7,7 @@ use Rattle.sql_reader.specs.declared.item.Item.{Item}
 use Rattle.sql_reader.specs.declared.item.Item.TheVariants as i
 use Rattle.sql_reader.specs.declared.name.PlacedName.{PlacedName}
 use Rattle.sql_reader.specs.Items.{Items, is_name}
-use Rattle.sql_reader.specs.Reading.{Rule, refusal, place_ahead, item_ahead, written_ahead, rest_of}
+use Rattle.sql_reader.specs.Reading.{Rule, unexpected, place_ahead, item_ahead, written_ahead, rest_of}
 
 abbrev pub is_name_item : Option Item → Bool
 is_name_item (Some item) = is_name item
@@ -31,4 +31,4 @@ unfoldable pub name : Rule PlacedName
 name ts =
     if name_ahead ts then
     Ok (record { place = place_ahead ts; text = name_meant (item_ahead ts) (written_ahead ts) }, rest_of ts)
-    else Err (refusal ts)
+    else Err (unexpected ts)

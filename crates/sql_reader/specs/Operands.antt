@@ -61,11 +61,11 @@ pub data OperandOf (S : Type 0) : Type 0 where
   OfFormula : S → OperandOf S
 
 -- with the place of its first token
-pub record PartOf (S : Type 0) : Type 0 where
+pub record ParsedPart (S : Type 0) : Type 0 where
   pub place : ℕ
   pub operand : OperandOf S
 
-abbrev pub part : {S : Type 0} → ℕ → OperandOf S → PartOf S
+abbrev pub part : {S : Type 0} → ℕ → OperandOf S → ParsedPart S
 part place operand = record { place = place; operand = operand }
 
 abbrev pub verdict_map : {A B : Type 0} → (A → B) → Verdict A → Verdict B
@@ -90,15 +90,15 @@ true_or_clash place (Some a) = Ok a
 true_or_clash place None = Err (fault place w.TypeClash)
 
 -- a filter is required
-unfoldable pub wanted : {S : Type 0} → Forms S → PartOf S → Verdict S
+unfoldable pub wanted : {S : Type 0} → Forms S → ParsedPart S → Verdict S
 wanted forms part = true_or_clash part.place (truth forms part.operand)
 
 -- NOT of a part, at the place of the NOT
-unfoldable pub negated : {S : Type 0} → Forms S → ℕ → PartOf S → Verdict (PartOf S)
+unfoldable pub negated : {S : Type 0} → Forms S → ℕ → ParsedPart S → Verdict (ParsedPart S)
 negated forms place right = verdict_map (λ s. part place (OfFormula (forms.negated s))) (wanted forms right)
 
 -- AND or OR of a filter and a part, at the place of the filter
-unfoldable pub joined : {S : Type 0} → Forms S → (S → S → S) → ℕ → S → PartOf S → Verdict (PartOf S)
+unfoldable pub joined : {S : Type 0} → Forms S → (S → S → S) → ℕ → S → ParsedPart S → Verdict (ParsedPart S)
 joined forms join place left right = verdict_map (λ s. part place (OfFormula (join left s))) (wanted forms right)
 
 -- ---- remainders
@@ -110,13 +110,13 @@ dividend (OfTerm (Col column) Integer) = Some (record { number = column; kind = 
 dividend (OfTerm (Col column) BigInt) = Some (record { number = column; kind = BigInt })
 dividend _ = None
 
-abbrev pub divided : {S : Type 0} → ℕ → ℕ → FoundColumn → ℤ → Verdict (PartOf S)
+abbrev pub divided : {S : Type 0} → ℕ → ℕ → FoundColumn → ℤ → Verdict (ParsedPart S)
 divided digits first column divisor =
     if int_eq divisor (pos 0) then Err (fault digits w.ZeroDivisor)
     else Ok (part first (OfTerm (Mod column.number divisor) column.kind))
 
 -- an integer column by a number that is not 0; `place` is that of `%`
-unfoldable pub remainder : {S : Type 0} → ℕ → ℕ → Option FoundColumn → OperandOf S → Verdict (PartOf S)
+unfoldable pub remainder : {S : Type 0} → ℕ → ℕ → Option FoundColumn → OperandOf S → Verdict (ParsedPart S)
 remainder place first (Some column) (OfLiteral digits (Number divisor)) = divided digits first column divisor
 remainder place first _ _ = Err (fault place w.TypeClash)
 
@@ -139,14 +139,14 @@ equality place op = Err (fault place (w.LeftOut l.Order))
 
 -- a column of this type, or a remainder of one, is compared with a literal of its kind; a quoted literal compared with
 -- a number or a truth value is not supported
-abbrev pub fits : ℕ → ColType → Op → Constant → Verdict (Unit {0})
-fits place Text op (Bytes text) = equality place op
-fits place Boolean op (Truth known) = equality place op
-fits place SmallInt op (Number number) = Ok tt
-fits place Integer op (Number number) = Ok tt
-fits place BigInt op (Number number) = Ok tt
-fits place kind op (Bytes text) = Err (fault place (w.LeftOut l.Literal))
-fits place kind op _ = Err (fault place w.TypeClash)
+abbrev pub comparable : ℕ → ColType → Op → Constant → Verdict (Unit {0})
+comparable place Text op (Bytes text) = equality place op
+comparable place Boolean op (Truth known) = equality place op
+comparable place SmallInt op (Number number) = Ok tt
+comparable place Integer op (Number number) = Ok tt
+comparable place BigInt op (Number number) = Ok tt
+comparable place kind op (Bytes text) = Err (fault place (w.LeftOut l.Literal))
+comparable place kind op _ = Err (fault place w.TypeClash)
 
 abbrev pub fitting : {S : Type 0} → Verdict (Unit {0}) → S → Verdict S
 fitting (Ok fit) s = Ok s
@@ -157,22 +157,22 @@ unfoldable pub compared : {S : Type 0} → Forms S → ℕ → OperandOf S → O
 compared forms place (OfTerm term kind) op (OfTerm other other_kind) = Err (fault place (w.LeftOut l.TwoColumns))
 compared forms place (OfLiteral at constant) op (OfLiteral other_at other) = Err (fault place (w.LeftOut l.Constant))
 compared forms place (OfTerm term kind) op (OfLiteral at constant) =
-    fitting (fits place kind op constant) (forms.compared term op constant)
+    fitting (comparable place kind op constant) (forms.compared term op constant)
 compared forms place (OfLiteral at constant) op (OfTerm term kind) =
-    fitting (fits place kind op constant) (forms.compared_from constant op term)
+    fitting (comparable place kind op constant) (forms.compared_from constant op term)
 compared forms place (OfLiteral at (Bytes text)) op (OfFormula s) = Err (fault place (w.LeftOut l.Literal))
 compared forms place (OfFormula s) op (OfLiteral at (Bytes text)) = Err (fault place (w.LeftOut l.Literal))
 compared forms place left op right = Err (fault place w.TypeClash)
 
-abbrev pub compared_part : {S : Type 0} → Forms S → ℕ → PartOf S → Op → PartOf S → Verdict (PartOf S)
+abbrev pub compared_part : {S : Type 0} → Forms S → ℕ → ParsedPart S → Op → ParsedPart S → Verdict (ParsedPart S)
 compared_part forms place left op right =
     verdict_map (λ s. part left.place (OfFormula s)) (compared forms place left.operand op right.operand)
 
 -- ---- IS tests
 
-abbrev pub asking : {S : Type 0} → Forms S → ℕ → Test → Option S → Verdict S
-asking forms place test (Some s) = Ok (forms.asked test s)
-asking forms place test None = Err (fault place w.TypeClash)
+abbrev pub truth_asked : {S : Type 0} → Forms S → ℕ → Test → Option S → Verdict S
+truth_asked forms place test (Some s) = Ok (forms.asked test s)
+truth_asked forms place test None = Err (fault place w.TypeClash)
 
 -- the test of an operand; the word of the test is at this place. A number or a string is not tested, and IS NULL of a
 -- boolean expression is IS UNKNOWN
@@ -180,8 +180,8 @@ abbrev pub answered : {S : Type 0} → Forms S → ℕ → TestedValue → Opera
 answered forms place asked (OfLiteral at (Number number)) = Err (fault place (w.LeftOut l.Constant))
 answered forms place asked (OfLiteral at (Bytes text)) = Err (fault place (w.LeftOut l.Constant))
 answered forms place a.Null (OfTerm term kind) = Ok (forms.lacking term)
-answered forms place a.Null operand = asking forms place Unknown (truth forms operand)
-answered forms place (a.Truth test) operand = asking forms place test (truth forms operand)
+answered forms place a.Null operand = truth_asked forms place Unknown (truth forms operand)
+answered forms place (a.Truth test) operand = truth_asked forms place test (truth forms operand)
 
 -- IS NOT negates the test
 abbrev pub negated_if : {S : Type 0} → Forms S → Bool → S → S
@@ -189,7 +189,7 @@ negated_if forms true s = forms.negated s
 negated_if forms false s = s
 
 -- a part that is tested
-unfoldable pub tested : {S : Type 0} → Forms S → TruthTest → PartOf S → Verdict (PartOf S)
+unfoldable pub tested : {S : Type 0} → Forms S → TruthTest → ParsedPart S → Verdict (ParsedPart S)
 tested forms truth_test asked_part =
     verdict_map (λ s. part asked_part.place (OfFormula (negated_if forms truth_test.is_negated s)))
     (answered forms truth_test.place truth_test.asked asked_part.operand)
@@ -202,5 +202,5 @@ operand_view (p.Term term kind) = OfTerm term kind
 operand_view (p.Literal place literal) = OfLiteral place (constant_view literal)
 operand_view (p.Formula filter) = OfFormula (expr_view filter)
 
-abbrev pub part_view : Part → PartOf Expr
+abbrev pub part_view : Part → ParsedPart Expr
 part_view part = record { place = part.place; operand = operand_view part.operand }

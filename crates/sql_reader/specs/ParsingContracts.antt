@@ -6,7 +6,7 @@ use Rattle.sql_reader.specs.declared.error.ReadError.{ReadError}
 use Rattle.sql_reader.specs.declared.reader.Reader.{Reader}
 use Rattle.sql_reader.specs.Items.{size}
 use Rattle.sql_reader.specs.Reading.{Rule, Tells}
-pub use Rattle.sql_reader.specs.Reading.{Reads, Answers, IsFault, item_ahead, written_ahead}
+pub use Rattle.sql_reader.specs.Reading.{Reads, Answers, ReportsFault, item_ahead, written_ahead}
 
 -- The result is the rule's, or out of memory, and the tokens that the rule leaves are those that are left, no more than
 -- before. `view` gives the value read as plain data.

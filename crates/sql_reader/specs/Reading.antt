@@ -76,13 +76,13 @@ rest_of (Broken place kind) = Broken place kind
 rest_of (Then token rest) = rest
 
 -- why no rule accepts it: it is faulty, or it fits none
-abbrev pub refusal : Items → Fault
-refusal (Stop place) = fault place w.Expected
-refusal (Broken place kind) = fault place (wrong_token kind)
-refusal (Then token rest) = fault token.place w.Expected
+abbrev pub unexpected : Items → Fault
+unexpected (Stop place) = fault place w.Expected
+unexpected (Broken place kind) = fault place (wrong_token kind)
+unexpected (Then token rest) = fault token.place w.Expected
 
 abbrev pub refuse : {A : Type 0} → Rule A
-refuse = λ ts. Err (refusal ts)
+refuse = λ ts. Err (unexpected ts)
 
 -- something else is wrong at it
 abbrev pub refuse_as : {A : Type 0} → ErrorKindOf → Rule A
@@ -130,7 +130,7 @@ eat item = λ ts. if is_ahead item ts then Ok (true, rest_of ts) else Ok (false,
 
 -- consumes this one, and returns its place
 unfoldable pub expect : Item → Rule ℕ
-expect item = λ ts. if is_ahead item ts then Ok (place_ahead ts, rest_of ts) else Err (refusal ts)
+expect item = λ ts. if is_ahead item ts then Ok (place_ahead ts, rest_of ts) else Err (unexpected ts)
 
 -- ---- what a function that reads ensures
 
@@ -139,22 +139,22 @@ fault_or_none place None = None
 fault_or_none place (Some wrong) = Some (fault place wrong)
 
 -- the fault that an error reports; out of memory reports none
-abbrev pub told : ReadError → Option Fault
-told e = fault_or_none e.place (wrong_of e.kind)
+abbrev pub read_fault : ReadError → Option Fault
+read_fault e = fault_or_none e.place (wrong_of e.kind)
 
 -- an error reports the fault of the text, or out of memory
 abbrev pub Tells : {A : Type 0} → ReadError → Result A Fault → Type 0
-Tells e outcome = TellsFault (told e) outcome
+Tells e outcome = TellsFault (read_fault e) outcome
 
 -- the function's result is the rule's, or out of memory; `view` gives the value read as plain data, and `rest` are the
 -- tokens left
 abbrev pub Reads : {A B : Type 0} → (A → B) → Outcome B → Result A ReadError → Items → Type 0
-Reads view outcome result rest = AnswersBy (λ a. (view a, rest)) told outcome result
+Reads view outcome result rest = AnswersBy (λ a. (view a, rest)) read_fault outcome result
 
 -- the same for a check
 abbrev pub Answers : {A B : Type 0} → (A → B) → Verdict B → Result A ReadError → Type 0
-Answers view verdict result = AnswersBy view told verdict result
+Answers view verdict result = AnswersBy view read_fault verdict result
 
 -- an error reports a fault
-abbrev pub IsFault : ReadError → Fault → Type 0
-IsFault e fault = (e.place ≡ fault.place) × (wrong_of e.kind ≡ Some fault.wrong)
+abbrev pub ReportsFault : ReadError → Fault → Type 0
+ReportsFault e fault = (e.place ≡ fault.place) × (wrong_of e.kind ≡ Some fault.wrong)

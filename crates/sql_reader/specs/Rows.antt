@@ -9,7 +9,7 @@ use Rattle.sql_reader.specs.declared.item.Item.TheVariants as i
 use Rattle.sql_reader.specs.Items.{Stop, items_of}
 use Rattle.sql_reader.specs.Names.{string_meant}
 use Rattle.sql_reader.specs.Numbers.{signed_number}
-use Rattle.sql_reader.specs.Reading.{Rule, Verdict, Outcome, ◌>>=◌, ◌>>◌, pure, refuse, refusal, advance, expect, next_is, item_ahead, written_ahead}
+use Rattle.sql_reader.specs.Reading.{Rule, Verdict, Outcome, ◌>>=◌, ◌>>◌, pure, refuse, unexpected, advance, expect, next_is, item_ahead, written_ahead}
 use Rattle.sql_reader.specs.Repetitions.{link, repeat}
 
 -- `:: text`, which changes nothing
@@ -47,16 +47,16 @@ unfoldable pub values : Rule (List Datum)
 values = one_value [] >>= repeat (link i.Comma one_value)
 
 -- the end of the text
-abbrev pub ended : Rule (Unit {0})
-ended (Stop place) = Ok (tt, Stop place)
-ended ts = Err (refusal ts)
+abbrev pub text_end : Rule (Unit {0})
+text_end (Stop place) = Ok (tt, Stop place)
+text_end ts = Err (unexpected ts)
 
 unfoldable pub end : Rule (Unit {0})
-end ts = ended ts
+end ts = text_end ts
 
 -- values between parentheses
-unfoldable pub in_parentheses : Rule (List Datum)
-in_parentheses = do
+unfoldable pub row_in_parentheses : Rule (List Datum)
+row_in_parentheses = do
   expect i.Open
   cells ← values
   expect i.Close
@@ -65,7 +65,7 @@ in_parentheses = do
 -- values between parentheses, and nothing after them
 unfoldable pub row : Rule (List Datum)
 row = do
-  cells ← in_parentheses
+  cells ← row_in_parentheses
   end
   pure cells
 

@@ -2,7 +2,7 @@
 
 ghost use Rattle.std.specs.Prelude.{◌≡◌, IfErr, IsSome};
 ghost use Rattle.sql_reader.specs.Expressions as spec;
-ghost use Rattle.sql_reader.specs.Reading.{told, Answers};
+ghost use Rattle.sql_reader.specs.Reading.{read_fault, Answers};
 
 use crate::error::{ErrorKind, ReadError};
 use crate::name::PlacedName;
@@ -39,7 +39,7 @@ pub fn find_column(columns: &[Column], name: &str) -> Option<FoundColumn>
 #[tactic(auto, unfolding(crate::specs::Expressions::known_column))]
 pub fn known_column(columns: &[Column], name: &PlacedName) -> Result<FoundColumn, ReadError>
     ensures answers { Answers (λ column. column) (spec.known_column columns.now name.now) result }
-    ensures err { IfErr result (λ error. IsSome (told error)) }
+    ensures err { IfErr result (λ error. IsSome (read_fault error)) }
 {
     match find_column(columns, name.text.as_str()) {
         Some(column) => Ok(column),

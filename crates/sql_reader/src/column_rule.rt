@@ -3,7 +3,7 @@
 ghost use Rattle.std.specs.Prelude.{◌≡◌, IsSome};
 ghost use Rattle.sql_reader.specs.Columns as spec;
 ghost use Rattle.sql_reader.specs.Columns.{left_out_at};
-ghost use Rattle.sql_reader.specs.ParsingContracts.{Takes, TakesSome, to_read, Answers, IsFault, item_ahead, written_ahead};
+ghost use Rattle.sql_reader.specs.ParsingContracts.{Takes, TakesSome, to_read, Answers, ReportsFault, item_ahead, written_ahead};
 
 use crate::error::{ErrorKind, Omitted, ReadError};
 use crate::item::Item;
@@ -160,7 +160,7 @@ pub fn column_constraints(r: &mut Reader<'_>, has_key: bool) -> Result<Constrain
 
 /// The error for a token ahead that begins a clause of CREATE TABLE that is not supported.
 pub fn left_out_clause(r: &Reader<'_>) -> ReadError
-    ensures { IsFault result (left_out_at (to_read r.now)) }
+    ensures { ReportsFault result (left_out_at (to_read r.now)) }
 {
     r.refused(ErrorKind::LeftOut(Omitted::Constraint))
 }

@@ -60,7 +60,7 @@ fn equality(place: usize, op: Op) -> Result<(), ReadError>
 
 /// Refuses to compare a column of this type, or a remainder of one, with this literal.
 pub fn fits(place: usize, kind: ColType, op: Op, literal: &Literal) -> Result<(), ReadError>
-    ensures { Answers (λ u. u) (spec.fits place kind op (constant_view literal.now)) result }
+    ensures { Answers (λ u. u) (spec.comparable place kind op (constant_view literal.now)) result }
 {
     match (kind, literal) {
         (ColType::Text, Literal::Text(_)) => equality(place, op),
@@ -86,7 +86,7 @@ fn with_literal(
     literal: Literal,
 ) -> Result<Filter, ReadError>
     ensures { Answers expr_view
-        (spec.fitting (spec.fits place kind op (constant_view literal))
+        (spec.fitting (spec.comparable place kind op (constant_view literal))
         (expr.Atom (expr.Cmp term op (constant_view literal)))) result }
 {
     fits(place, kind, op, &literal)?;
@@ -102,7 +102,7 @@ fn from_literal(
     kind: ColType,
 ) -> Result<Filter, ReadError>
     ensures { Answers expr_view
-        (spec.fitting (spec.fits place kind op (constant_view literal))
+        (spec.fitting (spec.comparable place kind op (constant_view literal))
         (expr.Atom (expr.Cmp term (written.turned op) (constant_view literal)))) result }
 {
     fits(place, kind, op, &literal)?;

@@ -332,7 +332,7 @@ fn distinct_side(
 
 /// Reads the test after a part, if there is one.
 #[cycle(expression)]
-#[tactic(auto, unfolding(crate::specs::Expressions::tested))]
+#[tactic(auto, unfolding(crate::specs::Expressions::maybe_tested))]
 fn tested(
     r: &mut Reader<'_>,
     alloc: Global,
@@ -340,7 +340,7 @@ fn tested(
     depth: u32,
     part: Part,
 ) -> Result<Part, ReadError>
-    ensures { Takes part_view (filters.tested columns.now depth (part_view part)) r.old result r.new }
+    ensures { Takes part_view (filters.maybe_tested columns.now depth (part_view part)) r.old result r.new }
 {
     match test_or_none(r)? {
         Some(TestAhead::Truth(test)) => Ok(tested_part(alloc, test, part)?),

@@ -2,7 +2,7 @@
 
 ghost use Rattle.std.specs.Prelude.{◌≡◌, ◌+◌, IfOk, IsTrue, OnOk, fold, length, nat_lt};
 ghost use Rattle.filter_tree.specs.Shape.{atoms_view, expr_view};
-ghost use Rattle.sql_reader.specs.Limits.{nodes, all_nodes, distinct_count, exprs_view};
+ghost use Rattle.sql_reader.specs.Limits.{expr_nodes, all_nodes, distinct_count, exprs_view};
 ghost use Rattle.sql_reader.specs.Limits.{exceeded as exceeded_of};
 ghost use Rattle.sql_reader.specs.Counting.{AreWithin, atoms_backwards, gathered, left_after};
 
@@ -56,7 +56,7 @@ fn are_few(filters: &[&Filter]) -> bool
 
 /// How many of `left` places remain after the nodes of the filter and one more; `None` if there are not enough.
 fn room_after(filter: &Filter, left: usize) -> Option<usize>
-    ensures { result ≡ left_after (nodes (expr_view filter.now) + 1) left }
+    ensures { result ≡ left_after (expr_nodes (expr_view filter.now) + 1) left }
 {
     nodes_left(filter, left)?.checked_sub(1)
 }
@@ -119,7 +119,7 @@ fn has_too_many_nodes(filters: &[&Filter]) -> bool
 /// `left` steps.
 #[tactic(auto, using(crate::proofs::CountingLemmas::nodes_positive))]
 fn nodes_left(filter: &Filter, left: usize) -> Option<usize>
-    ensures { result ≡ left_after (nodes (expr_view filter.now)) left }
+    ensures { result ≡ left_after (expr_nodes (expr_view filter.now)) left }
 {
     let rest = left.checked_sub(1)?;
     match filter {

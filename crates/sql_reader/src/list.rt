@@ -5,7 +5,7 @@ ghost use Rattle.std.specs.List.{insert};
 ghost use Rattle.filter_tree.specs.Shape.{expr_view};
 ghost use Rattle.filter_tree.specs.Values.{constant_view};
 ghost use Rattle.sql_reader.specs.ParsingContracts.{to_read, Answers, Reads};
-ghost use Rattle.sql_reader.specs.Ascending.{ascending, constant_cmp, constant_rank, placed, ListsAscend};
+ghost use Rattle.sql_reader.specs.Ascending.{ascending, constant_cmp, constant_rank, inserted_in_order, ListsAscend};
 ghost use Rattle.sql_reader.specs.Memberships as spec;
 ghost use Rattle.sql_reader.specs.Operands.{verdict_map, operand_view, part_view};
 ghost use Rattle.sql_reader.specs.Written.{as_filter};
@@ -84,9 +84,9 @@ fn literal_cmp(one: &Literal, other: &Literal) -> Ordering
 /// Where to put a literal into an ordered list, if the list does not have it.
 fn place_of(literals: &[Literal], literal: &Literal) -> Option<usize>
     ensures { MatchOption result
-        (placed (map constant_view literals.now) (constant_view literal.now) ≡ map constant_view literals.now)
-        (λ index. (index ≤ length literals.now)
-        × (placed (map constant_view literals.now) (constant_view literal.now)
+        (inserted_in_order (map constant_view literals.now) (constant_view literal.now)
+        ≡ map constant_view literals.now) (λ index. (index ≤ length literals.now)
+        × (inserted_in_order (map constant_view literals.now) (constant_view literal.now)
         ≡ insert (map constant_view literals.now) index (constant_view literal.now))) }
 {
     for (index, held) in literals.iter().enumerate() {
@@ -103,7 +103,7 @@ fn place_of(literals: &[Literal], literal: &Literal) -> Option<usize>
 #[tactic(auto, using(crate::proofs::Placing::map_insert))]
 fn put(literals: &mut Vec<Literal>, literal: Literal) -> Result<(), AllocError>
     ensures { OnOk result (map constant_view literals.new.items
-        ≡ placed (map constant_view literals.old.items) (constant_view literal)) }
+        ≡ inserted_in_order (map constant_view literals.old.items) (constant_view literal)) }
 {
     if let Some(index) = place_of(literals, &literal) {
         literals.insert(index, literal)?;

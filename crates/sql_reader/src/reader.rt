@@ -37,7 +37,7 @@ impl<'a> Reader<'a> {
     ghost use Rattle.sql_reader.specs.Numbers.{number_ahead};
     ghost use Rattle.sql_reader.specs.Rows.{end};
     ghost use Rattle.sql_reader.specs.Reading as spec;
-    ghost use Rattle.sql_reader.specs.Reading.{Reads, Answers, IsFault};
+    ghost use Rattle.sql_reader.specs.Reading.{Reads, Answers, ReportsFault};
     ghost use Rattle.sql_reader.specs.ParsingContracts.{TakesSome};
 
     /// A reader before the first token of a text.
@@ -129,7 +129,7 @@ impl<'a> Reader<'a> {
     /// Why the token ahead is not accepted: it is faulty, or it is not what was expected.
     #[tactic(auto, unfolding(crate::specs::Items::to_read))]
     pub fn refusal(&self, what: &'static str) -> ReadError
-        ensures { IsFault result (spec.refusal (to_read self.now)) }
+        ensures { ReportsFault result (spec.unexpected (to_read self.now)) }
     {
         ReadError {
             place: self.place,
@@ -170,7 +170,7 @@ impl<'a> Reader<'a> {
     #[tactic(auto, unfolding(crate::specs::Reading::look, crate::specs::Items::to_read))]
     pub fn look(&self) -> Result<(), ReadError>
         ensures reads { Reads (λ u. u) (spec.look (to_read self.now)) result (to_read self.now) }
-        ensures err { IfErr result (λ e. IsFault e (spec.refusal (to_read self.now))) }
+        ensures err { IfErr result (λ e. ReportsFault e (spec.unexpected (to_read self.now))) }
     {
         match self.ahead {
             Ahead::Fault(kind) => Err(ReadError {
@@ -189,7 +189,7 @@ impl<'a> Reader<'a> {
     #[tactic(auto, unfolding(crate::specs::Reading::next_is))]
     pub fn next_is(&self, item: Item) -> Result<bool, ReadError>
         ensures reads { Reads (λ b. b) (spec.next_is item (to_read self.now)) result (to_read self.now) }
-        ensures err { IfErr result (λ e. IsFault e (spec.refusal (to_read self.now))) }
+        ensures err { IfErr result (λ e. ReportsFault e (spec.unexpected (to_read self.now))) }
     {
         self.look()?;
         Ok(self.is(item))
@@ -216,7 +216,7 @@ impl<'a> Reader<'a> {
     #[tactic(auto, using(crate::proofs::Ahead::rest_is_fewer), unfolding(crate::specs::Reading::expect))]
     pub fn expect(&mut self, item: Item, what: &'static str) -> Result<usize, ReadError>
         ensures takes { TakesSome (λ place. place) (spec.expect item) self.old result self.new }
-        ensures err { IfErr result (λ e. IsFault e (spec.refusal (to_read self.old))) }
+        ensures err { IfErr result (λ e. ReportsFault e (spec.unexpected (to_read self.old))) }
         ensures kept { OnErr result (to_read self.new ≡ to_read self.old) }
     {
         if !self.is(item) {
@@ -260,7 +260,7 @@ impl<'a> Reader<'a> {
     #[tactic(auto, unfolding(crate::specs::Reading::more_ahead, crate::specs::Items::to_read))]
     pub fn more_ahead(&self) -> Result<bool, ReadError>
         ensures answer { Answers (λ b. b) (spec.more_ahead (to_read self.now)) result }
-        ensures err { IfErr result (λ e. IsFault e (spec.refusal (to_read self.now))) }
+        ensures err { IfErr result (λ e. ReportsFault e (spec.unexpected (to_read self.now))) }
     {
         match self.ahead {
             Ahead::End => Ok(false),

@@ -112,9 +112,9 @@ fn values(r: &mut Reader<'_>, alloc: Global) -> Result<Vec<Value>, ReadError>
 /// # Errors
 ///
 /// The first fault, or `OutOfMemory` if an allocation failed.
-#[tactic(auto, unfolding(crate::specs::Rows::in_parentheses))]
+#[tactic(auto, unfolding(crate::specs::Rows::row_in_parentheses))]
 pub fn read_values(r: &mut Reader<'_>, alloc: Global) -> Result<Row, ReadError>
-    ensures { TakesSome (λ row. row) spec.in_parentheses r.old result r.new }
+    ensures { TakesSome (λ row. row) spec.row_in_parentheses r.old result r.new }
 {
     r.expect(Item::Open, "`(`")?;
     let values = values(r, alloc)?;

@@ -25,7 +25,7 @@ pub struct Subject {
 
 /// Refuses a literal and a boolean expression before the word at `place`.
 pub fn subject_of(place: usize, operand: Operand) -> Result<Subject, ReadError>
-    ensures { Answers (λ subject. subject) (spec.subject_of place (operand_view operand)) result }
+    ensures { Answers (λ subject. subject) (spec.subject_before place (operand_view operand)) result }
 {
     let kind = match operand {
         Operand::Term(term, kind) => return Ok(Subject { term, kind }),
@@ -89,9 +89,9 @@ fn between(place: usize, left: Operand, low: Operand, high: Operand) -> Result<F
     Ok(Filter::Atom(Atom::Between(subject.term, low, high)))
 }
 
-#[tactic(auto, unfolding(crate::specs::Memberships::distinct))]
+#[tactic(auto, unfolding(crate::specs::Memberships::distinct_from))]
 fn distinct(words: DistinctWords, left: Operand, right: Operand) -> Result<Filter, ReadError>
-    ensures { Answers expr_view (spec.distinct as_filter words.place words.distinct_place
+    ensures { Answers expr_view (spec.distinct_from as_filter words.place words.distinct_place
         (operand_view left) (operand_view right)) result }
 {
     let subject = subject_of(words.place, left)?;

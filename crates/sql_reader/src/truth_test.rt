@@ -159,7 +159,7 @@ fn asking(
     test: Test,
     part: Option<Filter>,
 ) -> Result<Filter, ReadError>
-    ensures { Answers expr_view (spec.asking as_filter place test (option_map expr_view part)) result }
+    ensures { Answers expr_view (spec.truth_asked as_filter place test (option_map expr_view part)) result }
 {
     match part {
         Some(filter) => Ok(Filter::Is(test, Box::new(alloc, filter)?)),

@@ -7,52 +7,53 @@ use Rattle.std.specs.List.{prefix_len}
 use Rattle.sql_tokens.specs.declared.bytes.Class.TheVariants as class
 use Rattle.sql_tokens.specs.declared.kinds.Operator.{Operator}
 use Rattle.sql_tokens.specs.declared.kinds.TokenKind.TheVariants as kind
-use Rattle.sql_tokens.specs.Bytes.{is_of}
+use Rattle.sql_tokens.specs.Bytes.{is_in_class}
 use Rattle.sql_tokens.specs.Comments.{begins_line_comment, begins_block_comment}
 use Rattle.sql_tokens.specs.Operators.{signs_len}
 use Rattle.sql_tokens.specs.Pieces.{IsToken}
 
-digit_ascii : (b : ℕ) → is_of class.Digit b ≡ true → b < 128
+digit_ascii : (b : ℕ) → is_in_class class.Digit b ≡ true → b < 128
 digit_ascii b e = grind (arith, nat_tests)
 
-letter_ascii : (b : ℕ) → is_of class.Letter b ≡ true → b < 128
+letter_ascii : (b : ℕ) → is_in_class class.Letter b ≡ true → b < 128
 letter_ascii b e = grind (arith, nat_tests)
 
-word_byte_ascii : (b : ℕ) → is_of class.WordByte b ≡ true → b < 128
+word_byte_ascii : (b : ℕ) → is_in_class class.WordByte b ≡ true → b < 128
 word_byte_ascii b e = grind (arith, nat_tests)
 
-sign_ascii : (b : ℕ) → is_of class.Sign b ≡ true → b < 128
+sign_ascii : (b : ℕ) → is_in_class class.Sign b ≡ true → b < 128
 sign_ascii b e = grind (arith, nat_tests)
 
-pub digits_some : (bytes : List ℕ) → is_of class.Digit (get_or bytes 0 0) ≡ true
-    → 0 < prefix_len (is_of class.Digit) bytes
+pub digits_some : (bytes : List ℕ) → is_in_class class.Digit (get_or bytes 0 0) ≡ true
+    → 0 < prefix_len (is_in_class class.Digit) bytes
 digits_some [] e = cc
 digits_some (b ∷ bytes) e = rw e (omega arith)
 
-pub digits_last : (bytes : List ℕ) → is_of class.Digit (get_or bytes 0 0) ≡ true
-    → get_or bytes (prefix_len (is_of class.Digit) bytes - 1) 0 < 128
+pub digits_last : (bytes : List ℕ) → is_in_class class.Digit (get_or bytes 0 0) ≡ true
+    → get_or bytes (prefix_len (is_in_class class.Digit) bytes - 1) 0 < 128
 digits_last bytes e =
     let some = digits_some bytes e in
-    digit_ascii _ (prefix_len_passes (is_of class.Digit) bytes (prefix_len (is_of class.Digit) bytes - 1) 0
+    digit_ascii _ (prefix_len_passes (is_in_class class.Digit) bytes (prefix_len (is_in_class class.Digit) bytes - 1) 0
     (omega arith))
 
-run_last : (bytes : List ℕ) (n : ℕ) → is_of class.Letter (get_or bytes 0 0) ≡ true
-    → n ≡ prefix_len (is_of class.WordByte) (drop 1 bytes) → get_or bytes n 0 < 128
+run_last : (bytes : List ℕ) (n : ℕ) → is_in_class class.Letter (get_or bytes 0 0) ≡ true
+    → n ≡ prefix_len (is_in_class class.WordByte) (drop 1 bytes) → get_or bytes n 0 < 128
 run_last bytes zero e h = letter_ascii _ e
 run_last [] (suc n) e h = omega arith
-run_last (b ∷ bytes) (suc n) e h = word_byte_ascii _ (prefix_len_passes (is_of class.WordByte) bytes n 0 (omega arith))
+run_last (b ∷ bytes) (suc n) e h =
+    word_byte_ascii _ (prefix_len_passes (is_in_class class.WordByte) bytes n 0 (omega arith))
 
-letter_within : (bytes : List ℕ) → is_of class.Letter (get_or bytes 0 0) ≡ true → 0 < length bytes
+letter_within : (bytes : List ℕ) → is_in_class class.Letter (get_or bytes 0 0) ≡ true → 0 < length bytes
 letter_within [] e = cc
 letter_within (b ∷ bytes) e = omega arith
 
-pub signs_some : (bytes : List ℕ) → is_of class.Sign (get_or bytes 0 0) ≡ true → begins_line_comment bytes ≡ false
+pub signs_some : (bytes : List ℕ) → is_in_class class.Sign (get_or bytes 0 0) ≡ true → begins_line_comment bytes ≡ false
     → begins_block_comment bytes ≡ false → 0 < signs_len bytes
 unfolding signs_len
 signs_some [] e line block = cc
 signs_some (b ∷ bytes) e line block = rw (e, line, block) (omega arith)
 
-signs_ascii_at : (b : ℕ) (bytes : List ℕ) (n : ℕ) → is_of class.Sign b ≡ true
+signs_ascii_at : (b : ℕ) (bytes : List ℕ) (n : ℕ) → is_in_class class.Sign b ≡ true
     → ((k : ℕ) → k < signs_len bytes → get_or bytes k 0 < 128) → n < 1 + signs_len bytes
     → get_or (b ∷ bytes) n 0 < 128
 signs_ascii_at b bytes zero sign more h = sign_ascii b sign
@@ -63,17 +64,18 @@ unfolding signs_len
 signs_ascii [] n h = omega arith
 signs_ascii (b ∷ bytes) n h =
     let commented = begins_line_comment (b ∷ bytes) || begins_block_comment (b ∷ bytes) in
-    elim (cases_Bool (is_of class.Sign b && not commented)) [
-      | inl e ↦ signs_ascii_at b bytes n (and_parts (is_of class.Sign b) (not commented) e).0
+    elim (cases_Bool (is_in_class class.Sign b && not commented)) [
+      | inl e ↦ signs_ascii_at b bytes n (and_parts (is_in_class class.Sign b) (not commented) e).0
           (λ k below. signs_ascii bytes k below) (rw e at h)
       | inr e ↦ let none = rw e at h in omega arith
     ]
 
 -- the pieces are tokens
-pub word_token : (bytes : List ℕ) (n : ℕ) → is_of class.Letter (get_or bytes 0 0) ≡ true
-    → n ≡ prefix_len (is_of class.WordByte) (drop 1 bytes) → IsToken bytes kind.Word (1 + n)
+pub word_token : (bytes : List ℕ) (n : ℕ) → is_in_class class.Letter (get_or bytes 0 0) ≡ true
+    → n ≡ prefix_len (is_in_class class.WordByte) (drop 1 bytes) → IsToken bytes kind.Word (1 + n)
 word_token bytes n e h =
-    let below : n ≤ length (drop 1 bytes) = omega (arith, prefix_len-le-length (is_of class.WordByte) (drop 1 bytes)) in
+    let below : n ≤ length (drop 1 bytes) =
+    omega (arith, prefix_len-le-length (is_in_class class.WordByte) (drop 1 bytes)) in
     let letter : get_or bytes 0 0 < 128 = letter_ascii _ e in
     let back : 1 + n - 1 ≡ n = omega arith in
     record {
@@ -85,11 +87,11 @@ word_token bytes n e h =
       number = tt;
     }
 
-pub digits_token : (bytes : List ℕ) (n value : ℕ) → is_of class.Digit (get_or bytes 0 0) ≡ true
-    → n ≡ prefix_len (is_of class.Digit) bytes → value < 2 ^ 63 → IsToken bytes (kind.Number value) n
+pub digits_token : (bytes : List ℕ) (n value : ℕ) → is_in_class class.Digit (get_or bytes 0 0) ≡ true
+    → n ≡ prefix_len (is_in_class class.Digit) bytes → value < 2 ^ 63 → IsToken bytes (kind.Number value) n
 digits_token bytes n value e h small = record {
   some = omega (arith, digits_some bytes e);
-  within = omega (arith, prefix_len-le-length (is_of class.Digit) bytes);
+  within = omega (arith, prefix_len-le-length (is_in_class class.Digit) bytes);
   first = digit_ascii _ e;
   last = rw h (digits_last bytes e);
   quotes = tt;

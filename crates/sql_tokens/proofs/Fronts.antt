@@ -2,11 +2,12 @@
 use Rattle.std.proofs.Common.{◌≡◌, ℕ, true, List, slice_index, refl, arith}
 use Rattle.std.proofs.lemmas.Bool.Decides.{nat_tests}
 use Rattle.sql_tokens.specs.declared.bytes.Class.TheVariants as class
-use Rattle.sql_tokens.specs.Bytes.{is_of}
+use Rattle.sql_tokens.specs.Bytes.{is_in_class}
 use Rattle.sql_tokens.specs.Front.{front, punctuation}
-use Rattle.sql_tokens.specs.Numbers.{number}
+use Rattle.sql_tokens.specs.Numbers.{front_number}
 
-pub front-digit : (bytes : List ℕ) → is_of class.Digit (slice_index bytes 0) ≡ true → front bytes ≡ number bytes
+pub front-digit : (bytes : List ℕ) → is_in_class class.Digit (slice_index bytes 0) ≡ true
+    → front bytes ≡ front_number bytes
 unfolding front
 front-digit bytes digit = grind (arith, nat_tests)
 

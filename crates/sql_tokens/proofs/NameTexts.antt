@@ -9,7 +9,7 @@ use Rattle.std.proofs.lemmas.List.{drop-drop, take_at, drop_at, get_or_at}
 use Rattle.std.proofs.lemmas.Str.{IsUtf8-append, IsUtf8-take, IsUtf8-drop, IsUtf8-from_ascii, IsCharBoundary-before_ascii, IsCharBoundary-after_ascii}
 use Rattle.std.proofs.lemmas.Str.Ascii.{IsAscii-nil, IsAscii-cons, IsAscii-map, lowercase_ascii}
 use Rattle.sql_tokens.specs.declared.bytes.Class.TheVariants as class
-use Rattle.sql_tokens.specs.Bytes.{is_of}
+use Rattle.sql_tokens.specs.Bytes.{is_in_class}
 use Rattle.sql_tokens.specs.Quotes.{undoubled}
 
 -- ---- from each ASCII byte on
@@ -34,28 +34,28 @@ texts_from text (b ∷ bytes) place utf8 e =
 
 -- ---- words
 
-letter_low : (b : ℕ) → is_of class.Letter b ≡ true → b < 128
+letter_low : (b : ℕ) → is_in_class class.Letter b ≡ true → b < 128
 letter_low b e = grind (arith, nat_tests)
 
-word_byte_low : (b : ℕ) → is_of class.WordByte b ≡ true → b < 128
+word_byte_low : (b : ℕ) → is_in_class class.WordByte b ≡ true → b < 128
 word_byte_low b e = grind (arith, nat_tests)
 
-run_by : (b : ℕ) (bytes : List ℕ) (n : ℕ) (is : Bool) → is_of class.WordByte b ≡ is → IsAscii (take n bytes)
+run_by : (b : ℕ) (bytes : List ℕ) (n : ℕ) (is : Bool) → is_in_class class.WordByte b ≡ is → IsAscii (take n bytes)
     → IsAscii (take (if is then 1 + n else 0) (b ∷ bytes))
 run_by b bytes n true e h =
     let counted : suc n ≡ 1 + n = omega arith in
     subst (λ k. IsAscii (take k (b ∷ bytes))) counted (IsAscii-cons b (take n bytes) (word_byte_low b e) h)
 run_by b bytes n false e h = IsAscii-nil
 
-run_ascii : (bytes : List ℕ) → IsAscii (take (prefix_len (is_of class.WordByte) bytes) bytes)
+run_ascii : (bytes : List ℕ) → IsAscii (take (prefix_len (is_in_class class.WordByte) bytes) bytes)
 run_ascii [] = IsAscii-nil
 run_ascii (b ∷ bytes) =
-    run_by b bytes (prefix_len (is_of class.WordByte) bytes) (is_of class.WordByte b) refl (run_ascii bytes)
+    run_by b bytes (prefix_len (is_in_class class.WordByte) bytes) (is_in_class class.WordByte b) refl (run_ascii bytes)
 
-pub word_utf8 : (b : ℕ) (bytes : List ℕ) → is_of class.Letter b ≡ true
-    → IsUtf8 (str_to_ascii_lowercase (b ∷ take (prefix_len (is_of class.WordByte) bytes) bytes))
+pub word_utf8 : (b : ℕ) (bytes : List ℕ) → is_in_class class.Letter b ≡ true
+    → IsUtf8 (str_to_ascii_lowercase (b ∷ take (prefix_len (is_in_class class.WordByte) bytes) bytes))
 word_utf8 b bytes letter =
-    let run = take (prefix_len (is_of class.WordByte) bytes) bytes in
+    let run = take (prefix_len (is_in_class class.WordByte) bytes) bytes in
     IsUtf8-from_ascii (str_to_ascii_lowercase (b ∷ run))
     (IsAscii-map _ (b ∷ run) lowercase_ascii (IsAscii-cons b run (letter_low b letter) (run_ascii bytes)))
 

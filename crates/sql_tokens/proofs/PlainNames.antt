@@ -15,13 +15,13 @@ use Rattle.sql_tokens.specs.declared.kinds.TokenKind.TheVariants as t
 use Rattle.sql_tokens.specs.declared.kinds.FaultKind.TheVariants as fault
 use Rattle.sql_tokens.specs.declared.kinds.Piece.{Piece}
 use Rattle.sql_tokens.specs.declared.kinds.Piece.TheVariants.{Blank, Whole, Faulty}
-use Rattle.sql_tokens.specs.Bytes.{is_of}
+use Rattle.sql_tokens.specs.Bytes.{is_in_class}
 use Rattle.sql_tokens.specs.Comments.{longer, begins_line_comment, begins_block_comment, line_comment, block_comment}
-use Rattle.sql_tokens.specs.Front.{comment_piece, is_string_form, word, punctuation, front}
+use Rattle.sql_tokens.specs.Front.{comment_piece, is_string_form, front_word, punctuation, front}
 use Rattle.sql_tokens.specs.Meant.{between_quotes}
-use Rattle.sql_tokens.specs.Numbers.{number_of, number}
+use Rattle.sql_tokens.specs.Numbers.{number_of, front_number}
 use Rattle.sql_tokens.specs.Operators.{operator_len, operator_of, operator_piece, signs_len, operator}
-use Rattle.sql_tokens.specs.Quotes.{inner_len, undoubled, name_piece, string_piece, quoted, quoted_name, string}
+use Rattle.sql_tokens.specs.Quotes.{inner_len, undoubled, name_piece, string_piece, quoted, quoted_name, front_string}
 use Rattle.sql_tokens.proofs.Cuts.{between_quotes-cut}
 use Rattle.sql_tokens.proofs.NameTexts.{AreTexts, texts_from, word_utf8, inner_utf8, undoubled_utf8}
 use Rattle.sql_tokens.proofs.QuoteLoops.{inner_len-at_quote}
@@ -48,10 +48,10 @@ no_zero_in xs none = λ h. none h.0 h.1 h.2
 lower_some : (b : ℕ) → to_ascii_lowercase b ≡ 0 → b ≡ 0
 lower_some b e = grind (arith, nat_tests)
 
-letter_some : (b : ℕ) → is_of class.Letter b ≡ true → 0 < b
+letter_some : (b : ℕ) → is_in_class class.Letter b ≡ true → 0 < b
 letter_some b e = grind (arith, nat_tests)
 
-word_byte_some : (b : ℕ) → is_of class.WordByte b ≡ true → 0 < b
+word_byte_some : (b : ℕ) → is_in_class class.WordByte b ≡ true → 0 < b
 word_byte_some b e = grind (arith, nat_tests)
 
 abbrev IsSome : ℕ → Type 0
@@ -62,17 +62,17 @@ abbrev AreSome : List ℕ → Type 0
 AreSome [] = Unit {0}
 AreSome (b ∷ bytes) = IsSome b × AreSome bytes
 
-run_by : (b : ℕ) (bytes : List ℕ) (n : ℕ) (is : Bool) → is_of class.WordByte b ≡ is → AreSome (take n bytes)
+run_by : (b : ℕ) (bytes : List ℕ) (n : ℕ) (is : Bool) → is_in_class class.WordByte b ≡ is → AreSome (take n bytes)
     → AreSome (take (if is then 1 + n else 0) (b ∷ bytes))
 run_by b bytes n true e h =
     let counted : suc n ≡ 1 + n = omega arith in
     subst (λ k. AreSome (take k (b ∷ bytes))) counted (word_byte_some b e, h)
 run_by b bytes n false e h = tt
 
-run_some : (bytes : List ℕ) → AreSome (take (prefix_len (is_of class.WordByte) bytes) bytes)
+run_some : (bytes : List ℕ) → AreSome (take (prefix_len (is_in_class class.WordByte) bytes) bytes)
 run_some [] = tt
 run_some (b ∷ bytes) =
-    run_by b bytes (prefix_len (is_of class.WordByte) bytes) (is_of class.WordByte b) refl (run_some bytes)
+    run_by b bytes (prefix_len (is_in_class class.WordByte) bytes) (is_in_class class.WordByte b) refl (run_some bytes)
 
 none_zero : (bytes : List ℕ) → AreSome bytes → ¬ Contains bytes 0
 none_zero [] some h = omega (arith, h.1)
@@ -86,14 +86,14 @@ lower_are_some (b ∷ bytes) h = (lower_is_some b h.0, lower_are_some bytes h.1)
     lower_is_some : (c : ℕ) → 0 < c → 0 < to_ascii_lowercase c
     lower_is_some c some = grind (arith, nat_tests)
 
-plain_word : (bytes : List ℕ) → is_of class.Letter (slice_index bytes 0) ≡ true
-    → 1 + prefix_len (is_of class.WordByte) (drop 1 bytes) ≤ 63
-    → IsPlainName (str_to_ascii_lowercase (take (1 + prefix_len (is_of class.WordByte) (drop 1 bytes)) bytes))
+plain_word : (bytes : List ℕ) → is_in_class class.Letter (slice_index bytes 0) ≡ true
+    → 1 + prefix_len (is_in_class class.WordByte) (drop 1 bytes) ≤ 63
+    → IsPlainName (str_to_ascii_lowercase (take (1 + prefix_len (is_in_class class.WordByte) (drop 1 bytes)) bytes))
 plain_word [] letter short = absurd cc
 plain_word (b ∷ bytes) letter short =
-    let n = prefix_len (is_of class.WordByte) bytes in
+    let n = prefix_len (is_in_class class.WordByte) bytes in
     let counted : 1 + n ≡ suc n = omega arith in
-    let within = prefix_len-le-length (is_of class.WordByte) bytes in
+    let within = prefix_len-le-length (is_in_class class.WordByte) bytes in
     let taken : take (1 + n) (b ∷ bytes) ≡ b ∷ take n bytes = ap (λ k. take k (b ∷ bytes)) counted in
     let long : length (take n bytes) ≡ n = length-take-le n bytes within in
     let text = b ∷ take n bytes in
@@ -105,10 +105,10 @@ plain_word (b ∷ bytes) letter short =
       utf8 = word_utf8 b bytes letter;
     })
 
-word_names : (bytes : List ℕ) → is_of class.Letter (slice_index bytes 0) ≡ true → NamesOf bytes (word bytes)
-unfolding word
+word_names : (bytes : List ℕ) → is_in_class class.Letter (slice_index bytes 0) ≡ true → NamesOf bytes (front_word bytes)
+unfolding front_word
 word_names bytes letter =
-    let n = 1 + prefix_len (is_of class.WordByte) (drop 1 bytes) in
+    let n = 1 + prefix_len (is_in_class class.WordByte) (drop 1 bytes) in
     either bytes (n == 1 && is_string_form (slice_index bytes 0) (slice_index bytes 1) (slice_index bytes 2))
     (Faulty fault.StringForm) _ (λ _. tt)
     (λ _. either bytes (nat_lt 63 n) (Faulty fault.NameTooLong) (Whole t.Word n) (λ _. tt)
@@ -223,11 +223,11 @@ comment_names : (bytes : List ℕ) (found : Option ℕ) → NamesOf bytes (comme
 comment_names bytes None = tt
 comment_names bytes (Some n) = tt
 
-number_names : (bytes : List ℕ) → NamesOf bytes (number bytes)
-unfolding number
+number_names : (bytes : List ℕ) → NamesOf bytes (front_number bytes)
+unfolding front_number
 number_names bytes =
-    let n = prefix_len (is_of class.Digit) bytes in
-    either bytes (is_of class.Letter (slice_index bytes n)) _ _ (λ _. tt)
+    let n = prefix_len (is_in_class class.Digit) bytes in
+    either bytes (is_in_class class.Letter (slice_index bytes n)) _ _ (λ _. tt)
     (λ _. either bytes (slice_index bytes n == 46) _ _ (λ _. tt)
     (λ _. either bytes (nat_lt (number_of (take n bytes)) 9223372036854775808) _ _ (λ _. tt) (λ _. tt)))
 
@@ -236,8 +236,8 @@ string_by bytes None = tt
 string_by bytes (Some n) =
     either bytes (nat_lt 65535 (length (undoubled 39 (take n (drop 1 bytes))))) _ _ (λ _. tt) (λ _. tt)
 
-string_names : (bytes : List ℕ) → NamesOf bytes (string bytes)
-unfolding string
+string_names : (bytes : List ℕ) → NamesOf bytes (front_string bytes)
+unfolding front_string
 string_names bytes = string_by bytes (inner_len 39 (drop 1 bytes))
 
 operator_by : (bytes : List ℕ) (n : ℕ) (found : Option Operator) → NamesOf bytes (operator_piece n found)
@@ -262,15 +262,15 @@ front_names : (bytes : List ℕ) → (slice_index bytes 0 < 128 → IsUtf8 bytes
 unfolding front
 front_names bytes utf8 =
     let b = slice_index bytes 0 in
-    either bytes (is_of class.Space b) _ _ (λ _. tt)
+    either bytes (is_in_class class.Space b) _ _ (λ _. tt)
     (λ _. either bytes (begins_line_comment bytes) _ _ (λ _. comment_names bytes (line_comment (drop 2 bytes)))
     (λ _. either bytes (begins_block_comment bytes) _ _ (λ _. comment_names bytes (block_comment 0 (drop 2 bytes)))
-    (λ _. either bytes (is_of class.Letter b) _ _ (λ e. word_names bytes e)
-    (λ _. either bytes (is_of class.Digit b) _ _ (λ _. number_names bytes)
+    (λ _. either bytes (is_in_class class.Letter b) _ _ (λ e. word_names bytes e)
+    (λ _. either bytes (is_in_class class.Digit b) _ _ (λ _. number_names bytes)
     (λ _. either bytes (b == 34) _ _
     (λ e. let first = eqb-true b 34 e in quoted_names bytes first (utf8 (omega (arith, first))))
     (λ _. either bytes (b == 39) _ _ (λ _. string_names bytes)
-    (λ _. either bytes (is_of class.Sign b) _ _ (λ _. operator_names bytes)
+    (λ _. either bytes (is_in_class class.Sign b) _ _ (λ _. operator_names bytes)
     (λ _. punctuation_names bytes b (slice_index bytes 1)))))))))
 
 -- ---- the tokens of a text

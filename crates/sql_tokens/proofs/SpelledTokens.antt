@@ -15,12 +15,12 @@ use Rattle.sql_tokens.specs.declared.kinds.Operator.TheVariants.{Minus}
 use Rattle.sql_tokens.specs.declared.kinds.TokenKind.{TokenKind}
 use Rattle.sql_tokens.specs.declared.kinds.TokenKind.TheVariants.{Word, Number, Text, Operator, Open, Close, Comma}
 use Rattle.sql_tokens.specs.declared.kinds.Piece.TheVariants.{Whole}
-use Rattle.sql_tokens.specs.Bytes.{is_of}
+use Rattle.sql_tokens.specs.Bytes.{is_in_class}
 use Rattle.sql_tokens.specs.Comments.{longer}
-use Rattle.sql_tokens.specs.Quotes.{inner_len, undoubled, string}
-use Rattle.sql_tokens.specs.Numbers.{number_from, number_of, number}
+use Rattle.sql_tokens.specs.Quotes.{inner_len, undoubled, front_string}
+use Rattle.sql_tokens.specs.Numbers.{number_from, number_of, front_number}
 use Rattle.sql_tokens.specs.Operators.{signs_len, operator}
-use Rattle.sql_tokens.specs.Front.{front, word}
+use Rattle.sql_tokens.specs.Front.{front, front_word}
 use Rattle.sql_tokens.specs.Lexed.{Lexeme, Then, tokens_from}
 use Rattle.sql_tokens.specs.Meant.{between_quotes}
 use Rattle.sql_tokens.proofs.Lexing.{tokens_from-skip}
@@ -64,15 +64,15 @@ space_passes place rest = refl
 -- ---- words and marks
 
 null_front : (next : ℕ) (rest : List ℕ) → EndsValue next → front (codes "NULL" ++ (next ∷ rest)) ≡ Whole Word 4
-unfolding front word
+unfolding front front_word
 null_front next rest ends = elim ends [ inl e ↦ rw e refl | inr e ↦ rw e refl ]
 
 true_front : (next : ℕ) (rest : List ℕ) → EndsValue next → front (codes "TRUE" ++ (next ∷ rest)) ≡ Whole Word 4
-unfolding front word
+unfolding front front_word
 true_front next rest ends = elim ends [ inl e ↦ rw e refl | inr e ↦ rw e refl ]
 
 false_front : (next : ℕ) (rest : List ℕ) → EndsValue next → front (codes "FALSE" ++ (next ∷ rest)) ≡ Whole Word 5
-unfolding front word
+unfolding front front_word
 false_front next rest ends = elim ends [ inl e ↦ rw e refl | inr e ↦ rw e refl ]
 
 open_front : (rest : List ℕ) → front (40 ∷ rest) ≡ Whole Open 1
@@ -94,12 +94,13 @@ own : IsNumeralModel (λ digits. all_ascii_digits digits ≡ true) (number_from 
 unfolding number_from
 own = numerals_by_fold _ (search rules) number_from (search rules)
 
-digit_front : (digit : ℕ) (rest : List ℕ) → is_ascii_digit digit ≡ true → front (digit ∷ rest) ≡ number (digit ∷ rest)
+digit_front : (digit : ℕ) (rest : List ℕ) → is_ascii_digit digit ≡ true
+    → front (digit ∷ rest) ≡ front_number (digit ∷ rest)
 unfolding front
 digit_front digit rest e = grind (arith, nat_tests)
 
 digits_len : (digits : List ℕ) (next : ℕ) (rest : List ℕ) → all_ascii_digits digits ≡ true → EndsValue next
-    → prefix_len (is_of class.Digit) (digits ++ (next ∷ rest)) ≡ length digits
+    → prefix_len (is_in_class class.Digit) (digits ++ (next ∷ rest)) ≡ length digits
 digits_len [] next rest e ends = elim ends [ inl f ↦ rw f refl | inr f ↦ rw f refl ]
 digits_len (digit ∷ digits) next rest e ends =
     let both = and_parts (is_ascii_digit digit) (all_ascii_digits digits) e in
@@ -112,8 +113,8 @@ byte_after (digit ∷ digits) next rest = byte_after digits next rest
 
 digits_number : (digits : List ℕ) (n next : ℕ) (rest : List ℕ) → all_ascii_digits digits ≡ true → number_of digits ≡ n
     → n < 2 ^ 63 → EndsValue next
-    → number (digits ++ (next ∷ rest)) ≡ Whole (Number n) (length digits)
-unfolding number
+    → front_number (digits ++ (next ∷ rest)) ≡ Whole (Number n) (length digits)
+unfolding front_number
 digits_number digits n next rest digital value small ends =
     let fits : nat_lt n (2 ^ 63) ≡ true = lt-ltb n (2 ^ 63) small in
     rw (
@@ -125,7 +126,7 @@ digits_number digits n next rest digital value small ends =
     (elim ends [ inl e ↦ rw (e, fits) refl | inr e ↦ rw (e, fits) refl ])
 
 digits_front : (digits : List ℕ) (rest : List ℕ) → 0 < length digits → all_ascii_digits digits ≡ true
-    → front (digits ++ rest) ≡ number (digits ++ rest)
+    → front (digits ++ rest) ≡ front_number (digits ++ rest)
 digits_front [] rest some e = absurd (omega arith)
 digits_front (digit ∷ digits) rest some e = digit_front digit (digits ++ rest) (and_parts _ _ e).0
 
@@ -215,7 +216,7 @@ undoubled-doubled (b ∷ text) =
 
 string_front : (text : List ℕ) (next : ℕ) (rest : List ℕ) → ¬ Contains text 0 → length text ≤ 65535 → EndsValue next
     → front (39 ∷ (doubled 39 text ++ (39 ∷ next ∷ rest))) ≡ Whole Text (length (doubled 39 text) + 2)
-unfolding front string
+unfolding front front_string
 string_front text next rest clean short ends =
     let few : nat_lt 65535 (length text) ≡ false = grind (arith, nat_tests) in
     rw (

@@ -14,12 +14,12 @@ is_free_sign b = b == 126 || b == 33 || b == 64 || b == 35 || b == 37 || b == 94
 abbrev pub is_sign : ℕ → Bool
 is_sign b = b == 43 || b == 45 || b == 42 || b == 47 || b == 60 || b == 62 || b == 61 || is_free_sign b
 
-abbrev pub is_of : Class → ℕ → Bool
-is_of class.Space b = b == 32 || b == 9 || b == 10 || b == 13 || b == 12
-is_of class.Letter b = is_ascii_alphabetic b || b == 95
-is_of class.WordByte b = is_ascii_alphanumeric b || b == 95 || b == 36
-is_of class.Digit b = is_ascii_digit b
-is_of class.LineByte b = not (b == 0 || b == 10 || b == 13)
-is_of class.Sign b = is_sign b
-is_of class.FreeSign b = is_free_sign b
-is_of class.PlusMinus b = b == 43 || b == 45
+abbrev pub is_in_class : Class → ℕ → Bool
+is_in_class class.Space b = b == 32 || b == 9 || b == 10 || b == 13 || b == 12
+is_in_class class.Letter b = is_ascii_alphabetic b || b == 95
+is_in_class class.WordByte b = is_ascii_alphanumeric b || b == 95 || b == 36
+is_in_class class.Digit b = is_ascii_digit b
+is_in_class class.LineByte b = not (b == 0 || b == 10 || b == 13)
+is_in_class class.Sign b = is_sign b
+is_in_class class.FreeSign b = is_free_sign b
+is_in_class class.PlusMinus b = b == 43 || b == 45

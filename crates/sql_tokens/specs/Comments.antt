@@ -3,7 +3,7 @@
 use Rattle.std.specs.Prelude.{ℕ, ◌+◌, ◌-◌, Bool, ◌&&◌, ◌==◌, nat_lt, if◌then◌else◌, List, ◌∷◌, length, slice_index, Option, Some, None, option_map}
 use Rattle.std.specs.List.{prefix_len}
 use Rattle.sql_tokens.specs.declared.bytes.Class.TheVariants as class
-use Rattle.sql_tokens.specs.Bytes.{is_of}
+use Rattle.sql_tokens.specs.Bytes.{is_in_class}
 
 -- `n` more bytes
 abbrev pub longer : ℕ → Option ℕ → Option ℕ
@@ -20,7 +20,7 @@ begins_block_comment bytes = slice_index bytes 0 == 47 && slice_index bytes 1 ==
 -- a comment ends before the end of the line, and has no zero byte
 abbrev pub line_comment : List ℕ → Option ℕ
 line_comment bytes =
-    let n = prefix_len (is_of class.LineByte) bytes in
+    let n = prefix_len (is_in_class class.LineByte) bytes in
     if nat_lt n (length bytes) && slice_index bytes n == 0 then None else Some n
 
 -- A comment inside `depth` others ends with the asterisk and slash that close the outermost. It has no zero byte.

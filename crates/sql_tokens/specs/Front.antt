@@ -8,10 +8,10 @@ use Rattle.sql_tokens.specs.declared.kinds.TokenKind.TheVariants.{Word, Open, Cl
 use Rattle.sql_tokens.specs.declared.kinds.FaultKind.TheVariants.{BadToken, NameTooLong, StringForm}
 use Rattle.sql_tokens.specs.declared.kinds.Piece.{Piece}
 use Rattle.sql_tokens.specs.declared.kinds.Piece.TheVariants.{Blank, Whole, Faulty}
-use Rattle.sql_tokens.specs.Bytes.{is_of}
+use Rattle.sql_tokens.specs.Bytes.{is_in_class}
 use Rattle.sql_tokens.specs.Comments.{begins_line_comment, begins_block_comment, line_comment, block_comment}
-use Rattle.sql_tokens.specs.Quotes.{quoted_name, string}
-use Rattle.sql_tokens.specs.Numbers.{number}
+use Rattle.sql_tokens.specs.Quotes.{quoted_name, front_string}
+use Rattle.sql_tokens.specs.Numbers.{front_number}
 use Rattle.sql_tokens.specs.Operators.{operator}
 
 -- a comment, after its first two characters
@@ -32,8 +32,8 @@ word_piece n bytes =
     if n == 1 && is_string_form (slice_index bytes 0) (slice_index bytes 1) (slice_index bytes 2) then Faulty StringForm
     else (if nat_lt 63 n then Faulty NameTooLong else Whole Word n)
 
-unfoldable pub word : List ℕ → Piece
-word bytes = word_piece (1 + prefix_len (is_of class.WordByte) (drop 1 bytes)) bytes
+unfoldable pub front_word : List ℕ → Piece
+front_word bytes = word_piece (1 + prefix_len (is_in_class class.WordByte) (drop 1 bytes)) bytes
 
 -- a byte that begins nothing longer, except for two colons
 abbrev pub punctuation : ℕ → ℕ → Piece
@@ -45,12 +45,12 @@ punctuation b next =
 unfoldable pub front : List ℕ → Piece
 front bytes =
     let b = slice_index bytes 0 in
-    if is_of class.Space b then Blank 1
+    if is_in_class class.Space b then Blank 1
     else (if begins_line_comment bytes then comment_piece (line_comment (drop 2 bytes))
     else (if begins_block_comment bytes then comment_piece (block_comment 0 (drop 2 bytes))
-    else (if is_of class.Letter b then word bytes
-    else (if is_of class.Digit b then number bytes
+    else (if is_in_class class.Letter b then front_word bytes
+    else (if is_in_class class.Digit b then front_number bytes
     else (if b == 34 then quoted_name bytes
-    else (if b == 39 then string bytes
-    else (if is_of class.Sign b then operator bytes
+    else (if b == 39 then front_string bytes
+    else (if is_in_class class.Sign b then operator bytes
     else punctuation b (slice_index bytes 1))))))))

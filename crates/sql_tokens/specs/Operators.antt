@@ -8,21 +8,21 @@ use Rattle.sql_tokens.specs.declared.kinds.TokenKind.TheVariants as kind
 use Rattle.sql_tokens.specs.declared.kinds.FaultKind.TheVariants as fault
 use Rattle.sql_tokens.specs.declared.kinds.Piece.{Piece}
 use Rattle.sql_tokens.specs.declared.kinds.Piece.TheVariants.{Whole, Faulty}
-use Rattle.sql_tokens.specs.Bytes.{is_of}
+use Rattle.sql_tokens.specs.Bytes.{is_in_class}
 use Rattle.sql_tokens.specs.Comments.{begins_line_comment, begins_block_comment}
 
 -- the longest run of an operator's characters, which stops before a comment
 unfoldable pub signs_len : List ℕ → ℕ
 signs_len [] = 0
 signs_len (b ∷ bytes) =
-    if is_of class.Sign b && not (begins_line_comment (b ∷ bytes) || begins_block_comment (b ∷ bytes)) then
+    if is_in_class class.Sign b && not (begins_line_comment (b ∷ bytes) || begins_block_comment (b ∷ bytes)) then
     1 + signs_len bytes else 0
 
 -- A run drops the plus and minus characters at its end, but keeps one character. It drops none if it has a character
 -- that allows such an end.
 abbrev pub operator_len : List ℕ → ℕ
-operator_len run = if list_any (is_of class.FreeSign) run then
-    length run else max 1 (length run - suffix_len (is_of class.PlusMinus) run)
+operator_len run = if list_any (is_in_class class.FreeSign) run then
+    length run else max 1 (length run - suffix_len (is_in_class class.PlusMinus) run)
 
 -- the operators of one and of two characters that are known
 abbrev pub single_sign : ℕ → Option Operator

@@ -42,5 +42,5 @@ quoted quote piece bytes (Some n) = piece n (length (undoubled quote (take n byt
 unfoldable pub quoted_name : List ℕ → Piece
 quoted_name bytes = quoted 34 name_piece (drop 1 bytes) (inner_len 34 (drop 1 bytes))
 
-unfoldable pub string : List ℕ → Piece
-string bytes = quoted 39 string_piece (drop 1 bytes) (inner_len 39 (drop 1 bytes))
+unfoldable pub front_string : List ℕ → Piece
+front_string bytes = quoted 39 string_piece (drop 1 bytes) (inner_len 39 (drop 1 bytes))

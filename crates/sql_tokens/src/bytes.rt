@@ -27,7 +27,7 @@ pub(crate) enum Class {
 
 /// Whether a byte is of a class.
 pub(crate) fn is_of(class: Class, byte: u8) -> bool
-    ensures { result ≡ spec.is_of class byte }
+    ensures { result ≡ spec.is_in_class class byte }
 {
     match class {
         Class::Space => matches!(byte, b' ' | b'\t' | b'\n' | b'\r' | 12),
@@ -66,7 +66,7 @@ pub(crate) fn byte_at(bytes: &[u8], index: usize) -> u8
 
 /// How many bytes at the front are of a class.
 pub(crate) fn run_len(class: Class, bytes: &[u8]) -> usize
-    ensures value { result ≡ prefix_len (spec.is_of class) bytes.now }
+    ensures value { result ≡ prefix_len (spec.is_in_class class) bytes.now }
     ensures within { result ≤ length bytes.now }
 {
     let mut length = 0;

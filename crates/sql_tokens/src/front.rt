@@ -2,7 +2,7 @@
 
 ghost use Rattle.std.specs.Prelude.{◌≡◌, ◌<◌, ◌^◌, length, slice_index, true, IfSome};
 ghost use Rattle.sql_tokens.specs.declared.bytes.Class.TheVariants as class;
-ghost use Rattle.sql_tokens.specs.Bytes.{is_of};
+ghost use Rattle.sql_tokens.specs.Bytes.{is_in_class};
 ghost use Rattle.sql_tokens.specs.Front as spec;
 ghost use Rattle.sql_tokens.specs.Pieces.{IsPiece};
 
@@ -36,10 +36,10 @@ fn is_string_form(letter: u8, next: u8, after: u8) -> bool
 }
 
 /// The word at the front of some bytes, which begin with a letter.
-#[tactic(auto, unfolding(crate::specs::Front::word))]
+#[tactic(auto, unfolding(crate::specs::Front::front_word))]
 fn word(bytes: &[u8]) -> Piece
-    requires { is_of class.Letter (slice_index bytes.now 0) ≡ true }
-    ensures value { result ≡ spec.word bytes.now }
+    requires { is_in_class class.Letter (slice_index bytes.now 0) ≡ true }
+    ensures value { result ≡ spec.front_word bytes.now }
     ensures within { IsPiece bytes.now result }
 {
     let length = 1 + run_len(Class::WordByte, &bytes[1..]);

@@ -2,7 +2,7 @@
 
 ghost use Rattle.std.specs.Prelude.{◌≡◌, ◌^◌, true, nat_lt, if◌then◌else◌, slice_index};
 ghost use Rattle.sql_tokens.specs.declared.bytes.Class.TheVariants as class;
-ghost use Rattle.sql_tokens.specs.Bytes.{is_of};
+ghost use Rattle.sql_tokens.specs.Bytes.{is_in_class};
 ghost use Rattle.sql_tokens.specs.Numbers as spec;
 ghost use Rattle.sql_tokens.specs.Pieces.{IsPiece};
 
@@ -31,10 +31,10 @@ fn value_of(digits: &[u8]) -> Option<u64>
 }
 
 /// The number at the front of some bytes, which begin with a digit.
-#[tactic(auto, unfolding(crate::specs::Numbers::number))]
+#[tactic(auto, unfolding(crate::specs::Numbers::front_number))]
 pub(crate) fn number(bytes: &[u8]) -> Piece
-    requires { is_of class.Digit (slice_index bytes.now 0) ≡ true }
-    ensures value { result ≡ spec.number bytes.now }
+    requires { is_in_class class.Digit (slice_index bytes.now 0) ≡ true }
+    ensures value { result ≡ spec.front_number bytes.now }
     ensures within { IsPiece bytes.now result }
 {
     let length = run_len(Class::Digit, bytes);

@@ -89,10 +89,10 @@ pub(crate) fn quoted_name(bytes: &[u8]) -> Piece
 }
 
 /// The string constant that begins with a quote at the front of some bytes.
-#[tactic(auto, unfolding(crate::specs::Quotes::string))]
+#[tactic(auto, unfolding(crate::specs::Quotes::front_string))]
 pub(crate) fn string(bytes: &[u8]) -> Piece
     requires { slice_index bytes.now 0 ≡ 39 }
-    ensures value { result ≡ spec.string bytes.now }
+    ensures value { result ≡ spec.front_string bytes.now }
     ensures within { IsPiece bytes.now result }
 {
     let after = &bytes[1..];

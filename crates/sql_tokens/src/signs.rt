@@ -3,7 +3,7 @@
 ghost use Rattle.std.specs.Prelude.{◌≡◌, ◌≤◌, ◌<◌, ◌-◌, ◌+◌, max, length, slice_index, false, true};
 ghost use Rattle.std.specs.List.{suffix_len, list_any};
 ghost use Rattle.sql_tokens.specs.declared.bytes.Class.TheVariants as class;
-ghost use Rattle.sql_tokens.specs.Bytes.{is_of};
+ghost use Rattle.sql_tokens.specs.Bytes.{is_in_class};
 ghost use Rattle.sql_tokens.specs.Comments.{begins_line_comment, begins_block_comment};
 ghost use Rattle.sql_tokens.specs.Operators as spec;
 ghost use Rattle.sql_tokens.specs.Pieces.{IsPiece};
@@ -33,7 +33,7 @@ fn signs_len(bytes: &[u8]) -> usize
 
 /// How many plus and minus characters are at the end of a run.
 fn plus_minus_len(run: &[u8]) -> usize
-    ensures value { result ≡ suffix_len (is_of class.PlusMinus) run.now }
+    ensures value { result ≡ suffix_len (is_in_class class.PlusMinus) run.now }
     ensures within { result ≤ length run.now }
 {
     run.iter()
@@ -43,7 +43,7 @@ fn plus_minus_len(run: &[u8]) -> usize
 }
 
 fn has_free_sign(run: &[u8]) -> bool
-    ensures { result ≡ list_any (is_of class.FreeSign) run.now }
+    ensures { result ≡ list_any (is_in_class class.FreeSign) run.now }
 {
     run.iter().any(|byte| is_of(Class::FreeSign, *byte))
 }
@@ -82,7 +82,7 @@ fn operator_of(signs: &[u8]) -> Option<Operator>
 /// The operator at the front of some bytes, which begin with one of its characters and not with a comment.
 #[tactic(auto, unfolding(crate::specs::Operators::operator))]
 pub(crate) fn operator(bytes: &[u8]) -> Piece
-    requires sign { is_of class.Sign (slice_index bytes.now 0) ≡ true }
+    requires sign { is_in_class class.Sign (slice_index bytes.now 0) ≡ true }
     requires line { begins_line_comment bytes.now ≡ false }
     requires block { begins_block_comment bytes.now ≡ false }
     ensures value { result ≡ spec.operator bytes.now }

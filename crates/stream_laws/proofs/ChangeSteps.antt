@@ -31,9 +31,9 @@ use Rattle.pgoutput_msgs.specs.declared.message.Msg.TheVariants as m
 use Rattle.pgoutput_msgs.specs.declared.tuple.OldTuple.{OldTuple}
 use Rattle.pgoutput_msgs.proofs.OldRowLemmas.{recorded_back}
 use Rattle.pgoutput_msgs.proofs.ReadBackLemmas.{valid_rows_back}
-use Rattle.test_subscriber.specs.Hearing.{Change, table_of, with_found, staged, change_of, change_in, hear_in}
+use Rattle.test_subscriber.specs.Hearing.{RowsChange, known_shape, with_found, staged, changed_rows, change_in, hear_in}
 use Rattle.test_subscriber.specs.Machine.{Machine}
-use Rattle.test_subscriber.specs.RowChanges.{or_bad, read_in, cells_in, key_of, key_in, gone_of, placed, replaced, insert_row, inserted, replace_row, update_row, updated, delete_row, deleted}
+use Rattle.test_subscriber.specs.RowChanges.{or_bad, read_in, cells_in, key_of, key_in, gone_of, put_new_row, replaced, insert_row, inserted, replace_row, update_row, updated, delete_row, deleted}
 use Rattle.test_subscriber.specs.declared.fault.SubFault.TheVariants.{DuplicateKey}
 use Rattle.test_subscriber.specs.declared.shape.TableShape.{TableShape}
 use Rattle.stream_laws.specs.ShardRows.{FindsRows, in_shard, FindsShard}
@@ -49,15 +49,15 @@ use Rattle.filter_tree.proofs.Tests.{by_test}
 -- ---- a change of a table that was announced
 
 table_known : (machine : Machine) (oid : ℕ) (shape : TableShape) → machine.known oid ≡ true
-    → machine.kept oid ≡ Some shape → table_of machine oid ≡ Some shape
+    → machine.kept oid ≡ Some shape → known_shape machine oid ≡ Some shape
 table_known machine oid shape known kept = rw known kept
 
-pub change_heard : (machine : Machine) (oid : ℕ) (change : Change) (shape : TableShape) (found : Found)
+pub change_heard : (machine : Machine) (oid : ℕ) (change : RowsChange) (shape : TableShape) (found : Found)
     → machine.known oid ≡ true → machine.kept oid ≡ Some shape
     → change shape (machine.work oid) ≡ Ok found
     → change_in oid change machine ≡ Ok (record machine { work = with_found machine.work oid found })
 change_heard machine oid change shape found known kept made =
-    ap (λ table. change_of table (machine.work oid) oid change machine) (table_known machine oid shape known kept)
+    ap (λ table. changed_rows table (machine.work oid) oid change machine) (table_known machine oid shape known kept)
     ∙ ap (staged machine oid) made
 
 -- ---- rows of a table
@@ -77,7 +77,7 @@ module _ (checked : CheckedOf) (number : ℕ) (table : Table)
   row_read row fit = ap or_bad (valid_rows_back table.columns row (valid_row row fit))
 
   placed_free : (found : Found) (key row : List Datum) → found key ≡ None
-      → placed found key row ≡ Ok (put found key (Some row))
+      → put_new_row found key row ≡ Ok (put found key (Some row))
   placed_free found key row free = ap (λ o. if is_some o then Err DuplicateKey else Ok (put found key (Some row))) free
 
   insert_made : (found : Found) (new : List Datum) → fits (setting_in checked) number new ≡ true
@@ -85,7 +85,7 @@ module _ (checked : CheckedOf) (number : ℕ) (table : Table)
       → inserted (shape_for number table) found (cells_of new) ≡ Ok (put found (own_key checked number new) (Some new))
   insert_made found new fit free =
       ap (insert_row (shape_for number table) found) (row_read new fit)
-      ∙ ap (λ key. placed found key new) (key_here new) ∙ placed_free found (own_key checked number new) new free
+      ∙ ap (λ key. put_new_row found key new) (key_here new) ∙ placed_free found (own_key checked number new) new free
 
   delete_made : (found : Found) (old : List Datum) (tuple : OldTuple)
       → key_in (shape_for number table) tuple ≡ Ok (own_key checked number old)
@@ -104,7 +104,7 @@ module _ (checked : CheckedOf) (number : ℕ) (table : Table)
       ∙ ap (λ key. replace_row (shape_for number table) found key new) gone
       ∙ ap (λ key. replaced found (own_key checked number old) key new) (key_here new)
       ∙ ap (λ o. if is_some o then
-      placed (put found (own_key checked number old) None) (own_key checked number new) new else Ok found)
+      put_new_row (put found (own_key checked number old) None) (own_key checked number new) new else Ok found)
       is_there
       ∙ placed_free (put found (own_key checked number old) None) (own_key checked number new) new free
 
@@ -211,7 +211,7 @@ module _ (checked : CheckedOf) (transactions : List Transaction) (subscriber beg
   flag_there sent long = subst (λ c. number < c) (sym long) (slice_get_within checked.catalog.tables number table there)
 
   -- the message of a change, if its table was announced
-  ends_with : (sent : List Bool) (machine : Machine) (message : Msg) (change : Change) (found : Found)
+  ends_with : (sent : List Bool) (machine : Machine) (message : Msg) (change : RowsChange) (found : Found)
       → length sent ≡ length checked.catalog.tables
       → Inside checked subscriber begin outer (told_one sent number) before machine
       → hear_in machine.phase message machine ≡ change_in (oid_of number) change machine

@@ -8,7 +8,7 @@ use Rattle.std.proofs.lemmas.List.{append-nil, take-append-drop, take-append-le,
 use Rattle.std.proofs.Math.Seq.{take-add}
 use mathlib.Core.List.{map-append}
 use Rattle.std.proofs.lemmas.Nat.{from_be_bytes-to_be_bytes_4}
-use Rattle.copy_frames.specs.Frames.{framed, IsFrame, front, Rest, Then, cut_after, cut, fault_of, frames_of, rest_of, after_frames}
+use Rattle.copy_frames.specs.Frames.{framed, IsFrame, front, Rest, Then, cut_after, cut, cut_fault, frames_of, rest_of, after_frames}
 use Rattle.copy_frames.specs.FrameLaws.{AreFrames}
 use Rattle.copy_frames.specs.declared.frame.Frame.{Frame}
 use Rattle.copy_frames.specs.declared.front.Front.TheVariants.{Part}
@@ -190,7 +190,7 @@ pieces_are_cut frame limit all bytes done more allowed same within =
     let both_cuts : cut limit (take (done + more) bytes)
     ≡ after_frames (map frame (whole_by frame (done + more) all)) (Rest both.rest) =
     both.cuts ∙ ap (λ n. after_frames (map frame (whole_by frame n all)) (Rest both.rest)) both_long in
-    let good : fault_of (cut limit (take done bytes)) ≡ None = ap fault_of first_cuts
+    let good : cut_fault (cut limit (take done bytes)) ≡ None = ap cut_fault first_cuts
     ∙ no_fault_after (map frame few) first.rest in
     let joined : take (done + more) bytes ≡ take done bytes ++ piece = take-add done more bytes in
     let all_is : cut limit (take (done + more) bytes) ≡ with_more limit piece (cut limit (take done bytes)) =

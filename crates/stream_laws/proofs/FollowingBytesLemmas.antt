@@ -11,15 +11,15 @@ use Rattle.shard_checker.specs.CheckedView.{CheckedOf, setting_in}
 use Rattle.tables_log.specs.Lsn.{commits_before}
 use Rattle.tables_log.specs.StandsFor.{Transaction, after}
 use Rattle.pgoutput_msgs.specs.Telling.{oid_of}
-use Rattle.copy_both.specs.Streams.{Item, Response, Carries, Alive, frame_in, spelled, Move}
+use Rattle.copy_both.specs.Streams.{StreamItem, Response, Carries, Alive, frame_in, spelled, Move}
 use Rattle.copy_frames.specs.FrameLaws.{AreFrames}
-use Rattle.copy_frames.specs.Frames.{IsFrame, Cut, Rest, Then, cut, after_frames, frames_of, rest_of}
+use Rattle.copy_frames.specs.Frames.{IsFrame, FrameCut, Rest, Then, cut, after_frames, frames_of, rest_of}
 use Rattle.copy_frames.specs.declared.frame.Frame.{Frame}
-use Rattle.test_subscriber.specs.Copies.{told}
+use Rattle.test_subscriber.specs.Copies.{sub_fault}
 use Rattle.test_subscriber.specs.Feeding.{limit, hear_while, next_heard, hear_frames, StaysOf, StopsFor}
 use Rattle.test_subscriber.specs.FeedingLaws.{StopsBeyond}
-use Rattle.test_subscriber.specs.Frames.{Heard, hear_frame, hear_cut, heard_then}
-use Rattle.test_subscriber.specs.Hearing.{Outcome}
+use Rattle.test_subscriber.specs.Frames.{MachineHeard, hear_frame, hear_cut, heard_then}
+use Rattle.test_subscriber.specs.Hearing.{MachineResult}
 use Rattle.test_subscriber.specs.Machine.{Machine, Alike, opened}
 use Rattle.test_subscriber.specs.Subscribers.{sub_machine, fed_cut, fed_heard, Opens}
 use Rattle.test_subscriber.proofs.AlikeLemmas.{alike_itself}
@@ -29,7 +29,7 @@ use Rattle.test_subscriber.specs.declared.subscriber.Subscriber.{Subscriber}
 use Rattle.stream_laws.specs.Cutting.{if_whole, whole_in, IsCutAt}
 use Rattle.stream_laws.specs.ShardRows.{in_shard}
 use Rattle.stream_laws.specs.Following.{position_after, own_key, HasShard, Follows, IsPublished, items_from, IsSentItem}
-use Rattle.stream_laws.specs.FollowingBytes.{AreFirst, position_in, IsFollowed, BytesAreFollowed, SubFollows, FedFollow, NothingIsFed, StopsFollowing, StoppedFollow, LostFollow, FirstFollows, FollowsLonger}
+use Rattle.stream_laws.specs.FollowingBytes.{AreFirst, position_after_bytes, IsFollowed, BytesAreFollowed, SubFollows, FedFollow, NothingIsFed, StopsFollowing, StoppedFollow, LostFollow, FirstFollows, FollowsLonger}
 use Rattle.stream_laws.proofs.CommandSteps.{finds_none}
 use Rattle.stream_laws.proofs.CuttingLemmas.{first_parts_are_cut, whole_more_by}
 use Rattle.stream_laws.proofs.FollowingLemmas.{IsOpened, first_safe, stream_safe, same_item, same_items}
@@ -38,7 +38,7 @@ use Rattle.copy_frames.proofs.PieceLemmas.{frames_before}
 
 -- ---- frames of items
 
-item_frame : (item : Item) → IsSentItem item → IsFrame limit (frame_in item)
+item_frame : (item : StreamItem) → IsSentItem item → IsFrame limit (frame_in item)
 item_frame Response sent = record { within = omega arith; signed = omega arith }
 item_frame (Carries head message) sent = record {
   within = omega (arith, sent.1.short);
@@ -46,23 +46,23 @@ item_frame (Carries head message) sent = record {
 }
 item_frame (Alive keepalive) sent = record { within = omega arith; signed = omega arith }
 
-pub item_frames : (items : List Item) → All IsSentItem items → AreFrames limit (map frame_in items)
+pub item_frames : (items : List StreamItem) → All IsSentItem items → AreFrames limit (map frame_in items)
 item_frames [] sent = tt
 item_frames (item ∷ items) sent =
     (item_frame item (All-head IsSentItem item items sent), item_frames items (All-tail IsSentItem item items sent))
 
 -- ---- items that are whole are the first ones
 
-record Begins (items all : List Item) : Type 0 where
-  others : List Item
+record Begins (items all : List StreamItem) : Type 0 where
+  others : List StreamItem
   is : items ++ others ≡ all
 
-begin_with : (whole : Bool) (item : Item) (whole_items items : List Item) → Begins whole_items items
+begin_with : (whole : Bool) (item : StreamItem) (whole_items items : List StreamItem) → Begins whole_items items
     → Begins (if_whole whole item whole_items) (item ∷ items)
 begin_with true item whole_items items later = record { others = later.others; is = ap (λ rest. item ∷ rest) later.is }
 begin_with false item whole_items items later = record { others = item ∷ items; is = refl }
 
-whole_begin : (count : ℕ) (items : List Item) → Begins (whole_in count items) items
+whole_begin : (count : ℕ) (items : List StreamItem) → Begins (whole_in count items) items
 whole_begin count [] = record { others = []; is = refl }
 whole_begin count (item ∷ items) =
     begin_with (nat_le (length (spelled item)) count) item (whole_in (count - length (spelled item)) items) items
@@ -71,10 +71,10 @@ whole_begin count (item ∷ items) =
 -- ---- what is heard of bytes that were cut
 
 -- it has no fault, and this holds of the machine
-abbrev IsHeard : Heard → (Machine → Type 0) → Type 0
+abbrev IsHeard : MachineHeard → (Machine → Type 0) → Type 0
 IsHeard heard P = (heard.fault ≡ None) × P heard.machine
 
-heard_on : (outcome : Outcome) (frames : List Frame) (more : Cut) (machine : Machine) (P : Machine → Type 0)
+heard_on : (outcome : MachineResult) (frames : List Frame) (more : FrameCut) (machine : Machine) (P : Machine → Type 0)
     → ((next : Machine) → IsOkAnd (hear_frames frames next) P → IsHeard (hear_cut more next) P)
     → IsOkAnd (next_heard outcome (hear_frames frames)) P → IsHeard (heard_then machine outcome (hear_cut more)) P
 heard_on (Ok next) frames more machine P later h = later next h
@@ -112,7 +112,7 @@ module _ (checked : CheckedOf) (transactions : List Transaction) (published : Is
     (position : ℕ) (follows : Follows checked transactions subscriber position machine) (moves : List Move)
     (sent : All IsSentItem (items_from checked transactions subscriber position moves)) (bytes others : List ℕ)
     (first : AreFirst checked transactions subscriber position moves bytes others) where
-  whole : List Item
+  whole : List StreamItem
   whole = whole_in (length bytes) (items_from checked transactions subscriber position moves)
 
   pub cuts : IsCutAt limit (items_from checked transactions subscriber position moves) bytes
@@ -120,7 +120,7 @@ module _ (checked : CheckedOf) (transactions : List Transaction) (published : Is
       (item_frames (items_from checked transactions subscriber position moves) sent) first
 
   pub opened_followed : IsFollowed checked transactions subscriber
-      (position_in checked transactions subscriber position moves bytes) (hear_cut (cut limit bytes) machine)
+      (position_after_bytes checked transactions subscriber position moves bytes) (hear_cut (cut limit bytes) machine)
   opened_followed =
       let items = items_from checked transactions subscriber position moves in
       let begin = whole_begin (length bytes) items in
@@ -172,10 +172,10 @@ fed_followed : (checked : CheckedOf) (transactions : List Transaction) → IsPub
     → All IsSentItem (items_from checked transactions number (sub_machine old).position moves)
     → (bytes others : List ℕ) → AreFirst checked transactions number (sub_machine old).position moves bytes others
     → IsFollowed checked transactions number
-    (position_in checked transactions number (sub_machine old).position moves bytes) (fed_heard between bytes)
+    (position_after_bytes checked transactions number (sub_machine old).position moves bytes) (fed_heard between bytes)
 fed_followed checked transactions published number old between follows opens moves sent bytes others first =
     subst (IsFollowed checked transactions number
-    (position_in checked transactions number (sub_machine old).position moves bytes))
+    (position_after_bytes checked transactions number (sub_machine old).position moves bytes))
     (sym (heard_is old between bytes opens))
     (opened_followed checked transactions published number (sub_machine between) (sub_opened old between opens)
     (sub_machine old).position
@@ -186,26 +186,26 @@ fed_follow checked transactions published number old between new follows opens m
     let followed = fed_followed checked transactions published number old between follows opens moves sent bytes
     others first in
     follows_alike checked transactions number
-    (position_in checked transactions number (sub_machine old).position moves bytes)
+    (position_after_bytes checked transactions number (sub_machine old).position moves bytes)
     (fed_heard between bytes).machine (sub_machine new)
     followed.follows feeds.machine.position feeds.machine.rows feeds.machine.kept
 
 -- ---- when it stops
 
 -- the first frames of items are the frames of the first items
-pub record FirstFrames (frames : List Frame) (all : List Item) : Type 0 where
-  pub items : List Item
-  pub others : List Item
+pub record FirstFrames (frames : List Frame) (all : List StreamItem) : Type 0 where
+  pub items : List StreamItem
+  pub others : List StreamItem
   pub is : items ++ others ≡ all
   pub frames_are : frames ≡ map frame_in items
 
-same_frame : (one other : Frame) (more rest : Cut) → Then one more ≡ Then other rest → one ≡ other
+same_frame : (one other : Frame) (more rest : FrameCut) → Then one more ≡ Then other rest → one ≡ other
 same_frame one other more rest h = cc
 
-same_more : (one other : Frame) (more rest : Cut) → Then one more ≡ Then other rest → more ≡ rest
+same_more : (one other : Frame) (more rest : FrameCut) → Then one more ≡ Then other rest → more ≡ rest
 same_more one other more rest h = cc
 
-pub first_frames : (frames : List Frame) (more : Cut) (all : List Item) (rest : List ℕ)
+pub first_frames : (frames : List Frame) (more : FrameCut) (all : List StreamItem) (rest : List ℕ)
     → after_frames frames more ≡ after_frames (map frame_in all) (Rest rest) → FirstFrames frames all
 first_frames [] more all rest h = record { items = []; others = all; is = refl; frames_are = refl }
 first_frames (frame ∷ frames) more [] rest h = absurd cc
@@ -222,8 +222,8 @@ first_frames (frame ∷ frames) more (item ∷ all) rest h =
       frames_are = ap (λ first. first ∷ frames) same ∙ ap (λ others. frame_in item ∷ others) later.frames_are;
     }
 
-stays_following : (checked : CheckedOf) (transactions : List Transaction) (number position : ℕ) (outcome : Outcome)
-    (new : Machine)
+stays_following : (checked : CheckedOf) (transactions : List Transaction) (number position : ℕ)
+    (outcome : MachineResult) (new : Machine)
     → IsOkAnd outcome (Follows checked transactions number position) → StaysOf outcome new
     → Follows checked transactions number position new
 stays_following checked transactions number position (Ok reached) new follows stays =
@@ -233,8 +233,8 @@ stays_following checked transactions number position (Err fault) new follows sta
 pub nothing_is_fed : NothingIsFed
 unfolding cut
 nothing_is_fed old between opens = record {
-  fault = ap (λ (heard : Heard). heard.fault) nothing;
-  machine = subst (λ (heard : Heard). Alike (sub_machine between) heard.machine) (sym nothing)
+  fault = ap (λ (heard : MachineHeard). heard.fault) nothing;
+  machine = subst (λ (heard : MachineHeard). Alike (sub_machine between) heard.machine) (sym nothing)
       (alike_itself (sub_machine between));
   held = opens.held ∙ sym (ap (λ held. rest_of (cut limit (held ++ []))) opens.held);
   output = refl;
@@ -245,11 +245,11 @@ nothing_is_fed old between opens = record {
     nothing = heard_is old between [] opens
 
 -- of two first parts of a list, the longer one begins with the other
-record GoesOn (short long : List Item) : Type 0 where
-  more : List Item
+record GoesOn (short long : List StreamItem) : Type 0 where
+  more : List StreamItem
   is : long ≡ short ++ more
 
-goes_on : (short long after rest : List Item) → short ++ after ≡ long ++ rest → length short ≤ length long
+goes_on : (short long after rest : List StreamItem) → short ++ after ≡ long ++ rest → length short ≤ length long
     → GoesOn short long
 goes_on [] long after rest same less = record { more = long; is = refl }
 goes_on (item ∷ short) [] after rest same less = absurd (omega (arith, less))
@@ -269,13 +269,13 @@ module _ (checked : CheckedOf) (transactions : List Transaction) (published : Is
     (sent : All IsSentItem (items_from checked transactions number (sub_machine old).position moves))
     (bytes piece others : List ℕ)
     (first : AreFirst checked transactions number (sub_machine old).position moves (bytes ++ piece) others) where
-  abbrev all : List Item
+  abbrev all : List StreamItem
   all = items_from checked transactions number (sub_machine old).position moves
 
-  abbrev before : List Item
+  abbrev before : List StreamItem
   before = whole_in (length bytes) all
 
-  abbrev fed : List Item
+  abbrev fed : List StreamItem
   fed = whole_in (length (bytes ++ piece)) all
 
   follows_there : Follows checked transactions number (sub_machine old).position (sub_machine between)
@@ -338,12 +338,12 @@ module _ (checked : CheckedOf) (transactions : List Transaction) (published : Is
 pub stopped_follow : StoppedFollow
 stopped_follow checked transactions published number old between middle new follows opens moves sent bytes piece
     others error first feeds stops =
-    by_told (told error) refl (stops_come_at_once between middle new bytes piece error feeds stops).machine
+    by_told (sub_fault error) refl (stops_come_at_once between middle new bytes piece error feeds stops).machine
   where
-    by_told : (fault : Option SubFault) → told error ≡ fault
+    by_told : (fault : Option SubFault) → sub_fault error ≡ fault
         → StopsFor fault (fed_heard between (bytes ++ piece)) (fed_cut between (bytes ++ piece)) (sub_machine between)
         (sub_machine new)
-        → (told error ≡ None) × StopsFollowing checked transactions number (sub_machine old).position
+        → (sub_fault error ≡ None) × StopsFollowing checked transactions number (sub_machine old).position
         (whole_in (length bytes) (items_from checked transactions number (sub_machine old).position moves))
         (whole_in (length (bytes ++ piece)) (items_from checked transactions number (sub_machine old).position moves))
         new

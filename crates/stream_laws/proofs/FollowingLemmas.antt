@@ -17,7 +17,7 @@ use Rattle.pgoutput_msgs.specs.Spelling.{spelling_of}
 use Rattle.pgoutput_msgs.specs.Telling.{oid_of, messages_for}
 use Rattle.pgoutput_msgs.specs.declared.message.Msg.{Msg}
 use Rattle.pgoutput_msgs.proofs.SpellingLaws.{are_decoded}
-use Rattle.copy_both.specs.Streams.{Item, Response, Carries, Alive, frame_in, StreamStateOf, Move, Take, Keep, state_at, state_after, taken_state, head_of, take_items, keep_item, all_items, first_sent}
+use Rattle.copy_both.specs.Streams.{StreamItem, Response, Carries, Alive, frame_in, StreamStateOf, Move, Take, Keep, state_at, state_after, taken_state, head_of, take_items, keep_item, all_items, first_sent}
 use Rattle.copy_both.specs.Tellings.{telling_of}
 use Rattle.copy_frames.specs.Contents.{xlog_data_in}
 use Rattle.copy_frames.specs.declared.keepalive.Keepalive.{Keepalive}
@@ -25,7 +25,7 @@ use Rattle.copy_frames.specs.declared.xlog_data.XLogData.{XLogData}
 use Rattle.copy_frames.proofs.ContentLemmas.{data_is_read, keepalive_is_read}
 use Rattle.test_subscriber.specs.Feeding.{next_heard, hear_frames}
 use Rattle.test_subscriber.specs.Frames.{raised, kept_alive, hear_keepalive, hear_decoded, hear_data, hear_content, hear_stream, hear_frame_in, hear_frame, started}
-use Rattle.test_subscriber.specs.Hearing.{Outcome, hear, hear_in}
+use Rattle.test_subscriber.specs.Hearing.{MachineResult, hear, hear_in}
 use Rattle.test_subscriber.specs.Machine.{Machine, opened}
 use Rattle.test_subscriber.specs.declared.phase.Phase.{Phase}
 use Rattle.test_subscriber.specs.declared.phase.Phase.TheVariants.{Shut, Waiting, Idle, Busy}
@@ -85,23 +85,23 @@ kept_up keepalive machine idle bounds =
 -- ---- items, one after another
 
 -- it follows before each item and at the end, and no frame is a fault
-abbrev pub SafeItems : CheckedOf → List Transaction → ℕ → ℕ → List Item → Machine → Type 0
+abbrev pub SafeItems : CheckedOf → List Transaction → ℕ → ℕ → List StreamItem → Machine → Type 0
 SafeItems checked transactions subscriber position [] machine = Follows checked transactions subscriber position machine
 SafeItems checked transactions subscriber position (item ∷ items) machine =
     Follows checked transactions subscriber position machine
     × IsOkAnd (hear_frame (frame_in item) machine)
     (SafeItems checked transactions subscriber (raised_by position item) items)
 
-pub same_item : (one other : Item) (xs ys : List Item) → one ∷ xs ≡ other ∷ ys → one ≡ other
+pub same_item : (one other : StreamItem) (xs ys : List StreamItem) → one ∷ xs ≡ other ∷ ys → one ≡ other
 same_item one other xs ys e = cc
 
-pub same_items : (one other : Item) (xs ys : List Item) → one ∷ xs ≡ other ∷ ys → xs ≡ ys
+pub same_items : (one other : StreamItem) (xs ys : List StreamItem) → one ∷ xs ≡ other ∷ ys → xs ≡ ys
 same_items one other xs ys e = cc
 
 module _ (checked : CheckedOf) (transactions : List Transaction) (subscriber : ℕ) where
   -- the items of messages
   carried_safe : (head : XLogData) → IsHead head
-      → (messages : List Msg) (rest : List Item) (position : ℕ) (machine : Machine)
+      → (messages : List Msg) (rest : List StreamItem) (position : ℕ) (machine : Machine)
       → All IsSentItem (map (Carries head) messages ++ rest)
       → Safe (Follows checked transactions subscriber) position messages machine
       (λ at next. SafeItems checked transactions subscriber at rest next)
@@ -123,7 +123,7 @@ module _ (checked : CheckedOf) (transactions : List Transaction) (subscriber : �
       )
 
   -- of any first items
-  pub first_safe : (fed others items : List Item) (position : ℕ) (machine : Machine) → fed ++ others ≡ items
+  pub first_safe : (fed others items : List StreamItem) (position : ℕ) (machine : Machine) → fed ++ others ≡ items
       → SafeItems checked transactions subscriber position items machine
       → IsOkAnd (hear_frames (map frame_in fed) machine)
       (Follows checked transactions subscriber (position_after position fed))
@@ -140,21 +140,21 @@ module _ (checked : CheckedOf) (transactions : List Transaction) (subscriber : �
       (λ next later. first_safe fed others items (raised_by position item) next
       (same_items first item (fed ++ others) items e) later))
     where
-      then_ok : (outcome : Outcome) (more : Machine → Outcome) (P Q : Machine → Type 0) → IsOkAnd outcome P
+      then_ok : (outcome : MachineResult) (more : Machine → MachineResult) (P Q : Machine → Type 0) → IsOkAnd outcome P
           → ((next : Machine) → P next → IsOkAnd (more next) Q)
           → IsOkAnd (next_heard outcome more) Q
       then_ok (Ok next) more P Q h on = on next h
       then_ok (Err fault) more P Q h on = h
 
 -- what holds of all holds of the last ones
-all_last : (xs ys : List Item) → All IsSentItem (xs ++ ys) → All IsSentItem ys
+all_last : (xs ys : List StreamItem) → All IsSentItem (xs ++ ys) → All IsSentItem ys
 all_last [] ys h = h
 all_last (x ∷ xs) ys h = all_last xs ys (All-tail IsSentItem x (xs ++ ys) h)
 
 -- ---- moves
 
 module _ (checked : CheckedOf) (transactions : List Transaction) (published : IsPublished checked transactions) where
-  abbrev items_on : StreamStateOf → List Move → List Item
+  abbrev items_on : StreamStateOf → List Move → List StreamItem
   items_on state moves = all_items (telling_of checked) (log_of checked transactions) state moves
 
   -- what comes after a move
@@ -249,7 +249,7 @@ pub stream_safe : (checked : CheckedOf) (transactions : List Transaction) → Is
     machine
 stream_safe checked transactions published subscriber machine at_start position follows moves sent =
     let state : StreamStateOf = state_at subscriber (length checked.catalog.tables) position in
-    let items : List Item = all_items (telling_of checked) (log_of checked transactions) state moves in (
+    let items : List StreamItem = all_items (telling_of checked) (log_of checked transactions) state moves in (
       follows,
       ok_as (Ok (started machine)) (hear_frame (frame_in Response) machine)
           (SafeItems checked transactions subscriber position items)

@@ -10,7 +10,7 @@ use Rattle.table_changes.specs.Tables.{Tables}
 use Rattle.shard_checker.specs.CheckedView.{CheckedOf, setting_in}
 use Rattle.tables_log.specs.Lsn.{commits_before}
 use Rattle.tables_log.specs.StandsFor.{Transaction, after}
-use Rattle.pgoutput_msgs.specs.Telling.{oid_of, relation_of, relation_at, introduced, relation_once, relations_of, told_one, told_all}
+use Rattle.pgoutput_msgs.specs.Telling.{oid_of, relation_of, a_relation, introduced, relation_once, relations_of, told_one, told_all}
 use Rattle.pgoutput_msgs.specs.declared.message.Msg.TheVariants as m
 use Rattle.test_subscriber.specs.Hearing.{with_found, hear_in}
 use Rattle.test_subscriber.specs.Machine.{Rows, Machine}
@@ -115,7 +115,7 @@ module _ (checked : CheckedOf) (transactions : List Transaction) (subscriber beg
   new_relation : (sent : List Bool) (number : ℕ) (found : Option Table) (machine : Machine)
       → slice_get checked.catalog.tables number ≡ found → number < length sent
       → Inside checked subscriber begin outer sent tables machine
-      → Safe (Follows checked transactions subscriber) position (relation_at number found) machine
+      → Safe (Follows checked transactions subscriber) position (a_relation number found) machine
       (λ at next. (at ≡ position) × Inside checked subscriber begin outer (told_one sent number) tables next)
   new_relation sent number None machine e less inside =
       absurd (let past = past_end checked.catalog.tables number e in omega (arith, past, less, inside.knows.flags))

@@ -15,7 +15,7 @@ use Rattle.table_changes.specs.Setting.{Recorded, Columns, Whole, Nowhere, fits}
 use Rattle.table_changes.specs.Standing.{Covered}
 use Rattle.table_changes.proofs.TableLemmas.{at_next}
 use Rattle.replica_identity.specs.Identities.{identity_columns, is_covered}
-use Rattle.replica_identity.specs.Setting.{recorded_as, fault_in, identity_by, identity_in, blanked_by, blanked_in}
+use Rattle.replica_identity.specs.Setting.{recorded_as, table_fault, row_identity, identity_in, blanked_by, blanked_in}
 use Rattle.replica_identity.proofs.SettingLemmas.{columns_identify}
 use Rattle.shard_checker.specs.CheckedView.{CheckedOf, setting_in}
 use Rattle.pgoutput_msgs.specs.Telling.{columns_from}
@@ -155,9 +155,9 @@ pub row_of : (checked : CheckedOf) (number : ℕ) (row : List Datum) → fits (s
 row_of checked number row h = by_found (slice_get checked.catalog.tables number) refl
   where
     both : ((nat_lt number (length checked.catalog.tables)) ≡ true)
-        × (is_none (fault_in (slice_get checked.catalog.tables number) row) ≡ true)
+        × (is_none (table_fault (slice_get checked.catalog.tables number) row) ≡ true)
     both = both_true (nat_lt number (length checked.catalog.tables))
-        (is_none (fault_in (slice_get checked.catalog.tables number) row)) h
+        (is_none (table_fault (slice_get checked.catalog.tables number) row)) h
 
     by_found : (found : Option Table) → slice_get checked.catalog.tables number ≡ found → IsRowOf checked number row
     by_found None e = absurd
@@ -167,8 +167,8 @@ row_of checked number row h = by_found (slice_get checked.catalog.tables number)
       table = table;
       there = e;
       valid = valid_from_no_fault table.columns row
-          (ap (λ found. fault_in found row) (sym e)
-          ∙ none_is (fault_in (slice_get checked.catalog.tables number) row) both.1);
+          (ap (λ found. table_fault found row) (sym e)
+          ∙ none_is (table_fault (slice_get checked.catalog.tables number) row) both.1);
     }
 
 pub key_at_table : (checked : CheckedOf) (number : ℕ) (table : Table) (row : List Datum)
@@ -178,7 +178,7 @@ key_at_table checked number table row there = ap (λ found. values_at (flagged_i
 
 -- what is recorded has the identity's columns, with nulls or as they were
 blanked_values : (table : Table) (row : List Datum) (as_it : Recorded)
-    → identity_by as_it table (blanked_by as_it table row) ≡ identity_by as_it table row
+    → row_identity as_it table (blanked_by as_it table row) ≡ row_identity as_it table row
     → values_at (flagged_in (Some table)) (blanked_by as_it table row) ≡ values_at (flagged_in (Some table)) row
 blanked_values table row Columns h = flags_from_identity table (blanked_by Columns table row) row h
 blanked_values table row Whole h = refl

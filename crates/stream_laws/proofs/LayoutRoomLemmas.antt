@@ -33,7 +33,7 @@ use Rattle.pgoutput_msgs.specs.Introducing.{IsChangeOf}
 use Rattle.pgoutput_msgs.specs.Ranges.{HasTexts, HasTextName}
 use Rattle.pgoutput_msgs.specs.Sent.{IsSent}
 use Rattle.pgoutput_msgs.specs.Telling as t
-use Rattle.pgoutput_msgs.specs.Telling.{column_of, columns_from, relation_of, relation_at, introduced, relation_once, relations_of, told_one, told_by, message_of, named_in, said, said_each, enclosed, messages_for}
+use Rattle.pgoutput_msgs.specs.Telling.{sent_column, columns_from, relation_of, a_relation, introduced, relation_once, relations_of, told_one, told_by, message_of, named_in, said, said_each, enclosed, messages_for}
 use Rattle.pgoutput_msgs.specs.ValueText.{cells_of}
 use Rattle.pgoutput_msgs.specs.declared.message.Msg.{Msg}
 use Rattle.pgoutput_msgs.specs.declared.message.Msg.TheVariants as m
@@ -215,12 +215,12 @@ module _ (checked : CheckedOf) (limited : IsLimited checked.catalog) where
           → All HasTextName (columns_from table from columns)
       columns_text from [] all = All-nil HasTextName
       columns_text from (column ∷ columns) all =
-          All-cons HasTextName (column_of table from column) (columns_from table (from + 1) columns)
+          All-cons HasTextName (sent_column table from column) (columns_from table (from + 1) columns)
           (All-head HasPlainName column columns all).utf8
           (columns_text (from + 1) columns (All-tail HasPlainName column columns all))
 
   found_text : (number : ℕ) (found : Option Table) → slice_get checked.catalog.tables number ≡ found
-      → All HasTexts (relation_at number found)
+      → All HasTexts (a_relation number found)
   found_text number None e = All-nil HasTexts
   found_text number (Some table) e =
       All-cons HasTexts (m.Relation (relation_of number table)) []
@@ -358,9 +358,9 @@ module _ (checked : CheckedOf) (limited : IsLimited checked.catalog) where
         → All HasTexts (enclosed commit messages)
     enclosed_text commit [] all = All-nil HasTexts
     enclosed_text commit (first ∷ others) all =
-        All-cons HasTexts (t.begin_of commit) ((first ∷ others) ++ t.commit_of commit ∷ []) tt
-        (All-append HasTexts (first ∷ others) (t.commit_of commit ∷ []) all
-        (All-cons HasTexts (t.commit_of commit) [] tt (All-nil HasTexts)))
+        All-cons HasTexts (t.begin_msg commit) ((first ∷ others) ++ t.commit_msg commit ∷ []) tt
+        (All-append HasTexts (first ∷ others) (t.commit_msg commit ∷ []) all
+        (All-cons HasTexts (t.commit_msg commit) [] tt (All-nil HasTexts)))
 
     commit_sent : (number time : ℕ) (commands : List Command) (tables : Tables) → 1 ≤ number → number ≤ 1000000000
         → time < 2 ^ 64 → first_fault (setting_in checked) tables 1 commands ≡ None

@@ -3,7 +3,7 @@ use Rattle.std.proofs.Common.{◌≡◌, ℕ, List, [], ◌∷◌, ◌++◌, sym
 use Rattle.std.specs.Prelude.{Ok, Err}
 use Rattle.std.specs.Result.{IsOkAnd}
 use Rattle.pgoutput_msgs.specs.declared.message.Msg.{Msg}
-use Rattle.test_subscriber.specs.Hearing.{Outcome, hear}
+use Rattle.test_subscriber.specs.Hearing.{MachineResult, hear}
 use Rattle.test_subscriber.specs.Machine.{Machine}
 use Rattle.stream_laws.specs.Following.{raised_by_message}
 
@@ -14,12 +14,12 @@ Safe Good position (message ∷ messages) machine Goal =
     Good position machine
     × IsOkAnd (hear message machine) (λ next. Safe Good (raised_by_message position message) messages next Goal)
 
-pub on_ok : (outcome : Outcome) (P Q : Machine → Type 0) → IsOkAnd outcome P
+pub on_ok : (outcome : MachineResult) (P Q : Machine → Type 0) → IsOkAnd outcome P
     → ((machine : Machine) → P machine → Q machine) → IsOkAnd outcome Q
 on_ok (Ok machine) P Q h on = on machine h
 on_ok (Err fault) P Q h on = h
 
-pub ok_as : (one other : Outcome) (P : Machine → Type 0) → one ≡ other → IsOkAnd one P → IsOkAnd other P
+pub ok_as : (one other : MachineResult) (P : Machine → Type 0) → one ≡ other → IsOkAnd one P → IsOkAnd other P
 ok_as one other P e h = subst (λ o. IsOkAnd o P) e h
 
 -- the first message leaves this machine

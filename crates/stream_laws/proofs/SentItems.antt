@@ -10,15 +10,15 @@ use Rattle.tables_log.specs.StandsFor.{Transaction, AreAccepted}
 use Rattle.pgoutput_msgs.specs.Sent.{IsSent}
 use Rattle.pgoutput_msgs.specs.Telling.{messages_for}
 use Rattle.pgoutput_msgs.specs.declared.message.Msg.{Msg}
-use Rattle.copy_both.specs.Streams.{Item, Response, Carries, StreamStateOf, Move, Take, Keep, state_at, state_after, taken_state, head_of, take_items, keep_item, all_items}
+use Rattle.copy_both.specs.Streams.{StreamItem, Response, Carries, StreamStateOf, Move, Take, Keep, state_at, state_after, taken_state, head_of, take_items, keep_item, all_items}
 use Rattle.copy_both.specs.Tellings.{telling_of}
 use Rattle.stream_laws.specs.Following.{log_of, items_from, IsSentItem}
 use Rattle.stream_laws.specs.LayoutRoom.{IsClocked, FitsLayouts, StreamsCanBeSent}
 use Rattle.stream_laws.proofs.EntryLemmas.{entry_at}
 use Rattle.stream_laws.proofs.FollowingLemmas.{first_sent_counts}
 
-carried_sent : (number clock : ℕ) → number ≤ 1000000000 → clock < 2 ^ 64 → (messages : List Msg) (rest : List Item)
-    → All IsSent messages → All IsSentItem rest
+carried_sent : (number clock : ℕ) → number ≤ 1000000000 → clock < 2 ^ 64
+    → (messages : List Msg) (rest : List StreamItem) → All IsSent messages → All IsSentItem rest
     → All IsSentItem (map (Carries (head_of number clock)) messages ++ rest)
 carried_sent number clock few timed [] rest sent h = h
 carried_sent number clock few timed (message ∷ messages) rest sent h =
@@ -32,7 +32,7 @@ carried_sent number clock few timed (message ∷ messages) rest sent h =
 module _ (checked : CheckedOf) (transactions : List Transaction)
     (accepted : AreAccepted (setting_in checked) no_rows transactions) (sayable : FitsLayouts checked transactions)
   where
-    abbrev items_on : StreamStateOf → List Move → List Item
+    abbrev items_on : StreamStateOf → List Move → List StreamItem
     items_on state moves = all_items (telling_of checked) (log_of checked transactions) state moves
 
     take_sent : (moves : List Move) (state : StreamStateOf) (clock : ℕ) → clock < 2 ^ 64

@@ -12,8 +12,8 @@ use Rattle.pub_catalog.specs.declared.catalog.Subscription.{Subscription}
 use Rattle.tables_log.specs.Slots.{end_after, confirmed_at, slot_fault, start_fault}
 use Rattle.tables_log.specs.declared.slots.Slot.{Slot}
 use Rattle.copy_both.specs.CommandText.{command_of}
-use Rattle.copy_both.specs.Hearing.{Served, Begins, offer_in, unless_fault, begin_by, begin_of}
-use Rattle.copy_both.specs.StartAnswers.{Stream, asked_in, asked_by, asked_at, unless_refused, asked_of}
+use Rattle.copy_both.specs.Hearing.{ServedFrom, Begins, offer_in, unless_fault, begin_by, begin_of}
+use Rattle.copy_both.specs.StartAnswers.{Stream, asked_in, asked_by_command, asked_at, unless_refused, asked_of}
 use Rattle.copy_both.specs.StartOrder.{is_called, unknown_refusal, same_publications, slot_name, slot_refusal, publications_of}
 use Rattle.test_subscriber.specs.StartQuery.{start_text}
 use Rattle.stream_laws.specs.Asking.{IsShortName, CanAsk, start_command, StartsAreAnswered}
@@ -142,7 +142,7 @@ not_ahead None end position e = absurd cc
 not_ahead (Some slot) end position e =
     by_test (nat_lt end position) (λ ahead. absurd (let fault = rw ahead at e in cc)) (λ reached. reached)
 
-module _ (served : Served) (slots : List Slot) (subscriber position : ℕ) (subscription : Subscription)
+module _ (served : ServedFrom) (slots : List Slot) (subscriber position : ℕ) (subscription : Subscription)
     (can : CanAsk served.checked.catalog subscriber subscription)
     (small : position < 2 ^ 64) (free : start_fault slots (end_after served.commits) subscriber position ≡ None) where
   abbrev names : List (List ℕ)
@@ -175,7 +175,7 @@ module _ (served : Served) (slots : List Slot) (subscriber position : ℕ) (subs
   is_asked =
       ap (asked_in (offer_in served))
       (query_text text (start_is_text subscription.name names position can.named plain small))
-      ∙ ap (asked_by (offer_in served)) reads
+      ∙ ap (asked_by_command (offer_in served)) reads
       ∙ ap (asked_at (offer_in served) (start_command subscription.name names position)) can.found
       ∙ ap (λ its. unless_refused
       (slot_refusal (offer_in served) (start_command subscription.name names position) subscriber its) subscriber

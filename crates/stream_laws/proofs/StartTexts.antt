@@ -13,7 +13,7 @@ use Rattle.std.proofs.lemmas.Str.Ascii.{IsAscii-cons}
 use Rattle.pub_catalog.specs.CatalogLimits.{IsPlainName}
 use Rattle.sql_tokens.specs.Doubled.{doubled, in_quotes}
 use Rattle.copy_both.proofs.Utf8Texts.{is_text}
-use Rattle.copy_both.specs.StartAnswers.{text_in}
+use Rattle.copy_both.specs.StartAnswers.{text_of_query}
 use Rattle.test_subscriber.specs.StartQuery.{lsn_text, names_text, start_text}
 use Rattle.stream_laws.proofs.CommandPieces.{hex_digits}
 use Rattle.filter_tree.proofs.Tests.{by_test}
@@ -180,7 +180,7 @@ zero_at (b ∷ text) e =
     let both = and_parts (not (b == 0)) (is_clean text) e in
     rw (both.0, zero_at text both.1) (omega arith)
 
-pub query_text : (text : List ℕ) → IsQueryText text → text_in (text ++ (0 ∷ [])) ≡ Some text
+pub query_text : (text : List ℕ) → IsQueryText text → text_of_query (text ++ (0 ∷ [])) ≡ Some text
 query_text text is =
     let long : length (text ++ (0 ∷ [])) ≡ length text + 1 = length-append text (0 ∷ []) in
     let within : nat_lt (length text) (length text + 1) ≡ true = grind (arith, nat_tests) in

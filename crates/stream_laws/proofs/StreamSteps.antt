@@ -12,7 +12,7 @@ use Rattle.tables_log.specs.Commits as log
 use Rattle.tables_log.specs.Commits.{CommitOf}
 use Rattle.tables_log.specs.Lsn.{lsn_of, end_lsn_of, commits_before}
 use Rattle.tables_log.specs.StandsFor.{Transaction, left_by, after}
-use Rattle.pgoutput_msgs.specs.Telling.{begin_of, commit_of, enclosed, messages_for, oid_of, said_each, told_each}
+use Rattle.pgoutput_msgs.specs.Telling.{begin_msg, commit_msg, enclosed, messages_for, oid_of, said_each, told_each}
 use Rattle.pgoutput_msgs.specs.declared.message.Msg.{Msg}
 use Rattle.copy_both.specs.Streams.{StreamStateOf, state_after}
 use Rattle.copy_both.specs.Tellings.{telling_of}
@@ -221,10 +221,10 @@ module _ (checked : CheckedOf) (transactions : List Transaction) (published : Is
       let follows = between_follows checked transactions state position machine between in
       safe_heard (Follows checked transactions state.slot)
       (Between checked transactions (state_after (telling_of checked) state (next_commit state transaction)))
-      position (begin_of (next_commit state transaction))
-      ((first ∷ others) ++ commit_of (next_commit state transaction) ∷ []) machine
+      position (begin_msg (next_commit state transaction))
+      ((first ∷ others) ++ commit_msg (next_commit state transaction) ∷ []) machine
       (begun (lsn_of (1 + state.done)) machine) follows
-      (ap (λ phase. hear_in phase (begin_of (next_commit state transaction)) machine) between.idle)
+      (ap (λ phase. hear_in phase (begin_msg (next_commit state transaction)) machine) between.idle)
       (safe_both (Follows checked transactions state.slot)
       (Between checked transactions (state_after (telling_of checked) state (next_commit state transaction)))
       (Inside checked state.slot (lsn_of (1 + state.done)) machine
@@ -232,15 +232,15 @@ module _ (checked : CheckedOf) (transactions : List Transaction) (published : Is
       (record_of (setting_in checked) (after (setting_in checked) (take state.done transactions))
       transaction.commands))
       (left_by (setting_in checked) (after (setting_in checked) (take state.done transactions)) transaction))
-      position (first ∷ others) (commit_of (next_commit state transaction) ∷ [])
+      position (first ∷ others) (commit_msg (next_commit state transaction) ∷ [])
       (begun (lsn_of (1 + state.done)) machine) h
       (λ next inside.
       safe_heard (Follows checked transactions state.slot)
       (Between checked transactions (state_after (telling_of checked) state (next_commit state transaction)))
-      position (commit_of (next_commit state transaction)) [] next (committed (end_lsn_of (1 + state.done)) next)
+      position (commit_msg (next_commit state transaction)) [] next (committed (end_lsn_of (1 + state.done)) next)
       (inside_follows checked transactions state.slot (lsn_of (1 + state.done)) position machine _ _ next follows
       inside)
-      (ap (λ phase. hear_in phase (commit_of (next_commit state transaction)) next) inside.busy
+      (ap (λ phase. hear_in phase (commit_msg (next_commit state transaction)) next) inside.busy
       ∙ rw ((unsigned_Decides (lsn_of (1 + state.done)) (lsn_of (1 + state.done))).1 refl) refl)
       (after_commit state position machine between transaction within left next inside)))
 

@@ -14,7 +14,7 @@ use Rattle.shard_checker.specs.CheckedView.{CheckedOf, setting_in}
 use Rattle.tables_log.specs.StandsFor.{Transaction}
 use Rattle.pgoutput_msgs.specs.Telling.{oid_of, relations_of, told_all, said, told_by}
 use Rattle.pgoutput_msgs.specs.declared.message.Msg.TheVariants as m
-use Rattle.test_subscriber.specs.Hearing.{with_found, emptied, hear_empty, empty_rest, hear_truncate, hear_in}
+use Rattle.test_subscriber.specs.Hearing.{with_found, without_rows, hear_empty, empty_rest, hear_truncate, hear_in}
 use Rattle.test_subscriber.specs.Machine.{Machine}
 use Rattle.test_subscriber.specs.declared.shape.TableShape.{TableShape}
 use Rattle.stream_laws.specs.ShardRows.{in_shard, FindsShard}
@@ -89,8 +89,8 @@ empties checked sent (number ∷ numbers) machine within known kept flags =
     (All-head (λ n. n < length checked.catalog.tables) number numbers within) in
     let one : hear_empty (oid_of number) machine
     ≡ Ok (record machine { work = with_found machine.work (oid_of number) (λ key. None) }) =
-    change_heard machine (oid_of number) emptied (shape_for number there.table) (λ key. None) (known number ∙ flags.0)
-    (kept number there.table there.is flags.0) refl in
+    change_heard machine (oid_of number) without_rows (shape_for number there.table) (λ key. None)
+    (known number ∙ flags.0) (kept number there.table there.is flags.0) refl in
     let later = empties checked sent numbers
     (record machine { work = with_found machine.work (oid_of number) (λ key. None) })
     (All-tail (λ n. n < length checked.catalog.tables) number numbers within) known kept flags.1 in

@@ -12,7 +12,7 @@ use Rattle.tables_log.specs.declared.slots.Slot.{Slot}
 use Rattle.copy_both.specs.CommandText.{command_of}
 use Rattle.copy_both.specs.declared.start_command.OptionValue.TheVariants.{Version, Publications}
 use Rattle.copy_both.specs.declared.start_command.StartCommand.{StartCommand}
-use Rattle.copy_both.specs.Hearing.{Served, Begins, begin_of}
+use Rattle.copy_both.specs.Hearing.{ServedFrom, Begins, begin_of}
 use Rattle.copy_both.specs.StartOrder.{find_slot}
 use Rattle.test_subscriber.specs.StartQuery.{start_text}
 use Rattle.stream_laws.specs.Ups.{Asks, start_of, up_frame}
@@ -51,7 +51,7 @@ pub record CanAsk (catalog : CatalogOf Expr) (subscriber : ℕ) (subscription : 
 -- If the slot is free and the log reaches the position, the stream starts there, or where the slot is confirmed if that
 -- is later.
 abbrev pub StartsAreAnswered : Type 0
-StartsAreAnswered = (served : Served) (slots : List Slot) (subscriber position : ℕ) (subscription : Subscription)
+StartsAreAnswered = (served : ServedFrom) (slots : List Slot) (subscriber position : ℕ) (subscription : Subscription)
     → CanAsk served.checked.catalog subscriber subscription
     → position < 2 ^ 64 → start_fault slots (end_after served.commits) subscriber position ≡ None
     → begin_of served slots (up_frame served.checked subscriber (Asks position)).kind

@@ -16,7 +16,7 @@ use Rattle.pgoutput_msgs.specs.Sent.{IsSent}
 use Rattle.pgoutput_msgs.specs.Telling.{oid_of, columns_from, relation_of}
 use Rattle.pgoutput_msgs.specs.declared.message.Msg.{Msg}
 use Rattle.pgoutput_msgs.specs.declared.message.Msg.TheVariants as m
-use Rattle.copy_both.specs.Streams.{Item, Response, Carries, Alive, frame_in, Move, stream_items}
+use Rattle.copy_both.specs.Streams.{StreamItem, Response, Carries, Alive, frame_in, Move, stream_items}
 use Rattle.copy_both.specs.Tellings.{telling_of}
 use Rattle.copy_frames.specs.declared.xlog_data.XLogData.{XLogData}
 use Rattle.test_subscriber.specs.Feeding.{hear_frames}
@@ -38,12 +38,12 @@ raised_by_message position (m.Delete relation old) = position
 raised_by_message position (m.Truncate options relations) = position
 
 -- or which a keepalive carries
-abbrev pub raised_by : ℕ → Item → ℕ
+abbrev pub raised_by : ℕ → StreamItem → ℕ
 raised_by position Response = position
 raised_by position (Carries head message) = raised_by_message position message
 raised_by position (Alive keepalive) = max position keepalive.position
 
-abbrev pub position_after : ℕ → List Item → ℕ
+abbrev pub position_after : ℕ → List StreamItem → ℕ
 position_after position items = fold raised_by position items
 
 -- ---- what a subscriber has
@@ -90,7 +90,7 @@ abbrev pub log_of : CheckedOf → List Transaction → List CommitOf
 log_of checked transactions = entries_from (setting_in checked) no_rows 1 transactions
 
 -- what a connection of the subscriber of this number sends that starts at this position and makes these moves
-abbrev pub items_from : CheckedOf → List Transaction → ℕ → ℕ → List Move → List Item
+abbrev pub items_from : CheckedOf → List Transaction → ℕ → ℕ → List Move → List StreamItem
 items_from checked transactions subscriber position moves =
     stream_items (telling_of checked) (log_of checked transactions) subscriber (length checked.catalog.tables) position
     moves
@@ -102,7 +102,7 @@ pub record IsHead (head : XLogData) : Type 0 where
   pub clock : head.clock < 2 ^ 64
 
 -- the layouts have room for what it sends
-abbrev pub IsSentItem : Item → Type 0
+abbrev pub IsSentItem : StreamItem → Type 0
 IsSentItem Response = Unit {0}
 IsSentItem (Carries head message) = IsHead head × IsSent message
 IsSentItem (Alive keepalive) = (keepalive.position < 2 ^ 64) × (keepalive.clock < 2 ^ 64)
@@ -116,7 +116,7 @@ ItemsAreFollowed = (checked : CheckedOf) (transactions : List Transaction) → I
     → (subscriber : ℕ) (machine : Machine) → Follows checked transactions subscriber machine.position machine
     → (moves : List Move)
     → All IsSentItem (items_from checked transactions subscriber machine.position moves)
-    → (items others : List Item)
+    → (items others : List StreamItem)
     → items ++ others ≡ items_from checked transactions subscriber machine.position moves
     → IsOkAnd (hear_frames (map frame_in items) (opened machine))
     (Follows checked transactions subscriber (position_after machine.position items))

@@ -3,12 +3,12 @@
 use Rattle.std.specs.Prelude.{◌≡◌, ℕ, List, [], ◌++◌, All, length, None}
 use Rattle.shard_checker.specs.CheckedView.{CheckedOf}
 use Rattle.tables_log.specs.StandsFor.{Transaction}
-use Rattle.copy_both.specs.Streams.{Item, Move, stream}
+use Rattle.copy_both.specs.Streams.{StreamItem, Move, stream}
 use Rattle.copy_both.specs.Tellings.{telling_of}
 use Rattle.copy_frames.specs.Frames.{cut}
-use Rattle.test_subscriber.specs.Copies.{told}
+use Rattle.test_subscriber.specs.Copies.{sub_fault}
 use Rattle.test_subscriber.specs.Feeding.{limit}
-use Rattle.test_subscriber.specs.Frames.{Heard, hear_cut}
+use Rattle.test_subscriber.specs.Frames.{MachineHeard, hear_cut}
 use Rattle.test_subscriber.specs.Machine.{Machine, opened}
 use Rattle.test_subscriber.specs.Subscribers.{sub_machine, first_machine, Loses, Opens, Feeds, FeedStops}
 use Rattle.test_subscriber.specs.declared.fault.SubFault.{SubFault}
@@ -23,13 +23,13 @@ AreFirst checked transactions subscriber position moves bytes others =
     (length checked.catalog.tables) position moves
 
 -- the position after the items whose frames are whole in this number of bytes
-abbrev pub position_in : CheckedOf → List Transaction → ℕ → ℕ → List Move → List ℕ → ℕ
-position_in checked transactions subscriber position moves bytes =
+abbrev pub position_after_bytes : CheckedOf → List Transaction → ℕ → ℕ → List Move → List ℕ → ℕ
+position_after_bytes checked transactions subscriber position moves bytes =
     position_after position (whole_in (length bytes) (items_from checked transactions subscriber position moves))
 
 -- what is heard has no fault, and follows
 pub record IsFollowed (checked : CheckedOf) (transactions : List Transaction) (subscriber position : ℕ)
-    (heard : Heard) : Type 0 where
+    (heard : MachineHeard) : Type 0 where
   pub no_fault : heard.fault ≡ None
   pub follows : Follows checked transactions subscriber position heard.machine
 
@@ -41,7 +41,7 @@ BytesAreFollowed = (checked : CheckedOf) (transactions : List Transaction) → I
     → (moves : List Move) → All IsSentItem (items_from checked transactions subscriber machine.position moves)
     → (bytes others : List ℕ) → AreFirst checked transactions subscriber machine.position moves bytes others
     → IsFollowed checked transactions subscriber
-    (position_in checked transactions subscriber machine.position moves bytes)
+    (position_after_bytes checked transactions subscriber machine.position moves bytes)
     (hear_cut (cut limit bytes) (opened machine))
 
 -- ---- subscribers, by what their calls leave
@@ -59,7 +59,7 @@ FedFollow = (checked : CheckedOf) (transactions : List Transaction) → IsPublis
     → (bytes others : List ℕ) → AreFirst checked transactions number (sub_machine old).position moves bytes others
     → Feeds between bytes new
     → Follows checked transactions number
-    (position_in checked transactions number (sub_machine old).position moves bytes) (sub_machine new)
+    (position_after_bytes checked transactions number (sub_machine old).position moves bytes) (sub_machine new)
 
 -- nothing has to be fed before the first piece
 abbrev pub NothingIsFed : Type 0
@@ -68,9 +68,9 @@ NothingIsFed = (old between : Subscriber) → Opens old between → Feeds betwee
 -- it stopped after all items that are whole in the bytes before the piece, and some of those that are whole with it,
 -- and follows at the position after them
 pub record StopsFollowing (checked : CheckedOf) (transactions : List Transaction) (number : ℕ) (position : ℕ)
-    (before fed : List Item) (new : Subscriber) : Type 0 where
-  pub more : List Item
-  pub others : List Item
+    (before fed : List StreamItem) (new : Subscriber) : Type 0 where
+  pub more : List StreamItem
+  pub others : List StreamItem
   pub among : (before ++ more) ++ others ≡ fed
   pub follows : Follows checked transactions number (position_after position (before ++ more)) (sub_machine new)
 
@@ -84,7 +84,7 @@ StoppedFollow = (checked : CheckedOf) (transactions : List Transaction) → IsPu
     → (bytes piece others : List ℕ) (error : SubFault)
     → AreFirst checked transactions number (sub_machine old).position moves (bytes ++ piece) others
     → Feeds between bytes middle → FeedStops middle piece error new
-    → (told error ≡ None) × StopsFollowing checked transactions number (sub_machine old).position
+    → (sub_fault error ≡ None) × StopsFollowing checked transactions number (sub_machine old).position
     (whole_in (length bytes) (items_from checked transactions number (sub_machine old).position moves))
     (whole_in (length (bytes ++ piece)) (items_from checked transactions number (sub_machine old).position moves)) new
 

@@ -45,11 +45,11 @@ transform_of passes carries (r.Truncate numbers) = if list_any carries numbers t
 -- ---- it as a change, and as what is seen
 
 -- the table of a change of rows
-abbrev pub table_of : r.ChangeOf → ℕ
-table_of (r.Insert table new) = table
-table_of (r.Update table part new) = table
-table_of (r.Delete table part) = table
-table_of (r.Truncate numbers) = 0
+abbrev pub changed_table : r.ChangeOf → ℕ
+changed_table (r.Insert table new) = table
+changed_table (r.Update table part new) = table
+changed_table (r.Delete table part) = table
+changed_table (r.Truncate numbers) = 0
 
 -- as a change of this table, or of those tables from which the subscriber gets anything
 abbrev pub stands_for : ℕ → (ℕ → Bool) → OutOf → r.ChangeOf
@@ -61,7 +61,7 @@ stands_for table carries (Truncate numbers) = r.Truncate (filter carries numbers
 -- what the subscriber of this number gets of a change, as a change
 abbrev pub got : Setting → ℕ → r.ChangeOf → Option r.ChangeOf
 got setting subscriber change =
-    option_map (stands_for (table_of change) (setting.carries subscriber))
+    option_map (stands_for (changed_table change) (setting.carries subscriber))
     (transform_of (setting.passes subscriber) (setting.carries subscriber) change)
 
 -- what is seen, as it is recorded

@@ -14,7 +14,7 @@ use Rattle.replica_identity.specs.declared.change.Change.{Change}
 use Rattle.shard_checker.specs.CheckedView.{CheckedOf, setting_in}
 use Rattle.replica_identity.specs.Parts.{part_in}
 use Rattle.replica_identity.specs.Plans.{PlanOf}
-use Rattle.replica_identity.specs.Setting.{fault_in, keys_in, setting_of}
+use Rattle.replica_identity.specs.Setting.{table_fault, keys_in, setting_of}
 use Rattle.replica_identity.proofs.PartLemmas.{records_parts}
 use Rattle.table_changes.specs.Commands.{Command, Insert, Update, Delete, CommandFault, NoTable, NoSuchRow, DuplicateKey, unless, unless_unfit, named, fault_of}
 use Rattle.table_changes.specs.Records as r
@@ -110,7 +110,7 @@ module _ (catalog : CatalogOf Expr) (plan : PlanOf) (tables : Tables) (number : 
   keys_are = ap keys_in there
 
   fault_is : (row : List Datum) → (setting_of catalog plan).fault number row ≡ row_fault table.columns row
-  fault_is row = ap (λ found. fault_in found row) there
+  fault_is row = ap (λ found. table_fault found row) there
 
   free_is : (others : Tables) (seen : Places)
       → ((key : ℕ) (value : List Datum) → others number key value ≡ seen key value) → (row : List Datum)

@@ -8,7 +8,7 @@ use Rattle.std.specs.Ordering.{eq_by_cmp, is_eq}
 use Rattle.std.specs.declared.cmp.Ordering.{Ordering}
 use Rattle.std.specs.declared.cmp.Ordering.TheVariants.{Equal}
 use Rattle.std.proofs.lemmas.Cmp.{eq_by_cmp_equiv}
-use Rattle.tables_log.specs.Layers.{flat, over, below, has_place, is_made, was_in, rewound, kept_under, HasRoom}
+use Rattle.tables_log.specs.Layers.{flat, over, below, has_place, made_by_change, was_in, rewound, kept_under, HasRoom}
 use Rattle.filter_tree.proofs.Tests.{by_test}
 
 -- ---- by cases
@@ -196,7 +196,7 @@ module _ {K : Type 0} {cmp : K → K → Ordering} (total : IsTotalOrder cmp) wh
       over_append (is_at (cmp other)) undo key was (below cmp new_base other)
       ∙ ap (λ (b : Bool). over (was_in cmp undo other) (if b then was else below cmp new_base other)) (turned key other)
       ∙ ap (λ (x : Option V). over (was_in cmp undo other) x) there in
-      ap (λ (x : Option V). if is_made cmp made other then None else x) found
+      ap (λ (x : Option V). if made_by_change cmp made other then None else x) found
 
   pub room_undone : {V : Type 0} (base new_base : BTreeMap K (Option V)) (undo : List (K × Option V)) (key : K)
       (was : Option V)

@@ -23,9 +23,9 @@ use Rattle.filter_tree.specs.Order.{row_cmp}
 use Rattle.filter_tree.specs.Same.{same_row}
 use Rattle.filter_tree.proofs.OrderLemmas.{row_total, row_tie, ties_same_rows}
 use Rattle.filter_tree.proofs.SameLemmas.{equal_from_same_row, same_row_of_equal}
-use Rattle.tables_log.specs.Layers.{flat, filled, over, is_made, was_in, rewound, kept_under, kept_places, HasRoom}
+use Rattle.tables_log.specs.Layers.{flat, filled, over, made_by_change, was_in, rewound, kept_under, kept_places, HasRoom}
 use Rattle.tables_log.specs.Listing.{there, ListsFound, AreRowsOf}
-use Rattle.tables_log.specs.NumberKeys.{number_in, number_key, by_number, HasNoNumber}
+use Rattle.tables_log.specs.NumberKeys.{number_of_key, number_key, by_number, HasNoNumber}
 use Rattle.tables_log.specs.Places.{IsInOrder, kept_at, kept_in, maps_of, first_values, listed_in}
 use Rattle.tables_log.specs.Staging.{kept, kept_values}
 use Rattle.tables_log.proofs.LayerLemmas.{if_same, over_none, tests_same}
@@ -181,8 +181,8 @@ module _ {K : Type 0} (cmp : K → K → Ordering) (total : IsTotalOrder cmp) (e
     kept_flat key None room =
         let nothing : over (was_in cmp undo key) None ≡ None =
         over_none (was_in cmp undo key) (λ has. let never : false ≡ true = room has in cc) in
-        sym (ap (λ (x : Option V). if is_made cmp made key then None else x) nothing
-        ∙ if_same (is_made cmp made key) None)
+        sym (ap (λ (x : Option V). if made_by_change cmp made key then None else x) nothing
+        ∙ if_same (made_by_change cmp made key) None)
 
     found_rewound : (base : BTreeMap K (Option V)) → HasRoom cmp base undo → (key : K)
         → found_in (rewound_entries base.entries) key ≡ kept_under cmp base made undo key
@@ -242,19 +242,19 @@ unfolding IsDistinct
 numbers_once [] h = tt
 numbers_once (number ∷ numbers) h = (numbers_apart number numbers h.0, numbers_once numbers h.1)
 
-rows_apart : (number : ℤ) (keys : List (List Datum)) → AllByRecursion (λ key. number_in key ≡ None) keys
+rows_apart : (number : ℤ) (keys : List (List Datum)) → AllByRecursion (λ key. number_of_key key ≡ None) keys
     → AllByRecursion (λ key. same_row (number_key number) key ≡ false) keys
 rows_apart number [] h = tt
 rows_apart number (key ∷ keys) h = (number_apart number key h.0, rows_apart number keys h.1)
 
-all_apart : (numbers : List ℤ) (keys : List (List Datum)) → AllByRecursion (λ key. number_in key ≡ None) keys
+all_apart : (numbers : List ℤ) (keys : List (List Datum)) → AllByRecursion (λ key. number_of_key key ≡ None) keys
     → AllByRecursion (λ one. AllByRecursion (λ key. same_row one key ≡ false) keys) (map number_key numbers)
 all_apart [] keys h = tt
 all_apart (number ∷ numbers) keys h = (rows_apart number keys h, all_apart numbers keys h)
 
 not_numbers : {V : Type 0} (found : List Datum → Option V) (keys : List (List Datum)) (listed : List V)
     → HasNoNumber found → map found keys ≡ map there listed
-    → AllByRecursion (λ key. number_in key ≡ None) keys
+    → AllByRecursion (λ key. number_of_key key ≡ None) keys
 not_numbers found [] listed none each = tt
 not_numbers found (key ∷ keys) [] none each = absurd cc
 not_numbers found (key ∷ keys) (value ∷ listed) none each =
@@ -275,7 +275,7 @@ module _ {V : Type 0} (of_number : ℤ → Option V) (of_row : List Datum → Op
   each_number [] = refl
   each_number (number ∷ numbers) = ap (λ (rest : List (Option V)). of_number number ∷ rest) (each_number numbers)
 
-  each_row : (keys : List (List Datum)) → AllByRecursion (λ key. number_in key ≡ None) keys
+  each_row : (keys : List (List Datum)) → AllByRecursion (λ key. number_of_key key ≡ None) keys
       → map (by_number of_number of_row) keys ≡ map of_row keys
   each_row [] h = refl
   each_row (key ∷ keys) h =
@@ -284,10 +284,10 @@ module _ {V : Type 0} (of_number : ℤ → Option V) (of_row : List Datum → Op
 
   module _ (some_listed others : List V) (some : Lists int_cmp of_number some_listed)
       (rest : Lists row_cmp of_row others) (none : HasNoNumber of_row) where
-    none_of_rest : AllByRecursion (λ key. number_in key ≡ None) rest.keys
+    none_of_rest : AllByRecursion (λ key. number_of_key key ≡ None) rest.keys
     none_of_rest = not_numbers of_row rest.keys others none rest.each
 
-    contains_key : (key : List Datum) (value : V) (found : Option ℤ) → number_in key ≡ found
+    contains_key : (key : List Datum) (value : V) (found : Option ℤ) → number_of_key key ≡ found
         → by_number of_number of_row key ≡ Some value
         → Contains (map number_key some.keys ++ rest.keys) key
     contains_key key value None is finds =
@@ -310,7 +310,7 @@ module _ {V : Type 0} (of_number : ℤ → Option V) (of_row : List Datum → Op
           (each_number some.keys ∙ some.each)
           ∙ ap (λ (last : List (Option V)). map there some_listed ++ last) (each_row rest.keys none_of_rest ∙ rest.each)
           ∙ sym (map-append there some_listed others);
-      all = λ key value finds. contains_key key value (number_in key) refl finds;
+      all = λ key value finds. contains_key key value (number_of_key key) refl finds;
     }
 
 pub lists_maps : {V : Type 0} (numbers : BTreeMap ℤ (Option V)) (numbers_made : List ℤ)

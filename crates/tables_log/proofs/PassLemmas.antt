@@ -7,7 +7,7 @@ use Rattle.std.proofs.lemmas.Option.{slice_get_past}
 use Rattle.std.proofs.lemmas.List.{length-set}
 use Rattle.filter_tree.specs.Datum.{Datum}
 use Rattle.table_changes.specs.Tables.{Tables}
-use Rattle.tables_log.specs.Places.{Places, shown, kept_at, seen_at, maps_of, kept_in, seen_in, widths, SettlesRows, DiscardsRows, DiscardsTables}
+use Rattle.tables_log.specs.Places.{Places, map_shown, kept_at, seen_at, maps_of, kept_in, seen_in, widths, SettlesRows, DiscardsRows, DiscardsTables}
 use Rattle.tables_log.specs.Staging.{kept, seen, Settles}
 use Rattle.tables_log.specs.declared.staged.Staged.{Staged}
 use Rattle.tables_log.specs.declared.table_rows.TableRows.{TableRows}
@@ -59,19 +59,19 @@ pub goes_on : (maps first : List (Staged (List Datum))) (index : ℕ) (kept_as s
     → Going maps first index kept_as seen_as
     → Going (slice_set maps index new) first (index + 1) kept_as seen_as
 goes_on maps first index kept_as seen_as old new at keeps sees going = record {
-  keeps = pass_done (shown kept) SameShown kept_as maps index old new at keeps going.keeps;
-  sees = pass_done (shown seen) SameShown seen_as maps index old new at sees going.sees;
+  keeps = pass_done (map_shown kept) SameShown kept_as maps index old new at keeps going.keeps;
+  sees = pass_done (map_shown seen) SameShown seen_as maps index old new at sees going.sees;
   rest = pass_rest maps first index new going.rest;
   width = length-set maps index new ∙ going.width;
 }
 
 pub past_kept : (maps : List (Staged (List Datum))) (number : ℕ) → length maps ≤ number
-    → SameShown (shown kept None) (kept_at maps number)
-past_kept maps number past value = sym (ap (λ found. shown kept found value) (slice_get_past maps number past))
+    → SameShown (map_shown kept None) (kept_at maps number)
+past_kept maps number past value = sym (ap (λ found. map_shown kept found value) (slice_get_past maps number past))
 
 pub past_seen : (maps : List (Staged (List Datum))) (number : ℕ) → length maps ≤ number
-    → SameShown (shown kept None) (seen_at maps number)
-past_seen maps number past value = sym (ap (λ found. shown seen found value) (slice_get_past maps number past))
+    → SameShown (map_shown kept None) (seen_at maps number)
+past_seen maps number past value = sym (ap (λ found. map_shown seen found value) (slice_get_past maps number past))
 
 -- ---- all maps
 
@@ -79,25 +79,25 @@ pub settles_all : (maps first : List (Staged (List Datum))) (index : ℕ) → le
     → Going maps first index (seen_at first) (seen_at first)
     → (number : ℕ) (value : List Datum) → kept_at maps number value ≡ seen_at first number value
 settles_all maps first index ended going =
-    pass_all (shown kept) SameShown (seen_at first) maps first index going.width ended going.keeps (past_seen first)
+    pass_all (map_shown kept) SameShown (seen_at first) maps first index going.width ended going.keeps (past_seen first)
 
 pub keeps_all : (maps first : List (Staged (List Datum))) (index : ℕ) (seen_as : Places) → length first ≤ index
     → Going maps first index (kept_at first) seen_as
     → (number : ℕ) (value : List Datum) → kept_at maps number value ≡ kept_at first number value
 keeps_all maps first index seen_as ended going =
-    pass_all (shown kept) SameShown (kept_at first) maps first index going.width ended going.keeps (past_kept first)
+    pass_all (map_shown kept) SameShown (kept_at first) maps first index going.width ended going.keeps (past_kept first)
 
 pub discards_all : (maps first : List (Staged (List Datum))) (index : ℕ) → length first ≤ index
     → Going maps first index (kept_at first) (kept_at first)
     → (number : ℕ) (value : List Datum) → seen_at maps number value ≡ kept_at first number value
 discards_all maps first index ended going =
-    pass_all (shown seen) SameShown (kept_at first) maps first index going.width ended going.sees (past_kept first)
+    pass_all (map_shown seen) SameShown (kept_at first) maps first index going.width ended going.sees (past_kept first)
 
 pub empties_all : (maps first : List (Staged (List Datum))) (index : ℕ) (kept_as : Places) → length first ≤ index
     → Going maps first index kept_as (λ number value. None)
     → (number : ℕ) (value : List Datum) → seen_at maps number value ≡ None
 empties_all maps first index kept_as ended going =
-    pass_all (shown seen) SameShown (λ number value. None) maps first index going.width ended going.sees
+    pass_all (map_shown seen) SameShown (λ number value. None) maps first index going.width ended going.sees
     (λ n past value. refl)
 
 -- ---- for tables
@@ -152,7 +152,7 @@ pub settles_next : (maps first : List (Staged (List Datum))) (index : ℕ) (old 
 settles_next maps first index old new at settles going =
     let before : slice_get first index ≡ Some old = sym (going.rest index (omega arith)) ∙ at in
     let was : (value : List Datum) → seen old value ≡ seen_at first index value =
-    λ value. sym (ap (λ found. shown seen found value) before) in
+    λ value. sym (ap (λ found. map_shown seen found value) before) in
     goes_on maps first index (seen_at first) (seen_at first) old new at (λ value. settles.keeps value ∙ was value)
     (λ value. settles.sees value ∙ was value) going
 
@@ -161,7 +161,7 @@ pub settles_rows : (old new : TableRows) (index : ℕ) → length old.maps.items
     → SettlesRows old new
 settles_rows old new index ended going = record {
   keeps = settles_all new.maps.items old.maps.items index ended going;
-  sees = pass_all (shown seen) SameShown (seen_at old.maps.items) new.maps.items old.maps.items index going.width
+  sees = pass_all (map_shown seen) SameShown (seen_at old.maps.items) new.maps.items old.maps.items index going.width
       ended going.sees (past_seen old.maps.items);
   width = going.width;
 }

@@ -12,7 +12,7 @@ use Rattle.table_changes.specs.Keys.{UniqueKey, Keys, value_in, key_at}
 use Rattle.table_changes.specs.Tables.{Tables, SameTables, is_row, put, found_at, is_free_from}
 use Rattle.table_changes.proofs.TableLemmas.{some_is}
 use Rattle.tables_log.specs.Layers.{flat}
-use Rattle.tables_log.specs.Places.{Places, shown, kept_at, seen_at, maps_of, kept_in, seen_in, widths, value_of, put_at, are_free, values_in, KeepsRows, PutsOne, PutsRow, KeepsTables}
+use Rattle.tables_log.specs.Places.{Places, map_shown, kept_at, seen_at, maps_of, kept_in, seen_in, widths, value_of, put_at, are_free, values_in, KeepsRows, PutsOne, PutsRow, KeepsTables}
 use Rattle.tables_log.specs.Staging.{kept, seen, Keeps, Puts}
 use Rattle.tables_log.specs.declared.staged.Staged.{Staged}
 use Rattle.tables_log.specs.declared.table_rows.TableRows.{TableRows}
@@ -87,20 +87,20 @@ within (y ∷ ys) (suc i) x h = let rest : i < length ys = within ys i x h in om
 module _ (maps : List (Staged (List Datum))) (number : ℕ) (old new : Staged (List Datum))
     (at : slice_get maps number ≡ Some old) where
   pub seen_here : (value : List Datum) → seen_at (slice_set maps number new) number value ≡ seen new value
-  seen_here value = ap (λ found. shown seen found value) (get_set_here maps number new (within maps number old at))
+  seen_here value = ap (λ found. map_shown seen found value) (get_set_here maps number new (within maps number old at))
 
   pub seen_beside : (other : ℕ) → other ≢ number → (value : List Datum)
       → seen_at (slice_set maps number new) other value ≡ seen_at maps other value
-  seen_beside other apart value = ap (λ found. shown seen found value) (get_set_beside maps number other new apart)
+  seen_beside other apart value = ap (λ found. map_shown seen found value) (get_set_beside maps number other new apart)
 
   pub keeps_map : Keeps old new → (other : ℕ) (value : List Datum)
       → kept_at (slice_set maps number new) other value ≡ kept_at maps other value
   keeps_map keeps other value = by_test (other == number)
       (λ here. let same : other ≡ number = number_is other number here in
       subst (λ n. kept_at (slice_set maps number new) n value ≡ kept_at maps n value) (sym same)
-      (ap (λ found. shown kept found value) (get_set_here maps number new (within maps number old at))
-      ∙ keeps.keeps value ∙ sym (ap (λ found. shown kept found value) at)))
-      (λ beside. ap (λ found. shown kept found value)
+      (ap (λ found. map_shown kept found value) (get_set_here maps number new (within maps number old at))
+      ∙ keeps.keeps value ∙ sym (ap (λ found. map_shown kept found value) at)))
+      (λ beside. ap (λ found. map_shown kept found value)
       (get_set_beside maps number other new (number_apart other number beside)))
 
 -- ---- values are put one after another, the last one first
@@ -166,7 +166,7 @@ puts_there rows new number old map value row low is changed puts =
           ap (λ n. seen_at (slice_set rows.maps.items number map) n found) same
           ∙ seen_here rows.maps.items number old map at found ∙ puts.sees found
           ∙ ap (λ under. if same_row value found then row else under)
-          (sym (ap (λ one. shown seen one found) at) ∙ ap (λ n. seen_at rows.maps.items n found) (sym same))
+          (sym (ap (λ one. map_shown seen one found) at) ∙ ap (λ n. seen_at rows.maps.items n found) (sym same))
           ∙ sym (ap (λ b. if b && same_row value found then row else seen_at rows.maps.items other found) here))
           (λ beside. seen_beside rows.maps.items number old map at other (number_apart other number beside) found
           ∙ sym (ap (λ b. if b && same_row value found then row else seen_at rows.maps.items other found) beside));
@@ -201,9 +201,9 @@ pub record Making (maps : List (Staged (List Datum))) (count : ℕ) : Type 0 whe
 
 none_more : (show : Staged (List Datum) → List Datum → Option (List Datum)) (maps : List (Staged (List Datum)))
     (map : Staged (List Datum))
-    → ((number : ℕ) (value : List Datum) → shown show (slice_get maps number) value ≡ None)
+    → ((number : ℕ) (value : List Datum) → map_shown show (slice_get maps number) value ≡ None)
     → ((value : List Datum) → show map value ≡ None)
-    → (number : ℕ) (value : List Datum) → shown show (slice_get (maps ++ map ∷ []) number) value ≡ None
+    → (number : ℕ) (value : List Datum) → map_shown show (slice_get (maps ++ map ∷ []) number) value ≡ None
 none_more show [] map none bare zero value = bare value
 none_more show [] map none bare (suc number) value = refl
 none_more show (first ∷ maps) map none bare zero value = none zero value

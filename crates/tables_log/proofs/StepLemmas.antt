@@ -6,7 +6,7 @@ use Rattle.filter_tree.specs.Datum.{Datum}
 use Rattle.table_changes.specs.Keys.{UniqueKey}
 use Rattle.table_changes.specs.Tables.{is_row, found_at, is_free_from}
 use Rattle.tables_log.specs.Layers.{flat}
-use Rattle.tables_log.specs.Places.{Places, shown, kept_at, seen_at, value_of, put_at, are_free, values_in, KeepsRows, PutsOne, PutsRow}
+use Rattle.tables_log.specs.Places.{Places, map_shown, kept_at, seen_at, value_of, put_at, are_free, values_in, KeepsRows, PutsOne, PutsRow}
 use Rattle.tables_log.specs.Staging.{seen}
 use Rattle.tables_log.specs.declared.staged.Staged.{Staged}
 use Rattle.tables_log.specs.declared.table_rows.TableRows.{TableRows}
@@ -56,7 +56,7 @@ pub seen_there : (rows : TableRows) (number : ℕ) (old : Staged (List Datum)) (
     → number < length rows.maps.items → old ≡ slice_index_or rows.maps.items number old
     → seen_at rows.maps.items number value ≡ seen old value
 seen_there rows number old value low is =
-    ap (λ found. shown seen found value)
+    ap (λ found. map_shown seen found value)
     (slice_get_read rows.maps.items (length rows.maps.items) number old refl low is)
 
 pub was_there : (rows : TableRows) (number : ℕ) (old : Staged (List Datum)) (value : List Datum) (was : Bool)

@@ -37,8 +37,8 @@ has_place cmp map key = is_some (get cmp map key)
 -- ---- what was kept
 
 -- whether the key's place was made by a change
-abbrev pub is_made : {K : Type 0} → (K → K → Ordering) → List K → K → Bool
-is_made cmp made key = list_any (is_at (cmp key)) made
+abbrev pub made_by_change : {K : Type 0} → (K → K → Ordering) → List K → K → Bool
+made_by_change cmp made key = list_any (is_at (cmp key)) made
 
 -- what the first change of a place that existed found in it
 abbrev pub was_in : {K V : Type 0} → (K → K → Ordering) → List (K × Option V) → K → Option (Option V)
@@ -46,7 +46,7 @@ was_in cmp undo key = lookup (is_at (cmp key)) undo
 
 -- What was kept under a key, if this is found now.
 abbrev pub rewound : {K V : Type 0} → (K → K → Ordering) → List K → List (K × Option V) → K → Option V → Option V
-rewound cmp made undo key found = if is_made cmp made key then None else over (was_in cmp undo key) found
+rewound cmp made undo key found = if made_by_change cmp made key then None else over (was_in cmp undo key) found
 
 abbrev pub kept_under : {K V : Type 0} → (K → K → Ordering) → BTreeMap K (Option V) → List K → List (K × Option V) → K
     → Option V

@@ -4,9 +4,9 @@ use Rattle.std.specs.Prelude.{◌≡◌, ℤ, false, is_some, List, [], ◌∷�
 use Rattle.filter_tree.specs.Datum.{Datum, Number, Known}
 
 -- the number that a key is, if it is one number
-abbrev pub number_in : List Datum → Option ℤ
-number_in (Known (Number number) ∷ []) = Some number
-number_in key = None
+abbrev pub number_of_key : List Datum → Option ℤ
+number_of_key (Known (Number number) ∷ []) = Some number
+number_of_key key = None
 
 abbrev pub number_key : ℤ → List Datum
 number_key number = Known (Number number) ∷ []
@@ -17,7 +17,7 @@ by_case of_number of_key None = of_key
 by_case of_number of_key (Some number) = of_number number
 
 abbrev pub by_number : {X : Type 0} → (ℤ → X) → (List Datum → X) → List Datum → X
-by_number of_number of_key key = by_case of_number (of_key key) (number_in key)
+by_number of_number of_key key = by_case of_number (of_key key) (number_of_key key)
 
 -- nothing is found by a key that is one number
 abbrev pub HasNoNumber : {V : Type 0} → (List Datum → Option V) → Type 0

@@ -18,16 +18,16 @@ Places = ℕ → List Datum → Option (List Datum)
 -- ---- in maps
 
 -- what a map shows, if there is one
-abbrev pub shown : (Staged (List Datum) → List Datum → Option (List Datum)) → Option (Staged (List Datum))
+abbrev pub map_shown : (Staged (List Datum) → List Datum → Option (List Datum)) → Option (Staged (List Datum))
     → List Datum → Option (List Datum)
-shown show None value = None
-shown show (Some map) value = show map value
+map_shown show None value = None
+map_shown show (Some map) value = show map value
 
 abbrev pub kept_at : List (Staged (List Datum)) → Places
-kept_at maps number value = shown kept (slice_get maps number) value
+kept_at maps number value = map_shown kept (slice_get maps number) value
 
 abbrev pub seen_at : List (Staged (List Datum)) → Places
-seen_at maps number value = shown seen (slice_get maps number) value
+seen_at maps number value = map_shown seen (slice_get maps number) value
 
 -- ---- in the maps of tables
 

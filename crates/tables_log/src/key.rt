@@ -2,7 +2,7 @@
 
 ghost use Rattle.std.specs.Prelude.{◌≡◌, true};
 ghost use Rattle.tables_log.specs.KeyView.{key_view};
-ghost use Rattle.tables_log.specs.NumberKeys.{number_in};
+ghost use Rattle.tables_log.specs.NumberKeys.{number_of_key};
 
 use filter_tree::{Row, Value};
 
@@ -15,7 +15,7 @@ pub(crate) enum Key {
 
 /// The number that the key is, if it is one number.
 pub(crate) fn only_number(key: &Row) -> Option<i64>
-    ensures { result ≡ number_in key.now }
+    ensures { result ≡ number_of_key key.now }
 {
     match key.values() {
         [Value::Int(number)] => Some(*number),

@@ -4,7 +4,7 @@ ghost use Rattle.std.specs.Prelude.{◌≡◌, ◌≤◌, true, false, [], None,
 ghost use Rattle.std.specs.BTreeMap.{get};
 ghost use Rattle.std.specs.Option.{option_map};
 ghost use Rattle.std.specs.Ordering.{eq_by_cmp};
-ghost use Rattle.tables_log.specs.Layers.{over, below, has_place, is_made, was_in, rewound, kept_under, HasRoom};
+ghost use Rattle.tables_log.specs.Layers.{over, below, has_place, made_by_change, was_in, rewound, kept_under, HasRoom};
 
 use std::alloc::{AllocError, Global};
 use std::collections::BTreeMap;
@@ -38,7 +38,7 @@ fn value_in<'a, K: Ord, V>(map: &'a BTreeMap<K, Option<V>, Global>, key: &K) -> 
 
 /// Whether the key's place was made.
 fn was_made<K: Ord>(made: &[K], key: &K) -> bool
-    ensures { result ≡ is_made K.cmp made.now key.now }
+    ensures { result ≡ made_by_change K.cmp made.now key.now }
 {
     for other in made {
         if key.cmp(other).is_eq() {
@@ -171,7 +171,7 @@ fn write_back<K: Ord + Drop, V: Drop>(
 /// Removes the places that were made.
 fn take_made<K: Ord + Drop, V: Drop>(base: &mut BTreeMap<K, Option<V>, Global>, made: &mut Vec<K>)
     ensures gone { (key : K) → below K.cmp base.new key
-        ≡ (if is_made K.cmp made.old.items key then None else below K.cmp base.old key) }
+        ≡ (if made_by_change K.cmp made.old.items key then None else below K.cmp base.old key) }
     ensures made { made.new.items ≡ [] }
 {
     while let Some(key) = made.pop() {

@@ -6,7 +6,7 @@ use Rattle.copy_frames.specs.Contents.{xlog_data_in, keepalive_in}
 use Rattle.copy_frames.specs.declared.frame.Frame.{Frame}
 use Rattle.copy_frames.specs.declared.keepalive.Keepalive.{Keepalive}
 use Rattle.copy_frames.specs.declared.xlog_data.XLogData.{XLogData}
-use Rattle.copy_frames.specs.Frames.{Cut, Rest, Bad, Then, cut, fault_of, frames_of, rest_of, after_frames}
+use Rattle.copy_frames.specs.Frames.{FrameCut, Rest, Bad, Then, cut, cut_fault, frames_of, rest_of, after_frames}
 use Rattle.copy_frames.proofs.PieceLemmas.{with_more, cut_more, rest_with_more, more_after, after_append}
 use Rattle.pgoutput_msgs.specs.Reading.{decoded}
 use Rattle.pgoutput_msgs.specs.declared.error.MsgError.{MsgError}
@@ -14,11 +14,11 @@ use Rattle.pgoutput_msgs.specs.declared.message.Msg.{Msg}
 use Rattle.pgoutput_msgs.specs.declared.message.Msg.TheVariants as m
 use Rattle.pgoutput_msgs.specs.declared.relation.Relation.{Relation}
 use Rattle.test_subscriber.specs.Answers.{SameOutcome}
-use Rattle.test_subscriber.specs.Copies.{told}
+use Rattle.test_subscriber.specs.Copies.{sub_fault}
 use Rattle.test_subscriber.specs.Feeding.{limit, hear_while, next_heard, hear_frames, StaysOf, StopsAmong, StopsFor}
 use Rattle.test_subscriber.specs.FeedingLaws.{PiecesAreFedAsOne, StopsComeAtOnce, StopsBeyond, FirstPiecesStay}
-use Rattle.test_subscriber.specs.Frames.{Heard, heard_then, hear_start, hear_keepalive, hear_decoded, hear_data, hear_content, hear_stream, hear_frame_in, hear_frame, hear_cut}
-use Rattle.test_subscriber.specs.Hearing.{Outcome, Change, table_of, change_of, staged, emptied, hear_empty, empty_rest, hear_truncate, learn_new, learn_as, hear_idle, hear_busy, hear_in}
+use Rattle.test_subscriber.specs.Frames.{MachineHeard, heard_then, hear_start, hear_keepalive, hear_decoded, hear_data, hear_content, hear_stream, hear_frame_in, hear_frame, hear_cut}
+use Rattle.test_subscriber.specs.Hearing.{MachineResult, RowsChange, known_shape, changed_rows, staged, without_rows, hear_empty, empty_rest, hear_truncate, learn_new, learn_as, hear_idle, hear_busy, hear_in}
 use Rattle.test_subscriber.specs.Machine.{Machine, Alike, stopped}
 use Rattle.test_subscriber.specs.RowChanges.{Found, inserted, updated, deleted}
 use Rattle.test_subscriber.specs.SameRelation.{same_relation}
@@ -35,24 +35,25 @@ use Rattle.filter_tree.proofs.Tests.{by_test}
 
 -- ---- what is heard of them
 
-then_no_fault : (outcome : Outcome) (others : Cut) (machine : Machine)
-    → ((next : Machine) → (hear_cut others next).fault ≡ None → fault_of others ≡ None)
-    → (heard_then machine outcome (hear_cut others)).fault ≡ None → fault_of others ≡ None
+then_no_fault : (outcome : MachineResult) (others : FrameCut) (machine : Machine)
+    → ((next : Machine) → (hear_cut others next).fault ≡ None → cut_fault others ≡ None)
+    → (heard_then machine outcome (hear_cut others)).fault ≡ None → cut_fault others ≡ None
 then_no_fault (Err fault) others machine later good = absurd cc
 then_no_fault (Ok next) others machine later good = later next good
 
-pub hears_no_fault : (whole : Cut) (machine : Machine) → (hear_cut whole machine).fault ≡ None → fault_of whole ≡ None
+pub hears_no_fault : (whole : FrameCut) (machine : Machine) → (hear_cut whole machine).fault ≡ None
+    → cut_fault whole ≡ None
 hears_no_fault (Rest bytes) machine good = refl
 hears_no_fault (Bad fault bytes) machine good = absurd cc
 hears_no_fault (Then frame others) machine good =
     then_no_fault (hear_frame frame machine) others machine (hears_no_fault others) good
 
-abbrev pub HearsMore : List ℕ → Cut → Machine → Type 0
+abbrev pub HearsMore : List ℕ → FrameCut → Machine → Type 0
 HearsMore more whole machine = (hear_cut whole machine).fault ≡ None
     → hear_cut (with_more limit more whole) machine
     ≡ hear_cut (cut limit (rest_of whole ++ more)) (hear_cut whole machine).machine
 
-then_hears_more : (more : List ℕ) (outcome : Outcome) (others : Cut) (machine : Machine)
+then_hears_more : (more : List ℕ) (outcome : MachineResult) (others : FrameCut) (machine : Machine)
     → ((next : Machine) → HearsMore more others next)
     → (heard_then machine outcome (hear_cut others)).fault ≡ None
     → heard_then machine outcome (hear_cut (with_more limit more others))
@@ -60,26 +61,26 @@ then_hears_more : (more : List ℕ) (outcome : Outcome) (others : Cut) (machine 
 then_hears_more more (Err fault) others machine later good = absurd cc
 then_hears_more more (Ok next) others machine later good = later next good
 
-pub hears_more : (more : List ℕ) (whole : Cut) (machine : Machine) → HearsMore more whole machine
+pub hears_more : (more : List ℕ) (whole : FrameCut) (machine : Machine) → HearsMore more whole machine
 hears_more more (Rest bytes) machine good = refl
 hears_more more (Bad fault bytes) machine good = absurd cc
 hears_more more (Then frame others) machine good =
     then_hears_more more (hear_frame frame machine) others machine (hears_more more others) good
 
 -- machines that are alike hear a cut alike
-record AreHeardAlike (one other : Heard) : Type 0 where
+record AreHeardAlike (one other : MachineHeard) : Type 0 where
   fault : one.fault ≡ other.fault
   machine : Alike one.machine other.machine
 
-then_alike : (others : Cut) (first second : Outcome) (one other : Machine) → Alike one other → SameOutcome first second
-    → ((a b : Machine) → Alike a b → AreHeardAlike (hear_cut others a) (hear_cut others b))
+then_alike : (others : FrameCut) (first second : MachineResult) (one other : Machine) → Alike one other
+    → SameOutcome first second → ((a b : Machine) → Alike a b → AreHeardAlike (hear_cut others a) (hear_cut others b))
     → AreHeardAlike (heard_then one first (hear_cut others)) (heard_then other second (hear_cut others))
 then_alike others (Ok first) (Ok second) one other alike same later = later first second same
 then_alike others (Err first) (Err second) one other alike same later = record { fault = ap Some same; machine = alike }
 then_alike others (Ok first) (Err second) one other alike same later = absurd same
 then_alike others (Err first) (Ok second) one other alike same later = absurd same
 
-cut_alike : (whole : Cut) (one other : Machine) → Alike one other
+cut_alike : (whole : FrameCut) (one other : Machine) → Alike one other
     → AreHeardAlike (hear_cut whole one) (hear_cut whole other)
 cut_alike (Rest bytes) one other alike = record { fault = refl; machine = alike }
 cut_alike (Bad fault bytes) one other alike = record { fault = refl; machine = alike }
@@ -96,21 +97,21 @@ IsOpen Idle = Unit {0}
 IsOpen (Busy begin) = Unit {0}
 
 -- a connection on which a cut is heard without a fault is opens
-pub while_open : (phase : Phase) (whole : Cut) (machine : Machine) → (hear_while phase whole machine).fault ≡ None
+pub while_open : (phase : Phase) (whole : FrameCut) (machine : Machine) → (hear_while phase whole machine).fault ≡ None
     → IsOpen phase
 while_open Shut whole machine good = absurd cc
 while_open Waiting whole machine good = tt
 while_open Idle whole machine good = tt
 while_open (Busy begin) whole machine good = tt
 
-pub hears_open : (phase : Phase) (whole : Cut) (machine : Machine) → IsOpen phase
+pub hears_open : (phase : Phase) (whole : FrameCut) (machine : Machine) → IsOpen phase
     → hear_while phase whole machine ≡ hear_cut whole machine
 hears_open Shut whole machine opens = absurd opens
 hears_open Waiting whole machine opens = refl
 hears_open Idle whole machine opens = refl
 hears_open (Busy begin) whole machine opens = refl
 
-abbrev IsOpenAfter : Outcome → Type 0
+abbrev IsOpenAfter : MachineResult → Type 0
 IsOpenAfter (Err fault) = Unit {0}
 IsOpenAfter (Ok next) = IsOpen next.phase
 
@@ -119,13 +120,13 @@ change_open : (machine : Machine) (oid : ℕ) (outcome : Result Found SubFault) 
 change_open machine oid (Err fault) opens = tt
 change_open machine oid (Ok found) opens = opens
 
-change_of_open : (table : Option TableShape) (found : Found) (oid : ℕ) (change : Change) (machine : Machine)
+change_of_open : (table : Option TableShape) (found : Found) (oid : ℕ) (change : RowsChange) (machine : Machine)
     → IsOpen machine.phase
-    → IsOpenAfter (change_of table found oid change machine)
+    → IsOpenAfter (changed_rows table found oid change machine)
 change_of_open None found oid change machine opens = tt
 change_of_open (Some shape) found oid change machine opens = change_open machine oid (change shape found) opens
 
-rest_open : (others : Machine → Outcome) (outcome : Outcome)
+rest_open : (others : Machine → MachineResult) (outcome : MachineResult)
     → ((next : Machine) → IsOpen next.phase → IsOpenAfter (others next)) → IsOpenAfter outcome
     → IsOpenAfter (empty_rest outcome others)
 rest_open others (Err fault) later opens = tt
@@ -136,7 +137,7 @@ unfolding hear_truncate
 truncate_open [] machine opens = opens
 truncate_open (oid ∷ oids) machine opens =
     rest_open (hear_truncate oids) (hear_empty oid machine) (truncate_open oids)
-    (change_of_open (table_of machine oid) (machine.work oid) oid emptied machine opens)
+    (change_of_open (known_shape machine oid) (machine.work oid) oid without_rows machine opens)
 
 learn_open : (shape : Option TableShape) (oid : ℕ) (machine : Machine) → IsOpen machine.phase
     → IsOpenAfter (learn_new shape oid machine)
@@ -165,13 +166,13 @@ busy_open begin (m.Commit lsn end_lsn time) machine opens =
     by_test (lsn == begin) (λ same. rw same tt) (λ other. rw other tt)
 busy_open begin (m.Relation relation) machine opens = relation_open (machine.kept relation.oid) relation machine opens
 busy_open begin (m.Insert relation new) machine opens =
-    change_of_open (table_of machine relation) (machine.work relation) relation
+    change_of_open (known_shape machine relation) (machine.work relation) relation
     (λ shape found. inserted shape found new) machine opens
 busy_open begin (m.Update relation old new) machine opens =
-    change_of_open (table_of machine relation) (machine.work relation) relation
+    change_of_open (known_shape machine relation) (machine.work relation) relation
     (λ shape found. updated shape found old new) machine opens
 busy_open begin (m.Delete relation old) machine opens =
-    change_of_open (table_of machine relation) (machine.work relation) relation
+    change_of_open (known_shape machine relation) (machine.work relation) relation
     (λ shape found. deleted shape found old) machine opens
 busy_open begin (m.Truncate options relations) machine opens = truncate_open relations machine opens
 
@@ -222,13 +223,14 @@ phase_open Waiting frame machine opens = start_open frame machine
 phase_open Idle frame machine opens = stream_open frame machine opens
 phase_open (Busy begin) frame machine opens = stream_open frame machine opens
 
-then_open : (outcome : Outcome) (others : Cut) (machine : Machine) → IsOpen machine.phase → IsOpenAfter outcome
-    → ((next : Machine) → IsOpen next.phase → IsOpen (hear_cut others next).machine.phase)
+then_open : (outcome : MachineResult) (others : FrameCut) (machine : Machine) → IsOpen machine.phase
+    → IsOpenAfter outcome → ((next : Machine) → IsOpen next.phase → IsOpen (hear_cut others next).machine.phase)
     → IsOpen (heard_then machine outcome (hear_cut others)).machine.phase
 then_open (Err fault) others machine opens after later = opens
 then_open (Ok next) others machine opens after later = later next after
 
-pub cut_open : (whole : Cut) (machine : Machine) → IsOpen machine.phase → IsOpen (hear_cut whole machine).machine.phase
+pub cut_open : (whole : FrameCut) (machine : Machine) → IsOpen machine.phase
+    → IsOpen (hear_cut whole machine).machine.phase
 cut_open (Rest bytes) machine opens = opens
 cut_open (Bad fault bytes) machine opens = opens
 cut_open (Then frame others) machine opens =
@@ -237,29 +239,29 @@ cut_open (Then frame others) machine opens =
 
 -- ---- frames one after another
 
-abbrev HearsFrames : Cut → Machine → Type 0
+abbrev HearsFrames : FrameCut → Machine → Type 0
 HearsFrames whole machine = (hear_cut whole machine).fault ≡ None
     → hear_frames (frames_of whole) machine ≡ Ok (hear_cut whole machine).machine
 
-then_hears_frames : (outcome : Outcome) (others : Cut) (machine : Machine)
+then_hears_frames : (outcome : MachineResult) (others : FrameCut) (machine : Machine)
     → ((next : Machine) → HearsFrames others next)
     → (heard_then machine outcome (hear_cut others)).fault ≡ None
     → next_heard outcome (hear_frames (frames_of others)) ≡ Ok (heard_then machine outcome (hear_cut others)).machine
 then_hears_frames (Err fault) others machine later good = absurd cc
 then_hears_frames (Ok next) others machine later good = later next good
 
-hears_frames : (whole : Cut) (machine : Machine) → HearsFrames whole machine
+hears_frames : (whole : FrameCut) (machine : Machine) → HearsFrames whole machine
 hears_frames (Rest bytes) machine good = refl
 hears_frames (Bad fault bytes) machine good = absurd cc
 hears_frames (Then frame others) machine good =
     then_hears_frames (hear_frame frame machine) others machine (hears_frames others) good
 
-next_after : (outcome : Outcome) (before after : Machine → Outcome)
+next_after : (outcome : MachineResult) (before after : Machine → MachineResult)
     → next_heard (next_heard outcome before) after ≡ next_heard outcome (λ next. next_heard (before next) after)
 next_after (Err fault) before after = refl
 next_after (Ok next) before after = refl
 
-next_of : (outcome : Outcome) (one other : Machine → Outcome) → ((next : Machine) → one next ≡ other next)
+next_of : (outcome : MachineResult) (one other : Machine → MachineResult) → ((next : Machine) → one next ≡ other next)
     → next_heard outcome one ≡ next_heard outcome other
 next_of (Err fault) one other same = refl
 next_of (Ok next) one other same = same next
@@ -272,7 +274,7 @@ frames_append (frame ∷ first) second machine =
     (λ next. next_heard (hear_frames first next) (hear_frames second)) (frames_append first second)
     ∙ sym (next_after (hear_frame frame machine) (hear_frames first) (hear_frames second))
 
-next_alike : (frames : List Frame) (one other : Outcome) → SameOutcome one other
+next_alike : (frames : List Frame) (one other : MachineResult) → SameOutcome one other
     → ((a b : Machine) → Alike a b → SameOutcome (hear_frames frames a) (hear_frames frames b))
     → SameOutcome (next_heard one (hear_frames frames)) (next_heard other (hear_frames frames))
 next_alike frames (Ok one) (Ok other) same later = later one other same
@@ -298,7 +300,7 @@ stopped_alike one other alike = record {
   work = alike.rows;
 }
 
-stays_alike : (one other : Outcome) (new : Machine) → SameOutcome one other → StaysOf one new → StaysOf other new
+stays_alike : (one other : MachineResult) (new : Machine) → SameOutcome one other → StaysOf one new → StaysOf other new
 stays_alike (Ok one) (Ok other) new same stays =
     alike_both new (stopped one) (stopped other) stays (stopped_alike one other same)
 stays_alike (Err one) other new same stays = absurd stays
@@ -308,13 +310,13 @@ stays_alike (Ok one) (Err other) new same stays = absurd same
 
 -- a piece without a fault, and one more
 module _ (old between : Subscriber) (first second : List ℕ) (one : Feeds old first between) where
-  abbrev whole : Cut
+  abbrev whole : FrameCut
   whole = fed_cut old first
 
-  abbrev heard : Heard
+  abbrev heard : MachineHeard
   heard = hear_cut whole (sub_machine old)
 
-  abbrev later : Cut
+  abbrev later : FrameCut
   later = cut limit (rest_of whole ++ second)
 
   old_open : IsOpen (sub_machine old).phase
@@ -324,10 +326,10 @@ module _ (old between : Subscriber) (first second : List ℕ) (one : Feeds old f
   first_heard = hears_open (sub_machine old).phase whole (sub_machine old) old_open
 
   good : heard.fault ≡ None
-  good = sym (ap (λ (h : Heard). h.fault) first_heard) ∙ one.fault
+  good = sym (ap (λ (h : MachineHeard). h.fault) first_heard) ∙ one.fault
 
   machine_alike : Alike (sub_machine between) heard.machine
-  machine_alike = subst (λ (h : Heard). Alike (sub_machine between) h.machine) first_heard one.machine
+  machine_alike = subst (λ (h : MachineHeard). Alike (sub_machine between) h.machine) first_heard one.machine
 
   between_open : IsOpen (sub_machine between).phase
   between_open = subst IsOpen (sym machine_alike.phase) (cut_open whole (sub_machine old) old_open)
@@ -406,7 +408,7 @@ module _ (old between : Subscriber) (first second : List ℕ) (one : Feeds old f
   stop_as_one : (new : Subscriber) (error : SubFault) → FeedStops between second error new
       → FeedStops old (first ++ second) error new
   stop_as_one new error stops = record {
-    machine = stops_for (told error) new stops.machine;
+    machine = stops_for (sub_fault error) new stops.machine;
     cleared = record {
       held = stops.cleared.held;
       output = stops.cleared.output;

@@ -9,7 +9,7 @@ use Rattle.pgoutput_msgs.specs.declared.message.Msg.{Msg}
 use Rattle.test_subscriber.specs.Copies.{RefusedBy}
 use Rattle.test_subscriber.specs.Frames.{fault_of, message_of}
 
-pub decode_refuses : (error : MsgError) (answer : Result Msg MsgError) → TellsFault (r.told error) answer
+pub decode_refuses : (error : MsgError) (answer : Result Msg MsgError) → TellsFault (r.msg_fault error) answer
     → RefusedBy (message_of answer) (fault_of error)
 decode_refuses (Unknown found) answer tells = ap message_of tells
 decode_refuses Toast answer tells = ap message_of tells

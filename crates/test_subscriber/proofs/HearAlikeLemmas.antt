@@ -9,9 +9,9 @@ use Rattle.pgoutput_msgs.specs.declared.relation.Relation.{Relation}
 use Rattle.pgoutput_msgs.specs.declared.tuple.OldTuple.{OldTuple}
 use Rattle.table_changes.specs.Columns.{values_at}
 use Rattle.test_subscriber.specs.Answers.{SameOutcome}
-use Rattle.test_subscriber.specs.Hearing.{Change, table_of, change_of, change_in, staged, learn_as, learn_new, hear_relation, hear_commit, hear_idle, hear_busy, hear_in, hear}
+use Rattle.test_subscriber.specs.Hearing.{RowsChange, known_shape, changed_rows, change_in, staged, learn_as, learn_new, hear_relation, hear_commit, hear_idle, hear_busy, hear_in, hear}
 use Rattle.test_subscriber.specs.Machine.{Machine, Alike}
-use Rattle.test_subscriber.specs.RowChanges.{Found, put, placed, replaced, insert_row, inserted, replace_row, update_row, updated, delete_row, deleted, read_in, key_in, gone_of}
+use Rattle.test_subscriber.specs.RowChanges.{Found, put_row, put_new_row, replaced, insert_row, inserted, replace_row, update_row, updated, delete_row, deleted, read_in, key_in, gone_of}
 use Rattle.test_subscriber.specs.SameRelation.{same_relation}
 use Rattle.test_subscriber.specs.Shapes.{shape_of}
 use Rattle.test_subscriber.specs.declared.fault.SubFault.{SubFault}
@@ -32,11 +32,11 @@ SameFound (Err one) (Err other) = one ≡ other
 SameFound one other = ⊥
 
 put_alike : (one other : Found) (key : List Datum) (row : Option (List Datum)) → FoundAlike one other
-    → FoundAlike (put one key row) (put other key row)
+    → FoundAlike (put_row one key row) (put_row other key row)
 put_alike one other key row alike some = ap (λ found. if same_row key some then row else found) (alike some)
 
 placed_alike : (one other : Found) (key row : List Datum) → FoundAlike one other
-    → SameFound (placed one key row) (placed other key row)
+    → SameFound (put_new_row one key row) (put_new_row other key row)
 placed_alike one other key row alike = by_test (is_some (one key))
     (λ taken. let also : is_some (other key) ≡ true = subst (λ found. is_some found ≡ true) (alike key) taken in
     rw (taken, also) refl)
@@ -47,7 +47,7 @@ replaced_alike : (one other : Found) (gone key row : List Datum) → FoundAlike 
     → SameFound (replaced one gone key row) (replaced other gone key row)
 replaced_alike one other gone key row alike = by_test (is_some (one gone))
     (λ there. let also : is_some (other gone) ≡ true = subst (λ found. is_some found ≡ true) (alike gone) there in
-    rw (there, also) (placed_alike (put one gone None) (put other gone None) key row
+    rw (there, also) (placed_alike (put_row one gone None) (put_row other gone None) key row
     (put_alike one other gone None alike)))
     (λ missing. let also : is_some (other gone) ≡ false =
     subst (λ found. is_some found ≡ false) (alike gone) missing in rw (missing, also) alike)
@@ -92,24 +92,25 @@ staged_alike one other oid (Err left) (Err right) same alike = same
 staged_alike one other oid (Ok left) (Err right) same alike = absurd same
 staged_alike one other oid (Err left) (Ok right) same alike = absurd same
 
-change_at : (one other : Machine) (oid : ℕ) (change : Change)
+change_at : (one other : Machine) (oid : ℕ) (change : RowsChange)
     → ((shape : TableShape) (left right : Found) → FoundAlike left right
     → SameFound (change shape left) (change shape right))
     → (table : Option TableShape) → Alike one other
-    → SameOutcome (change_of table (one.work oid) oid change one) (change_of table (other.work oid) oid change other)
+    → SameOutcome (changed_rows table (one.work oid) oid change one)
+    (changed_rows table (other.work oid) oid change other)
 change_at one other oid change respects None alike = refl
 change_at one other oid change respects (Some shape) alike =
     staged_alike one other oid (change shape (one.work oid)) (change shape (other.work oid))
     (respects shape (one.work oid) (other.work oid) (alike.work oid)) alike
 
-change_alike : (one other : Machine) (oid : ℕ) (change : Change)
+change_alike : (one other : Machine) (oid : ℕ) (change : RowsChange)
     → ((shape : TableShape) (left right : Found) → FoundAlike left right
     → SameFound (change shape left) (change shape right))
     → Alike one other → SameOutcome (change_in oid change one) (change_in oid change other)
 change_alike one other oid change respects alike =
-    subst (λ table. SameOutcome (change_of (table_of one oid) (one.work oid) oid change one)
-    (change_of table (other.work oid) oid change other))
-    (same_table one other oid alike) (change_at one other oid change respects (table_of one oid) alike)
+    subst (λ table. SameOutcome (changed_rows (known_shape one oid) (one.work oid) oid change one)
+    (changed_rows table (other.work oid) oid change other))
+    (same_table one other oid alike) (change_at one other oid change respects (known_shape one oid) alike)
 
 -- ---- Relation
 

@@ -1,17 +1,17 @@
 -- What is heard of frames one after another is what is heard of all.
 use Rattle.std.proofs.Common.{◌≡◌, ℕ, ◌<◌, false, List, [], ◌∷◌, ◌++◌, length, refl, sym, ap, subst, ◌∙◌, append-nil, arith, length-append}
 use Rattle.std.specs.Prelude.{Option, Some, None, Ok, Err}
-use Rattle.copy_frames.specs.Frames.{framed, Cut, Rest, Bad, Then, cut, after_frames}
+use Rattle.copy_frames.specs.Frames.{framed, FrameCut, Rest, Bad, Then, cut, after_frames}
 use Rattle.copy_frames.specs.Inboxes.{Inbox, GivesFrame, Gives, has_frame}
 use Rattle.copy_frames.specs.declared.frame.Frame.{Frame}
 use Rattle.copy_frames.proofs.InboxLemmas.{rest_left, gives_none}
 use Rattle.copy_frames.proofs.PieceLemmas.{rest_after}
 use Rattle.filter_tree.specs.Memory.{TellsFault}
 use Rattle.test_subscriber.specs.Answers.{Reaches, Stays, SameOutcome}
-use Rattle.test_subscriber.specs.Copies.{told, RefusedBy}
+use Rattle.test_subscriber.specs.Copies.{sub_fault, RefusedBy}
 use Rattle.test_subscriber.specs.Feeding.{length_fault, hear_frames, next_heard, StaysOf, StopsBy, StopsAmong, StopsFor}
-use Rattle.test_subscriber.specs.Frames.{Heard, heard_then, hear_frame, hear_cut}
-use Rattle.test_subscriber.specs.Hearing.{Outcome}
+use Rattle.test_subscriber.specs.Frames.{MachineHeard, heard_then, hear_frame, hear_cut}
+use Rattle.test_subscriber.specs.Hearing.{MachineResult}
 use Rattle.test_subscriber.specs.Intake.{HearsHeld}
 use Rattle.test_subscriber.specs.Machine.{Machine, Alike, stopped}
 use Rattle.test_subscriber.specs.declared.fault.SubFault.{SubFault}
@@ -32,25 +32,26 @@ stopped_alike one other alike = record {
 
 -- ---- the progress: these frames were heard, and the rest is cut this way
 
-pub record HasHeard (whole left : Cut) (old new : Machine) : Type 0 where
+pub record HasHeard (whole left : FrameCut) (old new : Machine) : Type 0 where
   pub frames : List Frame
   pub first : after_frames frames left ≡ whole
   pub heard : Reaches new (hear_frames frames old)
 
-pub heard_none : (whole : Cut) (machine : Machine) → HasHeard whole whole machine machine
+pub heard_none : (whole : FrameCut) (machine : Machine) → HasHeard whole whole machine machine
 heard_none whole machine = record { frames = []; first = refl; heard = alike_itself machine }
 
-after_one_more : (frames : List Frame) (frame : Frame) (left : Cut)
+after_one_more : (frames : List Frame) (frame : Frame) (left : FrameCut)
     → after_frames (frames ++ frame ∷ []) left ≡ after_frames frames (Then frame left)
 after_one_more [] frame left = refl
 after_one_more (first ∷ frames) frame left = ap (Then first) (after_one_more frames frame left)
 
-reaches_alike : (new : Machine) (one other : Outcome) → SameOutcome one other → Reaches new one → Reaches new other
+reaches_alike : (new : Machine) (one other : MachineResult) → SameOutcome one other → Reaches new one
+    → Reaches new other
 reaches_alike new (Ok one) (Ok other) same reaches = alike_both new one other reaches same
 reaches_alike new (Ok one) (Err other) same reaches = absurd same
 reaches_alike new (Err one) other same reaches = absurd reaches
 
-then_none : (new : Machine) (outcome : Outcome) → Reaches new outcome
+then_none : (new : Machine) (outcome : MachineResult) → Reaches new outcome
     → Reaches new (next_heard outcome (hear_frames []))
 then_none new (Ok reached) reaches = reaches
 then_none new (Err fault) reaches = absurd reaches
@@ -75,7 +76,7 @@ gives_cut old frame new gives =
     ap (cut old.limit) (sym (append-nil old.bytes)) ∙ gives.cuts []
     ∙ ap (λ bytes. Then frame (cut old.limit bytes)) (append-nil new.bytes)
 
-heard_next : (whole : Cut) (limit : ℕ) (before : Inbox) (frame : Frame) (after : Inbox) (old middle new : Machine)
+heard_next : (whole : FrameCut) (limit : ℕ) (before : Inbox) (frame : Frame) (after : Inbox) (old middle new : Machine)
     → HasHeard whole (cut limit before.bytes) old middle → before.limit ≡ limit → GivesFrame before frame after
     → Reaches new (hear_frame frame middle)
     → HasHeard whole (cut limit after.bytes) old new
@@ -117,11 +118,11 @@ shorter before frame after gives = omega (arith, ap length gives.spelled, length
 
 -- ---- if all is heard
 
-record Matches (heard : Heard) (fault : Option SubFault) (new : Machine) : Type 0 where
+record Matches (heard : MachineHeard) (fault : Option SubFault) (new : Machine) : Type 0 where
   fault_is : heard.fault ≡ fault
   reached : Alike new heard.machine
 
-heard_all : (frames : List Frame) (left : Cut) (old new : Machine) → has_frame left ≡ false
+heard_all : (frames : List Frame) (left : FrameCut) (old new : Machine) → has_frame left ≡ false
     → Reaches new (hear_frames frames old)
     → Matches (hear_cut (after_frames frames left) old) (length_fault (after_frames frames left)) new
 heard_all [] (Rest bytes) old new none reaches = record { fault_is = refl; reached = reaches }
@@ -140,7 +141,7 @@ pub hears_held : (start before : Inbox) (found : Option Frame) (after : Inbox) (
     → ((frame : Frame) → found ≡ Some frame → ⊥) → Gives before found after
     → HearsHeld (cut start.limit start.bytes) (hear_cut (cut start.limit start.bytes) old) start after new
 hears_held start before found after old new at never gives =
-    let whole : Cut = cut start.limit start.bytes in
+    let whole : FrameCut = cut start.limit start.bytes in
     let has : HasHeard whole (cut start.limit before.bytes) old new = at.heard in
     let none : (after ≡ before) × (has_frame (cut before.limit before.bytes) ≡ false) =
     gives_none before found after never gives in
@@ -158,13 +159,13 @@ hears_held start before found after old new at never gives =
 
 -- ---- if it stops
 
-stays_of : (outcome : Outcome) (middle new : Machine) → Reaches middle outcome → Alike new (stopped middle)
+stays_of : (outcome : MachineResult) (middle new : Machine) → Reaches middle outcome → Alike new (stopped middle)
     → StaysOf outcome new
 stays_of (Ok reached) middle new got stays =
     alike_both new (stopped middle) (stopped reached) stays (stopped_alike middle reached got)
 stays_of (Err fault) middle new got stays = absurd got
 
-stops_among : (whole left : Cut) (old middle new : Machine) → HasHeard whole left old middle
+stops_among : (whole left : FrameCut) (old middle new : Machine) → HasHeard whole left old middle
     → Alike new (stopped middle) → StopsAmong whole old new
 stops_among whole left old middle new has stays = record {
   frames = has.frames;
@@ -173,12 +174,13 @@ stops_among whole left old middle new has stays = record {
   stays = stays_of (hear_frames has.frames old) middle new has.heard stays;
 }
 
-error_alike : (one other : Outcome) (fault : SubFault) → SameOutcome one other → one ≡ Err fault → other ≡ Err fault
+error_alike : (one other : MachineResult) (fault : SubFault) → SameOutcome one other → one ≡ Err fault
+    → other ≡ Err fault
 error_alike (Ok one) other fault same is = absurd cc
 error_alike (Err one) (Ok other) fault same is = absurd same
 error_alike (Err one) (Err other) fault same is = cc
 
-stops_at : (frames : List Frame) (frame : Frame) (more : Cut) (old middle new : Machine) (fault : SubFault)
+stops_at : (frames : List Frame) (frame : Frame) (more : FrameCut) (old middle new : Machine) (fault : SubFault)
     → Reaches middle (hear_frames frames old)
     → hear_frame frame middle ≡ Err fault → Alike new (stopped middle)
     → StopsBy fault (hear_cut (after_frames frames (Then frame more)) old) new
@@ -197,7 +199,7 @@ stops_at (first ∷ frames) frame more old middle new fault got is stays =
       | Err other ↦ (λ got. absurd got)
     ] got
 
-stops_by : (tells : Option SubFault) (whole : Cut) (frame : Frame) (more : Cut) (old middle new : Machine)
+stops_by : (tells : Option SubFault) (whole : FrameCut) (frame : Frame) (more : FrameCut) (old middle new : Machine)
     → HasHeard whole (Then frame more) old middle
     → TellsFault tells (hear_frame frame middle) → Alike new (stopped middle)
     → StopsFor tells (hear_cut whole old) whole old new
@@ -212,18 +214,20 @@ pub stops_after : (start before : Inbox) (found : Option Frame) (frame : Frame) 
     (old middle new : Machine) (error : SubFault)
     → IsAt start before old middle → found ≡ Some frame → Gives before found after
     → RefusedBy (hear_frame frame middle) error → Stays middle new
-    → StopsFor (told error) (hear_cut (cut start.limit start.bytes) old) (cut start.limit start.bytes) old (stopped new)
+    → StopsFor (sub_fault error) (hear_cut (cut start.limit start.bytes) old) (cut start.limit start.bytes) old
+    (stopped new)
 stops_after start before found frame after old middle new error at is given refused stays =
     let gives : GivesFrame before frame after = gives_some before found frame after is given in
     let next : cut start.limit before.bytes ≡ Then frame (cut start.limit after.bytes) =
     subst (λ l. cut l before.bytes ≡ Then frame (cut l after.bytes)) at.limit (gives_cut before frame after gives) in
-    stops_by (told error) (cut start.limit start.bytes) frame (cut start.limit after.bytes) old middle (stopped new)
+    stops_by (sub_fault error) (cut start.limit start.bytes) frame (cut start.limit after.bytes) old middle
+    (stopped new)
     (subst (λ left. HasHeard (cut start.limit start.bytes) left old middle) next at.heard) refused stays
 
 -- no frame could be returned
-pub stops_there : (whole left : Cut) (old middle : Machine) (error : SubFault) → HasHeard whole left old middle
+pub stops_there : (whole left : FrameCut) (old middle : Machine) (error : SubFault) → HasHeard whole left old middle
     → error ≡ f.OutOfMemory
-    → StopsFor (told error) (hear_cut whole old) whole old (stopped middle)
+    → StopsFor (sub_fault error) (hear_cut whole old) whole old (stopped middle)
 stops_there whole left old middle error has is =
-    subst (λ e. StopsFor (told e) (hear_cut whole old) whole old (stopped middle)) (sym is)
+    subst (λ e. StopsFor (sub_fault e) (hear_cut whole old) whole old (stopped middle)) (sym is)
     (stops_among whole left old middle (stopped middle) has (alike_itself (stopped middle)))

@@ -4,8 +4,8 @@ use Rattle.std.specs.Prelude.{Option, Some, None, Result, Ok, Err, ◌==◌, sli
 use Rattle.filter_tree.specs.Memory.{TellsFault}
 use Rattle.tables_log.specs.Staging.{seen}
 use Rattle.test_subscriber.specs.Answers.{Reaches, Stages, Stays}
-use Rattle.test_subscriber.specs.Copies.{told, RefusedBy, ChangesCopy, Leaves, StaysCopy}
-use Rattle.test_subscriber.specs.Hearing.{Change, change_of, change_in, staged}
+use Rattle.test_subscriber.specs.Copies.{sub_fault, RefusedBy, ChangesCopy, Leaves, StaysCopy}
+use Rattle.test_subscriber.specs.Hearing.{RowsChange, changed_rows, change_in, staged}
 use Rattle.test_subscriber.specs.RowChanges.{Found}
 use Rattle.test_subscriber.specs.Views.{copy_of, IsKnownAt, shape_in, known_in, kept_in, seen_in, machine_view, machine_with}
 use Rattle.test_subscriber.specs.declared.fault.SubFault.{SubFault}
@@ -28,11 +28,11 @@ module _ (phase : Phase) (at : ℕ) (wants : Bool) (copies : List TableCopy) (oi
   old_there : copy_of copies oid ≡ Some old
   old_there = found_at copies oid place known.there ∙ first.at
 
-  is_staged : (change : Change) → change_in oid change (machine_with phase at wants copies)
+  is_staged : (change : RowsChange) → change_in oid change (machine_with phase at wants copies)
       ≡ staged (machine_with phase at wants copies) oid (change old.shape (seen old.rows))
   is_staged change =
       let came : known_in (copy_of copies oid) ≡ true = known.known in
-      rw came (ap (λ found. change_of (shape_in found) (seen_in found) oid change
+      rw came (ap (λ found. changed_rows (shape_in found) (seen_in found) oid change
       (machine_with phase at wants copies)) old_there)
 
   module _ (has : new.shape ≡ old.shape) where
@@ -76,28 +76,28 @@ module _ (phase : Phase) (at : ℕ) (wants : Bool) (copies : List TableCopy) (oi
           ∙ by_test (other == oid) (λ here. rw here (leaves key)) (λ differs. rw differs refl);
     }
 
-    pub changes : (change : Change) → Leaves (change old.shape (seen old.rows)) (seen new.rows)
+    pub changes : (change : RowsChange) → Leaves (change old.shape (seen old.rows)) (seen new.rows)
         → Reaches (machine_with phase at wants (slice_set copies place new))
         (change_in oid change (machine_with phase at wants copies))
     changes change leaves =
         subst (Reaches (machine_with phase at wants (slice_set copies place new))) (sym (is_staged change))
         (reaches (change old.shape (seen old.rows)) leaves)
 
-  by_told : (change : Change) → (fault : Option SubFault)
+  by_told : (change : RowsChange) → (fault : Option SubFault)
       → TellsFault fault (change old.shape (seen old.rows))
       → TellsFault fault (change_in oid change (machine_with phase at wants copies))
   by_told change None tells = tt
   by_told change (Some fault) tells = is_staged change ∙ ap (staged (machine_with phase at wants copies) oid) tells
 
-  pub refuses : (change : Change) (error : SubFault) → RefusedBy (change old.shape (seen old.rows)) error
+  pub refuses : (change : RowsChange) (error : SubFault) → RefusedBy (change old.shape (seen old.rows)) error
       → RefusedBy (change_in oid change (machine_with phase at wants copies)) error
-  refuses change error refused = by_told change (told error) refused
+  refuses change error refused = by_told change (sub_fault error) refused
 
 -- what staging a change in the copy at a place returns and leaves
 module _ (self after : Replica) (oid place : ℕ) (old new : TableCopy) (known : IsKnownAt self.copies.items oid place)
     (is : old ≡ get_or self.copies.items place old)
     (written_is : machine_view after ≡ machine_with self.phase self.position self.wants_reply
-    (slice_set self.copies.items place new)) (change : Change) where
+    (slice_set self.copies.items place new)) (change : RowsChange) where
   stays_staged : StaysCopy old new → Stays (machine_view self) (machine_view after)
   stays_staged stays = subst (Stays (machine_view self)) (sym written_is)
       (stays_there self.phase self.position self.wants_reply self.copies.items oid place old new known is stays)
@@ -119,7 +119,7 @@ module _ (self after : Replica) (oid place : ℕ) (old new : TableCopy) (known :
   }
 
 -- a change of a table whose Relation did not come
-pub unknown_refuses : (phase : Phase) (at : ℕ) (wants : Bool) (copies : List TableCopy) (oid : ℕ) (change : Change)
+pub unknown_refuses : (phase : Phase) (at : ℕ) (wants : Bool) (copies : List TableCopy) (oid : ℕ) (change : RowsChange)
     → known_in (copy_of copies oid) ≡ false
     → change_in oid change (machine_with phase at wants copies) ≡ Err (NoRelation oid)
 unknown_refuses phase at wants copies oid change unknown = rw unknown refl

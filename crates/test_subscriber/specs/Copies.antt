@@ -4,27 +4,27 @@ use Rattle.std.specs.Prelude.{◌≡◌, false, List, Option, Some, None, Result
 use Rattle.filter_tree.specs.Datum.{Datum}
 use Rattle.filter_tree.specs.Memory.{TellsFault}
 use Rattle.tables_log.specs.Staging.{kept, seen}
-use Rattle.test_subscriber.specs.Hearing.{Change}
+use Rattle.test_subscriber.specs.Hearing.{RowsChange}
 use Rattle.test_subscriber.specs.RowChanges.{Found}
 use Rattle.test_subscriber.specs.declared.fault.SubFault.{SubFault}
 use Rattle.test_subscriber.specs.declared.fault.SubFault.TheVariants.{Frame, Msg, OutOfPlace, NoRelation, BadValue, DuplicateKey, Refused, Closed, OutOfMemory}
 use Rattle.test_subscriber.specs.declared.table_copy.TableCopy.{TableCopy}
 
 -- the fault that an error reports, if any
-abbrev pub told : SubFault → Option SubFault
-told (Frame fault) = Some (Frame fault)
-told (Msg fault) = Some (Msg fault)
-told OutOfPlace = Some OutOfPlace
-told (NoRelation oid) = Some (NoRelation oid)
-told BadValue = Some BadValue
-told DuplicateKey = Some DuplicateKey
-told (Refused code) = Some (Refused code)
-told Closed = Some Closed
-told OutOfMemory = None
+abbrev pub sub_fault : SubFault → Option SubFault
+sub_fault (Frame fault) = Some (Frame fault)
+sub_fault (Msg fault) = Some (Msg fault)
+sub_fault OutOfPlace = Some OutOfPlace
+sub_fault (NoRelation oid) = Some (NoRelation oid)
+sub_fault BadValue = Some BadValue
+sub_fault DuplicateKey = Some DuplicateKey
+sub_fault (Refused code) = Some (Refused code)
+sub_fault Closed = Some Closed
+sub_fault OutOfMemory = None
 
 -- the error is that of the answer, or memory was refused
 abbrev pub RefusedBy : {A : Type 0} → Result A SubFault → SubFault → Type 0
-RefusedBy answer error = TellsFault (told error) answer
+RefusedBy answer error = TellsFault (sub_fault error) answer
 
 -- the rows that are found are those of the answer
 abbrev pub Leaves : Result Found SubFault → Found → Type 0
@@ -38,7 +38,7 @@ pub record StaysCopy (old new : TableCopy) : Type 0 where
   pub keeps : (key : List Datum) → kept new.rows key ≡ kept old.rows key
 
 -- the change is staged, or refused with its fault or because memory ran out
-pub record ChangesCopy (change : Change) (old : TableCopy) (result : Result (Unit {0}) SubFault) (new : TableCopy) :
+pub record ChangesCopy (change : RowsChange) (old : TableCopy) (result : Result (Unit {0}) SubFault) (new : TableCopy) :
     Type 0 where
   pub stays : StaysCopy old new
   pub ok : OnOk result (Leaves (change old.shape (seen old.rows)) (seen new.rows))

@@ -1,9 +1,9 @@
 -- That a subscriber does the same with pieces that are fed one after another and with the pieces as one ("55.7. Message
 -- Formats").
 use Rattle.std.specs.Prelude.{◌≡◌, ℕ, List, ◌++◌, None}
-use Rattle.copy_frames.specs.Frames.{Cut, after_frames, frames_of}
+use Rattle.copy_frames.specs.Frames.{FrameCut, after_frames, frames_of}
 use Rattle.copy_frames.specs.declared.frame.Frame.{Frame}
-use Rattle.test_subscriber.specs.Copies.{told}
+use Rattle.test_subscriber.specs.Copies.{sub_fault}
 use Rattle.test_subscriber.specs.Feeding.{hear_frames, StaysOf}
 use Rattle.test_subscriber.specs.Subscribers.{Feeds, FeedStops, fed_cut, sub_machine}
 use Rattle.test_subscriber.specs.declared.fault.SubFault.{SubFault}
@@ -22,12 +22,12 @@ StopsComeAtOnce = (old between new : Subscriber) (first second : List ℕ) (erro
 -- all whole frames of the first one are heard, and then the first few frames of the second
 pub record StopsBeyond (old : Subscriber) (first second : List ℕ) (new : Subscriber) : Type 0 where
   pub more : List Frame
-  pub rest : Cut
+  pub rest : FrameCut
   pub among : after_frames (frames_of (fed_cut old first) ++ more) rest ≡ fed_cut old (first ++ second)
   pub stays : StaysOf (hear_frames (frames_of (fed_cut old first) ++ more) (sub_machine old)) (sub_machine new)
 
 -- if memory is refused for the second one, what is left is the result of these
 abbrev pub FirstPiecesStay : Type 0
 FirstPiecesStay = (old between new : Subscriber) (first second : List ℕ) (error : SubFault)
-    → Feeds old first between → FeedStops between second error new → told error ≡ None
+    → Feeds old first between → FeedStops between second error new → sub_fault error ≡ None
     → StopsBeyond old first second new

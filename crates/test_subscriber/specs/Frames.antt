@@ -3,7 +3,7 @@
 use Rattle.std.specs.Prelude.{ℕ, ◌-◌, ◌==◌, ◌&&◌, ◌||◌, max, nat_le, if◌then◌else◌, List, [], ◌∷◌, ◌++◌, length, take, drop, slice_index, codes, Option, Some, None, Result, Ok, Err}
 use Rattle.std.specs.Str.{bytes_eq}
 use Rattle.copy_frames.specs.Contents.{xlog_data_in, keepalive_in}
-use Rattle.copy_frames.specs.Frames.{Cut, Rest, Bad, Then}
+use Rattle.copy_frames.specs.Frames.{FrameCut, Rest, Bad, Then}
 use Rattle.copy_frames.specs.declared.fault.FrameFault.TheVariants.{BadLength}
 use Rattle.copy_frames.specs.declared.frame.Frame.{Frame}
 use Rattle.copy_frames.specs.declared.keepalive.Keepalive.{Keepalive}
@@ -12,7 +12,7 @@ use Rattle.pgoutput_msgs.specs.Reading.{decoded}
 use Rattle.pgoutput_msgs.specs.declared.error.MsgError.{MsgError}
 use Rattle.pgoutput_msgs.specs.declared.error.MsgError.TheVariants as e
 use Rattle.pgoutput_msgs.specs.declared.message.Msg.{Msg}
-use Rattle.test_subscriber.specs.Hearing.{Outcome, hear}
+use Rattle.test_subscriber.specs.Hearing.{MachineResult, hear}
 use Rattle.test_subscriber.specs.Machine.{Machine}
 use Rattle.test_subscriber.specs.declared.fault.SubFault.{SubFault}
 use Rattle.test_subscriber.specs.declared.fault.SubFault.TheVariants as f
@@ -31,22 +31,22 @@ code_in body =
     then Some (slice_index body 15 ∷ slice_index body 16 ∷ slice_index body 17 ∷ slice_index body 18
     ∷ slice_index body 19 ∷ []) else None
 
-abbrev pub refusal : Option (List ℕ) → SubFault
-refusal None = f.OutOfPlace
-refusal (Some code) = f.Refused code
+abbrev pub refused_start : Option (List ℕ) → SubFault
+refused_start None = f.OutOfPlace
+refused_start (Some code) = f.Refused code
 
 abbrev pub started : Machine → Machine
 started machine = record machine { phase = Idle }
 
 -- CopyBothResponse says that the format of the whole is text and that there are no columns
-abbrev pub hear_response : List ℕ → Machine → Outcome
+abbrev pub hear_response : List ℕ → Machine → MachineResult
 hear_response body machine = if bytes_eq body (0 ∷ 0 ∷ 0 ∷ []) then Ok (started machine) else Err f.OutOfPlace
 
 -- CopyBothResponse or ErrorResponse
-abbrev pub hear_start : Frame → Machine → Outcome
+abbrev pub hear_start : Frame → Machine → MachineResult
 hear_start frame machine =
     if frame.kind == 87 then hear_response frame.body machine
-    else (if frame.kind == 69 then Err (refusal (code_in frame.body)) else Err f.OutOfPlace)
+    else (if frame.kind == 69 then Err (refused_start (code_in frame.body)) else Err f.OutOfPlace)
 
 -- ---- the stream
 
@@ -63,7 +63,7 @@ kept_alive keepalive machine = record machine {
   wants_reply = machine.wants_reply || keepalive.wants_reply;
 }
 
-abbrev pub hear_keepalive : Option Keepalive → Machine → Outcome
+abbrev pub hear_keepalive : Option Keepalive → Machine → MachineResult
 hear_keepalive None machine = Err (f.Frame BadLength)
 hear_keepalive (Some keepalive) machine = Ok (kept_alive keepalive machine)
 
@@ -81,47 +81,47 @@ abbrev pub message_of : Result Msg MsgError → Result Msg SubFault
 message_of (Err fault) = Err (f.Msg fault)
 message_of (Ok message) = Ok message
 
-abbrev pub hear_decoded : Result Msg MsgError → Machine → Outcome
+abbrev pub hear_decoded : Result Msg MsgError → Machine → MachineResult
 hear_decoded (Err fault) machine = Err (f.Msg fault)
 hear_decoded (Ok message) machine = hear message machine
 
-abbrev pub hear_data : Option (XLogData × List ℕ) → Machine → Outcome
+abbrev pub hear_data : Option (XLogData × List ℕ) → Machine → MachineResult
 hear_data None machine = Err (f.Frame BadLength)
 hear_data (Some read) machine = hear_decoded (decoded read.1) machine
 
 -- what CopyData carries, by its first byte: `w` or `k`
-abbrev pub hear_content : List ℕ → Machine → Outcome
+abbrev pub hear_content : List ℕ → Machine → MachineResult
 hear_content body machine =
     if length body == 0 then Err f.OutOfPlace
     else (if slice_index body 0 == 119 then hear_data (xlog_data_in body) machine
     else (if slice_index body 0 == 107 then hear_keepalive (keepalive_in body) machine else Err f.OutOfPlace))
 
-abbrev pub hear_stream : Frame → Machine → Outcome
+abbrev pub hear_stream : Frame → Machine → MachineResult
 hear_stream frame machine = if frame.kind == 100 then hear_content frame.body machine else Err f.OutOfPlace
 
 -- ---- frames
 
-abbrev pub hear_frame_in : Phase → Frame → Machine → Outcome
+abbrev pub hear_frame_in : Phase → Frame → Machine → MachineResult
 hear_frame_in Shut frame machine = Err f.Closed
 hear_frame_in Waiting frame machine = hear_start frame machine
 hear_frame_in Idle frame machine = hear_stream frame machine
 hear_frame_in (Busy begin) frame machine = hear_stream frame machine
 
-abbrev pub hear_frame : Frame → Machine → Outcome
+abbrev pub hear_frame : Frame → Machine → MachineResult
 hear_frame frame machine = hear_frame_in machine.phase frame machine
 
 -- ---- bytes that are cut into frames
 
 -- the machine after the frames that were heard, and the fault at which it stops, if it stops
-pub record Heard : Type 0 where
+pub record MachineHeard : Type 0 where
   pub machine : Machine
   pub fault : Option SubFault
 
-abbrev pub heard_then : Machine → Outcome → (Machine → Heard) → Heard
+abbrev pub heard_then : Machine → MachineResult → (Machine → MachineHeard) → MachineHeard
 heard_then machine (Err fault) more = record { machine = machine; fault = Some fault }
 heard_then machine (Ok next) more = more next
 
-abbrev pub hear_cut : Cut → Machine → Heard
+abbrev pub hear_cut : FrameCut → Machine → MachineHeard
 hear_cut (Rest bytes) machine = record { machine = machine; fault = None }
 hear_cut (Bad fault bytes) machine = record { machine = machine; fault = Some (f.Frame fault) }
 hear_cut (Then frame more) machine = heard_then machine (hear_frame frame machine) (hear_cut more)

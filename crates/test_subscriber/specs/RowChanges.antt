@@ -46,20 +46,20 @@ gone_of shape (Some old) row = key_in shape old
 
 -- ---- what happens to the rows
 
-abbrev pub put : Found → List Datum → Option (List Datum) → Found
-put found key row other = if same_row key other then row else found other
+abbrev pub put_row : Found → List Datum → Option (List Datum) → Found
+put_row found key row other = if same_row key other then row else found other
 
 -- a new row, if no other has its key
-abbrev pub placed : Found → List Datum → List Datum → Result Found SubFault
-placed found key row = if is_some (found key) then Err DuplicateKey else Ok (put found key (Some row))
+abbrev pub put_new_row : Found → List Datum → List Datum → Result Found SubFault
+put_new_row found key row = if is_some (found key) then Err DuplicateKey else Ok (put_row found key (Some row))
 
 -- a new row in place of the one with the key `gone`; if there is none, the change is skipped
 abbrev pub replaced : Found → List Datum → List Datum → List Datum → Result Found SubFault
-replaced found gone key row = if is_some (found gone) then placed (put found gone None) key row else Ok found
+replaced found gone key row = if is_some (found gone) then put_new_row (put_row found gone None) key row else Ok found
 
 abbrev pub insert_row : TableShape → Found → Result (List Datum) SubFault → Result Found SubFault
 insert_row shape found (Err fault) = Err fault
-insert_row shape found (Ok row) = placed found (values_at shape.key row) row
+insert_row shape found (Ok row) = put_new_row found (values_at shape.key row) row
 
 abbrev pub inserted : TableShape → Found → List Cell → Result Found SubFault
 inserted shape found new = insert_row shape found (read_in shape new)
@@ -78,7 +78,7 @@ updated shape found old new = update_row shape found old (read_in shape new)
 -- no row has the key afterwards
 abbrev pub delete_row : Found → Result (List Datum) SubFault → Result Found SubFault
 delete_row found (Err fault) = Err fault
-delete_row found (Ok key) = Ok (put found key None)
+delete_row found (Ok key) = Ok (put_row found key None)
 
 abbrev pub deleted : TableShape → Found → OldTuple → Result Found SubFault
 deleted shape found old = delete_row found (key_in shape old)

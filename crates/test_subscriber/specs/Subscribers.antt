@@ -4,11 +4,11 @@ use Rattle.std.specs.Prelude.{◌≡◌, ℕ, Bool, false, List, [], ◌++◌, d
 use Rattle.std.specs.String.{string_bytes}
 use Rattle.filter_tree.specs.Datum.{Datum}
 use Rattle.copy_frames.specs.Contents.{copy_data, status_body}
-use Rattle.copy_frames.specs.Frames.{Cut, cut, rest_of}
+use Rattle.copy_frames.specs.Frames.{FrameCut, cut, rest_of}
 use Rattle.copy_frames.specs.declared.status.Status.{Status}
-use Rattle.test_subscriber.specs.Copies.{told}
+use Rattle.test_subscriber.specs.Copies.{sub_fault}
 use Rattle.test_subscriber.specs.Feeding.{limit, hear_while, StopsFor}
-use Rattle.test_subscriber.specs.Frames.{Heard}
+use Rattle.test_subscriber.specs.Frames.{MachineHeard}
 use Rattle.test_subscriber.specs.Machine.{Machine, Alike, lost, opened}
 use Rattle.test_subscriber.specs.StartQuery.{start_query, Asks}
 use Rattle.test_subscriber.specs.Views.{machine_view, copy_of, listed_in}
@@ -77,10 +77,10 @@ pub record Opens (old new : Subscriber) : Type 0 where
   pub names : SameNames old new
 
 -- what is held, and the piece after it
-abbrev pub fed_cut : Subscriber → List ℕ → Cut
+abbrev pub fed_cut : Subscriber → List ℕ → FrameCut
 fed_cut subscriber piece = cut limit (sub_held subscriber ++ piece)
 
-abbrev pub fed_heard : Subscriber → List ℕ → Heard
+abbrev pub fed_heard : Subscriber → List ℕ → MachineHeard
 fed_heard subscriber piece =
     hear_while (sub_machine subscriber).phase (fed_cut subscriber piece) (sub_machine subscriber)
 
@@ -92,7 +92,7 @@ pub record Feeds (old : Subscriber) (piece : List ℕ) (new : Subscriber) : Type
   pub names : SameNames old new
 
 pub record FeedStops (old : Subscriber) (piece : List ℕ) (error : SubFault) (new : Subscriber) : Type 0 where
-  pub machine : StopsFor (told error) (fed_heard old piece) (fed_cut old piece) (sub_machine old) (sub_machine new)
+  pub machine : StopsFor (sub_fault error) (fed_heard old piece) (fed_cut old piece) (sub_machine old) (sub_machine new)
   pub cleared : IsCleared old new
 
 -- ---- statuses

@@ -3,7 +3,7 @@
 ghost use Rattle.std.specs.Prelude.{◌≡◌, IfOk, IfErr, Ok};
 ghost use Rattle.pgoutput_msgs.specs.Reading.{decoded};
 ghost use Rattle.test_subscriber.specs.Copies.{RefusedBy};
-ghost use Rattle.test_subscriber.specs.Frames.{code_in, refusal, fault_of, message_of};
+ghost use Rattle.test_subscriber.specs.Frames.{code_in, refused_start, fault_of, message_of};
 
 use crate::fault::SubFault;
 use crate::phase::Phase;
@@ -34,7 +34,7 @@ fn code_in(body: &[u8]) -> Option<[u8; 5]>
 
 /// What an ErrorResponse reports.
 fn refusal(body: &[u8]) -> SubFault
-    ensures { result ≡ refusal (code_in body.now) }
+    ensures { result ≡ refused_start (code_in body.now) }
 {
     match code_in(body) {
         None => SubFault::OutOfPlace,

@@ -2,7 +2,7 @@
 
 ghost use Rattle.std.specs.Prelude.{◌≡◌, ◌++◌, IfOk, IfErr, OnOk, None, Err};
 ghost use Rattle.copy_frames.specs.Frames.{cut};
-ghost use Rattle.test_subscriber.specs.Copies.{told};
+ghost use Rattle.test_subscriber.specs.Copies.{sub_fault};
 ghost use Rattle.test_subscriber.specs.Feeding.{StopsFor, hear_while};
 ghost use Rattle.test_subscriber.specs.Frames.{hear_cut};
 ghost use Rattle.test_subscriber.specs.Intake.{HearsHeld, HearsPiece, TakesPiece};
@@ -35,7 +35,7 @@ fn hear_held(replica: &mut Replica, inbox: &mut Deframer) -> Result<(), SubFault
     ensures ok { OnOk result (HearsHeld (cut inbox.old.limit inbox.old.bytes)
         (hear_cut (cut inbox.old.limit inbox.old.bytes) (machine_view replica.old)) inbox.old inbox.new
         (machine_view replica.new)) }
-    ensures stops { IfErr result (λ e. StopsFor (told e)
+    ensures stops { IfErr result (λ e. StopsFor (sub_fault e)
         (hear_cut (cut inbox.old.limit inbox.old.bytes) (machine_view replica.old))
         (cut inbox.old.limit inbox.old.bytes) (machine_view replica.old) (stopped (machine_view replica.new))) }
 {
@@ -55,7 +55,7 @@ pub(crate) fn hear_piece(
     ensures ok { OnOk result (HearsPiece (cut inbox.old.limit (inbox.old.bytes ++ piece.now))
         (hear_while replica.old.phase (cut inbox.old.limit (inbox.old.bytes ++ piece.now)) (machine_view replica.old))
         inbox.old inbox.new (machine_view replica.new)) }
-    ensures stops { IfErr result (λ e. StopsFor (told e)
+    ensures stops { IfErr result (λ e. StopsFor (sub_fault e)
         (hear_while replica.old.phase (cut inbox.old.limit (inbox.old.bytes ++ piece.now)) (machine_view replica.old))
         (cut inbox.old.limit (inbox.old.bytes ++ piece.now)) (machine_view replica.old)
         (stopped (machine_view replica.new))) }

@@ -57,9 +57,9 @@ impl TableCopy {
     ghost use Rattle.tables_log.specs.Listing.{ListsFound};
     ghost use Rattle.tables_log.specs.Places.{IsInOrder};
     ghost use Rattle.tables_log.specs.Staging.{kept, kept_values, seen};
-    ghost use Rattle.test_subscriber.specs.Hearing.{emptied};
-    ghost use Rattle.test_subscriber.specs.RowChanges.{placed, inserted, read_in, key_in, gone_of, replaced, updated, deleted};
-    ghost use Rattle.test_subscriber.specs.Copies.{told, ChangesCopy, StaysCopy, SettlesCopy, ForgetsCopy};
+    ghost use Rattle.test_subscriber.specs.Hearing.{without_rows};
+    ghost use Rattle.test_subscriber.specs.RowChanges.{put_new_row, inserted, read_in, key_in, gone_of, replaced, updated, deleted};
+    ghost use Rattle.test_subscriber.specs.Copies.{sub_fault, ChangesCopy, StaysCopy, SettlesCopy, ForgetsCopy};
 
     /// The copy of a table without rows, whose Relation came.
     pub(crate) fn new(alloc: Global, shape: TableShape) -> TableCopy
@@ -88,7 +88,7 @@ impl TableCopy {
 
     /// The row of a tuple.
     fn read(&self, alloc: Global, tuple: Tuple) -> Result<Row, SubFault>
-        ensures { Answers (λ row. row) told (read_in self.now.shape tuple) result }
+        ensures { Answers (λ row. row) sub_fault (read_in self.now.shape tuple) result }
     {
         match row_of(alloc, self.shape.kinds.as_slice(), tuple.into_cells())? {
             None => Err(SubFault::BadValue),
@@ -116,7 +116,7 @@ impl TableCopy {
 
     /// Stages a row under its key, if there is none.
     fn place(&mut self, key: Row, row: Row) -> Result<(), SubFault>
-        ensures { ChangesCopy (λ shape found. placed found key row) self.old result self.new }
+        ensures { ChangesCopy (λ shape found. put_new_row found key row) self.old result self.new }
     {
         if self.rows.put(key, row)? {
             return Err(SubFault::DuplicateKey);
@@ -136,7 +136,7 @@ impl TableCopy {
 
     /// The key of the row that an update or a delete is about, by what is sent of the old row.
     fn key_in(&self, alloc: Global, old: OldTuple) -> Result<Row, SubFault>
-        ensures { Answers (λ key. key) told (key_in self.now.shape old) result }
+        ensures { Answers (λ key. key) sub_fault (key_in self.now.shape old) result }
     {
         let tuple = match old {
             OldTuple::Key(tuple) | OldTuple::Full(tuple) => tuple,
@@ -147,7 +147,7 @@ impl TableCopy {
 
     /// The key of the row that this one replaces: by what is sent of the old row, or by the new row if nothing is sent.
     fn gone_key(&self, alloc: Global, old: Option<OldTuple>, row: &Row) -> Result<Row, SubFault>
-        ensures { Answers (λ key. key) told (gone_of self.now.shape old row.now) result }
+        ensures { Answers (λ key. key) sub_fault (gone_of self.now.shape old row.now) result }
     {
         match old {
             None => Ok(self.key_of(alloc, row)?),
@@ -194,7 +194,7 @@ impl TableCopy {
 
     /// Stages that there are no rows.
     pub(crate) fn empty(&mut self)
-        ensures { ChangesCopy emptied self.old (Ok tt) self.new }
+        ensures { ChangesCopy without_rows self.old (Ok tt) self.new }
     {
         self.rows.empty();
     }

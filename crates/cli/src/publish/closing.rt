@@ -5,7 +5,7 @@ ghost use Rattle.commands.specs.declared.failure.Status.TheVariants.{Done};
 ghost use Rattle.publisher_desk.specs.declared.note.Note.{Note};
 ghost use Rattle.shard_checker.specs.CheckedView.{CheckedOf};
 ghost use Rattle.cli.specs.Connections.{WasServed};
-ghost use Rattle.cli.specs.Published.{Closes, IsLast, IsLastOf};
+ghost use Rattle.cli.specs.Published.{Closes, IsLastLine, IsLastLineOf};
 ghost use Rattle.cli.specs.Telling.{closed_line};
 
 use crate::closing::{name_of, say};
@@ -21,7 +21,7 @@ fn tell_closed<'a, W: Writer>(
     writer: &mut W,
 ) -> Result<Status, Failure<'a>>
     ensures { (checked : CheckedOf) (limit : ℕ) (notes : List Note)
-        → IsLast checked limit notes (closed_line commits connections) Done
+        → IsLastLine checked limit notes (closed_line commits connections) Done
         → Closes checked limit notes (W.contents writer.old) (W.contents writer.new) result }
 {
     let line = format!(in alloc; "closed {commits} {connections}")?;
@@ -34,7 +34,7 @@ fn tell_error<'a, W: Writer>(
     error: CloseError,
     writer: &mut W,
 ) -> Result<Status, Failure<'a>>
-    ensures { (checked : CheckedOf) (limit : ℕ) (notes : List Note) → IsLastOf checked limit notes error
+    ensures { (checked : CheckedOf) (limit : ℕ) (notes : List Note) → IsLastLineOf checked limit notes error
         → Closes checked limit notes (W.contents writer.old) (W.contents writer.new) result }
 {
     let name = name_of(error).ok_or(Failure::OutOfMemory)?;

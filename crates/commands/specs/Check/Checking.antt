@@ -14,7 +14,7 @@ use Rattle.split_cert.specs.declared.error.CertError.{CertError}
 use Rattle.commands.specs.Verdicts.{IsVerdict}
 use Rattle.commands.specs.BadCatalogs.{IsBadCatalog}
 use Rattle.commands.specs.Output.{Ends, text_of}
-use Rattle.commands.specs.Parts.{Cut, two_parts, lines_of}
+use Rattle.commands.specs.Parts.{CutOnce, two_parts, lines_of}
 use Rattle.commands.specs.declared.failure.Failure.{Failure}
 use Rattle.commands.specs.declared.failure.InputFault.{InputFault}
 use Rattle.commands.specs.declared.failure.InputFault.TheVariants as i
@@ -23,7 +23,7 @@ use Rattle.commands.specs.declared.failure.Status.{Status}
 -- the input has two parts, the first is a catalog, each line of the second is a certificate, and the sharding is
 -- accepted or refused; what is written is the catalog's text, if it is to be shown, and then the line of the verdict
 pub record IsCheck (shows : Bool) (input : List ℕ) (lines : List (List ℕ)) (status : Status) : Type 0 where
-  pub cut : Cut
+  pub cut : CutOnce
   pub catalog : CatalogOf Expr
   pub parts : two_parts input ≡ Some cut
   pub reads : catalog_by as_filter cut.part ≡ Ok catalog
@@ -36,23 +36,24 @@ pub record IsCheck (shows : Bool) (input : List ℕ) (lines : List (List ℕ)) (
 
 -- the input has two parts, the first is a catalog, and the first line of the second that is no certificate has this
 -- number and this fault
-pub record IsBadCertificate (input : List ℕ) (number : ℕ) (error : CertError) : Type 0 where
-  pub cut : Cut
+pub record IsBadCheckCertificate (input : List ℕ) (number : ℕ) (error : CertError) : Type 0 where
+  pub cut : CutOnce
   pub catalog : CatalogOf Expr
   pub parts : two_parts input ≡ Some cut
   pub reads : catalog_by as_filter cut.part ≡ Ok catalog
   pub first : text_fault 1 (lines_of cut.rest) ≡ Some (Text number error)
 
-abbrev pub IsFault : List ℕ → InputFault → Type 0
-IsFault input i.Unread = ⊥
-IsFault input i.Parts = two_parts input ≡ None
-IsFault input (i.Catalog error) = IsBadCatalog input error
-IsFault input (i.Table name) = ⊥
-IsFault input (i.Certificate number error) = IsBadCertificate input number error
-IsFault input (i.Script error) = ⊥
+abbrev pub IsCheckFault : List ℕ → InputFault → Type 0
+IsCheckFault input i.Unread = ⊥
+IsCheckFault input i.Parts = two_parts input ≡ None
+IsCheckFault input (i.Catalog error) = IsBadCatalog input error
+IsCheckFault input (i.Table name) = ⊥
+IsCheckFault input (i.Certificate number error) = IsBadCheckCertificate input number error
+IsCheckFault input (i.Script error) = ⊥
 
 -- ---- what is written
 
 -- the check is answered, as far as memory and the writer go, or the input has a fault and nothing is written
 abbrev pub EndsCheck : Bool → List ℕ → Option (List ℕ) → Option (List ℕ) → Result Status Failure → Type 0
-EndsCheck shows input old new result = Ends (IsCheck shows input) (λ lines. lines ≡ []) (IsFault input) old new result
+EndsCheck shows input old new result =
+    Ends (IsCheck shows input) (λ lines. lines ≡ []) (IsCheckFault input) old new result

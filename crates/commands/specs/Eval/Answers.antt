@@ -21,11 +21,11 @@ word_of (Filtered False) = codes "false"
 word_of (Filtered Null) = codes "null"
 
 -- `name=answer`
-abbrev pub spelled : List ℕ → Answer → List ℕ
-spelled name answer = name ++ 61 ∷ word_of answer
+abbrev pub answer_text : List ℕ → Answer → List ℕ
+answer_text name answer = name ++ 61 ∷ word_of answer
 
 abbrev pub said_by : List Datum → CarrierOf → List ℕ
-said_by row carrier = spelled carrier.name (answer_of row carrier.filter)
+said_by row carrier = answer_text carrier.name (answer_of row carrier.filter)
 
 -- what each publication that carries the table says, a space between
 abbrev pub line_of : List Datum → List CarrierOf → List ℕ

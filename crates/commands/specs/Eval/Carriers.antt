@@ -13,18 +13,18 @@ pub record CarrierOf : Type 0 where
   pub name : List ℕ
   pub filter : Option Expr
 
-abbrev pub is_for : ℕ → Entry → Bool
-is_for table entry = entry.table == table
+abbrev pub is_entry_for : ℕ → Entry → Bool
+is_entry_for table entry = entry.table == table
 
 abbrev pub is_whole : ℕ → Entry → Bool
-is_whole table entry = is_for table entry && is_none entry.filter
+is_whole table entry = is_entry_for table entry && is_none entry.filter
 
 -- all rows, where an entry for the table has no filter, or else the rows of its entry's filter
 abbrev pub carried_by : ℕ → Publication → Option CarrierOf
 carried_by table publication =
     if list_any (is_whole table) publication.entries.items then Some (record { name = publication.name; filter = None })
     else option_map (λ filter. record { name = publication.name; filter = Some (expr_view filter) })
-    (option_and_then (λ entry. entry.filter) (find (is_for table) publication.entries.items))
+    (option_and_then (λ entry. entry.filter) (find (is_entry_for table) publication.entries.items))
 
 -- the publications that carry the table, in their order
 abbrev pub carriers_of : ℕ → List Publication → List CarrierOf

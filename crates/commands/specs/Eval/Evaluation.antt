@@ -19,8 +19,8 @@ use Rattle.commands.specs.Eval.BadRows.{IsUnreadable, bad_line, is_answered}
 use Rattle.commands.specs.Eval.Carriers.{CarrierOf, carriers_of}
 use Rattle.commands.specs.declared.eval.bad_row.BadRow.TheVariants.{Invalid}
 use Rattle.commands.specs.Eval.Inserts.{insert_line}
-use Rattle.commands.specs.Parts.{Cut, two_parts, lines_of}
-use Rattle.commands.specs.Eval.Tables.{table_of}
+use Rattle.commands.specs.Parts.{CutOnce, two_parts, lines_of}
+use Rattle.commands.specs.Eval.Tables.{table_named_by}
 use Rattle.commands.specs.declared.eval.row_output.RowOutput.{RowOutput}
 use Rattle.commands.specs.declared.eval.row_output.RowOutput.TheVariants as q
 use Rattle.commands.specs.Output.{Ends, Writes}
@@ -37,9 +37,9 @@ status_of columns rows = if list_all (is_answered columns) rows then Done else R
 -- ---- lines
 
 -- what the publications say of a row that fits, or its Insert message
-abbrev pub told : RowOutput → ℕ → List Datum → List CarrierOf → List ℕ
-told q.Answers number row carriers = line_of row carriers
-told q.Insert number row carriers = insert_line number row carriers
+abbrev pub row_said : RowOutput → ℕ → List Datum → List CarrierOf → List ℕ
+row_said q.Answers number row carriers = line_of row carriers
+row_said q.Insert number row carriers = insert_line number row carriers
 
 -- the line of a row that is read
 abbrev pub line_by : Option RowFault → List ℕ → List ℕ
@@ -49,7 +49,7 @@ line_by (Some fault) told = bad_line (Invalid fault)
 module _ (wanted : RowOutput) (number : ℕ) (carriers : List CarrierOf) (columns : List Column) where
   -- the line of a row that fits is what is told of it; of another, why it does not fit, or is not read
   abbrev pub IsLineOf : Result (List Datum) Fault → List ℕ → Type 0
-  IsLineOf (Ok row) line = line ≡ line_by (row_fault columns row) (told wanted number row carriers)
+  IsLineOf (Ok row) line = line ≡ line_by (row_fault columns row) (row_said wanted number row carriers)
   IsLineOf (Err fault) line = IsUnreadable fault line
 
   abbrev pub IsLine : List ℕ → List ℕ → Type 0
@@ -85,13 +85,13 @@ module _ (wanted : RowOutput) (number : ℕ) (carriers : List CarrierOf) (column
 -- second. The other rows are left.
 pub record IsEvaluation (wanted : RowOutput) (input word : List ℕ) (left lines : List (List ℕ)) (status : Status) :
     Type 0 where
-  pub cut : Cut
+  pub cut : CutOnce
   pub catalog : Catalog
   pub number : ℕ
   pub table : Table
   pub parts : two_parts input ≡ Some cut
   pub reads : catalog_by as_filter cut.part ≡ Ok (catalog_view catalog)
-  pub named : table_of word catalog.tables.items ≡ Some number
+  pub named : table_named_by word catalog.tables.items ≡ Some number
   pub found : slice_get catalog.tables.items number ≡ Some table
   pub rows : AreFirstLines wanted number (carriers_of number catalog.publications.items) table.columns
       (lines_of cut.rest) left lines status
@@ -107,19 +107,19 @@ pub record IsBegunEvaluation (wanted : RowOutput) (input word : List ℕ) (lines
 
 -- the input has two parts, and the first is a catalog that lacks the table
 pub record IsUnknown (input word : List ℕ) : Type 0 where
-  pub cut : Cut
+  pub cut : CutOnce
   pub catalog : Catalog
   pub parts : two_parts input ≡ Some cut
   pub reads : catalog_by as_filter cut.part ≡ Ok (catalog_view catalog)
-  pub unknown : table_of word catalog.tables.items ≡ None
+  pub unknown : table_named_by word catalog.tables.items ≡ None
 
-abbrev pub IsFault : List ℕ → List ℕ → InputFault → Type 0
-IsFault input word i.Unread = ⊥
-IsFault input word i.Parts = two_parts input ≡ None
-IsFault input word (i.Catalog error) = IsBadCatalog input error
-IsFault input word (i.Table name) = IsUnknown input word × (name.now ≡ word)
-IsFault input word (i.Certificate line error) = ⊥
-IsFault input word (i.Script error) = ⊥
+abbrev pub IsEvalFault : List ℕ → List ℕ → InputFault → Type 0
+IsEvalFault input word i.Unread = ⊥
+IsEvalFault input word i.Parts = two_parts input ≡ None
+IsEvalFault input word (i.Catalog error) = IsBadCatalog input error
+IsEvalFault input word (i.Table name) = IsUnknown input word × (name.now ≡ word)
+IsEvalFault input word (i.Certificate line error) = ⊥
+IsEvalFault input word (i.Script error) = ⊥
 
 -- ---- what is written
 
@@ -128,4 +128,4 @@ abbrev pub EndsEvaluation : RowOutput → List ℕ → List ℕ → Option (List
     → Type 0
 EndsEvaluation wanted input word old new result =
     Ends (IsEvaluation wanted input word []) (λ lines. (lines ≡ []) ⊎ IsBegunEvaluation wanted input word lines)
-    (IsFault input word) old new result
+    (IsEvalFault input word) old new result

@@ -21,11 +21,11 @@ is_through All = true
 is_through (Filtered True) = true
 is_through _ = false
 
-abbrev pub carries : List Datum → CarrierOf → Bool
-carries row carrier = is_through (answer_of row carrier.filter)
+abbrev pub carrier_has : List Datum → CarrierOf → Bool
+carrier_has row carrier = is_through (answer_of row carrier.filter)
 
 abbrev pub is_carried : List Datum → List CarrierOf → Bool
-is_carried row carriers = list_any (carries row) carriers
+is_carried row carriers = list_any (carrier_has row) carriers
 
 abbrev pub insert_of : ℕ → List Datum → Msg
 insert_of table row = Insert (oid_of table) (cells_of row)

@@ -3,7 +3,7 @@
 use Rattle.std.specs.Prelude.{ℕ, List, Option, Result, map}
 use Rattle.filter_tree.specs.Datum.{Datum}
 use Rattle.commands.specs.Eval.Carriers.{CarrierOf, carrier_view}
-use Rattle.commands.specs.Eval.Evaluation.{IsLine, WritesRows, told}
+use Rattle.commands.specs.Eval.Evaluation.{IsLine, WritesRows, row_said}
 use Rattle.commands.specs.declared.eval.row_output.RowOutput.{RowOutput}
 use Rattle.commands.specs.declared.eval.tables.CatalogTable.{CatalogTable}
 use Rattle.commands.specs.declared.failure.Failure.{Failure}
@@ -14,7 +14,7 @@ carriers_in carried = map carrier_view carried.carriers.now
 
 -- what is wanted of a row that fits
 abbrev pub told_in : RowOutput → CatalogTable → List Datum → List ℕ
-told_in wanted carried row = told wanted carried.number row (carriers_in carried)
+told_in wanted carried row = row_said wanted carried.number row (carriers_in carried)
 
 abbrev pub IsLineIn : RowOutput → CatalogTable → List ℕ → List ℕ → Type 0
 IsLineIn wanted carried text line =

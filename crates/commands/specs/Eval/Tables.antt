@@ -11,15 +11,15 @@ is_dot byte = byte == 46
 abbrev pub has_dot : List ℕ → Bool
 has_dot word = nat_lt (position_or_len is_dot word) (length word)
 
-abbrev pub schema_of : List ℕ → List ℕ
-schema_of word = if has_dot word then before_first is_dot word else codes "public"
+abbrev pub schema_word : List ℕ → List ℕ
+schema_word word = if has_dot word then before_first is_dot word else codes "public"
 
-abbrev pub name_of : List ℕ → List ℕ
-name_of word = if has_dot word then after_first is_dot word else word
+abbrev pub name_word : List ℕ → List ℕ
+name_word word = if has_dot word then after_first is_dot word else word
 
-abbrev pub is_named : List ℕ → Table → Bool
-is_named word table = bytes_eq table.schema (schema_of word) && bytes_eq table.name (name_of word)
+abbrev pub is_named_by : List ℕ → Table → Bool
+is_named_by word table = bytes_eq table.schema (schema_word word) && bytes_eq table.name (name_word word)
 
 -- the number of the first table that the word names
-abbrev pub table_of : List ℕ → List Table → Option ℕ
-table_of word tables = position (is_named word) tables
+abbrev pub table_named_by : List ℕ → List Table → Option ℕ
+table_named_by word tables = position (is_named_by word) tables

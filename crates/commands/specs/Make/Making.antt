@@ -3,20 +3,20 @@
 use Rattle.std.specs.Prelude.{◌≡◌, ◌≢◌, ◌⊎◌, ℕ, ◌+◌, Bool, true, false, ◌&&◌, if◌then◌else◌, List, [], ◌∷◌, ◌++◌, length, Option, None, is_none, Result, Ok, codes}
 use Rattle.std.specs.Io.KnownBytes.{Appends}
 use Rattle.std.specs.List.{join_by}
-use Rattle.cert_maker.specs.Answers.{IsAccepted, IsCounter}
+use Rattle.cert_maker.specs.Answers.{IsAcceptedCert, IsCounter}
 use Rattle.filter_tree.specs.Datum.{Datum}
 use Rattle.filter_tree.specs.Expr.{Expr}
 use Rattle.pub_catalog.specs.Catalogs.{CatalogOf}
 use Rattle.pub_reader.specs.Statements.{catalog_by}
 use Rattle.pub_catalog.specs.declared.catalog.Subscription.{Subscription}
 use Rattle.replica_identity.specs.Plans.{plan_of}
-use Rattle.split_cert.specs.Text.{spelling_of}
+use Rattle.split_cert.specs.Text.{cert_text}
 use Rattle.split_cert.specs.Tree.{Tree}
-use Rattle.sql_reader.specs.Reading.{Tells, told}
+use Rattle.sql_reader.specs.Reading.{Tells, read_fault}
 use Rattle.sql_reader.specs.Written.{as_filter}
 use Rattle.sql_reader.specs.WrittenRows.{row_text}
 use Rattle.commands.specs.Parts.{cut_of}
-use Rattle.commands.specs.Names.{spaced, subscriber_name, table_name}
+use Rattle.commands.specs.Names.{spaced, subscriber_name, plain_table}
 use Rattle.commands.specs.Output.{Ends, StopsText, Writes, ended}
 use Rattle.commands.specs.declared.failure.Failure.{Failure}
 use Rattle.commands.specs.declared.failure.InputFault.{InputFault}
@@ -47,7 +47,7 @@ finding_view m.OutOfMemory = Unknown
 -- The check accepts the certificate with the catalog's own plan; the row fits the table and passes to exactly these
 -- subscribers, which are none or several. The others say nothing of the table.
 abbrev pub IsTrueOf : CatalogOf Expr → ℕ → Finding → Type 0
-IsTrueOf catalog number (Cert tree) = IsAccepted catalog (plan_of catalog) number tree
+IsTrueOf catalog number (Cert tree) = IsAcceptedCert catalog (plan_of catalog) number tree
 IsTrueOf catalog number (Counter row owners) = IsCounter catalog (plan_of catalog) number row owners
 IsTrueOf catalog number Unknown = Unit {0}
 IsTrueOf catalog number TooLarge = Unit {0}
@@ -65,13 +65,13 @@ owners_text subscriptions (owner ∷ owners) = join_by (subscriber_name subscrip
 
 abbrev pub counter_words : CatalogOf Expr → ℕ → List Datum → List ℕ → List (List ℕ)
 counter_words catalog number row owners =
-    table_name catalog.tables number ∷ row_text row ∷ codes "owners" ∷ owners_text catalog.subscriptions owners ∷ []
+    plain_table catalog.tables number ∷ row_text row ∷ codes "owners" ∷ owners_text catalog.subscriptions owners ∷ []
 
 abbrev pub line_for : CatalogOf Expr → ℕ → Finding → List ℕ
-line_for catalog number (Cert tree) = spelling_of tree
+line_for catalog number (Cert tree) = cert_text tree
 line_for catalog number (Counter row owners) = codes "counter" ++ spaced (counter_words catalog number row owners)
-line_for catalog number Unknown = codes "unknown" ++ spaced (table_name catalog.tables number ∷ [])
-line_for catalog number TooLarge = codes "too large" ++ spaced (table_name catalog.tables number ∷ [])
+line_for catalog number Unknown = codes "unknown" ++ spaced (plain_table catalog.tables number ∷ [])
+line_for catalog number TooLarge = codes "too large" ++ spaced (plain_table catalog.tables number ∷ [])
 
 -- ---- what is answered
 
@@ -115,21 +115,21 @@ pub record IsBegunMaking (input : List ℕ) (lines : List (List ℕ)) : Type 0 w
 
 -- ---- why there is no answer
 
-abbrev pub IsFault : List ℕ → InputFault → Type 0
-IsFault input i.Unread = ⊥
-IsFault input i.Parts = cut_of input ≢ None
-IsFault input (i.Catalog error) = (cut_of input ≡ None) × Tells error (catalog_by as_filter input)
-    × (is_none (told error) ≡ false)
-IsFault input (i.Table name) = ⊥
-IsFault input (i.Certificate number error) = ⊥
-IsFault input (i.Script error) = ⊥
+abbrev pub IsMakeFault : List ℕ → InputFault → Type 0
+IsMakeFault input i.Unread = ⊥
+IsMakeFault input i.Parts = cut_of input ≢ None
+IsMakeFault input (i.Catalog error) = (cut_of input ≡ None) × Tells error (catalog_by as_filter input)
+    × (is_none (read_fault error) ≡ false)
+IsMakeFault input (i.Table name) = ⊥
+IsMakeFault input (i.Certificate number error) = ⊥
+IsMakeFault input (i.Script error) = ⊥
 
 -- ---- what is written
 
 -- the tables are answered, as far as memory and the writer go, or the input has a fault and nothing is written
 abbrev pub EndsMaking : List ℕ → Option (List ℕ) → Option (List ℕ) → Result Status Failure → Type 0
 EndsMaking input old new result =
-    Ends (IsMaking input 0) (λ lines. (lines ≡ []) ⊎ IsBegunMaking input lines) (IsFault input) old new result
+    Ends (IsMaking input 0) (λ lines. (lines ≡ []) ⊎ IsBegunMaking input lines) (IsMakeFault input) old new result
 
 -- ---- the line of a table
 

@@ -5,7 +5,7 @@ use Rattle.filter_tree.specs.Expr.{Expr}
 use Rattle.pub_catalog.specs.Catalogs.{CatalogOf}
 use Rattle.pub_reader.specs.Statements.{catalog_by}
 use Rattle.sql_reader.specs.Written.{as_filter}
-use Rattle.commands.specs.Make.Making.{IsFault}
+use Rattle.commands.specs.Make.Making.{IsMakeFault}
 use Rattle.commands.specs.Output.{Ends, text_of}
 use Rattle.commands.specs.Parts.{cut_of}
 use Rattle.commands.specs.declared.failure.Failure.{Failure}
@@ -23,4 +23,4 @@ pub record IsShowing (input : List ℕ) (lines : List (List ℕ)) (status : Stat
 -- the catalog is written, as far as memory and the writer go; or the input has a fault, one of those of `make`, and
 -- nothing is written
 abbrev pub EndsShowing : List ℕ → Option (List ℕ) → Option (List ℕ) → Result Status Failure → Type 0
-EndsShowing input old new result = Ends (IsShowing input) (λ lines. lines ≡ []) (IsFault input) old new result
+EndsShowing input old new result = Ends (IsShowing input) (λ lines. lines ≡ []) (IsMakeFault input) old new result

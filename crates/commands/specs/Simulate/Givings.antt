@@ -20,7 +20,7 @@ use Rattle.commands.specs.Parts.{CutTwice, lines_of, three_parts}
 use Rattle.commands.specs.Verdicts.{IsFirstRefusal, checked_by}
 use Rattle.commands.specs.declared.failure.Failure.{Failure}
 use Rattle.commands.specs.declared.failure.Failure.TheVariants as f
-use Rattle.commands.specs.Simulate.Simulation.{IsFault}
+use Rattle.commands.specs.Simulate.Simulation.{IsSimulateFault}
 
 -- ---- a verdict
 
@@ -31,13 +31,13 @@ pub record Accepts (catalog : CatalogOf Expr) (trees : List Tree) (checked : Che
   pub kept : checked_view checked ≡ checked_by catalog
 
 -- this is the first reason to refuse it, and what it says is true
-pub record Refuses (catalog : CatalogOf Expr) (trees : List Tree) (error : CheckError) : Type 0 where
+pub record RefusesSharding (catalog : CatalogOf Expr) (trees : List Tree) (error : CheckError) : Type 0 where
   pub refusal : IsFirstRefusal catalog trees (Some error)
   pub wrong : ShardingIsWrong catalog (plan_of catalog) trees error
 
 abbrev pub IsVerdictOn : CatalogOf Expr → List Tree → Result Checked CheckError → Type 0
 IsVerdictOn catalog trees (Ok checked) = Accepts catalog trees checked
-IsVerdictOn catalog trees (Err error) = Refuses catalog trees error
+IsVerdictOn catalog trees (Err error) = RefusesSharding catalog trees error
 
 -- each line of the text is a certificate, and by them this is the verdict on the sharding of the catalog
 pub record HasVerdict (catalog : CatalogOf Expr) (text : List ℕ) (verdict : Result Checked CheckError) : Type 0 where
@@ -56,7 +56,7 @@ pub record Gives (parts : CutTwice) (verdict : Result Checked CheckError) (lines
 
 -- an input has this fault, or memory is refused
 abbrev pub IsOfInput : List ℕ → Failure → Type 0
-IsOfInput input (f.Input fault) = IsFault input fault
+IsOfInput input (f.Input fault) = IsSimulateFault input fault
 IsOfInput input f.OutOfMemory = Unit {0}
 IsOfInput input _ = ⊥
 

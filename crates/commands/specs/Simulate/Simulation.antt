@@ -6,7 +6,7 @@ use Rattle.filter_tree.specs.Expr.{Expr}
 use Rattle.pub_catalog.specs.Catalogs.{CatalogOf}
 use Rattle.pub_reader.specs.Scripts.{LineOf, script_by}
 use Rattle.pub_reader.specs.Statements.{catalog_by}
-use Rattle.sql_reader.specs.Reading.{Verdict, Tells, told}
+use Rattle.sql_reader.specs.Reading.{Verdict, Tells, read_fault}
 use Rattle.sql_reader.specs.Written.{as_filter}
 use Rattle.sql_reader.specs.declared.error.ReadError.{ReadError}
 use Rattle.shard_checker.specs.Sound.{IsSound}
@@ -15,7 +15,7 @@ use Rattle.shard_checker.specs.declared.text_error.TextError.TheVariants.{Text}
 use Rattle.split_cert.specs.Tree.{Tree}
 use Rattle.split_cert.specs.declared.error.CertError.{CertError}
 use Rattle.commands.specs.Output.{Ends}
-use Rattle.commands.specs.Verdicts.{IsFirstRefusal, IsRefused, checked_by}
+use Rattle.commands.specs.Verdicts.{IsFirstRefusal, SaysRefused, checked_by}
 use Rattle.commands.specs.Parts.{CutTwice, three_parts, lines_of}
 use Rattle.commands.specs.Simulate.Steps.{AreFirstSteps}
 use Rattle.commands.specs.declared.failure.Failure.{Failure}
@@ -38,7 +38,7 @@ pub record AreMade (limit : ℕ) (catalog : CatalogOf Expr) (trees : List Tree) 
 -- the lines of all steps, or the line of the sharding's refusal
 abbrev pub IsResult : ℕ → CatalogOf Expr → List Tree → List LineOf → List LineOf → List (List ℕ) → Status → Type 0
 IsResult limit catalog trees steps left lines Done = AreMade limit catalog trees steps left lines
-IsResult limit catalog trees steps left lines Refused = IsRefused catalog trees lines
+IsResult limit catalog trees steps left lines Refused = SaysRefused catalog trees lines
 IsResult limit catalog trees steps left lines _ = ⊥
 
 -- The input has three parts, the first is a catalog, each line of the second is a certificate, and the third is a
@@ -63,14 +63,14 @@ pub record IsBegunSimulation (limit : ℕ) (input : List ℕ) (lines : List (Lis
 -- ---- why there is no answer: faults of the catalog go before those of certificates, and these before the script's
 
 -- the input has three parts, and the first is no catalog, for the fault that is the error
-pub record IsBadCatalog (input : List ℕ) (error : ReadError) : Type 0 where
+pub record IsBadSimulateCatalog (input : List ℕ) (error : ReadError) : Type 0 where
   pub cut : CutTwice
   pub parts : three_parts input ≡ Some cut
   pub tells : Tells error (catalog_by as_filter cut.first)
-  pub known : is_none (told error) ≡ false
+  pub known : is_none (read_fault error) ≡ false
 
 -- the first is a catalog, and the first line of the second that is no certificate has this number and this fault
-pub record IsBadCertificate (input : List ℕ) (number : ℕ) (error : CertError) : Type 0 where
+pub record IsBadSimulateCertificate (input : List ℕ) (number : ℕ) (error : CertError) : Type 0 where
   pub cut : CutTwice
   pub catalog : CatalogOf Expr
   pub parts : three_parts input ≡ Some cut
@@ -80,7 +80,7 @@ pub record IsBadCertificate (input : List ℕ) (number : ℕ) (error : CertError
 -- the error is the fault of a text that is no script
 pub record TellsScript (outcome : Verdict (List LineOf)) (error : ReadError) : Type 0 where
   pub tells : Tells error outcome
-  pub known : is_none (told error) ≡ false
+  pub known : is_none (read_fault error) ≡ false
 
 -- the first is a catalog, each line of the second is a certificate, and the third is no script of its tables, for the
 -- fault that is the error
@@ -92,13 +92,13 @@ pub record IsBadScript (input : List ℕ) (error : ReadError) : Type 0 where
   pub certificates : text_fault 1 (lines_of cut.second) ≡ None
   pub script : TellsScript (script_by catalog.tables cut.third) error
 
-abbrev pub IsFault : List ℕ → InputFault → Type 0
-IsFault input i.Unread = ⊥
-IsFault input i.Parts = three_parts input ≡ None
-IsFault input (i.Catalog error) = IsBadCatalog input error
-IsFault input (i.Table name) = ⊥
-IsFault input (i.Certificate number error) = IsBadCertificate input number error
-IsFault input (i.Script error) = IsBadScript input error
+abbrev pub IsSimulateFault : List ℕ → InputFault → Type 0
+IsSimulateFault input i.Unread = ⊥
+IsSimulateFault input i.Parts = three_parts input ≡ None
+IsSimulateFault input (i.Catalog error) = IsBadSimulateCatalog input error
+IsSimulateFault input (i.Table name) = ⊥
+IsSimulateFault input (i.Certificate number error) = IsBadSimulateCertificate input number error
+IsSimulateFault input (i.Script error) = IsBadScript input error
 
 -- ---- reading the script
 
@@ -113,5 +113,6 @@ IsOfScript outcome _ = ⊥
 -- the lines of all steps, or of the sharding's refusal, as far as memory and the writer go; or the input has a fault
 abbrev pub EndsSimulation : ℕ → List ℕ → Option (List ℕ) → Option (List ℕ) → Result Status Failure → Type 0
 EndsSimulation limit input old new result =
-    Ends (IsSimulation limit input []) (λ lines. (lines ≡ []) ⊎ IsBegunSimulation limit input lines) (IsFault input) old
+    Ends (IsSimulation limit input []) (λ lines. (lines ≡ []) ⊎ IsBegunSimulation limit input lines)
+    (IsSimulateFault input) old
     new result

@@ -5,7 +5,7 @@ use Rattle.pub_reader.specs.Scripts.{LineOf}
 use Rattle.pub_reader.specs.Steps.{StepOf}
 use Rattle.shard_checker.specs.CheckedView.{CheckedOf}
 use Rattle.tables_log.specs.Lsn.{end_lsn_of}
-use Rattle.shard_world.specs.Pumping.{EndsWalk, GoesOn, on_clock, pump_events}
+use Rattle.shard_world.specs.Pumping.{EndsWalk, KeepsConnection, on_clock, pump_events}
 use Rattle.shard_world.specs.ViewMeaning.{ShowsWorld}
 use Rattle.shard_world.specs.World as w
 use Rattle.shard_world.specs.WorldCalls.{Runs}
@@ -34,7 +34,7 @@ module _ (checked : CheckedOf) (most : ℕ) where
     pub takes : ℕ
     pub answers : List Answer
     pub position : ℕ
-    pub go_on : All GoesOn answers
+    pub go_on : All KeepsConnection answers
     pub runs : Runs checked most (map (on_clock now subscriber) (pump_events takes)) answers world next
     pub position_is : subscriber < length checked.plan → position ≡ w.position_of checked next subscriber
     pub at_end : subscriber < length checked.plan → position ≡ end_lsn_of (length world.transactions)
@@ -49,7 +49,7 @@ module _ (checked : CheckedOf) (most : ℕ) where
     pub split : done ++ others ≡ pump_events takes
     pub earlier : List Answer
     pub answer : Answer
-    pub go_on : All GoesOn earlier
+    pub go_on : All KeepsConnection earlier
     pub ends : EndsWalk answer
     pub runs : Runs checked most (map (on_clock now subscriber) done) (earlier ++ answer ∷ []) world next
     pub refused : subscriber < length checked.plan → (c : w.Connection) → (world.peers subscriber).connection ≡ Some c

@@ -10,7 +10,7 @@ use Rattle.shard_world.specs.ViewMeaning.{shown_rows}
 use Rattle.shard_world.specs.declared.view.SubscriberView.{SubscriberView}
 use Rattle.shard_world.specs.declared.view.View.{View}
 use Rattle.sql_reader.specs.WrittenRows.{row_text}
-use Rattle.commands.specs.Names.{subscriber_name, table_name, counted}
+use Rattle.commands.specs.Names.{subscriber_name, plain_table, counted}
 use Rattle.commands.specs.Simulate.Answers.{position_text}
 
 -- ---- rows
@@ -21,7 +21,7 @@ publisher_rows view = map (λ rows. rows.items) view.rows.items
 
 -- after these bytes the table's name, and the row
 abbrev pub row_line : List ℕ → List Table → ℕ → List Datum → List ℕ
-row_line before tables number row = before ++ table_name tables number ++ 32 ∷ row_text row
+row_line before tables number row = before ++ plain_table tables number ++ 32 ∷ row_text row
 
 -- a line for each row of each table, of which the first has this number
 abbrev pub rows_lines : List ℕ → List Table → ℕ → List (List (List Datum)) → List (List ℕ)

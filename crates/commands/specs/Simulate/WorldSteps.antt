@@ -18,7 +18,7 @@ use Rattle.commands.specs.declared.failure.Status.TheVariants.{Done}
 
 -- The step is made in the world that the program's matches, the text is its lines, and the program's world matches
 -- what is left.
-pub record MakesInto (before after : World) (most : ℕ) (events : List (ℕ × w.Event)) (world : w.World) (now : ℕ)
+pub record DoesFrom (before after : World) (most : ℕ) (events : List (ℕ × w.Event)) (world : w.World) (now : ℕ)
     (step : StepOf) (text : List ℕ) : Type 0 where
   pub lines : List (List ℕ)
   pub happened : List (ℕ × w.Event)
@@ -29,22 +29,22 @@ pub record MakesInto (before after : World) (most : ℕ) (events : List (ℕ × 
   pub text_is : text ≡ text_of lines
 
 -- in each world that it matches
-abbrev pub MakesOn : World → World → ℕ → StepOf → List ℕ → Type 0
-MakesOn before after now step text =
+abbrev pub DoesFromEach : World → World → ℕ → StepOf → List ℕ → Type 0
+DoesFromEach before after now step text =
     (most : ℕ) (events : List (ℕ × w.Event)) (world : w.World) → IsWorld before most events world
-    → MakesInto before after most events world now step text
+    → DoesFrom before after most events world now step text
 
 -- the step is made, and its lines are written
 pub record WritesStep (before after : World) (now : ℕ) (step : StepOf) (old new : Option (List ℕ)) : Type 0 where
   pub text : List ℕ
-  pub makes : MakesOn before after now step text
+  pub makes : DoesFromEach before after now step text
   pub appends : Appends old new text
 
 -- or the first bytes of them
 pub record WritesFirstOfStep (before after : World) (now : ℕ) (step : StepOf) (old new : Option (List ℕ)) : Type 0
   where
     pub text : List ℕ
-    pub makes : MakesOn before after now step text
+    pub makes : DoesFromEach before after now step text
     pub first : WritesFirst text old new
 
 -- a step stops: before the first byte, because memory ran out, or because the writer failed

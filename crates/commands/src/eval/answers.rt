@@ -65,7 +65,7 @@ pub fn answer_of(memo: &Memo, said: Said, number: usize, carrier: Carrier<'_>, r
 /// Writes `name=answer` after what is on the line.
 fn push_answer(line: &mut String, name: &str, answer: Answer) -> Result<(), AllocError>
     ensures { OnOk result (string_bytes line.new ≡ spec.with_said (string_bytes line.old)
-        (spec.spelled name.now answer)) }
+        (spec.answer_text name.now answer)) }
 {
     if !line.is_empty() {
         line.push(' ')?;

@@ -26,7 +26,7 @@ fn carries_all(entries: &[Entry], table: usize) -> bool
 }
 
 fn entry_for(entries: &[Entry], table: usize) -> Option<&Entry>
-    ensures { option_copied result ≡ find (spec.is_for table) entries.now }
+    ensures { option_copied result ≡ find (spec.is_entry_for table) entries.now }
 {
     entries.iter().find(|entry| entry.table == table)
 }

@@ -37,7 +37,7 @@ impl Spelling {
 
 fn carries(memo: &Memo, said: Said, number: usize, carrier: Carrier<'_>, row: &Row) -> bool
     requires { KnowsOne (carrier_view carrier).filter number row.now memo.now said }
-    ensures { result ≡ spec.carries row.now (carrier_view carrier.entry) }
+    ensures { result ≡ spec.carrier_has row.now (carrier_view carrier.entry) }
 {
     matches!(
         answer_of(memo, said, number, carrier, row),

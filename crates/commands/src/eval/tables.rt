@@ -1,7 +1,7 @@
 //! The table of a catalog that a word names.
 
 ghost use Rattle.std.specs.Prelude.{◌≡◌, ◌<◌, ◌≤◌, length, IfSome};
-ghost use Rattle.commands.specs.Eval.Tables.{schema_of, name_of, table_of};
+ghost use Rattle.commands.specs.Eval.Tables.{schema_word, name_word, table_named_by};
 
 use crate::eval::carriers::Carrier;
 use filter_tree::Table;
@@ -19,15 +19,15 @@ pub struct CatalogTable<'a> {
 
 /// The schema and the name of a table that a word names.
 fn table_name(word: &str) -> (&str, &str)
-    ensures schema { result.0.now ≡ schema_of word.now }
-    ensures name { result.1.now ≡ name_of word.now }
+    ensures schema { result.0.now ≡ schema_word word.now }
+    ensures name { result.1.now ≡ name_word word.now }
 {
     word.split_once('.').unwrap_or(("public", word))
 }
 
 /// The number of the table that a word names: `name` of the schema public, or `schema.name`.
 pub fn find_table(tables: &[Table], word: &str) -> Option<usize>
-    ensures value { result ≡ table_of word.now tables.now }
+    ensures value { result ≡ table_named_by word.now tables.now }
     ensures within { IfSome result (λ number. number < length tables.now) }
 {
     let (schema, name) = table_name(word);

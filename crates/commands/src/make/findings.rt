@@ -5,7 +5,7 @@ ghost use Rattle.std.specs.String.{string_bytes};
 ghost use Rattle.pub_catalog.specs.CatalogView.{catalog_view};
 ghost use Rattle.commands.specs.Make.Making.{finding_view};
 ghost use Rattle.commands.specs.Make.Making as spec;
-ghost use Rattle.commands.specs.Names.{spaced, table_name};
+ghost use Rattle.commands.specs.Names.{spaced, plain_table};
 
 use crate::names::{push_table, push_word, subscriber_name};
 use cert_maker::Made;
@@ -64,7 +64,7 @@ fn undecided_line(
     words: &str,
 ) -> Result<String, AllocError>
     ensures { IfOk result (λ line. string_bytes line ≡ words.now ++ spaced
-        (table_name (catalog_view catalog.now).tables number ∷ [])) }
+        (plain_table (catalog_view catalog.now).tables number ∷ [])) }
 {
     let mut line = String::from_str(alloc, words)?;
     push_table(&mut line, catalog.tables.as_slice(), number)?;

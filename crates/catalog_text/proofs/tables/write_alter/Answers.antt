@@ -1,7 +1,7 @@
 use Rattle.std.proofs.Common.{◌∙◌, ◌++◌, List, ap, codes}
 use Rattle.std.specs.String.{string_bytes}
 use Rattle.filter_tree.specs.declared.table.UniqueIndex.{UniqueIndex}
-use Rattle.catalog_text.specs.CatalogText.{alter_text, identity_text, table_name}
+use Rattle.catalog_text.specs.CatalogText.{alter_text, identity_text, table_sql}
 use Rattle.catalog_text.proofs.Joins.{joined_5}
 use Rattle.catalog_text.proofs.tables.write_alter.Goals as goal
 
@@ -9,7 +9,7 @@ pub returns : goal.returns
 unfolding alter_text
 returns c =
     let table = c.args.table.now in
-    joined_5 (string_bytes c.args.text.now) (codes "ALTER TABLE ") (table_name table) (codes " REPLICA IDENTITY ")
+    joined_5 (string_bytes c.args.text.now) (codes "ALTER TABLE ") (table_sql table) (codes " REPLICA IDENTITY ")
     (identity_text table.indexes table.identity) (codes ";\n") c.in_ok-push_str.ensures.bytes
     c.in_ok-write_table_name.ensures c.in_ok-push_str-2.ensures.bytes
     (c.in_ok-write_identity.ensures

@@ -1,7 +1,7 @@
 use Rattle.std.proofs.Common.{◌≡◌, ℕ, List, [], ap, inr, map, refl, subst, sym}
 use Rattle.std.specs.Prelude.{Option}
 use Rattle.clap.specs.Words.{App, HasKind, HasMatchesOf, Row, fault_of, is_simple_and_free, kind_of, subcommand_of, subcommand_rows_of}
-use Rattle.cli.specs.CommandLine.{IsTaken, pgshard}
+use Rattle.cli.specs.CommandLine.{IsSubcommand, pgshard}
 use Rattle.cli.specs.declared.requests.Request.{Request}
 use Rattle.cli.proofs.Invocations.{error_asks, error_stops}
 use Rattle.cli.proofs.arguments.parse.Goals as goal
@@ -32,7 +32,7 @@ returns-in-Some-clause-asked g c =
     let same : subcommand_rows_of c.in-Ok.matches ≡ subcommand_of pgshard words = (met refl).1 in
     record {
       faultless = none;
-      taken = subst (λ (taken : Option (List ℕ × List Row)). IsTaken taken c.in-Some.request) same
+      taken = subst (λ (taken : Option (List ℕ × List Row)). IsSubcommand taken c.in-Some.request) same
           c.in-Some.ensures.some;
     }
 
@@ -44,7 +44,7 @@ returns-clause-stopped g c =
     subst (λ (a : App). fault_of a words ≡ []) simple (c.in-Ok.ensures.kinds (ap is_simple_and_free simple)) in
     let met = subst (λ (a : App). HasMatchesOf a words c.in-Ok.matches) simple c.in-Ok.ensures.ok.2 in
     let same : subcommand_rows_of c.in-Ok.matches ≡ subcommand_of pgshard words = (met refl).1 in
-    let nothing : (request : Request) → IsTaken (subcommand_of pgshard words) request → ⊥ =
+    let nothing : (request : Request) → IsSubcommand (subcommand_of pgshard words) request → ⊥ =
     λ request takes. c.request_of.ensures.none c.in-None.is request
-    (subst (λ (taken : Option (List ℕ × List Row)). IsTaken taken request) (sym same) takes) in
+    (subst (λ (taken : Option (List ℕ × List Row)). IsSubcommand taken request) (sym same) takes) in
     inr (record { faultless = none; nothing = nothing })

@@ -1,22 +1,22 @@
 use Rattle.std.proofs.Common.{refl}
 use Rattle.cli.proofs.Exits.{four_says, ran, ran_at_once, ran_unflushed, tag_says}
-use Rattle.cli.specs.Runs.{asking}
+use Rattle.cli.specs.Runs.{asked_of_words}
 use Rattle.cli.proofs.program.finish.Goals as goal
 
 pub returns-then-eq-clause-finishes : goal.returns-then-eq-clause-finishes
 returns-then-eq-clause-finishes g c = λ serves words may_fail known old ends.
-    ran_at_once (asking serves words may_fail known) old (g.W.Writer.contents c.outcome-status.new.writer)
+    ran_at_once (asked_of_words serves words may_fail known) old (g.W.Writer.contents c.outcome-status.new.writer)
     c.outcome-status.result _ (c.outcome-status.ensures.concludes serves words may_fail known old ends) refl
 
 pub returns-in-Ok-clause-finishes : goal.returns-in-Ok-clause-finishes
 returns-in-Ok-clause-finishes g c = λ serves words may_fail known old ends.
-    ran (asking serves words may_fail known) old (g.W.Writer.contents c.outcome-status.new.writer)
+    ran (asked_of_words serves words may_fail known) old (g.W.Writer.contents c.outcome-status.new.writer)
     (g.W.Writer.contents c.flush.new.self) c.outcome-status.result _
     (c.outcome-status.ensures.concludes serves words may_fail known old ends) c.flush.ensures.bytes refl
 
 pub returns-in-Err-clause-finishes : goal.returns-in-Err-clause-finishes
 returns-in-Err-clause-finishes g c = λ serves words may_fail known old ends.
-    ran_unflushed (asking serves words may_fail known) old (g.W.Writer.contents c.outcome-status.new.writer)
+    ran_unflushed (asked_of_words serves words may_fail known) old (g.W.Writer.contents c.outcome-status.new.writer)
     (g.W.Writer.contents c.flush.new.self) c.outcome-status.result _
     (c.outcome-status.ensures.concludes serves words may_fail known old ends) c.flush.ensures.bytes refl
 

@@ -14,7 +14,7 @@ use Rattle.commands.specs.Output.{StopsText, ended}
 use Rattle.commands.specs.Parts.{CutTwice, lines_of, three_parts}
 use Rattle.cli.proofs.Serving.{catalog_returned, script_returned, served, sharding_refused}
 use Rattle.cli.specs.Scripts.{list_view}
-use Rattle.cli.specs.Telling.{Tells, service_of}
+use Rattle.cli.specs.Telling.{WritesServeLines, service_of}
 use Rattle.cli.proofs.serve.serve_input.Goals as goal
 
 pub returns-in-Ok : goal.returns-in-Ok
@@ -35,7 +35,8 @@ returns-in-Ok g c =
     (ap (text_fault 1) (sym same) ∙ c.in_ok-verdict.ensures.read)
     lists c.in_ok-lists.ensures.ok old new c.publish.result sound
     (subst (λ (lines : List (List ℕ)). IsFirstRefusal catalog (trees_in lines) None) same unrefused)
-    (subst (λ (checked : CheckedOf). Tells (service_of c.args.service checked lists) old new c.publish.result) kept
+    (subst (λ (checked : CheckedOf).
+    WritesServeLines (service_of c.args.service checked lists) old new c.publish.result) kept
     c.publish.ensures)
 
 pub returns : goal.returns

@@ -11,12 +11,12 @@ use Rattle.commands.proofs.CheckVerdicts.{accepted, refused}
 use Rattle.commands.specs.Verdicts.{IsFirstRefusal}
 use Rattle.commands.specs.Refusals.{refused_line}
 use Rattle.commands.specs.Output.{StopsText, ended}
-use Rattle.commands.specs.Parts.{Cut, lines_of, two_parts}
+use Rattle.commands.specs.Parts.{CutOnce, lines_of, two_parts}
 use Rattle.commands.proofs.check.check_input.Goals as goal
 
 pub returns-in-Ok-clause-ends : goal.returns-in-Ok-clause-ends
 returns-in-Ok-clause-ends g c =
-    let cut : Cut = record { part = c.in_ok-text.text.now; rest = c.in_ok-text.lines.now } in
+    let cut : CutOnce = record { part = c.in_ok-text.text.now; rest = c.in_ok-text.lines.now } in
     let parts : two_parts c.args.input.now ≡ Some cut = search rules in
     let catalog = catalog_view c.in_ok-catalog.catalog in
     let same : texts_view c.as_slice.result.now ≡ lines_of cut.rest = ap texts_view c.as_slice.ensures.value
@@ -37,7 +37,7 @@ returns-clause-ends g c =
     let new = g.W.Writer.contents c.write_refusal.new.writer in
     let result = c.write_refusal.result in
     let refusal = c.in-Err.refusal in
-    let cut : Cut = record { part = c.in_ok-text.text.now; rest = c.in_ok-text.lines.now } in
+    let cut : CutOnce = record { part = c.in_ok-text.text.now; rest = c.in_ok-text.lines.now } in
     let parts : two_parts c.args.input.now ≡ Some cut = search rules in
     let catalog = catalog_view c.in_ok-catalog.catalog in
     let again : catalog_view c.in_ok-catalog-in-Err.catalog ≡ catalog =

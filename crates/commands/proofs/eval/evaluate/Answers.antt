@@ -4,18 +4,18 @@ use Rattle.pub_catalog.specs.CatalogView.{catalog_view}
 use Rattle.pub_reader.specs.Statements.{catalog_by}
 use Rattle.sql_reader.specs.Written.{as_filter}
 use Rattle.commands.specs.Eval.Carriers.{carrier_view, carriers_of}
-use Rattle.commands.specs.Eval.Tables.{table_of}
-use Rattle.commands.specs.Parts.{Cut, two_parts}
+use Rattle.commands.specs.Eval.Tables.{table_named_by}
+use Rattle.commands.specs.Parts.{CutOnce, two_parts}
 use Rattle.commands.proofs.Evaluating.{evaluated}
 use Rattle.commands.proofs.eval.evaluate.Goals as goal
 
 pub returns-in_default-clause-ends : goal.returns-in_default-clause-ends
 returns-in_default-clause-ends g c =
-    let cut : Cut = record { part = c.in_ok-catalog.catalog.now; rest = c.in_ok-catalog.rows.now } in
+    let cut : CutOnce = record { part = c.in_ok-catalog.catalog.now; rest = c.in_ok-catalog.rows.now } in
     let parts : two_parts c.args.input.now ≡ Some cut = search rules in
     let reads : catalog_by as_filter cut.part ≡ Ok (catalog_view c.in_ok-catalog-2.catalog) =
     c.in_ok-catalog-2.ensures.catalog in
-    let unknown : table_of c.args.word.now c.in_ok-catalog-2.catalog.tables.items ≡ None = search rules in (
+    let unknown : table_named_by c.args.word.now c.in_ok-catalog-2.catalog.tables.items ≡ None = search rules in (
       (
         record { cut = cut; catalog = c.in_ok-catalog-2.catalog; parts = parts; reads = reads; unknown = unknown },
         refl,
@@ -25,11 +25,11 @@ returns-in_default-clause-ends g c =
 
 pub returns-clause-ends : goal.returns-clause-ends
 returns-clause-ends g c =
-    let cut : Cut = record { part = c.in_ok-catalog.catalog.now; rest = c.in_ok-catalog.rows.now } in
+    let cut : CutOnce = record { part = c.in_ok-catalog.catalog.now; rest = c.in_ok-catalog.rows.now } in
     let parts : two_parts c.args.input.now ≡ Some cut = search rules in
     let reads : catalog_by as_filter cut.part ≡ Ok (catalog_view c.in_ok-catalog-2.catalog) =
     c.in_ok-catalog-2.ensures.catalog in
-    let named : table_of c.args.word.now c.in_ok-catalog-2.catalog.tables.items ≡ Some c.in-Some.number =
+    let named : table_named_by c.args.word.now c.in_ok-catalog-2.catalog.tables.items ≡ Some c.in-Some.number =
     search rules in
     let found : slice_get c.in_ok-catalog-2.catalog.tables.items c.in-Some.number ≡ Some c.index.result.now =
     slice_get_read c.in_ok-catalog-2.catalog.tables.items (length c.in_ok-catalog-2.catalog.tables.items)

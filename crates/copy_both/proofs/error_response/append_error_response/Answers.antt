@@ -1,6 +1,6 @@
 use Rattle.std.proofs.Common.{◌≡◌, List, ℕ, [], ◌∷◌, ◌++◌, ◌+◌, length, sym, ◌∙◌, ap, refl, arith}
 use Rattle.std.specs.Int.{to_be_bytes, w32}
-use Rattle.copy_both.specs.Refusals.{refusal_view, code_of, text_of, error_fields}
+use Rattle.copy_both.specs.Refusals.{refusal_view, code_of, refusal_text, error_fields}
 use Rattle.copy_both.proofs.RefusalLemmas.{severities, fields_are, length-fields, joined_9}
 use Rattle.copy_both.proofs.error_response.append_error_response.Goals as goal
 
@@ -11,7 +11,7 @@ returns-clause-ok c =
     let before : List ℕ = c.words-words.result.before.now in
     let name : List ℕ = c.words-words.result.name.now in
     let after : List ℕ = c.words-words.result.after.now in
-    let text : List ℕ = text_of (refusal_view c.args.refusal.now) in
+    let text : List ℕ = refusal_text (refusal_view c.args.refusal.now) in
     let size : ℕ = length before + length name + length after + 28 in
     let chain : c.put-4.new.out.items
     ≡ out ++ (69 ∷ []) ++ to_be_bytes w32 size ++ severities ++ code ++ (0 ∷ 77 ∷ []) ++ before ++ name ++ after

@@ -1,5 +1,5 @@
 use Rattle.std.proofs.Common.{arith}
-use Rattle.copy_both.specs.Links.{SaysFirst, replies}
+use Rattle.copy_both.specs.Links.{SendsFirst, replies}
 use Rattle.copy_both.specs.Voices.{voice_stage}
 use Rattle.copy_both.proofs.RepliesLemmas.{on_err, one_reply, reply_fails}
 use Rattle.copy_both.proofs.replies.reply.Goals as goal
@@ -13,7 +13,7 @@ loop-preserved c =
 pub returns-in_err-keepalive-clause-err : goal.returns-in_err-keepalive-clause-err
 returns-in_err-keepalive-clause-err c =
     on_err c.from_residual.result
-    (SaysFirst c.args.voice.now c.keepalive.new.self
+    (SendsFirst c.args.voice.now c.keepalive.new.self
     (replies (voice_stage c.args.voice.now) c.args.count c.args.now))
     (reply_fails c.args.voice.now c.loop.voice c.keepalive.new.self (voice_stage c.args.voice.now) c.args.now
     c.loop.counter

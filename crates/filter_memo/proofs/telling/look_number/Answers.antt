@@ -2,7 +2,7 @@ use Rattle.std.proofs.Common.{rules, ◌≡◌, ◌≤ℤ◌, ℕ, List, Some, s
 use Rattle.std.specs.Prelude.{slice_get}
 use Rattle.std.proofs.lemmas.List.Elements.{All-set}
 use Rattle.filter_tree.specs.Expr.{term_value}
-use Rattle.filter_memo.specs.Intervals.{IsWithin}
+use Rattle.filter_memo.specs.Intervals.{IsBetween}
 use Rattle.filter_memo.specs.Telling.{Told, IsInterval}
 use Rattle.filter_memo.specs.declared.interval.Interval.{Interval}
 use Rattle.filter_memo.specs.declared.said.Said.{Said}
@@ -32,7 +32,7 @@ returns-then-index-len c = λ are.
     c.deref-2.ensures.value c.judge-said.ensures in
     let from : c.in-Some-interval_of.interval.low ≤ℤ c.args.value = search rules in
     let upto : c.args.value ≤ℤ c.in-Some-interval_of.interval.high = search rules in
-    let within : IsWithin (term_value c.args.scale.now.term c.args.row.now) c.in-Some-interval_of.interval.low
+    let within : IsBetween (term_value c.args.scale.now.term c.args.row.now) c.in-Some-interval_of.interval.low
     c.in-Some-interval_of.interval.high = record {
       number = c.args.value;
       is = c.requires.value;

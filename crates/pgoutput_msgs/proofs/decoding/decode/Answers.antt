@@ -1,6 +1,6 @@
 use Rattle.std.proofs.Common.{ap, subst, ◌∙◌, arith}
 use Rattle.filter_tree.specs.Memory.{Answers}
-use Rattle.pgoutput_msgs.specs.Reading.{decoded, told}
+use Rattle.pgoutput_msgs.specs.Reading.{decoded, msg_fault}
 use Rattle.pgoutput_msgs.proofs.SpellingLaws.{are_decoded, nothing_follows, is_found}
 use Rattle.pgoutput_msgs.proofs.decoding.decode.Goals as goal
 
@@ -10,10 +10,10 @@ returns-clause-found c =
 
 pub returns-clause-only : goal.returns-clause-only
 returns-clause-only c = λ message fits e.
-    subst (λ answer. Answers (λ m. m) told answer c.whole.result) (ap decoded e ∙ are_decoded message fits)
+    subst (λ answer. Answers (λ m. m) msg_fault answer c.whole.result) (ap decoded e ∙ are_decoded message fits)
     c.whole.ensures
 
 pub returns-clause-trailing : goal.returns-clause-trailing
 returns-clause-trailing c = λ message next more fits e.
-    subst (λ answer. Answers (λ m. m) told answer c.whole.result)
+    subst (λ answer. Answers (λ m. m) msg_fault answer c.whole.result)
     (ap decoded e ∙ nothing_follows message next more fits) c.whole.ensures

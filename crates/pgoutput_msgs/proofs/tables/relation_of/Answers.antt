@@ -2,7 +2,7 @@ use Rattle.std.proofs.Common.{◌≡◌, ◌∷◌, ◌+◌, drop, refl, sym, ap
 use Rattle.std.specs.Prelude.{All}
 use Rattle.std.proofs.lemmas.Grind.{common_steps}
 use Rattle.pgoutput_msgs.specs.Ranges.{HasTextName}
-use Rattle.pgoutput_msgs.specs.Telling.{column_of, columns_from}
+use Rattle.pgoutput_msgs.specs.Telling.{sent_column, columns_from}
 use Rattle.pgoutput_msgs.specs.declared.relation.RelationColumn.{RelationColumn}
 use Rattle.pgoutput_msgs.proofs.GatheringLemmas.{none_gathered, gathers_on, all_gathered}
 use Rattle.pgoutput_msgs.proofs.tables.relation_of.Goals as goal
@@ -13,7 +13,8 @@ loop-place-init c = none_gathered HasTextName (columns_from c.args.table.now) c.
 
 pub loop-place-preserved : goal.loop-place-preserved
 loop-place-preserved c =
-    let exact : c.in_ok-column_of.field-0 ≡ column_of c.args.table.now c.loop-place.place c.index-columns-place.result =
+    let exact : c.in_ok-column_of.field-0
+    ≡ sent_column c.args.table.now c.loop-place.place c.index-columns-place.result =
     first_of (search rules, grind (arith, common_steps)) in
     gathers_on HasTextName (columns_from c.args.table.now) c.as_slice-columns.result.now c.loop-place.made.items
     c.push.new.self.items c.loop-place.place

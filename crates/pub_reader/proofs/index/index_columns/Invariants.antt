@@ -7,7 +7,7 @@ use Rattle.pub_reader.proofs.index.index_columns.Given as goal
 
 abbrev pub invariant-loop-numbers : goal.invariant-loop-numbers
 invariant-loop-numbers l = record {
-  so_far : spec.index_columns l.columns (to_read l.fn.r)
+  so_far : spec.indexed_columns l.columns (to_read l.fn.r)
       ≡ repeat (link Comma (spec.index_column l.columns)) l.numbers.items (to_read l.r);
   fewer : size (to_read l.r) < size (to_read l.fn.r);
 }

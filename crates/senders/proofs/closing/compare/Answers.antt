@@ -1,18 +1,18 @@
 use Rattle.std.proofs.Common.{rules}
 use Rattle.std.proofs.lemmas.Bool.{MatchBool-at_true, MatchBool-at_false}
-use Rattle.senders.specs.CloseCauses.{IsCause}
+use Rattle.senders.specs.CloseCauses.{IsCloseCause}
 use Rattle.senders.proofs.ReplayLemmas.{passes_on}
 use Rattle.senders.proofs.ClosingLemmas.{unlike_compared, wrong_compared, taken_compared, closed_compared}
 use Rattle.senders.proofs.closing.compare.Goals as goal
 
 pub returns-in_err-receipts-clause-err : goal.returns-in_err-receipts-clause-err
 returns-in_err-receipts-clause-err g c =
-    passes_on (IsCause c.args.book.now c.args.seats.now c.args.served.now) c.from_residual.result
+    passes_on (IsCloseCause c.args.book.now c.args.seats.now c.args.served.now) c.from_residual.result
     c.in_err-receipts.field-0.0 (search rules) (c.in_err-receipts.ensures.err c.args.served.now)
 
 pub returns-in_err-replay-clause-err : goal.returns-in_err-replay-clause-err
 returns-in_err-replay-clause-err g c =
-    passes_on (IsCause c.args.book.now c.args.seats.now c.args.served.now) c.from_residual-in_err-replay.result
+    passes_on (IsCloseCause c.args.book.now c.args.seats.now c.args.served.now) c.from_residual-in_err-replay.result
     c.in_err-replay.field-0.0 (search rules)
     (unlike_compared c.args.book.now c.replay.new.fresh c.args.seats.now c.in_ok-receipts.receipts.items
     c.as_slice.result.now c.as_slice.ensures.value c.in_ok-receipts.ensures.ok

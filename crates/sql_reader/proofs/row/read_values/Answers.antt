@@ -8,7 +8,7 @@ use Rattle.sql_reader.proofs.row.read_values.Goals as goal
 
 -- the values, and the parentheses around them
 pub returns : goal.returns
-unfolding spec.in_parentheses
+unfolding spec.row_in_parentheses
 returns c =
     let cells = map datum_view c.in_ok-values.values.items in (
       ap (λ opened. and_then opened (λ _. spec.values >>= (λ cells. expect Close >> pure cells)))

@@ -1,6 +1,6 @@
 use Rattle.std.proofs.Common.{rules}
 use Rattle.copy_frames.specs.Frames.{cut}
-use Rattle.test_subscriber.specs.Copies.{told}
+use Rattle.test_subscriber.specs.Copies.{sub_fault}
 use Rattle.test_subscriber.specs.Feeding.{StopsFor}
 use Rattle.test_subscriber.specs.Frames.{hear_cut}
 use Rattle.test_subscriber.specs.Machine.{stopped}
@@ -10,7 +10,7 @@ use Rattle.test_subscriber.proofs.intake.hear_held.Goals as goal
 
 pub returns-in_err-hear_frame-clause-stops : goal.returns-in_err-hear_frame-clause-stops
 returns-in_err-hear_frame-clause-stops c =
-    let stops : StopsFor (told c.in_err-hear_frame.field-0.0)
+    let stops : StopsFor (sub_fault c.in_err-hear_frame.field-0.0)
     (hear_cut (cut c.args.inbox.now.limit c.args.inbox.now.bytes) (machine_view c.args.replica.now))
     (cut c.args.inbox.now.limit c.args.inbox.now.bytes) (machine_view c.args.replica.now)
     (stopped (machine_view c.hear_frame.new.self)) =

@@ -4,7 +4,7 @@ use Rattle.publisher_desk.specs.declared.note.Note.{Note}
 use Rattle.senders.specs.CloseCauses.{RefusedClose}
 use Rattle.senders.specs.Closing.{IsClosed}
 use Rattle.commands.specs.declared.failure.Status.TheVariants.{Done}
-use Rattle.cli.specs.Published.{Closed, Differs, IsLast}
+use Rattle.cli.specs.Published.{Closed, Differs, IsLastLine}
 use Rattle.cli.specs.Telling.{closed_line}
 use Rattle.cli.proofs.publish.closing.close_session.Goals as goal
 
@@ -20,8 +20,8 @@ returns-in-Ok g c =
     let commits : c.log_len.result ≡ length (book_log book) = search rules in
     let many : c.len.result ≡ length served = search rules in
     c.tell_closed.ensures checked limit c.args.seat
-    (subst (λ (n : ℕ). IsLast checked limit c.args.seat (closed_line n c.len.result) Done) (sym commits)
-    (subst (λ (m : ℕ). IsLast checked limit c.args.seat (closed_line (length (book_log book)) m) Done) (sym many)
+    (subst (λ (n : ℕ). IsLastLine checked limit c.args.seat (closed_line n c.len.result) Done) (sym commits)
+    (subst (λ (m : ℕ). IsLastLine checked limit c.args.seat (closed_line (length (book_log book)) m) Done) (sym many)
     (Closed served book c.requires.served is)))
 
 pub returns-in-Err : goal.returns-in-Err

@@ -2,7 +2,7 @@ use Rattle.std.proofs.Common.{rules, ◌≡◌, ℕ, List, subst}
 use Rattle.std.specs.String.{string_bytes}
 use Rattle.commands.specs.declared.failure.Status.TheVariants.{Done}
 use Rattle.cli.proofs.Published.{closes}
-use Rattle.cli.specs.Telling.{Says, closed_line}
+use Rattle.cli.specs.Telling.{WritesLine, closed_line}
 use Rattle.cli.proofs.publish.closing.tell_closed.Goals as goal
 
 pub returns : goal.returns
@@ -12,4 +12,4 @@ returns g c checked limit notes last =
     let line = closed_line c.args.commits c.args.connections in
     let is : string_bytes c.in_ok-line.line ≡ line = search rules in
     closes checked limit notes line Done old new c.say.result last
-    (subst (λ (text : List ℕ). Says text Done old new c.say.result) is c.say.ensures)
+    (subst (λ (text : List ℕ). WritesLine text Done old new c.say.result) is c.say.ensures)

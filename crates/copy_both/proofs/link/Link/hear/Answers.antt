@@ -5,9 +5,9 @@ use Rattle.shard_checker.specs.CheckedView.{CheckedOf}
 use Rattle.copy_both.specs.Ears.{ear_phase, HearLeaves}
 use Rattle.copy_both.specs.ConnectionStates.{said_state}
 use Rattle.copy_both.specs.Hearing.{HeardOf}
-use Rattle.copy_both.specs.Links.{SaysFirst, frames_by, frames_said, link_heard, link_ear, link_sent, link_stage, link_checked, stage_by}
+use Rattle.copy_both.specs.Links.{SendsFirst, frames_by, frames_said, link_heard, link_ear, link_sent, link_stage, link_checked, stage_by}
 use Rattle.copy_both.specs.Sessions.{heard_view, told_hearing}
-use Rattle.copy_both.specs.Voices.{Says, voice_stage}
+use Rattle.copy_both.specs.Voices.{Sends, voice_stage}
 use Rattle.copy_both.specs.declared.heard.Heard.{Heard}
 use Rattle.copy_both.specs.declared.link_fault.LinkFault.{LinkFault}
 use Rattle.copy_both.specs.declared.link_fault.LinkFault.TheVariants as fault
@@ -94,7 +94,7 @@ returns-in-Ok-answer_heard-clause-says c =
     let sent : c.unwrap_or-sent.result ≡ link_sent link = cc in
     of_all_heard
     (λ (started : Option (ℕ × ℕ)) (heard : HeardOf).
-    Says link.voice c.answer_heard.new.voice (concat (frames_by checked (link_stage link) started heard c.args.now))
+    Sends link.voice c.answer_heard.new.voice (concat (frames_by checked (link_stage link) started heard c.args.now))
     (stage_by checked (link_stage link) started heard))
     (link_ear link) c.listen.new.self c.args.book.now c.listen.new.book c.args.piece.now (heard_view c.in-Ok.heard)
     c.started.result c.unwrap_or-sent.result (link_sent link)
@@ -106,10 +106,10 @@ returns-in-Err-answer_heard-clause-says c =
     let link = c.args.self.now in
     let checked : CheckedOf = link_checked link in
     let sent : c.unwrap_or-sent.result ≡ link_sent link = cc in
-    let first : SaysFirst link.voice c.answer_heard.new.voice
+    let first : SendsFirst link.voice c.answer_heard.new.voice
     (frames_said checked (link_stage link) (link_heard link c.args.book.now c.args.piece.now) c.args.now) =
     of_all_heard
-    (λ (started : Option (ℕ × ℕ)) (heard : HeardOf). SaysFirst link.voice c.answer_heard.new.voice
+    (λ (started : Option (ℕ × ℕ)) (heard : HeardOf). SendsFirst link.voice c.answer_heard.new.voice
     (frames_by checked (link_stage link) started heard c.args.now))
     (link_ear link) c.listen.new.self c.args.book.now c.listen.new.book c.args.piece.now (heard_view c.in-Ok.heard)
     c.started.result c.unwrap_or-sent.result (link_sent link)

@@ -2,7 +2,7 @@ use Rattle.std.proofs.Common.{ap, ◌∙◌, arith, rules}
 use Rattle.std.specs.Prelude.{Some}
 use Rattle.copy_both.proofs.RepliesLemmas.{on_err}
 use Rattle.shard_world.specs.Connections.{front_of}
-use Rattle.shard_world.specs.PeerCalls.{Stops}
+use Rattle.shard_world.specs.PeerCalls.{StopsFromEach}
 use Rattle.shard_world.specs.World.{Deliver}
 use Rattle.shard_world.proofs.CallLemmas.{delivers_piece}
 use Rattle.shard_world.proofs.StopLemmas.{deliver_stops}
@@ -24,7 +24,7 @@ returns-in_err-feed c checked now book = record {
   counted = search rules;
   stops =
       on_err c.from_residual.result
-      (Stops checked now (Deliver c.args.bytes) book book c.args.self.now
+      (StopsFromEach checked now (Deliver c.args.bytes) book book c.args.self.now
       (record { link = Some c.in-Some.link; subscriber = c.feed.new.self }))
       (deliver_stops checked now book c.args.self.now c.in-Some.link c.feed.new.self c.args.bytes
       c.in_err-feed.field-0.0 c.front-piece.result.now c.in-Some.is

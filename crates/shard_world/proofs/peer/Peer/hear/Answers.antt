@@ -2,7 +2,7 @@ use Rattle.std.proofs.Common.{ap, ◌∙◌, arith, rules}
 use Rattle.std.specs.Prelude.{Some}
 use Rattle.copy_both.proofs.RepliesLemmas.{on_err}
 use Rattle.shard_world.specs.Connections.{front_of}
-use Rattle.shard_world.specs.PeerCalls.{Stops}
+use Rattle.shard_world.specs.PeerCalls.{StopsFromEach}
 use Rattle.shard_world.specs.World.{Hear}
 use Rattle.shard_world.proofs.CallLemmas.{hears_piece}
 use Rattle.shard_world.proofs.StopLemmas.{hear_stops}
@@ -26,7 +26,7 @@ returns-in_err-hear c checked = record {
   counted = search rules;
   stops =
       on_err c.from_residual.result
-      (Stops checked c.args.now (Hear c.args.bytes) c.args.book.now c.hear.new.book c.args.self.now
+      (StopsFromEach checked c.args.now (Hear c.args.bytes) c.args.book.now c.hear.new.book c.args.self.now
       (record { link = Some c.hear.new.self; subscriber = c.args.self.now.subscriber }))
       (hear_stops checked c.args.now c.args.book.now c.hear.new.book c.args.self.now c.in-Some.link
       c.hear.new.self c.args.bytes c.in_err-hear.field-0.0

@@ -3,7 +3,7 @@ use Rattle.std.specs.Prelude.{suc}
 use Rattle.shard_world.specs.Pumping.{WalksAll}
 use Rattle.shard_world.specs.World as w
 use Rattle.shard_world.specs.World.{Take}
-use Rattle.shard_world.specs.WorldCalls.{StepsOn}
+use Rattle.shard_world.specs.WorldCalls.{StepsFromEach}
 use Rattle.shard_world.proofs.PumpLemmas.{takes_end, takes_enough, takes_idle, takes_more}
 use Rattle.shard_world.proofs.world.World.take_all.Goals as goal
 
@@ -11,7 +11,7 @@ pub returns-in-Ok-Idle : goal.returns-in-Ok-Idle
 returns-in-Ok-Idle c =
     takes_idle c.args.now c.args.subscriber c.args.self.now c.loop.self c.go_on.new.self c.loop.counter
     c.loop.invariant.0
-    (subst (StepsOn c.loop.self c.go_on.new.self c.args.now (w.On c.args.subscriber Take)) c.in-Ok-Idle.field-0-is
+    (subst (StepsFromEach c.loop.self c.go_on.new.self c.args.now (w.On c.args.subscriber Take)) c.in-Ok-Idle.field-0-is
     c.in-Ok-Idle.ensures.ok)
 
 pub returns-in-Err : goal.returns-in-Err
