@@ -21,7 +21,7 @@ use Rattle.filter_tree.specs.declared.value.Value.{Value}
 use Rattle.filter_tree.proofs.OrderLemmas.{orders_values}
 use Rattle.filter_tree.proofs.Tests.{by_test, both_true}
 use Rattle.filter_memo.specs.Covering.{has, has_constants}
-use Rattle.filter_memo.specs.Places.{kind_of}
+use Rattle.filter_memo.specs.Buckets.{kind_of}
 
 -- ---- numbers
 
@@ -54,7 +54,7 @@ le_not_lt (pos a) (negsuc b) = refl
 le_not_lt (negsuc a) (pos b) = refl
 le_not_lt (negsuc a) (negsuc b) = le_test b a
 
--- `a` says whether the constant is below the value, and `b` whether the value is below the constant
+-- `a`: the constant is below the value; `b`: the value is below the constant
 by_tests : (op : Op) (m j : ℤ) (a b : Bool) → int_lt j m ≡ a → int_lt m j ≡ b → (a ≡ true → b ≡ false)
     → compare_numbers_of op m j ≡ by_order op (int_cmp j m)
 by_tests op m j true true p q apart = let no : true ≡ false = apart refl in absurd cc
@@ -170,7 +170,7 @@ module _ {A : _} (bounds : List (Value A)) (v w : Datum) (kind : kind_of v ≡ k
       let later = any_alike ks both.1 a b p q in
       rw (first, later) refl
 
-  -- what an atom says whose constants are bounds
+  -- the value of an atom whose constants are bounds
   pub atom_alike : (atom : AtomOf) → has_constants bounds atom ≡ true → said_of atom v ≡ said_of atom w
   atom_alike (Cmp term op k) h = compare_alike op k h
   atom_alike (IsNull column) h = by_kind is_missing (λ a b p q. refl)

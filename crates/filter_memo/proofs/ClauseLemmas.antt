@@ -86,7 +86,8 @@ values_split said decided values others falses truths nulls = record {
 
 -- a word below 2 ^ 64 with the same bits
 low_bits : (word number : ℕ) → number < 64 → is_set (word % 2 ^ 64) number ≡ is_set word number
-low_bits word number within = ap (λ bit. bit == 1) (sym (bit_at_cat_low (word / 2 ^ 64) 64 (word % 2 ^ 64) number within)
+low_bits word number within =
+    ap (λ bit. bit == 1) (sym (bit_at_cat_low (word / 2 ^ 64) 64 (word % 2 ^ 64) number within)
     ∙ ap (λ n. bit_at n number) (div-add-mod' word (2 ^ 64)))
 
 low_inverted : (word : ℕ) → Inverts word (bit_not w64 (word % 2 ^ 64))
@@ -96,7 +97,7 @@ low_inverted word = record {
       ∙ ap not (low_bits word number within);
 }
 
--- all values are some three words
+-- any values can be split into three words
 pub some_values : (said : Said) → (values : Values) × IsSplit said values
 some_values said =
     let values : Values = record {

@@ -28,7 +28,7 @@ found_is_bound bounds value constant (Ok index) e within holds h =
     (holds Null)))
 found_is_bound bounds value constant (Err index) e within holds h = absurd cc
 
--- the place of an element that passes a test
+-- the index of an element that passes a test
 pub index_of : {X : Type 0} (test : X → Bool) (xs : List X) → list_any test xs ≡ true
     → (index : ℕ) × ((index < length xs) × HoldsAt (λ x. test x ≡ true) xs index)
 index_of test [] h = absurd cc

@@ -1,4 +1,4 @@
--- What numbered filters say of a row.
+-- The values of numbered filters for a row.
 use Rattle.std.proofs.Common.{◌≡◌, ℕ, ◌+◌, ◌<◌, Bool, true, false, ◌||◌, List, [], ◌∷◌, ◌++◌, length, take, get_or, append-nil, refl, sym, ap, subst, ◌∙◌, inl, inr, arith}
 use Rattle.std.specs.Prelude.{◌==◌, Some, None, slice_get, All, if◌then◌else◌}
 use Rattle.std.proofs.lemmas.Bool.{cases_eq, eq-eqb, ne_eqb}
@@ -15,12 +15,12 @@ use Rattle.filter_tree.specs.declared.tri.Tri.{Tri}
 use Rattle.filter_tree.specs.declared.tri.Tri.TheVariants.{True, False, Null}
 use Rattle.filter_memo.specs.Bits.{Adds, Joins, IsNothing}
 use Rattle.filter_memo.specs.Intervals.{AreAlike, IsBetween}
-use Rattle.filter_memo.specs.Places.{IsPlace}
+use Rattle.filter_memo.specs.Buckets.{IsBucket}
 use Rattle.filter_memo.specs.declared.interval.Interval.{Interval}
 use Rattle.filter_memo.specs.Telling.{part_at, has_number, told_at, Told, Tells, numbers_in, numbers_of, numbers_at, IsSettled, IsCell, IsInterval, AreCells, AreTold, Judges}
-use Rattle.filter_memo.specs.declared.place.Place.{Place}
+use Rattle.filter_memo.specs.declared.bucket.Bucket.{Bucket}
 use Rattle.filter_memo.specs.declared.said.Said.{Said}
-use Rattle.filter_memo.specs.declared.scale.Scale.{Scale}
+use Rattle.filter_memo.specs.declared.breakpoints.Breakpoints.{Breakpoints}
 use Rattle.filter_memo.specs.declared.telling.Cell.{Cell}
 use Rattle.filter_memo.specs.declared.telling.Cells.{Cells}
 
@@ -41,7 +41,7 @@ none_or True = refl
 none_or False = refl
 none_or Null = refl
 
--- values that are false unless they are told, in two parts
+-- a value that one of two parts has, or both
 in_parts : (p q : Bool) (tri : Tri)
     → or_of (if p then tri else False) (if q then tri else False) ≡ (if p || q then tri else False)
 in_parts true true tri = or_same tri
@@ -95,133 +95,147 @@ module _ {A : _} (parts : List (Filter A)) (row : List Datum) where
 
 -- ---- cells
 
-pub cell_is : (cell : Cell) (scale : ℕ) (place : Place) → cell.scale ≡ scale → cell.place ≡ place
-    → cell ≡ record { scale = scale; place = place; said = cell.said }
-cell_is cell scale place p q =
-    ap (λ (n : ℕ). record { scale = n; place = cell.place; said = cell.said }) p
-    ∙ ap (λ (at : Place). record { scale = scale; place = at; said = cell.said }) q
+pub cell_is : (cell : Cell) (term : ℕ) (bucket : Bucket) → cell.term ≡ term → cell.bucket ≡ bucket
+    → cell ≡ record { term = term; bucket = bucket; said = cell.said }
+cell_is cell term bucket p q =
+    ap (λ (n : ℕ). record { term = n; bucket = cell.bucket; said = cell.said }) p
+    ∙ ap (λ (at : Bucket). record { term = term; bucket = at; said = cell.said }) q
 
-module _ {A : _} (parts : List (Filter A)) (scales : List Scale) (cells : Cells) (are : AreCells parts scales cells)
+module _ {A : _} (parts : List (Filter A)) (all_breakpoints : List Breakpoints) (cells : Cells)
+    (are : AreCells parts all_breakpoints cells)
     (row : List Datum) where
-  -- a scale that is not there
-  pub no_scale : (number : ℕ) (said : Said) → slice_get scales number ≡ None → IsNothing said
-      → Judges parts scales cells (numbers_at scales number) row said
-  no_scale number said none nothing = record {
+  -- a number without breakpoints
+  pub no_breakpoints : (number : ℕ) (said : Said) → slice_get all_breakpoints number ≡ None → IsNothing said
+      → Judges parts all_breakpoints cells (numbers_at all_breakpoints number) row said
+  no_breakpoints number said none nothing = record {
     kept = are;
     told = subst (λ (numbers : List ℕ). Told parts numbers row said) (sym (ap numbers_of none))
         (none_told parts row said nothing);
   }
 
-  module _ (number : ℕ) (scale : Scale) (is : slice_get scales number ≡ Some scale) (place : Place)
-      (at : IsPlace scale.bounds.items (term_value scale.term row) place) where
-    -- values that are kept
+  module _ (number : ℕ) (breakpoints : Breakpoints) (is : slice_get all_breakpoints number ≡ Some breakpoints)
+      (bucket : Bucket)
+      (at : IsBucket breakpoints.bounds.items (term_value breakpoints.term row) bucket) where
+    -- values that a cell keeps
     pub kept_before : (index : ℕ) (said : Said)
-        → slice_get cells.places.items index ≡ Some (Some (record { scale = number; place = place; said = said }))
-        → Judges parts scales cells (numbers_at scales number) row said
+        → slice_get cells.buckets.items index ≡ Some (Some (record { term = number; bucket = bucket; said = said }))
+        → Judges parts all_breakpoints cells (numbers_at all_breakpoints number) row said
     kept_before index said found =
-        let within : index < length cells.places.items =
-        slice_get_within cells.places.items index (Some (record { scale = number; place = place; said = said })) found in
-        let held : get_or cells.places.items index None ≡ Some (record { scale = number; place = place; said = said }) =
-        get_or_from_slice_get cells.places.items index (Some (record { scale = number; place = place; said = said })) None found in
-        let cell : IsCell parts scales (Some (record { scale = number; place = place; said = said })) =
-        subst (IsCell parts scales) held (All-get_or (IsCell parts scales) cells.places.items index None within are.places) in
+        let within : index < length cells.buckets.items =
+        slice_get_within cells.buckets.items index (Some (record { term = number; bucket = bucket; said = said }))
+        found in
+        let held : get_or cells.buckets.items index None
+        ≡ Some (record { term = number; bucket = bucket; said = said }) =
+        get_or_from_slice_get cells.buckets.items index (Some (record { term = number; bucket = bucket; said = said }))
+        None found in
+        let cell : IsCell parts all_breakpoints (Some (record { term = number; bucket = bucket; said = said })) =
+        subst (IsCell parts all_breakpoints) held
+        (All-get_or (IsCell parts all_breakpoints) cells.buckets.items index None within are.buckets) in
         record {
           kept = are;
-          told = subst (λ (numbers : List ℕ). Told parts numbers row said) (sym (ap numbers_of is)) (cell scale row is at);
+          told = subst (λ (numbers : List ℕ). Told parts numbers row said) (sym (ap numbers_of is))
+              (cell breakpoints row is at);
         }
 
-    pub new_cell : (said : Said) → Told parts scale.numbers.items row said
-        → IsCell parts scales (Some (record { scale = number; place = place; said = said }))
+    pub new_cell : (said : Said) → Told parts breakpoints.numbers.items row said
+        → IsCell parts all_breakpoints (Some (record { term = number; bucket = bucket; said = said }))
     new_cell said told other later found at_later =
-        let same : other ≡ scale = cc in
-        let settled : IsSettled parts scale =
-        subst (IsSettled parts) (get_or_from_slice_get scales number scale scale is)
-        (All-get_or (IsSettled parts) scales number scale (slice_get_within scales number scale is) are.settled) in
-        subst (λ (s : Scale). Told parts s.numbers.items later said) (sym same)
-        (settled.same row later place said at
-        (subst (λ (s : Scale). IsPlace s.bounds.items (term_value s.term later) place) same at_later) told)
+        let same : other ≡ breakpoints = cc in
+        let settled : IsSettled parts breakpoints =
+        subst (IsSettled parts) (get_or_from_slice_get all_breakpoints number breakpoints breakpoints is)
+        (All-get_or (IsSettled parts) all_breakpoints number breakpoints
+        (slice_get_within all_breakpoints number breakpoints is) are.settled) in
+        subst (λ (s : Breakpoints). Told parts s.numbers.items later said) (sym same)
+        (settled.same row later bucket said at
+        (subst (λ (s : Breakpoints). IsBucket s.bounds.items (term_value s.term later) bucket) same at_later) told)
 
-  module _ (number : ℕ) (scale : Scale) (is : slice_get scales number ≡ Some scale) where
-    -- values that are not kept
-    pub not_kept : (said : Said) → Told parts scale.numbers.items row said
-        → Judges parts scales cells (numbers_at scales number) row said
+  module _ (number : ℕ) (breakpoints : Breakpoints) (is : slice_get all_breakpoints number ≡ Some breakpoints) where
+    -- values that no cell keeps
+    pub not_kept : (said : Said) → Told parts breakpoints.numbers.items row said
+        → Judges parts all_breakpoints cells (numbers_at all_breakpoints number) row said
     not_kept said told = record {
       kept = are;
       told = subst (λ (numbers : List ℕ). Told parts numbers row said) (sym (ap numbers_of is)) told;
     }
 
-    -- values that are kept now
-    pub kept_now : (said : Said) (new : Cells) → Told parts scale.numbers.items row said
-        → All (IsCell parts scales) new.places.items → All (IsInterval parts scales) new.intervals.items
-        → Judges parts scales new (numbers_at scales number) row said
-    kept_now said new told places intervals = record {
-      kept = record { settled = are.settled; places = places; intervals = intervals };
+    -- values that a new cell keeps
+    pub kept_now : (said : Said) (new : Cells) → Told parts breakpoints.numbers.items row said
+        → All (IsCell parts all_breakpoints) new.buckets.items
+        → All (IsInterval parts all_breakpoints) new.intervals.items
+        → Judges parts all_breakpoints new (numbers_at all_breakpoints number) row said
+    kept_now said new told buckets intervals = record {
+      kept = record { settled = are.settled; buckets = buckets; intervals = intervals };
       told = subst (λ (numbers : List ℕ). Told parts numbers row said) (sym (ap numbers_of is)) told;
     }
 
-    -- values of an interval that are kept
+    -- values that an interval keeps
     pub interval_before : (index : ℕ) (interval : Interval) → slice_get cells.intervals.items index ≡ Some interval
-        → interval.scale ≡ number → IsBetween (term_value scale.term row) interval.low interval.high
-        → Judges parts scales cells (numbers_at scales number) row interval.said
+        → interval.term ≡ number → IsBetween (term_value breakpoints.term row) interval.low interval.high
+        → Judges parts all_breakpoints cells (numbers_at all_breakpoints number) row interval.said
     interval_before index interval found own within =
         let here : index < length cells.intervals.items =
         slice_get_within cells.intervals.items index interval found in
-        let held : IsInterval parts scales interval =
-        subst (IsInterval parts scales) (get_or_from_slice_get cells.intervals.items index interval interval found)
-        (All-get_or (IsInterval parts scales) cells.intervals.items index interval here are.intervals) in
+        let held : IsInterval parts all_breakpoints interval =
+        subst (IsInterval parts all_breakpoints)
+        (get_or_from_slice_get cells.intervals.items index interval interval found)
+        (All-get_or (IsInterval parts all_breakpoints) cells.intervals.items index interval here are.intervals) in
         record {
           kept = are;
           told = subst (λ (numbers : List ℕ). Told parts numbers row interval.said) (sym (ap numbers_of is))
-              (held.tells scale row (ap (slice_get scales) own ∙ is) within);
+              (held.tells breakpoints row (ap (slice_get all_breakpoints) own ∙ is) within);
         }
 
-    pub new_interval : (interval : Interval) → interval.scale ≡ number
-        → AreAlike scale.bounds.items interval.low interval.high
-        → IsBetween (term_value scale.term row) interval.low interval.high
-        → Told parts scale.numbers.items row interval.said → IsInterval parts scales interval
+    pub new_interval : (interval : Interval) → interval.term ≡ number
+        → AreAlike breakpoints.bounds.items interval.low interval.high
+        → IsBetween (term_value breakpoints.term row) interval.low interval.high
+        → Told parts breakpoints.numbers.items row interval.said → IsInterval parts all_breakpoints interval
     new_interval interval own alike within told = record {
       tells = λ other later found within_later.
-          let held : slice_get scales number ≡ Some other = ap (slice_get scales) (sym own) ∙ found in
-          let same : other ≡ scale = cc in
-          let settled : IsSettled parts scale =
-          subst (IsSettled parts) (get_or_from_slice_get scales number scale scale is)
-          (All-get_or (IsSettled parts) scales number scale (slice_get_within scales number scale is) are.settled) in
-          subst (λ (s : Scale). Told parts s.numbers.items later interval.said) (sym same)
+          let held : slice_get all_breakpoints number ≡ Some other = ap (slice_get all_breakpoints) (sym own) ∙ found in
+          let same : other ≡ breakpoints = cc in
+          let settled : IsSettled parts breakpoints =
+          subst (IsSettled parts) (get_or_from_slice_get all_breakpoints number breakpoints breakpoints is)
+          (All-get_or (IsSettled parts) all_breakpoints number breakpoints
+          (slice_get_within all_breakpoints number breakpoints is) are.settled) in
+          subst (λ (s : Breakpoints). Told parts s.numbers.items later interval.said) (sym same)
           (settled.alike row later interval.low interval.high interval.said alike within
-          (subst (λ (s : Scale). IsBetween (term_value s.term later) interval.low interval.high) same within_later)
-          told);
+          (subst (λ (s : Breakpoints). IsBetween (term_value s.term later) interval.low interval.high) same
+          within_later) told);
     }
 
--- ---- all scales
+-- ---- the breakpoints of all terms
 
-pub told_by_one : (scale : Scale) (scales : List Scale) (number : ℕ)
-    → has_number (numbers_in (scale ∷ scales)) number
-    ≡ (has_number scale.numbers.items number || has_number (numbers_in scales) number)
-told_by_one scale scales number = list_any-append (λ own. number == own) scale.numbers.items (numbers_in scales)
+pub told_by_one : (breakpoints : Breakpoints) (all : List Breakpoints) (number : ℕ)
+    → has_number (numbers_in (breakpoints ∷ all)) number
+    ≡ (has_number breakpoints.numbers.items number || has_number (numbers_in all) number)
+told_by_one breakpoints all number =
+    list_any-append (λ own. number == own) breakpoints.numbers.items (numbers_in all)
 
--- the numbers of one more scale
-pub numbers_more : (scales : List Scale) (at : ℕ) → at < length scales
-    → numbers_in (take (at + 1) scales) ≡ numbers_in (take at scales) ++ numbers_at scales at
-numbers_more scales at within =
-    elim scales as (λ (own : List Scale). own ≡ scales → numbers_in (take (at + 1) scales) ≡ numbers_in (take at scales) ++ numbers_at scales at) [
+-- the numbers of the breakpoints of one more term
+pub numbers_more : (all : List Breakpoints) (at : ℕ) → at < length all
+    → numbers_in (take (at + 1) all) ≡ numbers_in (take at all) ++ numbers_at all at
+numbers_more all at within =
+    elim all as (λ (own : List Breakpoints). own ≡ all → numbers_in (take (at + 1) all)
+    ≡ numbers_in (take at all) ++ numbers_at all at) [
       | [] ↦ λ none. absurd (omega (arith, within, sym (ap length none)))
-      | scale ∷ others ↦ λ some.
-          let item : slice_get scales at ≡ Some (get_or scales at scale) = slice_get-get_or scales at scale within in
-          ap numbers_in (take_more scales at scale within)
-          ∙ (flat_map-append (λ own. own.numbers.items) (take at scales) (get_or scales at scale ∷ [])
-          ∙ ap (λ (numbers : List ℕ). numbers_in (take at scales) ++ numbers) (append-nil _ ∙ sym (ap numbers_of item)))
+      | breakpoints ∷ others ↦ λ some.
+          let item : slice_get all at ≡ Some (get_or all at breakpoints) = slice_get-get_or all at breakpoints within in
+          ap numbers_in (take_more all at breakpoints within)
+          ∙ (flat_map-append (λ own. own.numbers.items) (take at all) (get_or all at breakpoints ∷ [])
+          ∙ ap (λ (numbers : List ℕ). numbers_in (take at all) ++ numbers) (append-nil _ ∙ sym (ap numbers_of item)))
     ] refl
 
--- what all scales tell is what each filter says
-pub all_told : {A : _} (parts : List (Filter A)) (scales : List Scale) (row : List Datum) (said : Said)
-    → AreTold scales (length parts) → Told parts (numbers_in scales) row said → Tells parts row said
-all_told parts scales row said are told = record {
+-- breakpoints that evaluate each filter have the values of all filters
+pub all_told : {A : _} (parts : List (Filter A)) (all_breakpoints : List Breakpoints) (row : List Datum) (said : Said)
+    → AreTold all_breakpoints (length parts) → Told parts (numbers_in all_breakpoints) row said → Tells parts row said
+all_told parts all_breakpoints row said are told = record {
   each = λ number within low.
       let has = are.each number within in
       told.each number low ∙ rw has refl;
 }
 
-pub told_as : (one other : List Scale) (few many : ℕ) → one ≡ other → few ≡ many → AreTold one few
+pub told_as : (one other : List Breakpoints) (few many : ℕ) → one ≡ other → few ≡ many → AreTold one few
     → AreTold other many
 told_as one other few many p q are =
-    subst (λ (count : ℕ). AreTold other count) q (subst (λ (scales : List Scale). AreTold scales few) p are)
+    subst (λ (count : ℕ). AreTold other count) q
+    (subst (λ (all : List Breakpoints). AreTold all few) p are)

@@ -1,10 +1,10 @@
 pub mod Alike
 pub mod BitLemmas
+pub mod Branching
 pub mod ClauseLemmas
 pub mod Finding
 pub mod Judging
 pub mod Memos
 pub mod Planning
 pub mod Sides
-pub mod Stepping
 pub mod WithinInterval

@@ -1,4 +1,4 @@
--- Rows of which the atoms say the same have the same text.
+-- Rows with the same values of the atoms have the same text.
 use Rattle.std.proofs.Common.{◌≡◌, ℕ, true, false, List, [], ◌∷◌, ◌<◌, length, get_or, refl, sym, ap, subst, ◌∙◌}
 use Rattle.std.specs.Prelude.{◌==◌, Option, Some, None, slice_get, All}
 use Rattle.std.proofs.lemmas.Bool.{eqb-true}
@@ -20,22 +20,22 @@ use Rattle.filter_tree.proofs.SameLemmas.{same_term_is}
 use Rattle.filter_tree.proofs.Tests.{by_test, both_true}
 use Rattle.filter_memo.specs.Covering.{has, has_constants, covers}
 use Rattle.filter_memo.specs.Memos.{says, SayTheSame, Follows, IsKept, IsMemoOf, IsLocated, AreEmpty}
-use Rattle.filter_memo.specs.Places.{value_cmp, kind_of}
+use Rattle.filter_memo.specs.Buckets.{value_cmp, kind_of}
 use Rattle.filter_memo.specs.Plans.{IsPlanOf, IsPlanFor, ArePlans}
-use Rattle.filter_memo.specs.Steps.{LeadTo}
+use Rattle.filter_memo.specs.Branches.{LeadTo}
 use Rattle.filter_memo.specs.Telling.{part_at, told_at, Tells, IsSettled, AreSettled, IsCell, IsInterval, AreCells, AreNew, AreTold}
 use Rattle.filter_memo.specs.declared.memo.Kept.{Kept}
 use Rattle.filter_memo.specs.declared.memo.Memo.{Memo}
 use Rattle.filter_memo.specs.declared.said.Said.{Said}
-use Rattle.filter_memo.specs.declared.scale.Scale.{Scale}
-use Rattle.filter_memo.specs.declared.steps.Step.{Step}
+use Rattle.filter_memo.specs.declared.breakpoints.Breakpoints.{Breakpoints}
+use Rattle.filter_memo.specs.declared.branches.Branch.{Branch}
 use Rattle.filter_memo.proofs.Alike.{atom_alike}
 use Rattle.filter_memo.proofs.ClauseLemmas.{some_values}
 use Rattle.filter_memo.proofs.Sides.{same_side}
-use Rattle.filter_memo.proofs.Stepping.{leads_once}
+use Rattle.filter_memo.proofs.Branching.{leads_once}
 use Rattle.filter_memo.proofs.WithinInterval.{same_interval, no_number}
 
--- ---- rows at the same place
+-- ---- rows in the same bucket
 
 module _ {A : _} (term : Term) (bounds : List (Value A)) (one other : List Datum)
     (kind : kind_of (term_value term one) ≡ kind_of (term_value term other))
@@ -71,7 +71,7 @@ module _ {A : _} (term : Term) (bounds : List (Value A)) (one other : List Datum
       rw (first, second) refl
   filter_says (Is test part) h = ap (is_of test) (filter_says part h)
 
-  -- what filters that are covered say
+  -- covered filters have the same values for both rows
   told_alike : {B : _} (parts : List (Filter B)) (numbers : List ℕ)
       → All (λ number. covers term bounds (part_at parts number) ≡ true) numbers → (number : ℕ)
       → told_at parts numbers one number ≡ told_at parts numbers other number
@@ -89,22 +89,24 @@ module _ {A : _} (term : Term) (bounds : List (Value A)) (one other : List Datum
       rw here said)
       (λ apart. rw apart later)
 
-pub scale_settled : {B : _} (scale : Scale) (parts : List (Filter B)) → IsSorted value_cmp scale.bounds.items
-    → All (λ number. covers scale.term scale.bounds.items (part_at parts number) ≡ true) scale.numbers.items
-    → IsSettled parts scale
-scale_settled scale parts sorted covered = record {
-  same = λ one other place said at_one at_other told. record {
+pub breakpoints_settled : {B : _} (breakpoints : Breakpoints) (parts : List (Filter B))
+    → IsSorted value_cmp breakpoints.bounds.items
+    → All (λ number. covers breakpoints.term breakpoints.bounds.items (part_at parts number) ≡ true)
+    breakpoints.numbers.items
+    → IsSettled parts breakpoints
+breakpoints_settled breakpoints parts sorted covered = record {
+  same = λ one other bucket said at_one at_other told. record {
     each = λ number within. told.each number within
-        ∙ told_alike scale.term scale.bounds.items one other (sym at_one.kind ∙ at_other.kind)
-        (same_side scale.bounds.items sorted (term_value scale.term one) (term_value scale.term other) place at_one
-        at_other) parts scale.numbers.items covered number;
+        ∙ told_alike breakpoints.term breakpoints.bounds.items one other (sym at_one.kind ∙ at_other.kind)
+        (same_side breakpoints.bounds.items sorted (term_value breakpoints.term one) (term_value breakpoints.term other)
+        bucket at_one at_other) parts breakpoints.numbers.items covered number;
   };
   alike = λ one other low high said alike at_one at_other told. record {
     each = λ number within. told.each number within
-        ∙ told_alike scale.term scale.bounds.items one other
+        ∙ told_alike breakpoints.term breakpoints.bounds.items one other
         (ap kind_of at_one.is ∙ sym (ap kind_of at_other.is))
-        (same_interval scale.bounds.items (term_value scale.term one) (term_value scale.term other) low high alike
-        at_one at_other) parts scale.numbers.items covered number;
+        (same_interval breakpoints.bounds.items (term_value breakpoints.term one) (term_value breakpoints.term other)
+        low high alike at_one at_other) parts breakpoints.numbers.items covered number;
   };
 }
 
@@ -115,40 +117,40 @@ no_text : {A : _} (parts : List (Filter A)) (text_of : List Datum → List ℕ) 
 no_text parts text_of slots empty =
     λ k d within. subst (λ slot. IsKept parts text_of slot) (sym (empty k d within)) tt
 
--- the filters say the same of rows of which the parts say the same
+-- for rows with the same values of the parts, the filters have the same values
 filters_say : {A : _} (parts : List (Filter A)) (one other : List Datum) (said : Said) → Tells parts one said
-    → Tells parts other said → (steps : List Step) (filters : List (Option Expr)) (starts : List ℕ)
-    → ArePlans parts filters steps starts → SayTheSame filters one other
-filters_say parts one other said at_one at_other steps [] starts are = All-nil (λ it. says one it ≡ says other it)
-filters_say parts one other said at_one at_other steps (filter ∷ filters) [] are = absurd are
-filters_say parts one other said at_one at_other steps (filter ∷ filters) (start ∷ starts) are =
+    → Tells parts other said → (branches : List Branch) (filters : List (Option Expr)) (starts : List ℕ)
+    → ArePlans parts filters branches starts → SayTheSame filters one other
+filters_say parts one other said at_one at_other branches [] starts are = All-nil (λ it. says one it ≡ says other it)
+filters_say parts one other said at_one at_other branches (filter ∷ filters) [] are = absurd are
+filters_say parts one other said at_one at_other branches (filter ∷ filters) (start ∷ starts) are =
     All-cons (λ it. says one it ≡ says other it) filter filters (first filter are.0)
-    (filters_say parts one other said at_one at_other steps filters starts are.1) where
-      first : (own : Option Expr) → IsPlanFor parts steps own start → says one own ≡ says other own
+    (filters_say parts one other said at_one at_other branches filters starts are.1) where
+      first : (own : Option Expr) → IsPlanFor parts branches own start → says one own ≡ says other own
       first None is = refl
       first (Some own) is =
           let values = some_values said in
-          ap Some (leads_once values.0 steps (meaning own one) (meaning own other) start
+          ap Some (leads_once values.0 branches (meaning own one) (meaning own other) start
           (is.leads one said at_one values.0 values.1) (is.leads other said at_other values.0 values.1))
 
--- a memo that has no text yet
+-- a memo without texts
 pub fresh : (memo : Memo) (filters : List (Option Expr)) (text_of : List Datum → List ℕ)
-    → AreSettled memo.parts.items memo.scales.items → AreNew memo.cells
-    → AreTold memo.scales.items (length memo.parts.items)
-    → ArePlans memo.parts.items filters memo.plan.steps.items memo.plan.starts.items
+    → AreSettled memo.parts.items memo.all_breakpoints.items → AreNew memo.cells
+    → AreTold memo.all_breakpoints.items (length memo.parts.items)
+    → ArePlans memo.parts.items filters memo.plan.branches.items memo.plan.starts.items
     → AreEmpty memo.slots.items → Follows filters text_of → IsMemoOf filters text_of memo
 fresh memo filters text_of settled empty told plans no_slot follows = record {
   cells = record {
     settled = settled;
-    places = λ k d within.
-        subst (λ cell. IsCell memo.parts.items memo.scales.items cell) (sym (empty.places k d within)) tt;
-    intervals = λ k d within. no_number memo.parts.items memo.scales.items _ (empty.intervals k d within);
+    buckets = λ k d within.
+        subst (λ cell. IsCell memo.parts.items memo.all_breakpoints.items cell) (sym (empty.buckets k d within)) tt;
+    intervals = λ k d within. no_number memo.parts.items memo.all_breakpoints.items _ (empty.intervals k d within);
   };
   told = λ used. told;
   plans = λ used. plans;
   text = λ used. record {
     same = λ one other said at_one at_other. follows.same one other
-        (filters_say memo.parts.items one other said at_one at_other memo.plan.steps.items filters
+        (filters_say memo.parts.items one other said at_one at_other memo.plan.branches.items filters
         memo.plan.starts.items plans);
   };
   kept = no_text memo.parts.items text_of memo.slots.items no_slot;
@@ -156,15 +158,16 @@ fresh memo filters text_of settled empty told plans no_slot follows = record {
 
 -- a memo that is not used
 pub unused : (memo : Memo) (filters : List (Option Expr)) (text_of : List Datum → List ℕ) → memo.is_used ≡ false
-    → memo.scales.items ≡ [] → memo.cells.places.items ≡ [] → memo.cells.intervals.items ≡ []
+    → memo.all_breakpoints.items ≡ [] → memo.cells.buckets.items ≡ [] → memo.cells.intervals.items ≡ []
     → memo.slots.items ≡ [] → IsMemoOf filters text_of memo
-unused memo filters text_of not_used no_scale no_place no_interval no_slot = record {
+unused memo filters text_of not_used no_breakpoints no_bucket no_interval no_slot = record {
   cells = record {
-    settled = subst (λ scales. AreSettled memo.parts.items scales) (sym no_scale) (All-nil (IsSettled memo.parts.items));
-    places = subst (λ cells. All (IsCell memo.parts.items memo.scales.items) cells) (sym no_place)
-        (All-nil (IsCell memo.parts.items memo.scales.items));
-    intervals = subst (λ cells. All (IsInterval memo.parts.items memo.scales.items) cells) (sym no_interval)
-        (All-nil (IsInterval memo.parts.items memo.scales.items));
+    settled = subst (λ all_breakpoints. AreSettled memo.parts.items all_breakpoints) (sym no_breakpoints)
+        (All-nil (IsSettled memo.parts.items));
+    buckets = subst (λ cells. All (IsCell memo.parts.items memo.all_breakpoints.items) cells) (sym no_bucket)
+        (All-nil (IsCell memo.parts.items memo.all_breakpoints.items));
+    intervals = subst (λ cells. All (IsInterval memo.parts.items memo.all_breakpoints.items) cells) (sym no_interval)
+        (All-nil (IsInterval memo.parts.items memo.all_breakpoints.items));
   };
   told = λ used. absurd (never used);
   plans = λ used. absurd (never used);
@@ -178,23 +181,23 @@ unused memo filters text_of not_used no_scale no_place no_interval no_slot = rec
 module _ (memo : Memo) (filters : List (Option Expr)) (text_of : List Datum → List ℕ)
     (is : IsMemoOf filters text_of memo) (row : List Datum) (said : Said) (located : IsLocated memo row said)
     (used : memo.is_used ≡ true) where
-  -- the steps lead to what the filter says
-  pub steps_lead : (number start : ℕ) (filter : Expr) → slice_get memo.plan.starts.items number ≡ Some start
-      → slice_get filters number ≡ Some (Some filter) → LeadTo memo.plan.steps.items said (meaning filter row) start
-  steps_lead number start filter found asked =
-      let all = AllZip-left (IsPlanFor memo.parts.items memo.plan.steps.items) filters memo.plan.starts.items
+  -- the branches lead to the filter's value
+  pub branches_lead : (number start : ℕ) (filter : Expr) → slice_get memo.plan.starts.items number ≡ Some start
+      → slice_get filters number ≡ Some (Some filter) → LeadTo memo.plan.branches.items said (meaning filter row) start
+  branches_lead number start filter found asked =
+      let all = AllZip-left (IsPlanFor memo.parts.items memo.plan.branches.items) filters memo.plan.starts.items
       (is.plans used) number in
       let at : IsSomeAnd (slice_get memo.plan.starts.items number)
-      (IsPlanFor memo.parts.items memo.plan.steps.items (Some filter)) =
+      (IsPlanFor memo.parts.items memo.plan.branches.items (Some filter)) =
       subst (λ (own : Option (Option Expr)). MatchOption own (Unit {0})
       (λ it. IsSomeAnd (slice_get memo.plan.starts.items number)
-      (IsPlanFor memo.parts.items memo.plan.steps.items it))) asked all in
-      let its : IsPlanOf memo.parts.items memo.plan.steps.items filter start =
-      subst (λ (own : Option ℕ). IsSomeAnd own (IsPlanFor memo.parts.items memo.plan.steps.items (Some filter))) found
-      at in
+      (IsPlanFor memo.parts.items memo.plan.branches.items it))) asked all in
+      let its : IsPlanOf memo.parts.items memo.plan.branches.items filter start =
+      subst (λ (own : Option ℕ). IsSomeAnd own (IsPlanFor memo.parts.items memo.plan.branches.items (Some filter)))
+      found at in
       its.leads row said (located.tells used)
 
-  -- what is kept in a slot is the text of each row of which the parts say this
+  -- the text in a slot is the text of each row with its values of the parts
   pub kept_text : (slot : ℕ) (kept : Kept) → slice_get memo.slots.items slot ≡ Some (Some kept) → kept.said ≡ said
       → string_bytes kept.text ≡ text_of row
   kept_text slot kept found same =
@@ -204,34 +207,36 @@ module _ (memo : Memo) (filters : List (Option Expr)) (text_of : List Datum → 
       (subst (λ it. IsKept memo.parts.items text_of it) held (is.kept slot None within)) row
       (subst (λ (own : Said). Tells memo.parts.items row own) (sym same) (located.tells used))
 
-  -- a text that is kept now
+  -- a text that is added
   pub new_text : (kept : Kept) → kept.said ≡ said → string_bytes kept.text ≡ text_of row
       → IsKept memo.parts.items text_of (Some kept)
   new_text kept same text later at_later =
       text ∙ (is.text used).same row later said (located.tells used)
       (subst (λ (own : Said). Tells memo.parts.items later own) same at_later)
 
--- other cells
+-- a memo whose cells are changed
 pub other_cells : (old new : Memo) (filters : List (Option Expr)) (text_of : List Datum → List ℕ)
-    → IsMemoOf filters text_of old → new.parts ≡ old.parts → new.plan ≡ old.plan → new.scales ≡ old.scales
+    → IsMemoOf filters text_of old → new.parts ≡ old.parts → new.plan ≡ old.plan
+    → new.all_breakpoints ≡ old.all_breakpoints
     → new.slots ≡ old.slots → new.is_used ≡ old.is_used
-    → AreCells old.parts.items old.scales.items new.cells → IsMemoOf filters text_of new
-other_cells old new filters text_of is parts plan scales slots used cells = record {
-  cells = rw (parts, scales) cells;
-  told = λ own. rw (parts, scales) (is.told (sym used ∙ own));
+    → AreCells old.parts.items old.all_breakpoints.items new.cells → IsMemoOf filters text_of new
+other_cells old new filters text_of is parts plan all_breakpoints slots used cells = record {
+  cells = rw (parts, all_breakpoints) cells;
+  told = λ own. rw (parts, all_breakpoints) (is.told (sym used ∙ own));
   plans = λ own. rw (parts, plan) (is.plans (sym used ∙ own));
   text = λ own. rw parts (is.text (sym used ∙ own));
   kept = rw (parts, slots) is.kept;
 }
 
--- other slots
+-- a memo whose slots are changed
 pub other_slots : (old new : Memo) (filters : List (Option Expr)) (text_of : List Datum → List ℕ)
-    → IsMemoOf filters text_of old → new.parts ≡ old.parts → new.plan ≡ old.plan → new.scales ≡ old.scales
+    → IsMemoOf filters text_of old → new.parts ≡ old.parts → new.plan ≡ old.plan
+    → new.all_breakpoints ≡ old.all_breakpoints
     → new.cells ≡ old.cells → new.is_used ≡ old.is_used → All (IsKept old.parts.items text_of) new.slots.items
     → IsMemoOf filters text_of new
-other_slots old new filters text_of is parts plan scales cells used kept = record {
-  cells = rw (parts, scales, cells) is.cells;
-  told = λ own. rw (parts, scales) (is.told (sym used ∙ own));
+other_slots old new filters text_of is parts plan all_breakpoints cells used kept = record {
+  cells = rw (parts, all_breakpoints, cells) is.cells;
+  told = λ own. rw (parts, all_breakpoints) (is.told (sym used ∙ own));
   plans = λ own. rw (parts, plan) (is.plans (sym used ∙ own));
   text = λ own. rw parts (is.text (sym used ∙ own));
   kept = rw parts kept;

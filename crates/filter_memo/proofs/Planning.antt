@@ -1,4 +1,4 @@
--- The steps of filters lead to what the filters say.
+-- The branches of filters lead to the values of the filters.
 use Rattle.std.proofs.Common.{◌≡◌, ℕ, ◌+◌, ◌<◌, Bool, true, false, not, List, [], ◌∷◌, ◌++◌, length, take, get_or, refl, sym, ap, subst, ◌∙◌}
 use Rattle.std.specs.Prelude.{Option, Some, None}
 use Rattle.std.specs.Borrow.{Bor}
@@ -13,14 +13,14 @@ use Rattle.filter_tree.specs.declared.tri.Tri.{Tri}
 use Rattle.filter_tree.specs.declared.tri.Tri.TheVariants.{True, False, Null}
 use Rattle.filter_memo.specs.Clauses.{clause_says, negated_if, IsLiteral, IsEither}
 use Rattle.filter_memo.specs.Plans.{IsClauseOf, IsAdded, IsPlanFor, ArePlans, HasEnds, IsStart, filter_view, filters_view}
-use Rattle.filter_memo.specs.Steps.{Extends, Leads, IsTold, LeadToOne, exit_of, negated, asked, of_null_and, of_null_or, of_first_and, of_first_or}
+use Rattle.filter_memo.specs.Branches.{Extends, Leads, IsTold, LeadToOne, exit_of, negated, asked, of_null_and, of_null_or, of_first_and, of_first_or}
 use Rattle.filter_memo.specs.Telling.{part_at}
 use Rattle.filter_memo.specs.declared.clause.Clause.{Clause}
 use Rattle.filter_memo.specs.declared.clause.Values.{Values}
-use Rattle.filter_memo.specs.declared.steps.Exits.{Exits}
-use Rattle.filter_memo.specs.declared.steps.Step.{Step}
-use Rattle.filter_memo.specs.declared.steps.Step.TheVariants.{Test}
-use Rattle.filter_memo.proofs.Stepping.{extends_same, extends_more, extends_by, leads_on, leads_first}
+use Rattle.filter_memo.specs.declared.branches.Exits.{Exits}
+use Rattle.filter_memo.specs.declared.branches.Branch.{Branch}
+use Rattle.filter_memo.specs.declared.branches.Branch.TheVariants.{Test}
+use Rattle.filter_memo.proofs.Branching.{extends_same, extends_more, extends_by, leads_on, leads_first}
 
 -- ---- clauses
 
@@ -81,7 +81,7 @@ module _ {A : _} (parts : List (Filter A)) where
         ∙ not_and (meaning left row) (meaning right row);
   }
 
--- ---- steps
+-- ---- branches
 
 same_exit : (exits : Exits) → LeadToOne exits → (tri : Tri) → exit_of exits tri ≡ exits.on_true
 same_exit exits one True = refl
@@ -99,7 +99,7 @@ asked_exit exits test True = refl
 asked_exit exits test False = refl
 asked_exit exits test Null = refl
 
-module _ (values : Values) (tri : Tri) (old one two : List Step) (exits : Exits) (second other : ℕ) where
+module _ (values : Values) (tri : Tri) (old one two : List Branch) (exits : Exits) (second other : ℕ) where
   and_leads : (left right : Tri) → Extends old one → Extends one two
       → (Leads old values tri (exit_of exits right) → Leads one values tri second)
       → (Leads one values tri (exit_of (of_null_and exits) right) → Leads two values tri other)
@@ -135,18 +135,18 @@ module _ (values : Values) (tri : Tri) (old one two : List Step) (exits : Exits)
       by_null (leads_on values old one first tri exits.on_null leads)
 
 module _ {A : _} (parts : List (Filter A)) where
-  pub no_step : (filter : Expr) (exits : Exits) (steps : List Step) → LeadToOne exits
-      → IsAdded parts filter exits steps steps exits.on_true
-  no_step filter exits steps one = record {
-    kept = extends_same steps;
+  pub no_branch : (filter : Expr) (exits : Exits) (branches : List Branch) → LeadToOne exits
+      → IsAdded parts filter exits branches branches exits.on_true
+  no_branch filter exits branches one = record {
+    kept = extends_same branches;
     leads = λ row said values tri tells split leads.
-        subst (λ (at : ℕ). Leads steps values tri at) (same_exit exits one (meaning filter row)) leads;
+        subst (λ (at : ℕ). Leads branches values tri at) (same_exit exits one (meaning filter row)) leads;
   }
 
-  pub clause_step : (filter : Expr) (exits : Exits) (clause : Clause) (old new : List Step) (start : ℕ)
+  pub clause_branch : (filter : Expr) (exits : Exits) (clause : Clause) (old new : List Branch) (start : ℕ)
       → IsClauseOf parts filter false clause → new ≡ old ++ Test clause exits ∷ [] → start ≡ length old
       → IsAdded parts filter exits old new start
-  clause_step filter exits clause old new start is added at = record {
+  clause_branch filter exits clause old new start is added at = record {
     kept = extends_by old new (Test clause exits ∷ []) added;
     leads = λ row said values tri tells split leads.
         subst (λ (at : ℕ). Leads new values tri at) (sym at)
@@ -155,10 +155,10 @@ module _ {A : _} (parts : List (Filter A)) where
         leads));
   }
 
-  pub negated_step : (filter : Expr) (exits : Exits) (clause : Clause) (old new : List Step) (start : ℕ)
+  pub negated_branch : (filter : Expr) (exits : Exits) (clause : Clause) (old new : List Branch) (start : ℕ)
       → IsClauseOf parts filter true clause → new ≡ old ++ Test clause (negated exits) ∷ [] → start ≡ length old
       → IsAdded parts filter exits old new start
-  negated_step filter exits clause old new start is added at = record {
+  negated_branch filter exits clause old new start is added at = record {
     kept = extends_by old new (Test clause (negated exits) ∷ []) added;
     leads = λ row said values tri tells split leads.
         subst (λ (at : ℕ). Leads new values tri at) (sym at)
@@ -168,16 +168,16 @@ module _ {A : _} (parts : List (Filter A)) where
         (subst (λ (at : ℕ). Leads old values tri at) (negated_exit exits (meaning filter row)) leads)));
   }
 
-  pub const_steps : (known : Bool) (exits : Exits) (steps : List Step)
-      → IsAdded parts (e.Const known) exits steps steps (exit_of exits (tri_of known))
-  const_steps known exits steps = record {
-    kept = extends_same steps;
+  pub const_branches : (known : Bool) (exits : Exits) (branches : List Branch)
+      → IsAdded parts (e.Const known) exits branches branches (exit_of exits (tri_of known))
+  const_branches known exits branches = record {
+    kept = extends_same branches;
     leads = λ row said values tri tells split leads. leads;
   }
 
-  pub not_steps : (part : Expr) (exits : Exits) (old new : List Step) (start : ℕ)
+  pub not_branches : (part : Expr) (exits : Exits) (old new : List Branch) (start : ℕ)
       → IsAdded parts part (negated exits) old new start → IsAdded parts (e.Not part) exits old new start
-  not_steps part exits old new start added = record {
+  not_branches part exits old new start added = record {
     kept = added.kept;
     leads = λ row said values tri tells split leads. added.leads row said values tri tells split
         (subst (λ (at : ℕ). Leads old values tri at) (twice (meaning part row)) leads);
@@ -187,19 +187,19 @@ module _ {A : _} (parts : List (Filter A)) where
     twice False = refl
     twice Null = refl
 
-  pub is_steps : (test : Ask) (part : Expr) (exits : Exits) (old new : List Step) (start : ℕ)
+  pub is_branches : (test : Ask) (part : Expr) (exits : Exits) (old new : List Branch) (start : ℕ)
       → IsAdded parts part (asked exits test) old new start → IsAdded parts (e.Is test part) exits old new start
-  is_steps test part exits old new start added = record {
+  is_branches test part exits old new start added = record {
     kept = added.kept;
     leads = λ row said values tri tells split leads. added.leads row said values tri tells split
         (subst (λ (at : ℕ). Leads old values tri at) (asked_exit exits test (meaning part row)) leads);
   }
 
-  pub and_steps : (left right : Expr) (exits : Exits) (old one two new : List Step) (second other start : ℕ)
+  pub and_branches : (left right : Expr) (exits : Exits) (old one two new : List Branch) (second other start : ℕ)
       → IsAdded parts right exits old one second → IsAdded parts right (of_null_and exits) one two other
       → IsAdded parts left (of_first_and exits second other) two new start
       → IsAdded parts (e.And left right) exits old new start
-  and_steps left right exits old one two new second other start by_right by_null by_left = record {
+  and_branches left right exits old one two new second other start by_right by_null by_left = record {
     kept = extends_more old one new by_right.kept (extends_more one two new by_null.kept by_left.kept);
     leads = λ row said values tri tells split leads. by_left.leads row said values tri tells split
         (and_leads values tri old one two exits second other (meaning left row) (meaning right row) by_right.kept
@@ -207,11 +207,11 @@ module _ {A : _} (parts : List (Filter A)) where
         leads);
   }
 
-  pub or_steps : (left right : Expr) (exits : Exits) (old one two new : List Step) (second other start : ℕ)
+  pub or_branches : (left right : Expr) (exits : Exits) (old one two new : List Branch) (second other start : ℕ)
       → IsAdded parts right exits old one second → IsAdded parts right (of_null_or exits) one two other
       → IsAdded parts left (of_first_or exits second other) two new start
       → IsAdded parts (e.Or left right) exits old new start
-  or_steps left right exits old one two new second other start by_right by_null by_left = record {
+  or_branches left right exits old one two new second other start by_right by_null by_left = record {
     kept = extends_more old one new by_right.kept (extends_more one two new by_null.kept by_left.kept);
     leads = λ row said values tri tells split leads. by_left.leads row said values tri tells split
         (or_leads values tri old one two exits second other (meaning left row) (meaning right row) by_right.kept
@@ -219,12 +219,12 @@ module _ {A : _} (parts : List (Filter A)) where
         leads);
   }
 
-  -- where it is the same whether the first side is null
-  pub and_null_steps : (left right : Expr) (exits : Exits) (old one new : List Step) (second start : ℕ)
+  -- if the second side has the same exits when the first side is null
+  pub and_null_branches : (left right : Expr) (exits : Exits) (old one new : List Branch) (second start : ℕ)
       → exits ≡ of_null_and exits → IsAdded parts right exits old one second
       → IsAdded parts left (of_first_and exits second second) one new start
       → IsAdded parts (e.And left right) exits old new start
-  and_null_steps left right exits old one new second start same by_right by_left = record {
+  and_null_branches left right exits old one new second start same by_right by_left = record {
     kept = extends_more old one new by_right.kept by_left.kept;
     leads = λ row said values tri tells split leads. by_left.leads row said values tri tells split
         (leads_and values tri (meaning left row) (meaning right row)
@@ -243,11 +243,11 @@ module _ {A : _} (parts : List (Filter A)) where
     leads_and values tri Null False by leads = by leads
     leads_and values tri Null Null by leads = by leads
 
-  pub or_null_steps : (left right : Expr) (exits : Exits) (old one new : List Step) (second start : ℕ)
+  pub or_null_branches : (left right : Expr) (exits : Exits) (old one new : List Branch) (second start : ℕ)
       → exits ≡ of_null_or exits → IsAdded parts right exits old one second
       → IsAdded parts left (of_first_or exits second second) one new start
       → IsAdded parts (e.Or left right) exits old new start
-  or_null_steps left right exits old one new second start same by_right by_left = record {
+  or_null_branches left right exits old one new second start same by_right by_left = record {
     kept = extends_more old one new by_right.kept by_left.kept;
     leads = λ row said values tri tells split leads. by_left.leads row said values tri tells split
         (leads_or values tri (meaning left row) (meaning right row)
@@ -268,10 +268,10 @@ module _ {A : _} (parts : List (Filter A)) where
 
   -- ---- plans
 
-  pub no_start : (steps : List Step) (start : ℕ) → IsStart parts None steps steps start
-  no_start steps start = record { kept = extends_same steps; is = λ ends. tt }
+  pub no_start : (branches : List Branch) (start : ℕ) → IsStart parts None branches branches start
+  no_start branches start = record { kept = extends_same branches; is = λ ends. tt }
 
-  pub one_start : (filter : Expr) (old new : List Step) (start : ℕ)
+  pub one_start : (filter : Expr) (old new : List Branch) (start : ℕ)
       → IsAdded parts filter (record { on_true = 0; on_false = 1; on_null = 2 }) old new start
       → IsStart parts (Some filter) old new start
   one_start filter old new start added = record {
@@ -287,14 +287,14 @@ module _ {A : _} (parts : List (Filter A)) where
     at_end values ends False = IsTold 1 ends.is_false
     at_end values ends Null = IsTold 2 ends.is_null
 
-  pub ends_on : (old new : List Step) → Extends old new → HasEnds old → HasEnds new
+  pub ends_on : (old new : List Branch) → Extends old new → HasEnds old → HasEnds new
   ends_on old new more ends = record {
     is_true = more.kept 0 _ ends.is_true;
     is_false = more.kept 1 _ ends.is_false;
     is_null = more.kept 2 _ ends.is_null;
   }
 
-  plan_on : (old new : List Step) → Extends old new → (filter : Option Expr) (start : ℕ)
+  plan_on : (old new : List Branch) → Extends old new → (filter : Option Expr) (start : ℕ)
       → IsPlanFor parts old filter start → IsPlanFor parts new filter start
   plan_on old new more None start is = tt
   plan_on old new more (Some filter) start is = record {
@@ -302,7 +302,7 @@ module _ {A : _} (parts : List (Filter A)) where
         leads_on values old new more (meaning filter row) start (is.leads row said tells values split);
   }
 
-  plans_on : (old new : List Step) → Extends old new → (filters : List (Option Expr)) (starts : List ℕ)
+  plans_on : (old new : List Branch) → Extends old new → (filters : List (Option Expr)) (starts : List ℕ)
       → ArePlans parts filters old starts → ArePlans parts filters new starts
   plans_on old new more [] [] are = are
   plans_on old new more [] (start ∷ starts) are = absurd are
@@ -312,7 +312,7 @@ module _ {A : _} (parts : List (Filter A)) where
 
 -- the plans so far, and one more
 pub plans_more : {A : _} (parts : List (Filter A)) (filters : List (Option (Bor (Filter A)))) (i : ℕ)
-    (next : Option (Bor (Filter A))) (old new : List Step) (starts all : List ℕ) (start : ℕ) → i < length filters
+    (next : Option (Bor (Filter A))) (old new : List Branch) (starts all : List ℕ) (start : ℕ) → i < length filters
     → next ≡ get_or filters i next → HasEnds old → ArePlans parts (filters_view (take i filters)) old starts
     → IsStart parts (filter_view next) old new start → all ≡ starts ++ start ∷ []
     → ArePlans parts (filters_view (take (i + 1) filters)) new all

@@ -1,4 +1,4 @@
--- Values at one place have the same order to each bound.
+-- Values in one bucket have the same order to each bound.
 use Rattle.std.proofs.Common.{◌≡◌, ℕ, ◌<◌, true, List, [], ◌∷◌, length, refl, sym, ap, subst, ◌∙◌, arith}
 use Rattle.std.specs.Prelude.{Result, Ok, Err, slice_index_or}
 use Rattle.std.proofs.Common.{inl, inr}
@@ -15,8 +15,8 @@ use Rattle.filter_tree.specs.declared.value.Value.{Value}
 use Rattle.filter_tree.specs.declared.value.Value.TheVariants.{Null}
 use Rattle.filter_tree.proofs.OrderLemmas.{datum_total, row_tie}
 use Rattle.filter_memo.specs.Covering.{has}
-use Rattle.filter_memo.specs.Places.{value_cmp, IsPlace}
-use Rattle.filter_memo.specs.declared.place.Place.{Place}
+use Rattle.filter_memo.specs.Buckets.{value_cmp, IsBucket}
+use Rattle.filter_memo.specs.declared.bucket.Bucket.{Bucket}
 use Rattle.filter_memo.proofs.Finding.{index_of}
 
 -- values that tie are the same
@@ -27,29 +27,29 @@ tied v w e =
     cc
 
 module _ {A : _} (bounds : List (Value A)) (sorted : IsSorted value_cmp bounds) (v w : Datum) where
-  -- of a bound both are on one side
+  -- both values are on the same side of each bound
   side_at : (found : Result ℕ ℕ) → IsBinarySearchResult (λ bound. datum_cmp (datum_view bound) v) bounds found
       → IsBinarySearchResult (λ bound. datum_cmp (datum_view bound) w) bounds found
-      → (place : ℕ) → place < length bounds
-      → datum_cmp (datum_view (slice_index_or bounds place Null)) v
-      ≡ datum_cmp (datum_view (slice_index_or bounds place Null)) w
-  side_at (Ok index) at_v at_w place within =
+      → (other : ℕ) → other < length bounds
+      → datum_cmp (datum_view (slice_index_or bounds other Null)) v
+      ≡ datum_cmp (datum_view (slice_index_or bounds other Null)) w
+  side_at (Ok index) at_v at_w other within =
       let same : v ≡ w = sym (tied _ _ (at_v Null)) ∙ tied _ _ (at_w Null) in
-      ap (λ datum. datum_cmp (datum_view (slice_index_or bounds place Null)) datum) same
-  side_at (Err index) at_v at_w place within =
+      ap (λ datum. datum_cmp (datum_view (slice_index_or bounds other Null)) datum) same
+  side_at (Err index) at_v at_w other within =
       let of_v = at_v (searchable_from_sorted datum_total (λ bound. datum_view bound) bounds v sorted) in
       let of_w = at_w (searchable_from_sorted datum_total (λ bound. datum_view bound) bounds w sorted) in
-      elim (cases_lt place index) [
-        | inl below ↦ of_v.0 place Null (omega arith) below ∙ sym (of_w.0 place Null (omega arith) below)
-        | inr from ↦ of_v.1 place Null from within ∙ sym (of_w.1 place Null from within)
+      elim (cases_lt other index) [
+        | inl below ↦ of_v.0 other Null (omega arith) below ∙ sym (of_w.0 other Null (omega arith) below)
+        | inr from ↦ of_v.1 other Null from within ∙ sym (of_w.1 other Null from within)
       ]
 
-  pub same_side : (place : Place) → IsPlace bounds v place → IsPlace bounds w place
+  pub same_side : (bucket : Bucket) → IsBucket bounds v bucket → IsBucket bounds w bucket
       → (constant : Constant) → has bounds constant ≡ true
       → datum_cmp (Known constant) v ≡ datum_cmp (Known constant) w
-  same_side place at_v at_w constant h =
+  same_side bucket at_v at_w constant h =
       let bound = index_of (λ (value : Value A). eq_by_cmp datum_cmp (datum_view value) (Known constant)) bounds h in
       let is : datum_view (slice_index_or bounds bound.0 Null) ≡ Known constant =
       tied _ _ ((Equal-is _).0 (bound.1.1 Null)) in
       subst (λ datum. datum_cmp datum v ≡ datum_cmp datum w) is
-      (side_at place.found at_v.found at_w.found bound.0 bound.1.0)
+      (side_at bucket.found at_v.found at_w.found bound.0 bound.1.0)

@@ -19,7 +19,7 @@ use Rattle.filter_memo.specs.Covering.{has}
 use Rattle.filter_memo.specs.Intervals.{is_outside, AreAlike, IsOne, AreOutside, IsBetween, HasNoNumber}
 use Rattle.filter_memo.specs.Telling.{IsInterval}
 use Rattle.filter_memo.specs.declared.interval.Interval.{Interval}
-use Rattle.filter_memo.specs.declared.scale.Scale.{Scale}
+use Rattle.filter_memo.specs.declared.breakpoints.Breakpoints.{Breakpoints}
 use Rattle.filter_memo.proofs.Finding.{index_of}
 use Rattle.filter_memo.proofs.Sides.{tied}
 
@@ -63,7 +63,7 @@ outside_side (Number number) low high one other h from upto from_other upto_othe
 outside_side (Truth truth) low high one other h from upto from_other upto_other = refl
 outside_side (Bytes bytes) low high one other h from upto from_other upto_other = refl
 
--- of two numbers that are the same number, or of no constant from `low` to `high`
+-- numbers of an interval that has only one number are equal
 by_one : (low high one other : ℤ) → low ≡ high → low ≤ℤ one → one ≤ℤ high → low ≤ℤ other → other ≤ℤ high → one ≡ other
 by_one low high one other same from upto from_other upto_other = omega (arith, ints)
 
@@ -85,11 +85,12 @@ same_interval {A} bounds v w low high (AreOutside all) at_v at_w constant h =
     (subst (λ (datum : Datum). is_outside datum low high ≡ true) is outside) at_v.from at_v.upto at_w.from at_w.upto
     ∙ sym (ap (datum_cmp (Known constant)) at_w.is))
 
-pub no_number : {A : _} (parts : List (Filter A)) (scales : List Scale) (interval : Interval) → HasNoNumber interval
-    → IsInterval parts scales interval
-no_number parts scales interval none = record {
-  tells = λ scale row found within. absurd (never interval.low interval.high within.number none.low none.high within.from
-      within.upto);
+pub no_number : {A : _} (parts : List (Filter A)) (all_breakpoints : List Breakpoints) (interval : Interval)
+    → HasNoNumber interval
+    → IsInterval parts all_breakpoints interval
+no_number parts all_breakpoints interval none = record {
+  tells = λ breakpoints row found within.
+      absurd (never interval.low interval.high within.number none.low none.high within.from within.upto);
 } where
   never : (low high number : ℤ) → low ≡ pos 1 → high ≡ pos 0 → low ≤ℤ number → number ≤ℤ high → ⊥
   never low high number p q from upto = omega (arith, ints)

@@ -1,5 +1,5 @@
--- Which filters compare one term with nothing but some bounds: row filters of PostgreSQL 15, "Logical Replication", 31.3
--- Row Filters.
+-- Filters that compare only one term, and only with given bounds: row filters of PostgreSQL 15, "Logical Replication",
+-- 31.3 Row Filters.
 use Rattle.std.specs.Prelude.{Bool, true, ◌&&◌, List}
 use Rattle.std.specs.List.{list_any, list_all}
 use Rattle.std.specs.Ordering.{eq_by_cmp}

@@ -1,4 +1,5 @@
--- Numbers that comparisons with some constants do not tell apart: PostgreSQL 15, 9.2 Comparison Functions and Operators.
+-- Intervals whose numbers all compare in the same way with given constants: PostgreSQL 15, 9.2 Comparison Functions and
+-- Operators.
 use Rattle.std.specs.Prelude.{◌≡◌, ℤ, pos, ◌≤ℤ◌, Bool, true, ◌||◌, List, int_lt}
 use Rattle.std.specs.List.{list_all}
 use Rattle.filter_tree.specs.Datum.{Number, Truth, Bytes, Datum, Missing, Known}
@@ -28,7 +29,7 @@ pub record IsBetween (datum : Datum) (low high : ℤ) : Type 0 where
   pub from : low ≤ℤ number
   pub upto : number ≤ℤ high
 
--- no number is within
+-- the interval contains no number
 pub record HasNoNumber (interval : Interval) : Type 0 where
   pub low : interval.low ≡ pos 1
   pub high : interval.high ≡ pos 0

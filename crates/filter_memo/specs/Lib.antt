@@ -1,9 +1,9 @@
 pub mod Bits
+pub mod Branches
+pub mod Buckets
 pub mod Clauses
 pub mod Covering
 pub mod Intervals
 pub mod Memos
-pub mod Places
 pub mod Plans
-pub mod Steps
 pub mod Telling

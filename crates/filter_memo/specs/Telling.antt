@@ -1,4 +1,4 @@
--- What numbered filters say of a row: row filters of PostgreSQL 15, "Logical Replication", 31.3 Row Filters.
+-- The values of numbered filters for a row: row filters of PostgreSQL 15, "Logical Replication", 31.3 Row Filters.
 use Rattle.std.specs.Prelude.{◌≡◌, ◌<◌, ◌==◌, ℕ, ℤ, Bool, true, false, if◌then◌else◌, List, [], length, Option, Some, None, slice_get, All}
 use Rattle.std.specs.List.{flat_map, list_any}
 use Rattle.filter_tree.specs.Datum.{Datum}
@@ -9,11 +9,11 @@ use Rattle.filter_tree.specs.declared.tri.Tri.{Tri}
 use Rattle.filter_tree.specs.declared.tri.Tri.TheVariants.{False}
 use Rattle.filter_memo.specs.Bits.{said_at}
 use Rattle.filter_memo.specs.Intervals.{AreAlike, IsBetween, HasNoNumber}
-use Rattle.filter_memo.specs.Places.{IsPlace}
+use Rattle.filter_memo.specs.Buckets.{IsBucket}
 use Rattle.filter_memo.specs.declared.interval.Interval.{Interval}
-use Rattle.filter_memo.specs.declared.place.Place.{Place}
+use Rattle.filter_memo.specs.declared.bucket.Bucket.{Bucket}
 use Rattle.filter_memo.specs.declared.said.Said.{Said}
-use Rattle.filter_memo.specs.declared.scale.Scale.{Scale}
+use Rattle.filter_memo.specs.declared.breakpoints.Breakpoints.{Breakpoints}
 use Rattle.filter_memo.specs.declared.telling.Cell.{Cell}
 use Rattle.filter_memo.specs.declared.telling.Cells.{Cells}
 
@@ -23,81 +23,87 @@ abbrev pub filter_or_false : {A : _} → Option (Filter A) → Expr
 filter_or_false None = Const false
 filter_or_false (Some filter) = expr_view filter
 
--- past the last there are filters that are false
+-- a number without a filter stands for false
 abbrev pub part_at : {A : _} → List (Filter A) → ℕ → Expr
 part_at parts number = filter_or_false (slice_get parts number)
 
 abbrev pub has_number : List ℕ → ℕ → Bool
 has_number numbers number = list_any (λ own. number == own) numbers
 
--- what a filter among these numbers says; the others are false
+-- the value of a filter that has one of these numbers; the others are false
 abbrev pub told_at : {A : _} → List (Filter A) → List ℕ → List Datum → ℕ → Tri
 told_at parts numbers row number = if has_number numbers number then meaning (part_at parts number) row else False
 
+-- the values of the filters with these numbers
 pub record Told {A : _} (parts : List (Filter A)) (numbers : List ℕ) (row : List Datum) (said : Said) : Type 0 where
   pub each : (number : ℕ) → number < 64 → said_at said number ≡ told_at parts numbers row number
 
--- what each filter says
+-- the values of all filters
 pub record Tells {A : _} (parts : List (Filter A)) (row : List Datum) (said : Said) : Type 0 where
   pub each : (number : ℕ) → number < length parts → number < 64
       → said_at said number ≡ meaning (part_at parts number) row
 
--- ---- scales
+-- ---- breakpoints
 
--- the numbers of the filters that scales tell
-abbrev pub numbers_in : List Scale → List ℕ
-numbers_in scales = flat_map (λ scale. scale.numbers.items) scales
+-- the numbers of the filters that the breakpoints evaluate
+abbrev pub numbers_in : List Breakpoints → List ℕ
+numbers_in all_breakpoints = flat_map (λ breakpoints. breakpoints.numbers.items) all_breakpoints
 
-abbrev pub numbers_of : Option Scale → List ℕ
+abbrev pub numbers_of : Option Breakpoints → List ℕ
 numbers_of None = []
-numbers_of (Some scale) = scale.numbers.items
+numbers_of (Some breakpoints) = breakpoints.numbers.items
 
-abbrev pub numbers_at : List Scale → ℕ → List ℕ
-numbers_at scales at = numbers_of (slice_get scales at)
+abbrev pub numbers_at : List Breakpoints → ℕ → List ℕ
+numbers_at all_breakpoints at = numbers_of (slice_get all_breakpoints at)
 
--- scales tell each filter below this number
-pub record AreTold (scales : List Scale) (count : ℕ) : Type 0 where
-  pub each : (number : ℕ) → number < count → has_number (numbers_in scales) number ≡ true
+-- the breakpoints evaluate each filter whose number is below `count`
+pub record AreTold (all_breakpoints : List Breakpoints) (count : ℕ) : Type 0 where
+  pub each : (number : ℕ) → number < count → has_number (numbers_in all_breakpoints) number ≡ true
 
--- the scale's filters say the same of rows at the same place, and of rows in an interval without constants
-pub record IsSettled {A : _} (parts : List (Filter A)) (scale : Scale) : Type 0 where
-  pub same : (one other : List Datum) (place : Place) (said : Said)
-      → IsPlace scale.bounds.items (term_value scale.term one) place
-      → IsPlace scale.bounds.items (term_value scale.term other) place
-      → Told parts scale.numbers.items one said → Told parts scale.numbers.items other said
-  pub alike : (one other : List Datum) (low high : ℤ) (said : Said) → AreAlike scale.bounds.items low high
-      → IsBetween (term_value scale.term one) low high → IsBetween (term_value scale.term other) low high
-      → Told parts scale.numbers.items one said → Told parts scale.numbers.items other said
+-- the filters have the same values for rows in the same bucket, and for rows in an interval that no constant divides
+pub record IsSettled {A : _} (parts : List (Filter A)) (breakpoints : Breakpoints) : Type 0 where
+  pub same : (one other : List Datum) (bucket : Bucket) (said : Said)
+      → IsBucket breakpoints.bounds.items (term_value breakpoints.term one) bucket
+      → IsBucket breakpoints.bounds.items (term_value breakpoints.term other) bucket
+      → Told parts breakpoints.numbers.items one said → Told parts breakpoints.numbers.items other said
+  pub alike : (one other : List Datum) (low high : ℤ) (said : Said) → AreAlike breakpoints.bounds.items low high
+      → IsBetween (term_value breakpoints.term one) low high → IsBetween (term_value breakpoints.term other) low high
+      → Told parts breakpoints.numbers.items one said → Told parts breakpoints.numbers.items other said
 
-abbrev pub AreSettled : {A : _} → List (Filter A) → List Scale → Type 0
-AreSettled parts scales = All (IsSettled parts) scales
+abbrev pub AreSettled : {A : _} → List (Filter A) → List Breakpoints → Type 0
+AreSettled parts all_breakpoints = All (IsSettled parts) all_breakpoints
 
 -- ---- cells
 
--- what is kept is what the scale's filters say of each row at the place
-abbrev pub IsCell : {A : _} → List (Filter A) → List Scale → Option Cell → Type 0
-IsCell parts scales None = Unit {0}
-IsCell parts scales (Some cell) = (scale : Scale) (row : List Datum) → slice_get scales cell.scale ≡ Some scale
-    → IsPlace scale.bounds.items (term_value scale.term row) cell.place → Told parts scale.numbers.items row cell.said
+-- the cell has the values of the filters for each row in its bucket
+abbrev pub IsCell : {A : _} → List (Filter A) → List Breakpoints → Option Cell → Type 0
+IsCell parts all_breakpoints None = Unit {0}
+IsCell parts all_breakpoints (Some cell) = (breakpoints : Breakpoints) (row : List Datum)
+    → slice_get all_breakpoints cell.term ≡ Some breakpoints
+    → IsBucket breakpoints.bounds.items (term_value breakpoints.term row) cell.bucket
+    → Told parts breakpoints.numbers.items row cell.said
 
--- what is kept is what the scale's filters say of each row in the interval
-pub record IsInterval {A : _} (parts : List (Filter A)) (scales : List Scale) (interval : Interval) : Type 0 where
-  pub tells : (scale : Scale) (row : List Datum) → slice_get scales interval.scale ≡ Some scale
-      → IsBetween (term_value scale.term row) interval.low interval.high
-      → Told parts scale.numbers.items row interval.said
+-- the interval has the values of the filters for each row whose term is in it
+pub record IsInterval {A : _} (parts : List (Filter A)) (all_breakpoints : List Breakpoints) (interval : Interval) :
+    Type 0 where
+  pub tells : (breakpoints : Breakpoints) (row : List Datum)
+      → slice_get all_breakpoints interval.term ≡ Some breakpoints
+      → IsBetween (term_value breakpoints.term row) interval.low interval.high
+      → Told parts breakpoints.numbers.items row interval.said
 
-pub record AreCells {A : _} (parts : List (Filter A)) (scales : List Scale) (cells : Cells) : Type 0 where
-  pub settled : AreSettled parts scales
-  pub places : All (IsCell parts scales) cells.places.items
-  pub intervals : All (IsInterval parts scales) cells.intervals.items
+pub record AreCells {A : _} (parts : List (Filter A)) (all_breakpoints : List Breakpoints) (cells : Cells) :
+    Type 0 where
+  pub settled : AreSettled parts all_breakpoints
+  pub buckets : All (IsCell parts all_breakpoints) cells.buckets.items
+  pub intervals : All (IsInterval parts all_breakpoints) cells.intervals.items
 
--- nothing is kept
+-- all cells are empty
 pub record AreNew (cells : Cells) : Type 0 where
-  pub places : All (λ cell. cell ≡ None) cells.places.items
+  pub buckets : All (λ cell. cell ≡ None) cells.buckets.items
   pub intervals : All HasNoNumber cells.intervals.items
 
--- The cells stay so, and the values are those of the row.
-pub record Judges {A : _} (parts : List (Filter A)) (scales : List Scale) (cells : Cells) (numbers : List ℕ)
-    (row : List Datum) (said : Said) : Type 0 where
-  pub kept : AreCells parts scales cells
+-- the cells stay right, and the values are those of the row
+pub record Judges {A : _} (parts : List (Filter A)) (all_breakpoints : List Breakpoints) (cells : Cells)
+    (numbers : List ℕ) (row : List Datum) (said : Said) : Type 0 where
+  pub kept : AreCells parts all_breakpoints cells
   pub told : Told parts numbers row said

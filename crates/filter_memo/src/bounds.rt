@@ -4,7 +4,7 @@ ghost use Rattle.std.specs.Prelude.{◌≡◌, IfOk};
 ghost use Rattle.std.specs.List.Sorted.{IsSorted};
 ghost use Rattle.filter_tree.specs.Datum.{Known};
 ghost use Rattle.filter_tree.specs.Values.{constant_view, datum_view};
-ghost use Rattle.filter_memo.specs.Places.{value_cmp};
+ghost use Rattle.filter_memo.specs.Buckets.{value_cmp};
 
 use filter_tree::{Atom, Filter, Literal, Term, Text, Value, same_term};
 use std::alloc::{AllocError, Global};
@@ -24,8 +24,8 @@ pub fn value_of(alloc: Global, literal: &Literal) -> Result<Value, AllocError>
 fn add_bound(bounds: &mut Vec<Value>, value: Value) -> Result<(), AllocError> {
     match bounds.binary_search(&value) {
         Ok(_) => Ok(()),
-        Err(place) => {
-            bounds.insert(place, value)?;
+        Err(index) => {
+            bounds.insert(index, value)?;
             Ok(())
         }
     }

@@ -7,10 +7,10 @@ ghost use Rattle.filter_memo.specs.Intervals as spec;
 use crate::said::Said;
 use filter_tree::Value;
 
-/// The values of the atoms of a scale for all numbers from `low` to `high`.
+/// The values of the atoms of a term, given by its number, for all numbers from `low` to `high`.
 #[derive(Clone, Copy, Debug, PartialEq, Eq)]
 pub struct Interval {
-    pub scale: usize,
+    pub term: usize,
     pub low: i64,
     pub high: i64,
     pub said: Said,

@@ -3,21 +3,21 @@
 use filter_tree::Value;
 use std::alloc::{AllocError, Global};
 
-/// The maximum number of buckets.
-const MAX_BUCKETS: usize = 1_024;
+/// The maximum number of bins.
+const MAX_BINS: usize = 1_024;
 
-/// The number of buckets for each interval.
-const BUCKETS_PER_INTERVAL: usize = 4;
+/// The number of bins for each interval.
+const BINS_PER_INTERVAL: usize = 4;
 
 /// Adjacent intervals that cover all numbers. Each one starts at a number of `lows` and ends before the next number
-/// there. The numbers from `first` on are divided into buckets of equal width, which is a power of two. Each bucket
+/// there. The numbers from `first` on are divided into bins of equal width, which is a power of two. Each bin
 /// stores the first and the last interval that it overlaps.
 #[derive(Drop)]
 pub struct IntervalIndex {
     lows: Vec<i64>,
     first: i64,
     shift: u32,
-    buckets: Vec<(u16, u16)>,
+    bins: Vec<(u16, u16)>,
 }
 
 /// Adds the start of an interval, unless the last interval starts there.
@@ -57,7 +57,7 @@ fn search(lows: &[i64], first: usize, last: usize, number: i64) -> usize {
     first
 }
 
-/// The least exponent of a bucket width that gives fewer buckets than the limit.
+/// The least exponent of a bin width that gives fewer bins than the limit.
 fn shift_of(numbers: u64, limit: u64) -> u32 {
     for shift in 0..63u32 {
         if numbers.wrapping_shr(shift) < limit {
@@ -67,13 +67,13 @@ fn shift_of(numbers: u64, limit: u64) -> u32 {
     63
 }
 
-/// The number of an interval in the form that buckets store.
+/// The number of an interval in the form that bins store.
 fn short(interval: usize) -> u16 {
     u16::try_from(interval).unwrap_or(u16::MAX)
 }
 
-/// A number of buckets, the first of which starts at `first`.
-fn buckets_of(
+/// A number of bins, the first of which starts at `first`.
+fn bins_of(
     alloc: Global,
     lows: &[i64],
     first: i64,
@@ -82,16 +82,16 @@ fn buckets_of(
 ) -> Result<Vec<(u16, u16)>, AllocError> {
     let width = 1i64.wrapping_shl(shift);
     let end = lows.len().saturating_sub(1);
-    let mut buckets = Vec::new(alloc);
+    let mut bins = Vec::new(alloc);
     let mut start = first;
     for _ in 0..count {
         let next = start.saturating_add(width);
         let one = search(lows, 0, end, start);
         let other = search(lows, one, end, next.saturating_sub(1));
-        buckets.push((short(one), short(other)))?;
+        bins.push((short(one), short(other)))?;
         start = next;
     }
-    Ok(buckets)
+    Ok(bins)
 }
 
 impl IntervalIndex {
@@ -101,18 +101,15 @@ impl IntervalIndex {
         let first = lows.get(1).copied().unwrap_or(i64::MAX);
         let last = lows.last().copied().unwrap_or(i64::MAX);
         let numbers = last.abs_diff(first);
-        let limit = lows
-            .len()
-            .saturating_mul(BUCKETS_PER_INTERVAL)
-            .min(MAX_BUCKETS);
+        let limit = lows.len().saturating_mul(BINS_PER_INTERVAL).min(MAX_BINS);
         let shift = shift_of(numbers, limit as u64);
         let count = numbers.wrapping_shr(shift).saturating_add(1);
-        let buckets = buckets_of(alloc, &lows, first, shift, count)?;
+        let bins = bins_of(alloc, &lows, first, shift, count)?;
         Ok(IntervalIndex {
             lows,
             first,
             shift,
-            buckets,
+            bins,
         })
     }
 
@@ -126,8 +123,8 @@ impl IntervalIndex {
         if number < self.first {
             return 0;
         }
-        let bucket = number.abs_diff(self.first).wrapping_shr(self.shift);
-        match self.buckets.get(bucket as usize) {
+        let bin = number.abs_diff(self.first).wrapping_shr(self.shift);
+        match self.bins.get(bin as usize) {
             Some((first, last)) if first == last => usize::from(*first),
             Some((first, last)) => search(
                 &self.lows,

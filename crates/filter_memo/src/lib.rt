@@ -3,19 +3,19 @@
 //! one text, which is built once.
 #![tactic(auto)]
 
+mod all_breakpoints;
 mod bounds;
+mod branches;
+mod breakpoints;
+mod bucket;
 mod clause;
 mod covering;
 mod interval;
 mod interval_index;
 mod memo;
 mod parts;
-mod place;
 mod plan;
 mod said;
-mod scale;
-mod scales;
-mod steps;
 mod telling;
 
 pub use memo::Memo;

@@ -6,12 +6,12 @@ ghost use Rattle.filter_tree.specs.Expr.{Expr, meaning};
 ghost use Rattle.filter_memo.specs.Memos as spec;
 ghost use Rattle.filter_memo.specs.Plans.{filters_view};
 
+use crate::all_breakpoints::{all_breakpoints_of, are_told, cell_counts};
+use crate::branches::run;
+use crate::breakpoints::Breakpoints;
 use crate::parts::parts_of;
 use crate::plan::{Plan, plan_of};
 use crate::said::Said;
-use crate::scale::Scale;
-use crate::scales::{are_told, cell_counts, scales_of};
-use crate::steps::run;
 use crate::telling::{Cells, look_all};
 use filter_tree::{Filter, Row, Tri};
 use std::alloc::{AllocError, Global};
@@ -32,7 +32,7 @@ pub struct Memo {
     pub alloc: Global,
     pub parts: Vec<Filter>,
     pub plan: Plan,
-    pub scales: Vec<Scale>,
+    pub all_breakpoints: Vec<Breakpoints>,
     pub cells: Cells,
     pub slots: Vec<Option<Kept>>,
     pub is_used: bool,
@@ -82,12 +82,12 @@ impl Memo {
             alloc,
             parts: Vec::new(alloc),
             plan: Plan {
-                steps: Vec::new(alloc),
+                branches: Vec::new(alloc),
                 starts: Vec::new(alloc),
             },
-            scales: Vec::new(alloc),
+            all_breakpoints: Vec::new(alloc),
             cells: Cells {
-                places: Vec::new(alloc),
+                buckets: Vec::new(alloc),
                 intervals: Vec::new(alloc),
             },
             slots: Vec::new(alloc),
@@ -105,17 +105,17 @@ impl Memo {
         let Some(plan) = plan_of(alloc, &parts, filters)? else {
             return Ok(Memo::unused(alloc));
         };
-        let scales = scales_of(alloc, &parts)?;
-        if !are_told(&scales, parts.len()) {
+        let all_breakpoints = all_breakpoints_of(alloc, &parts)?;
+        if !are_told(&all_breakpoints, parts.len()) {
             return Ok(Memo::unused(alloc));
         }
-        let counts = cell_counts(&scales);
-        let cells = Cells::new(alloc, counts.places, counts.intervals)?;
+        let counts = cell_counts(&all_breakpoints);
+        let cells = Cells::new(alloc, counts.buckets, counts.intervals)?;
         Ok(Memo {
             alloc,
             parts,
             plan,
-            scales,
+            all_breakpoints,
             cells,
             slots: empty_slots(alloc, TEXTS)?,
             is_used: true,
@@ -129,7 +129,7 @@ impl Memo {
         ensures located { (filters : List (Option Expr)) (text_of : List Datum → List ℕ)
             → spec.IsMemoOf filters text_of self.old → spec.IsLocated self.new row.now result }
     {
-        look_all(&mut self.cells, &self.parts, &self.scales, row)
+        look_all(&mut self.cells, &self.parts, &self.all_breakpoints, row)
     }
 
     /// The value of a filter, given by its number, for the rows whose atoms have these values. If it is `None`, the
@@ -144,7 +144,7 @@ impl Memo {
             return None;
         }
         let start = start_at(&self.plan.starts, number)?;
-        run(&self.plan.steps, start, said)
+        run(&self.plan.branches, start, said)
     }
 
     /// The text of the rows whose atoms have these values, if the memo has it.

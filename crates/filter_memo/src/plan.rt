@@ -1,20 +1,20 @@
-//! The steps of the filters of a memo.
+//! The branches of the filters of a memo.
 
 ghost use Rattle.std.specs.Prelude.{◌≡◌, ◌++◌, ◌∷◌, [], IfOk, IfSome, OnOk};
 ghost use Rattle.filter_tree.specs.Shape.{expr_view};
 ghost use Rattle.filter_memo.specs.Plans as spec;
 ghost use Rattle.filter_memo.specs.Plans.{filter_view, filters_view};
 
+use crate::branches::{Branch, Exits, add_test};
 use crate::clause::Clause;
 use crate::parts::find_part;
-use crate::steps::{Exits, Step, add_test};
 use filter_tree::{Filter, Tri};
 use std::alloc::{AllocError, Global};
 
-/// The steps of filters, and for each filter the step at which it begins.
+/// The branches of filters, and for each filter the branch at which it begins.
 #[derive(Drop)]
 pub struct Plan {
-    pub steps: Vec<Step>,
+    pub branches: Vec<Branch>,
     pub starts: Vec<usize>,
 }
 
@@ -54,64 +54,65 @@ fn clause_of(parts: &[Filter], filter: &Filter, is_negated: bool) -> Option<Clau
     }
 }
 
-/// Adds the steps of a filter, which lead to the exit of its truth value, and returns the first of them. They are added
-/// from the last one to the first. Where a side is null, the other side leads elsewhere, so it has steps of its own.
-#[tactic(auto, using(crate::proofs::Planning::no_step, crate::proofs::Planning::const_steps, crate::proofs::Planning::not_steps, crate::proofs::Planning::is_steps))]
-fn add_steps(
+/// Adds the branches of a filter, which lead to the exit of its truth value, and returns the first of them. They are
+/// added from the last one to the first. If a side is null, the other side leads elsewhere, so it has branches of its
+/// own.
+#[tactic(auto, using(crate::proofs::Planning::no_branch, crate::proofs::Planning::const_branches, crate::proofs::Planning::not_branches, crate::proofs::Planning::is_branches))]
+fn add_branches(
     parts: &[Filter],
-    steps: &mut Vec<Step>,
+    branches: &mut Vec<Branch>,
     filter: &Filter,
     exits: Exits,
 ) -> Result<usize, NoPlan>
-    ensures { IfOk result (spec.IsAdded parts.now (expr_view filter.now) exits steps.old.items steps.new.items) }
+    ensures { IfOk result (spec.IsAdded parts.now (expr_view filter.now) exits branches.old.items branches.new.items) }
 {
     if exits.lead_to_one() {
         return Ok(exits.on_true);
     }
     if let Some(clause) = clause_of(parts, filter, false) {
-        return Ok(add_test(steps, clause, exits)?);
+        return Ok(add_test(branches, clause, exits)?);
     }
     if let Some(clause) = clause_of(parts, filter, true) {
-        return Ok(add_test(steps, clause, exits.negated())?);
+        return Ok(add_test(branches, clause, exits.negated())?);
     }
     match filter {
         Filter::Const(known) => Ok(exits.of(Tri::from(*known))),
         Filter::Atom(_) => Err(NoPlan::Unnumbered),
-        Filter::Not(part) => add_steps(parts, steps, part, exits.negated()),
-        Filter::Is(test, part) => add_steps(parts, steps, part, exits.asked(*test)),
+        Filter::Not(part) => add_branches(parts, branches, part, exits.negated()),
+        Filter::Is(test, part) => add_branches(parts, branches, part, exits.asked(*test)),
         Filter::And(left, right) => {
-            let second = add_steps(parts, steps, right, exits)?;
+            let second = add_branches(parts, branches, right, exits)?;
             if exits == exits.of_null_and() {
-                return add_steps(parts, steps, left, exits.of_first_and(second, second));
+                return add_branches(parts, branches, left, exits.of_first_and(second, second));
             }
-            let other = add_steps(parts, steps, right, exits.of_null_and())?;
-            add_steps(parts, steps, left, exits.of_first_and(second, other))
+            let other = add_branches(parts, branches, right, exits.of_null_and())?;
+            add_branches(parts, branches, left, exits.of_first_and(second, other))
         }
         Filter::Or(left, right) => {
-            let second = add_steps(parts, steps, right, exits)?;
+            let second = add_branches(parts, branches, right, exits)?;
             if exits == exits.of_null_or() {
-                return add_steps(parts, steps, left, exits.of_first_or(second, second));
+                return add_branches(parts, branches, left, exits.of_first_or(second, second));
             }
-            let other = add_steps(parts, steps, right, exits.of_null_or())?;
-            add_steps(parts, steps, left, exits.of_first_or(second, other))
+            let other = add_branches(parts, branches, right, exits.of_null_or())?;
+            add_branches(parts, branches, left, exits.of_first_or(second, other))
         }
     }
 }
 
-/// Adds the steps of a filter, if there is one, and returns the first of them.
+/// Adds the branches of a filter, if there is one, and returns the first of them.
 #[tactic(auto, using(crate::proofs::Planning::no_start, crate::proofs::Planning::one_start))]
 fn add_start(
     parts: &[Filter],
-    steps: &mut Vec<Step>,
+    branches: &mut Vec<Branch>,
     filter: Option<&Filter>,
 ) -> Result<usize, NoPlan>
-    ensures { IfOk result (spec.IsStart parts.now (filter_view filter.entry) steps.old.items steps.new.items) }
+    ensures { IfOk result (spec.IsStart parts.now (filter_view filter.entry) branches.old.items branches.new.items) }
 {
     match filter {
         None => Ok(0),
-        Some(filter) => add_steps(
+        Some(filter) => add_branches(
             parts,
-            steps,
+            branches,
             filter,
             Exits {
                 on_true: 0,
@@ -129,43 +130,43 @@ fn push_start(starts: &mut Vec<usize>, start: usize) -> Result<(), AllocError>
     Ok(())
 }
 
-/// The first steps of the filters, whose steps are added.
+/// The first branches of the filters, whose branches are added.
 fn starts_of(
     alloc: Global,
     parts: &[Filter],
-    steps: &mut Vec<Step>,
+    branches: &mut Vec<Branch>,
     filters: &[Option<&Filter>],
 ) -> Result<Vec<usize>, NoPlan>
-    requires { spec.HasEnds steps.old.items }
+    requires { spec.HasEnds branches.old.items }
     ensures { IfOk result (λ starts.
-        spec.ArePlans parts.now (filters_view filters.now) steps.new.items starts.items) }
+        spec.ArePlans parts.now (filters_view filters.now) branches.new.items starts.items) }
 {
     let mut starts = Vec::with_capacity(alloc, filters.len())?;
     for filter in filters {
-        let start = add_start(parts, steps, *filter)?;
+        let start = add_start(parts, branches, *filter)?;
         push_start(&mut starts, start)?;
     }
     Ok(starts)
 }
 
-/// The three steps with which a plan begins.
-fn ends_of(alloc: Global) -> Result<Vec<Step>, AllocError>
-    ensures { IfOk result (λ steps. spec.HasEnds steps.items) }
+/// The three branches with which a plan begins.
+fn ends_of(alloc: Global) -> Result<Vec<Branch>, AllocError>
+    ensures { IfOk result (λ branches. spec.HasEnds branches.items) }
 {
-    let mut steps = Vec::new(alloc);
-    steps.push(Step::Told(Tri::True))?;
-    steps.push(Step::Told(Tri::False))?;
-    steps.push(Step::Told(Tri::Null))?;
-    Ok(steps)
+    let mut branches = Vec::new(alloc);
+    branches.push(Branch::Told(Tri::True))?;
+    branches.push(Branch::Told(Tri::False))?;
+    branches.push(Branch::Told(Tri::Null))?;
+    Ok(branches)
 }
 
 fn new_plan(alloc: Global, parts: &[Filter], filters: &[Option<&Filter>]) -> Result<Plan, NoPlan>
     ensures { IfOk result (λ plan.
-        spec.ArePlans parts.now (filters_view filters.now) plan.steps.items plan.starts.items) }
+        spec.ArePlans parts.now (filters_view filters.now) plan.branches.items plan.starts.items) }
 {
-    let mut steps = ends_of(alloc)?;
-    let starts = starts_of(alloc, parts, &mut steps, filters)?;
-    Ok(Plan { steps, starts })
+    let mut branches = ends_of(alloc)?;
+    let starts = starts_of(alloc, parts, &mut branches, filters)?;
+    Ok(Plan { branches, starts })
 }
 
 /// The plan of filters, unless one of their atoms has no number. The only error is out of memory.
@@ -175,7 +176,7 @@ pub fn plan_of(
     filters: &[Option<&Filter>],
 ) -> Result<Option<Plan>, AllocError>
     ensures { IfOk result (λ found. IfSome found (λ plan.
-        spec.ArePlans parts.now (filters_view filters.now) plan.steps.items plan.starts.items)) }
+        spec.ArePlans parts.now (filters_view filters.now) plan.branches.items plan.starts.items)) }
 {
     match new_plan(alloc, parts, filters) {
         Ok(plan) => Ok(Some(plan)),

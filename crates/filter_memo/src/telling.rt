@@ -1,4 +1,4 @@
-//! Evaluates numbered filters for a row, once for each place and each interval of a scale.
+//! Evaluates numbered filters for a row, once for each bucket and each interval of a term.
 
 ghost use Rattle.std.specs.Prelude.{◌≡◌, ◌≤ℤ◌, Some, slice_get, length, IfOk, IfSome, IsTrue, All, None};
 ghost use Rattle.std.specs.Option.{option_copied};
@@ -7,29 +7,29 @@ ghost use Rattle.filter_tree.specs.Expr.{meaning, term_value};
 ghost use Rattle.filter_memo.specs.Intervals.{AreAlike, HasNoNumber};
 ghost use Rattle.filter_memo.specs.Telling.{AreCells, AreNew, Judges, Told, numbers_at, numbers_in, part_at};
 
+use crate::breakpoints::{Breakpoints, bucket_in, number_in};
+use crate::bucket::{Bucket, number_of};
 use crate::interval::{Interval, are_alike};
-use crate::place::{Place, number_of};
 use crate::said::Said;
-use crate::scale::{Scale, number_in, place_in};
 use filter_tree::{Filter, Row, Tri, eval};
 use std::alloc::{AllocError, Global};
 
-/// The values of the filters of a scale for the rows at a place.
+/// The values of the filters of a term, given by its number, for the rows in a bucket.
 #[derive(Clone, Copy, Debug, PartialEq, Eq)]
 pub struct Cell {
-    pub scale: usize,
-    pub place: Place,
+    pub term: usize,
+    pub bucket: Bucket,
     pub said: Said,
 }
 
-/// The values that are kept for the places and the intervals of all scales.
+/// The values that are kept for the buckets and the intervals of all terms.
 #[derive(Drop)]
 pub struct Cells {
-    pub places: Vec<Option<Cell>>,
+    pub buckets: Vec<Option<Cell>>,
     pub intervals: Vec<Interval>,
 }
 
-fn empty_places(alloc: Global, count: usize) -> Result<Vec<Option<Cell>>, AllocError>
+fn empty_buckets(alloc: Global, count: usize) -> Result<Vec<Option<Cell>>, AllocError>
     ensures { IfOk result (λ cells. All (λ cell. cell ≡ None) cells.items) }
 {
     let mut cells = Vec::with_capacity(alloc, count)?;
@@ -43,7 +43,7 @@ fn empty_interval() -> Interval
     ensures { HasNoNumber result }
 {
     Interval {
-        scale: 0,
+        term: 0,
         low: 1,
         high: 0,
         said: Said::nothing(),
@@ -64,13 +64,13 @@ impl Cells {
     ghost use Rattle.std.specs.Prelude.{IfOk};
     ghost use Rattle.filter_memo.specs.Telling.{AreNew};
 
-    /// Empty cells for the given numbers of places and intervals.
-    pub fn new(alloc: Global, places: usize, intervals: usize) -> Result<Cells, AllocError>
+    /// Empty cells for the given numbers of buckets and intervals.
+    pub fn new(alloc: Global, buckets: usize, intervals: usize) -> Result<Cells, AllocError>
         ensures { IfOk result AreNew }
     {
-        let places = empty_places(alloc, places)?;
+        let buckets = empty_buckets(alloc, buckets)?;
         let intervals = empty_intervals(alloc, intervals)?;
-        Ok(Cells { places, intervals })
+        Ok(Cells { buckets, intervals })
     }
 }
 
@@ -97,61 +97,61 @@ fn judge(parts: &[Filter], numbers: &[usize], row: &Row) -> Said
     }
 }
 
-/// The values that are kept for a place of the scale.
+/// The values that are kept for a bucket of the term.
 #[tactic(auto, using(crate::proofs::Judging::cell_is))]
-fn found(cells: &[Option<Cell>], index: usize, scale: usize, place: Place) -> Option<Said>
+fn found(cells: &[Option<Cell>], index: usize, term: usize, bucket: Bucket) -> Option<Said>
     ensures { IfSome result (λ said. slice_get cells.now index
-        ≡ Some (Some (record { scale = scale; place = place; said = said }))) }
+        ≡ Some (Some (record { term = term; bucket = bucket; said = said }))) }
 {
     match cells.get(index) {
-        Some(Some(cell)) if cell.scale == scale && cell.place == place => Some(cell.said),
+        Some(Some(cell)) if cell.term == term && cell.bucket == bucket => Some(cell.said),
         _ => None,
     }
 }
 
-fn scale_at(scales: &[Scale], number: usize) -> Option<&Scale>
-    ensures { option_copied result ≡ slice_get scales.now number }
+fn breakpoints_at(all_breakpoints: &[Breakpoints], number: usize) -> Option<&Breakpoints>
+    ensures { option_copied result ≡ slice_get all_breakpoints.now number }
 {
-    scales.get(number)
+    all_breakpoints.get(number)
 }
 
-/// The index of the cell for the interval at this position of the scale.
-fn cell_of(scale: &Scale, position: usize) -> usize {
-    scale.first_interval.wrapping_add(position)
+/// The index of the cell for the interval at this position.
+fn cell_of(breakpoints: &Breakpoints, position: usize) -> usize {
+    breakpoints.first_interval.wrapping_add(position)
 }
 
-/// The interval at this index, if it belongs to the scale and contains the number.
-fn interval_at(intervals: &[Interval], index: usize, scale: usize, number: i64) -> Option<Interval>
+/// The interval at this index, if it belongs to the term and contains the number.
+fn interval_at(intervals: &[Interval], index: usize, term: usize, number: i64) -> Option<Interval>
     ensures found { IfSome result (λ interval. slice_get intervals.now index ≡ Some interval) }
-    ensures scale { IfSome result (λ interval. interval.scale ≡ scale) }
+    ensures term { IfSome result (λ interval. interval.term ≡ term) }
     ensures low { IfSome result (λ interval. interval.low ≤ℤ number) }
     ensures high { IfSome result (λ interval. number ≤ℤ interval.high) }
 {
     let interval = *intervals.get(index)?;
-    if interval.scale == scale && interval.low <= number && number <= interval.high {
+    if interval.term == term && interval.low <= number && number <= interval.high {
         return Some(interval);
     }
     None
 }
 
-/// The interval at this position of the scale, if it contains the value and no constant divides it.
+/// The interval at this position, if it contains the value and no constant divides it.
 fn interval_of(
-    scale: &Scale,
+    breakpoints: &Breakpoints,
     number: usize,
     position: usize,
     value: i64,
     said: Said,
 ) -> Option<Interval>
-    ensures scale { IfSome result (λ interval. interval.scale ≡ number) }
+    ensures term { IfSome result (λ interval. interval.term ≡ number) }
     ensures said { IfSome result (λ interval. interval.said ≡ said) }
     ensures low { IfSome result (λ interval. interval.low ≤ℤ value) }
     ensures high { IfSome result (λ interval. value ≤ℤ interval.high) }
-    ensures alike { IfSome result (λ interval. AreAlike scale.now.bounds.items interval.low interval.high) }
+    ensures alike { IfSome result (λ interval. AreAlike breakpoints.now.bounds.items interval.low interval.high) }
 {
-    let (low, high) = scale.index.ends(position)?;
-    if low <= value && value <= high && are_alike(&scale.bounds, low, high) {
+    let (low, high) = breakpoints.index.ends(position)?;
+    if low <= value && value <= high && are_alike(&breakpoints.bounds, low, high) {
         return Some(Interval {
-            scale: number,
+            term: number,
             low,
             high,
             said,
@@ -160,28 +160,28 @@ fn interval_of(
     None
 }
 
-/// The values of the filters of a scale, for a row in which its term is a number.
+/// The values of the filters of a term, for a row in which it is a number.
 fn look_number(
     cells: &mut Cells,
     parts: &[Filter],
-    scales: &[Scale],
-    scale: &Scale,
+    all_breakpoints: &[Breakpoints],
+    breakpoints: &Breakpoints,
     number: usize,
     value: i64,
     row: &Row,
 ) -> Said
-    requires scale { slice_get scales.now number ≡ Some scale.now }
-    requires value { term_value scale.now.term row.now ≡ Known (Number value) }
-    ensures { AreCells parts.now scales.now cells.old → Judges parts.now scales.now cells.new
-        (numbers_at scales.now number) row.now result }
+    requires breakpoints { slice_get all_breakpoints.now number ≡ Some breakpoints.now }
+    requires value { term_value breakpoints.now.term row.now ≡ Known (Number value) }
+    ensures { AreCells parts.now all_breakpoints.now cells.old → Judges parts.now all_breakpoints.now cells.new
+        (numbers_at all_breakpoints.now number) row.now result }
 {
-    let position = scale.index.find(value);
-    let index = cell_of(scale, position);
+    let position = breakpoints.index.find(value);
+    let index = cell_of(breakpoints, position);
     if let Some(found) = interval_at(&cells.intervals, index, number, value) {
         return found.said;
     }
-    let said = judge(parts, &scale.numbers, row);
-    let Some(interval) = interval_of(scale, number, position, value, said) else {
+    let said = judge(parts, &breakpoints.numbers, row);
+    let Some(interval) = interval_of(breakpoints, number, position, value, said) else {
         return said;
     };
     if index < cells.intervals.len() {
@@ -190,57 +190,76 @@ fn look_number(
     said
 }
 
-/// The values of the filters of a scale, for any row.
-fn look_place(
+/// The values of the filters of a term, for any row.
+fn look_bucket(
     cells: &mut Cells,
     parts: &[Filter],
-    scales: &[Scale],
-    scale: &Scale,
+    all_breakpoints: &[Breakpoints],
+    breakpoints: &Breakpoints,
     number: usize,
     row: &Row,
 ) -> Said
-    requires scale { slice_get scales.now number ≡ Some scale.now }
-    ensures { AreCells parts.now scales.now cells.old → Judges parts.now scales.now cells.new
-        (numbers_at scales.now number) row.now result }
+    requires breakpoints { slice_get all_breakpoints.now number ≡ Some breakpoints.now }
+    ensures { AreCells parts.now all_breakpoints.now cells.old → Judges parts.now all_breakpoints.now cells.new
+        (numbers_at all_breakpoints.now number) row.now result }
 {
-    let place = place_in(scale, row);
-    let index = scale.base.wrapping_add(number_of(&place));
-    if let Some(said) = found(&cells.places, index, number, place) {
+    let bucket = bucket_in(breakpoints, row);
+    let index = breakpoints.base.wrapping_add(number_of(&bucket));
+    if let Some(said) = found(&cells.buckets, index, number, bucket) {
         return said;
     }
-    let said = judge(parts, &scale.numbers, row);
-    if index < cells.places.len() {
-        cells.places[index] = Some(Cell {
-            scale: number,
-            place,
+    let said = judge(parts, &breakpoints.numbers, row);
+    if index < cells.buckets.len() {
+        cells.buckets[index] = Some(Cell {
+            term: number,
+            bucket,
             said,
         });
     }
     said
 }
 
-/// The values of the filters of the scale with this number.
-fn look(cells: &mut Cells, parts: &[Filter], scales: &[Scale], number: usize, row: &Row) -> Said
-    ensures { AreCells parts.now scales.now cells.old → Judges parts.now scales.now cells.new
-        (numbers_at scales.now number) row.now result }
+/// The values of the filters of the term with this number.
+fn look(
+    cells: &mut Cells,
+    parts: &[Filter],
+    all_breakpoints: &[Breakpoints],
+    number: usize,
+    row: &Row,
+) -> Said
+    ensures { AreCells parts.now all_breakpoints.now cells.old → Judges parts.now all_breakpoints.now cells.new
+        (numbers_at all_breakpoints.now number) row.now result }
 {
-    let Some(scale) = scale_at(scales, number) else {
+    let Some(breakpoints) = breakpoints_at(all_breakpoints, number) else {
         return Said::nothing();
     };
-    match number_in(scale, row) {
-        Some(value) => look_number(cells, parts, scales, scale, number, value, row),
-        None => look_place(cells, parts, scales, scale, number, row),
+    match number_in(breakpoints, row) {
+        Some(value) => look_number(
+            cells,
+            parts,
+            all_breakpoints,
+            breakpoints,
+            number,
+            value,
+            row,
+        ),
+        None => look_bucket(cells, parts, all_breakpoints, breakpoints, number, row),
     }
 }
 
-/// The values of the filters of all scales.
-pub fn look_all(cells: &mut Cells, parts: &[Filter], scales: &[Scale], row: &Row) -> Said
-    ensures { AreCells parts.now scales.now cells.old → Judges parts.now scales.now cells.new
-        (numbers_in scales.now) row.now result }
+/// The values of the filters of all terms.
+pub fn look_all(
+    cells: &mut Cells,
+    parts: &[Filter],
+    all_breakpoints: &[Breakpoints],
+    row: &Row,
+) -> Said
+    ensures { AreCells parts.now all_breakpoints.now cells.old → Judges parts.now all_breakpoints.now cells.new
+        (numbers_in all_breakpoints.now) row.now result }
 {
     let mut said = Said::nothing();
-    for number in 0..scales.len() {
-        said = said.join(look(cells, parts, scales, number, row));
+    for number in 0..all_breakpoints.len() {
+        said = said.join(look(cells, parts, all_breakpoints, number, row));
     }
     said
 }

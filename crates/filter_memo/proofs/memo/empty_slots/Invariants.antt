@@ -1,6 +1,6 @@
 use Rattle.filter_memo.specs.Memos.{AreEmpty}
 use Rattle.filter_memo.proofs.memo.empty_slots.Given as goal
 
--- nothing is kept so far
+-- no slot so far has a text
 abbrev pub invariant-loop : goal.invariant-loop
 invariant-loop l = AreEmpty l.slots.items

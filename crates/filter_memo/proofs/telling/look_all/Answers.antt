@@ -10,8 +10,9 @@ loop-number-preserved c = λ are.
     record {
       kept = now.kept;
       told = subst (λ (numbers : List ℕ). Told c.args.parts.now numbers c.args.row.now c.join-said.result)
-          (sym (numbers_more c.args.scales.now c.loop-number.number c.loop-number-test.true))
-          (both_told c.args.parts.now c.args.row.now (numbers_in (take c.loop-number.number c.args.scales.now))
-          (numbers_at c.args.scales.now c.loop-number.number) c.loop-number.said c.look.result c.join-said.result
+          (sym (numbers_more c.args.all_breakpoints.now c.loop-number.number c.loop-number-test.true))
+          (both_told c.args.parts.now c.args.row.now (numbers_in (take c.loop-number.number c.args.all_breakpoints.now))
+          (numbers_at c.args.all_breakpoints.now c.loop-number.number) c.loop-number.said c.look.result
+          c.join-said.result
           before.told now.told c.join-said.ensures);
     }

@@ -2,7 +2,7 @@ use Rattle.std.proofs.Common.{take}
 use Rattle.filter_memo.specs.Telling.{AreCells, Judges, numbers_in}
 use Rattle.filter_memo.proofs.telling.look_all.Given as goal
 
--- what the scales so far tell
+-- the values of the filters of the terms so far
 abbrev pub invariant-loop-number : goal.invariant-loop-number
-invariant-loop-number l = AreCells l.parts l.scales l.initial.cells
-    → Judges l.parts l.scales l.cells (numbers_in (take l.number l.scales)) l.row l.said
+invariant-loop-number l = AreCells l.parts l.all_breakpoints l.initial.cells
+    → Judges l.parts l.all_breakpoints l.cells (numbers_in (take l.number l.all_breakpoints)) l.row l.said

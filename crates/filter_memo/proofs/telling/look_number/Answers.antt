@@ -16,8 +16,8 @@ returns-in-Some c = λ are.
     c.deref.ensures.value c.in-Some.ensures.found in
     let from : c.in-Some.found.low ≤ℤ c.args.value = search rules in
     let upto : c.args.value ≤ℤ c.in-Some.found.high = search rules in
-    interval_before c.args.parts.now c.args.scales.now c.args.cells.now are c.args.row.now c.args.number
-    c.args.scale.now c.requires.scale c.cell_of-index.result c.in-Some.found found c.in-Some.ensures.scale
+    interval_before c.args.parts.now c.args.all_breakpoints.now c.args.cells.now are c.args.row.now c.args.number
+    c.args.breakpoints.now c.requires.breakpoints c.cell_of-index.result c.in-Some.found found c.in-Some.ensures.term
     (record {
       number = c.args.value;
       is = c.requires.value;
@@ -27,23 +27,23 @@ returns-in-Some c = λ are.
 
 pub returns-then-index-len : goal.returns-then-index-len
 returns-then-index-len c = λ are.
-    let told : Told c.args.parts.now c.args.scale.now.numbers.items c.args.row.now c.judge-said.result =
+    let told : Told c.args.parts.now c.args.breakpoints.now.numbers.items c.args.row.now c.judge-said.result =
     subst (λ (numbers : List ℕ). Told c.args.parts.now numbers c.args.row.now c.judge-said.result)
     c.deref-2.ensures.value c.judge-said.ensures in
     let from : c.in-Some-interval_of.interval.low ≤ℤ c.args.value = search rules in
     let upto : c.args.value ≤ℤ c.in-Some-interval_of.interval.high = search rules in
-    let within : IsBetween (term_value c.args.scale.now.term c.args.row.now) c.in-Some-interval_of.interval.low
+    let within : IsBetween (term_value c.args.breakpoints.now.term c.args.row.now) c.in-Some-interval_of.interval.low
     c.in-Some-interval_of.interval.high = record {
       number = c.args.value;
       is = c.requires.value;
       from = from;
       upto = upto;
     } in
-    kept_now c.args.parts.now c.args.scales.now c.args.cells.now are c.args.row.now c.args.number c.args.scale.now
-    c.requires.scale c.judge-said.result _ told are.places
-    (All-set (IsInterval c.args.parts.now c.args.scales.now) c.args.cells.now.intervals.items _ _
-    (new_interval c.args.parts.now c.args.scales.now c.args.cells.now are c.args.row.now c.args.number c.args.scale.now
-    c.requires.scale c.in-Some-interval_of.interval c.in-Some-interval_of.ensures.scale
+    kept_now c.args.parts.now c.args.all_breakpoints.now c.args.cells.now are c.args.row.now c.args.number
+    c.args.breakpoints.now c.requires.breakpoints c.judge-said.result _ told are.buckets
+    (All-set (IsInterval c.args.parts.now c.args.all_breakpoints.now) c.args.cells.now.intervals.items _ _
+    (new_interval c.args.parts.now c.args.all_breakpoints.now c.args.cells.now are c.args.row.now c.args.number
+    c.args.breakpoints.now c.requires.breakpoints c.in-Some-interval_of.interval c.in-Some-interval_of.ensures.term
     c.in-Some-interval_of.ensures.alike within
-    (subst (λ (said : Said). Told c.args.parts.now c.args.scale.now.numbers.items c.args.row.now said)
+    (subst (λ (said : Said). Told c.args.parts.now c.args.breakpoints.now.numbers.items c.args.row.now said)
     (sym c.in-Some-interval_of.ensures.said) told)) are.intervals)

@@ -1,9 +1,9 @@
 use Rattle.std.proofs.Common.{rules, ◌≡◌, true, Option, Some, None, List, ℕ, sym, subst}
 use Rattle.std.specs.Prelude.{IfSome, slice_get}
 use Rattle.filter_tree.specs.Expr.{meaning}
-use Rattle.filter_memo.specs.Steps.{LeadTo}
-use Rattle.filter_memo.specs.declared.steps.Step.{Step}
-use Rattle.filter_memo.proofs.Memos.{steps_lead}
+use Rattle.filter_memo.specs.Branches.{LeadTo}
+use Rattle.filter_memo.specs.declared.branches.Branch.{Branch}
+use Rattle.filter_memo.proofs.Memos.{branches_lead}
 use Rattle.filter_memo.proofs.memo.Memo.answer.Goals as goal
 
 if_some : {X : Type 0} {P Q : X → Type 0} (found : Option X) → ((x : X) → P x → Q x) → IfSome found P → IfSome found Q
@@ -18,8 +18,8 @@ returns c =
     c.in_ok-start.ensures in
     if_some c.run.result
     (λ tri is_one filters text_of row filter is located asked. is_one (meaning filter row)
-    (subst (λ (steps : List Step). LeadTo steps c.args.said (meaning filter row) c.in_ok-start.start)
+    (subst (λ (branches : List Branch). LeadTo branches c.args.said (meaning filter row) c.in_ok-start.start)
     (sym c.deref-2.ensures.value)
-    (steps_lead c.args.self.now filters text_of is row c.args.said located used c.args.number c.in_ok-start.start filter
-    found asked)))
+    (branches_lead c.args.self.now filters text_of is row c.args.said located used c.args.number c.in_ok-start.start
+    filter found asked)))
     c.run.ensures

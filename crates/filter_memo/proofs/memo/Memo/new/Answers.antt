@@ -18,21 +18,23 @@ pub returns : goal.returns
 returns c = λ text_of follows.
     let tested : c.are_told.result ≡ true = search rules in
     let count : c.len.result ≡ length c.in_ok-parts.parts.items = search rules in
-    let settled : AreSettled c.in_ok-parts.parts.items c.in_ok-scales.scales.items =
-    subst (λ (parts : List (Filter Global)). AreSettled parts c.in_ok-scales.scales.items) c.deref-2.ensures.value
-    c.in_ok-scales.ensures in
-    let told : AreTold c.in_ok-scales.scales.items (length c.in_ok-parts.parts.items) =
-    told_as c.deref-3.result.now c.in_ok-scales.scales.items c.len.result (length c.in_ok-parts.parts.items)
+    let settled : AreSettled c.in_ok-parts.parts.items c.in_ok-all_breakpoints.all_breakpoints.items =
+    subst (λ (parts : List (Filter Global)). AreSettled parts c.in_ok-all_breakpoints.all_breakpoints.items)
+    c.deref-2.ensures.value
+    c.in_ok-all_breakpoints.ensures in
+    let told : AreTold c.in_ok-all_breakpoints.all_breakpoints.items (length c.in_ok-parts.parts.items) =
+    told_as c.deref-3.result.now c.in_ok-all_breakpoints.all_breakpoints.items c.len.result
+    (length c.in_ok-parts.parts.items)
     c.deref-3.ensures.value count (c.are_told.ensures tested) in
-    let planned : ArePlans c.deref.result.now (filters_view c.args.filters.now) c.in-Some.plan.steps.items
+    let planned : ArePlans c.deref.result.now (filters_view c.args.filters.now) c.in-Some.plan.branches.items
     c.in-Some.plan.starts.items =
     subst (λ found. IfSome found (λ plan.
-    ArePlans c.deref.result.now (filters_view c.args.filters.now) plan.steps.items plan.starts.items))
+    ArePlans c.deref.result.now (filters_view c.args.filters.now) plan.branches.items plan.starts.items))
     c.in-Some.is c.in_ok-plan.ensures in
-    let plans : ArePlans c.in_ok-parts.parts.items (filters_view c.args.filters.now) c.in-Some.plan.steps.items
+    let plans : ArePlans c.in_ok-parts.parts.items (filters_view c.args.filters.now) c.in-Some.plan.branches.items
     c.in-Some.plan.starts.items =
     subst (λ (parts : List (Filter Global)).
-    ArePlans parts (filters_view c.args.filters.now) c.in-Some.plan.steps.items c.in-Some.plan.starts.items)
+    ArePlans parts (filters_view c.args.filters.now) c.in-Some.plan.branches.items c.in-Some.plan.starts.items)
     c.deref.ensures.value planned in
     fresh _ (filters_view c.args.filters.now) text_of settled c.in_ok-cells.ensures told plans
     c.in_ok-empty_slots.ensures follows

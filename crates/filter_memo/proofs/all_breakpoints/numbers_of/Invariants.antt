@@ -2,7 +2,7 @@ use Rattle.std.proofs.Common.{◌≡◌, true}
 use Rattle.std.specs.Prelude.{All}
 use Rattle.filter_memo.specs.Covering.{covers}
 use Rattle.filter_memo.specs.Telling.{part_at}
-use Rattle.filter_memo.proofs.scales.numbers_of.Given as goal
+use Rattle.filter_memo.proofs.all_breakpoints.numbers_of.Given as goal
 
 -- the filters so far are covered
 abbrev pub invariant-loop-number : goal.invariant-loop-number

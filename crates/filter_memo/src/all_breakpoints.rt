@@ -1,4 +1,4 @@
-//! Builds the scales of filters, and tests which filters they evaluate.
+//! Builds the breakpoints of all terms of filters, and tests which filters they evaluate.
 
 ghost use Rattle.std.specs.Prelude.{◌≡◌, true, All, IfOk, IsTrue};
 ghost use Rattle.filter_memo.specs.Covering as covering;
@@ -6,9 +6,9 @@ ghost use Rattle.filter_memo.specs.Telling as spec;
 ghost use Rattle.filter_memo.specs.Telling.{AreSettled, AreTold, IsSettled, numbers_in, part_at};
 
 use crate::bounds::bounds_of;
+use crate::breakpoints::{Breakpoints, width};
 use crate::covering::covers;
 use crate::interval_index::IntervalIndex;
-use crate::scale::{Scale, width};
 use filter_tree::{Filter, Term, Value, same_term};
 use std::alloc::{AllocError, Global};
 
@@ -48,28 +48,28 @@ fn numbers_of(
     Ok(numbers)
 }
 
-/// The number of cells for places, and for intervals.
+/// The number of cells for buckets, and for intervals.
 #[derive(Clone, Copy, Debug, PartialEq, Eq)]
 pub struct Counts {
-    pub places: usize,
+    pub buckets: usize,
     pub intervals: usize,
 }
 
-/// The scale of a term. The cells of its places start at `base`, and those of its intervals at `first_interval`.
-#[tactic(auto, using(crate::proofs::Memos::scale_settled))]
-fn scale_of(
+/// The breakpoints of a term. The cells of its buckets start at `base`, and those of its intervals at `first_interval`.
+#[tactic(auto, using(crate::proofs::Memos::breakpoints_settled))]
+fn breakpoints_of(
     alloc: Global,
     term: Term,
     parts: &[Filter],
     base: usize,
     first_interval: usize,
-) -> Result<Scale, AllocError>
+) -> Result<Breakpoints, AllocError>
     ensures { IfOk result (IsSettled parts.now) }
 {
     let bounds = bounds_of(alloc, term, parts)?;
     let numbers = numbers_of(alloc, term, &bounds, parts)?;
     let index = IntervalIndex::new(alloc, &bounds)?;
-    Ok(Scale {
+    Ok(Breakpoints {
         term,
         bounds,
         numbers,
@@ -79,12 +79,15 @@ fn scale_of(
     })
 }
 
-/// The term of an atom, unless one of the scales has it.
-fn new_term(scales: &[Scale], part: &Filter) -> Option<Term> {
+/// The term of an atom, unless it has breakpoints already.
+fn new_term(all_breakpoints: &[Breakpoints], part: &Filter) -> Option<Term> {
     match part {
         Filter::Atom(atom) => {
             let term = atom.term();
-            if scales.iter().any(|scale| same_term(scale.term, term)) {
+            if all_breakpoints
+                .iter()
+                .any(|breakpoints| same_term(breakpoints.term, term))
+            {
                 return None;
             }
             Some(term)
@@ -97,34 +100,38 @@ fn new_term(scales: &[Scale], part: &Filter) -> Option<Term> {
     }
 }
 
-/// A scale for each term of the filters. The only error is out of memory.
-pub fn scales_of(alloc: Global, parts: &[Filter]) -> Result<Vec<Scale>, AllocError>
-    ensures { IfOk result (λ scales. AreSettled parts.now scales.items) }
+/// The breakpoints of each term of the filters. The only error is out of memory.
+pub fn all_breakpoints_of(alloc: Global, parts: &[Filter]) -> Result<Vec<Breakpoints>, AllocError>
+    ensures { IfOk result (λ all_breakpoints. AreSettled parts.now all_breakpoints.items) }
 {
-    let mut scales = Vec::new(alloc);
+    let mut all_breakpoints = Vec::new(alloc);
     let mut base: usize = 0;
     let mut first_interval: usize = 0;
     for part in parts {
-        if let Some(term) = new_term(&scales, part) {
-            let scale = scale_of(alloc, term, parts, base, first_interval)?;
-            base = base.saturating_add(width(scale.bounds.len()));
-            first_interval = first_interval.saturating_add(scale.index.len());
-            scales.push(scale)?;
+        if let Some(term) = new_term(&all_breakpoints, part) {
+            let breakpoints = breakpoints_of(alloc, term, parts, base, first_interval)?;
+            base = base.saturating_add(width(breakpoints.bounds.len()));
+            first_interval = first_interval.saturating_add(breakpoints.index.len());
+            all_breakpoints.push(breakpoints)?;
         }
     }
-    Ok(scales)
+    Ok(all_breakpoints)
 }
 
-/// The number of cells that the scales need.
-pub fn cell_counts(scales: &[Scale]) -> Counts {
-    match scales.last() {
+/// The number of cells that the breakpoints of all terms need.
+pub fn cell_counts(all_breakpoints: &[Breakpoints]) -> Counts {
+    match all_breakpoints.last() {
         None => Counts {
-            places: 0,
+            buckets: 0,
             intervals: 0,
         },
-        Some(scale) => Counts {
-            places: scale.base.saturating_add(width(scale.bounds.len())),
-            intervals: scale.first_interval.saturating_add(scale.index.len()),
+        Some(breakpoints) => Counts {
+            buckets: breakpoints
+                .base
+                .saturating_add(width(breakpoints.bounds.len())),
+            intervals: breakpoints
+                .first_interval
+                .saturating_add(breakpoints.index.len()),
         },
     }
 }
@@ -135,23 +142,24 @@ fn has_number(numbers: &[usize], number: usize) -> bool
     numbers.iter().any(|own| number == *own)
 }
 
-/// Whether one of the scales evaluates the filter with this number.
+/// Whether the breakpoints of some term evaluate the filter with this number.
 #[tactic(auto, using(crate::proofs::Judging::told_by_one))]
-fn is_told(scales: &[Scale], number: usize) -> bool
-    ensures { result ≡ spec.has_number (numbers_in scales.now) number }
+fn is_told(all_breakpoints: &[Breakpoints], number: usize) -> bool
+    ensures { result ≡ spec.has_number (numbers_in all_breakpoints.now) number }
 {
-    match scales {
+    match all_breakpoints {
         [] => false,
-        [scale, rest @ ..] => has_number(&scale.numbers, number) || is_told(rest, number),
+        [breakpoints, rest @ ..] => has_number(&breakpoints.numbers, number)
+            || is_told(rest, number),
     }
 }
 
-/// Whether the scales evaluate all filters with numbers below `count`.
-pub fn are_told(scales: &[Scale], count: usize) -> bool
-    ensures { IsTrue result → AreTold scales.now count }
+/// Whether the breakpoints evaluate all filters with numbers below `count`.
+pub fn are_told(all_breakpoints: &[Breakpoints], count: usize) -> bool
+    ensures { IsTrue result → AreTold all_breakpoints.now count }
 {
     for number in 0..count {
-        if !is_told(scales, number) {
+        if !is_told(all_breakpoints, number) {
             return false;
         }
     }

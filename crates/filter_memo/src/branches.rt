@@ -1,16 +1,16 @@
-//! Filters as steps, each of which tests some atoms and leads to others.
+//! Filters as branches. A branch tests some atoms, and their value leads to the next branch.
 
 ghost use Rattle.std.specs.Prelude.{◌≡◌, ◌∷◌, ◌++◌, [], length, slice_get, Some, IfOk, IfSome, OnOk};
 ghost use Rattle.filter_tree.specs.declared.tri.Tri.{Tri};
-ghost use Rattle.filter_memo.specs.Steps as spec;
-ghost use Rattle.filter_memo.specs.declared.steps.Step.TheVariants.{Test as StepTest};
+ghost use Rattle.filter_memo.specs.Branches as spec;
+ghost use Rattle.filter_memo.specs.declared.branches.Branch.TheVariants.{Test as BranchTest};
 
 use crate::clause::{Clause, Values};
 use crate::said::Said;
 use filter_tree::{Test, Tri};
 use std::alloc::AllocError;
 
-/// The steps to which a truth value leads.
+/// The numbers of the branches to which the truth values lead.
 #[derive(Clone, Copy, Debug, PartialEq, Eq)]
 pub struct Exits {
     pub on_true: usize,
@@ -18,18 +18,18 @@ pub struct Exits {
     pub on_null: usize,
 }
 
-/// One step: a truth value, or a test of a clause whose value leads to another step.
+/// One branch: a truth value, or a test of a clause whose value leads to another branch.
 #[derive(Clone, Copy, Debug, PartialEq, Eq)]
-pub enum Step {
+pub enum Branch {
     Told(Tri),
     Test(Clause, Exits),
 }
 
 impl Exits {
     ghost use Rattle.std.specs.Prelude.{◌≡◌, IsTrue};
-    ghost use Rattle.filter_memo.specs.Steps as spec;
+    ghost use Rattle.filter_memo.specs.Branches as spec;
 
-    /// The step to which the value leads.
+    /// The branch to which the value leads.
     pub fn of(self, tri: Tri) -> usize
         ensures { result ≡ spec.exit_of self tri }
     {
@@ -62,7 +62,7 @@ impl Exits {
         }
     }
 
-    /// Whether all values lead to the same step.
+    /// Whether all values lead to the same branch.
     pub fn lead_to_one(self) -> bool
         ensures { IsTrue result → spec.LeadToOne self }
     {
@@ -116,31 +116,35 @@ impl Exits {
 }
 
 /// Adds a test, and returns its number.
-pub fn add_test(steps: &mut Vec<Step>, clause: Clause, exits: Exits) -> Result<usize, AllocError>
-    ensures steps { OnOk result (steps.new.items ≡ steps.old.items ++ StepTest clause exits ∷ []) }
-    ensures number { IfOk result (λ number. number ≡ length steps.old.items) }
+pub fn add_test(
+    branches: &mut Vec<Branch>,
+    clause: Clause,
+    exits: Exits,
+) -> Result<usize, AllocError>
+    ensures branches { OnOk result (branches.new.items ≡ branches.old.items ++ BranchTest clause exits ∷ []) }
+    ensures number { IfOk result (λ number. number ≡ length branches.old.items) }
 {
-    let number = steps.len();
-    steps.push(Step::Test(clause, exits))?;
+    let number = branches.len();
+    branches.push(Branch::Test(clause, exits))?;
     Ok(number)
 }
 
-fn step_at(steps: &[Step], at: usize) -> Option<&Step>
-    ensures { IfSome result (λ step. slice_get steps.now at ≡ Some step.now) }
+fn branch_at(branches: &[Branch], at: usize) -> Option<&Branch>
+    ensures { IfSome result (λ branch. slice_get branches.now at ≡ Some branch.now) }
 {
-    steps.get(at)
+    branches.get(at)
 }
 
-/// The truth value to which the steps lead from this one.
-pub fn run(steps: &[Step], start: usize, said: Said) -> Option<Tri>
-    ensures { IfSome result (λ tri. (other : Tri) → spec.LeadTo steps.now said other start → tri ≡ other) }
+/// The truth value to which the branches lead from this one.
+pub fn run(branches: &[Branch], start: usize, said: Said) -> Option<Tri>
+    ensures { IfSome result (λ tri. (other : Tri) → spec.LeadTo branches.now said other start → tri ≡ other) }
 {
     let values = Values::of(said);
     let mut at = start;
-    for _ in 0..steps.len() {
-        match step_at(steps, at)? {
-            Step::Told(tri) => return Some(*tri),
-            Step::Test(clause, exits) => at = exits.of(clause.tell(values)),
+    for _ in 0..branches.len() {
+        match branch_at(branches, at)? {
+            Branch::Told(tri) => return Some(*tri),
+            Branch::Test(clause, exits) => at = exits.of(clause.tell(values)),
         }
     }
     None

@@ -1,8 +1,8 @@
-//! Positions of values among sorted values.
+//! Buckets: positions of values among sorted values.
 
 ghost use Rattle.std.specs.Prelude.{◌≡◌};
 ghost use Rattle.filter_tree.specs.Values.{datum_view};
-ghost use Rattle.filter_memo.specs.Places.{IsPlace, kind_of};
+ghost use Rattle.filter_memo.specs.Buckets.{IsBucket, kind_of};
 
 use filter_tree::Value;
 
@@ -18,7 +18,7 @@ pub enum Kind {
 /// The position of a value among bounds: its kind, and the index of the bound that is equal to it, or at which it would
 /// be inserted.
 #[derive(Clone, Copy, Debug, PartialEq, Eq)]
-pub struct Place {
+pub struct Bucket {
     pub kind: Kind,
     pub found: Result<usize, usize>,
 }
@@ -37,19 +37,19 @@ impl Kind {
     }
 }
 
-/// The position of a value among bounds.
-pub fn place_of(bounds: &[Value], value: &Value) -> Place
-    ensures { IsPlace bounds.now (datum_view value.now) result }
+/// The bucket of a value among bounds.
+pub fn bucket_of(bounds: &[Value], value: &Value) -> Bucket
+    ensures { IsBucket bounds.now (datum_view value.now) result }
 {
-    Place {
+    Bucket {
         kind: Kind::of(value),
         found: bounds.binary_search(value),
     }
 }
 
-/// The number of a place. Places of the same kind have different numbers, and none of them has the number of null.
-pub fn number_of(place: &Place) -> usize {
-    match (place.kind, place.found) {
+/// The number of a bucket. Buckets of the same kind have different numbers, and none of them has the number of null.
+pub fn number_of(bucket: &Bucket) -> usize {
+    match (bucket.kind, bucket.found) {
         (Kind::Null, _) => 0,
         (Kind::Int | Kind::Bool | Kind::Text, Err(index)) => index.wrapping_mul(2).wrapping_add(1),
         (Kind::Int | Kind::Bool | Kind::Text, Ok(index)) => index.wrapping_mul(2).wrapping_add(2),

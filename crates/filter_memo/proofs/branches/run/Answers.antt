@@ -1,16 +1,16 @@
 use Rattle.std.proofs.Common.{Some, ap, ◌∙◌}
-use Rattle.filter_memo.proofs.Stepping.{told_there, next_is}
-use Rattle.filter_memo.proofs.steps.run.Goals as goal
+use Rattle.filter_memo.proofs.Branching.{told_there, next_is}
+use Rattle.filter_memo.proofs.branches.run.Goals as goal
 
 pub loop-preserved : goal.loop-preserved
 loop-preserved c = λ tri leads.
-    next_is c.of-values.result c.args.steps.now tri c.loop.at c.in-Test.clause c.in-Test.exits c.tell.result
+    next_is c.of-values.result c.args.branches.now tri c.loop.at c.in-Test.clause c.in-Test.exits c.tell.result
     c.of-at.result (c.in_ok-tri.ensures ∙ ap Some c.in-Test.is) c.tell.ensures c.of-at.ensures
     (c.loop.invariant tri leads)
 
 pub returns-in-Told : goal.returns-in-Told
 returns-in-Told c = λ other lead.
-    told_there c.of-values.result c.args.steps.now c.in-Told.tri other c.loop.at
+    told_there c.of-values.result c.args.branches.now c.in-Told.tri other c.loop.at
     (c.in_ok-tri.ensures ∙ ap Some c.in-Told.is)
     (c.loop.invariant other (lead c.of-values.result (record {
       holds = c.of-values.ensures.holds;

@@ -1,7 +1,0 @@
-use Rattle.std.proofs.Common.{◌≡◌, ℕ, ◌<◌, true}
-use Rattle.filter_memo.specs.Telling.{has_number, numbers_in}
-use Rattle.filter_memo.proofs.scales.are_told.Given as goal
-
--- the filters so far are told
-abbrev pub invariant-loop-number : goal.invariant-loop-number
-invariant-loop-number l = (number : ℕ) → number < l.number → has_number (numbers_in l.scales) number ≡ true
