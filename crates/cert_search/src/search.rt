@@ -34,7 +34,7 @@ struct Fork {
 
 /// What to do at a node.
 #[derive(Clone, Copy)]
-enum Step {
+enum SearchMove {
     Owner(usize),
     Split(Fork),
     /// The facts leave rows that no share takes, or that several take.
@@ -112,15 +112,15 @@ impl<'a, 'q> Search<'a, 'q> {
     /// A tree for the rows at the end of the path, after what the path says was found.
     #[cycle(tree)]
     fn made(&mut self, may_split: usize) -> Result<usize, Stop> {
-        match self.step()? {
-            Step::Owner(share) => Ok(self.parts.add(Shape::Owner(share))?),
-            Step::Split(fork) => {
+        match self.next_move()? {
+            SearchMove::Owner(share) => Ok(self.parts.add(Shape::Owner(share))?),
+            SearchMove::Split(fork) => {
                 if may_split == 0 {
                     return Err(Stop::TooLarge);
                 }
                 self.split(may_split - 1, fork)
             }
-            Step::Fault => self.fault(),
+            SearchMove::Fault => self.fault(),
         }
     }
 
@@ -148,12 +148,12 @@ impl<'a, 'q> Search<'a, 'q> {
     }
 
     /// What to do at the end of the path.
-    fn step(&mut self) -> Result<Step, Stop> {
+    fn next_move(&mut self) -> Result<SearchMove, Stop> {
         self.state.classify(self.problem);
         let sure = self.state.how_many(Standing::Sure);
         let undecided = self.state.how_many(Standing::Undecided);
         if sure > 1 || (sure == 0 && undecided == 0) {
-            return Ok(Step::Fault);
+            return Ok(SearchMove::Fault);
         }
         if self.state.how_many(Standing::Excluded) > 0 {
             let atom = self.state.closing(self.alloc, self.problem)?;
@@ -166,10 +166,10 @@ impl<'a, 'q> Search<'a, 'q> {
     }
 
     /// A split by the atom, by what was found about it last.
-    fn split_by(&self, atom: Option<usize>) -> Result<Step, Stop> {
+    fn split_by(&self, atom: Option<usize>) -> Result<SearchMove, Stop> {
         let atom = atom.ok_or(Stop::TooLong)?;
         let plain = self.problem.atom(atom).ok_or(Stop::TooLong)?;
-        Ok(Step::Split(Fork {
+        Ok(SearchMove::Split(Fork {
             atom,
             left: mask_at(&self.state.likely, atom),
             is_never_null: plain.kind.is_never_null() || self.problem.is_declared(plain.column),
@@ -177,14 +177,14 @@ impl<'a, 'q> Search<'a, 'q> {
         }))
     }
 
-    fn halve(&mut self) -> Result<Step, Stop> {
+    fn halve(&mut self) -> Result<SearchMove, Stop> {
         let with_care = self.state.steps <= self.most_steps / 2;
         let atom = self.state.halving(self.alloc, self.problem, with_care)?;
         self.split_by(atom)
     }
 
     /// One share takes all rows, and no other does: a leaf, once the path says so.
-    fn settle(&mut self) -> Result<Step, Stop> {
+    fn settle(&mut self) -> Result<SearchMove, Stop> {
         let number = self.state.first(Standing::Sure).ok_or(Stop::TooLong)?;
         let share = self
             .problem
@@ -193,7 +193,7 @@ impl<'a, 'q> Search<'a, 'q> {
             .copied()
             .ok_or(Stop::TooLong)?;
         if outcome_at(&self.state.told, share.root()) == Outcome::Met {
-            return Ok(Step::Owner(number));
+            return Ok(SearchMove::Owner(number));
         }
         let atom = self.state.settling(self.alloc, self.problem, share)?;
         self.split_by(atom)
