@@ -2,7 +2,7 @@
 lists and remainders, many commits of many tables, and many leaves of a certificate below many lists. Runs of many steps
 and of many nodes are in most.py and limits.py."""
 
-from collections.abc import Iterator
+from collections.abc import Callable, Iterator
 from itertools import count, islice
 
 from .case import ACCEPTED, LONG_SECONDS, Case, two_parts
@@ -33,6 +33,10 @@ EVAL_SECONDS = 3
 PRIMES, FIRST_PRIME = 60, 211
 LEAST_KEY, KEYS = 100_000, 900_000
 
+# How many leaves a filter below AND and OR by turns has, how many atoms they are, and after how many rows the rows come
+# again.
+LEAVES, ATOMS, BLOCK = 500, 64, 5_000
+
 # Lists that have all remainders by 2500, and how often their certificate splits below them.
 LISTS, ENTRIES = 50, 100
 FURTHER = 12
@@ -53,6 +57,7 @@ def cases() -> Iterator[Case]:
     yield reading_by_lists()
     yield reading_by_remainders()
     yield inserts_by_remainders()
+    yield reading_by_filter()
     commits = [inserts([(number % TABLES, number)]) for number in range(ROWS_OF_TABLES)]
     certificates = f"{tree_of_remainders()}\n" * TABLES
     yield simulation("many rows of many tables", catalog_of_remainders(), certificates, commits, SUBSCRIBERS)
@@ -88,10 +93,15 @@ def reading_by_lists() -> Case:
     return Case("eval of many rows by lists", ("eval", "t"), two_parts(catalog, rows), 0, text_of(lines), EVAL_SECONDS)
 
 
+def primes(least: int, number: int) -> list[int]:
+    """So many prime numbers from one on."""
+    found = (it for it in count(least) if all(it % one for one in range(2, int(it**0.5) + 1)))
+    return list(islice(found, number))
+
+
 def remainder_lists() -> list[tuple[int, set[int]]]:
     """Prime numbers, each with as many remainders by it as a list may have."""
-    primes = (it for it in count(FIRST_PRIME) if all(it % one for one in range(2, int(it**0.5) + 1)))
-    return [(it, {at * 37 % it for at in range(EVAL_ENTRIES)}) for it in islice(primes, PRIMES)]
+    return [(it, {at * 37 % it for at in range(EVAL_ENTRIES)}) for it in primes(FIRST_PRIME, PRIMES)]
 
 
 def rows_by_remainders(condition: str) -> tuple[str, list[int]]:
@@ -119,6 +129,30 @@ def inserts_by_remainders() -> Case:
     lines = ["none"] * len(keys)
     return Case(
         "eval of many rows by remainders --insert", ("eval", "t", "--insert"), text, 0, text_of(lines), EVAL_SECONDS)
+
+
+def alternating(numbers: list[int], is_or: bool = True) -> tuple[str, Callable[[list[bool]], bool]]:
+    """A filter of the atoms of these numbers below OR and AND by turns, and its value by those of all atoms."""
+    if len(numbers) == 1:
+        prime = primes(3, ATOMS)[numbers[0]]
+        return f"k % {prime} < {prime // 2}", lambda values: values[numbers[0]]
+    middle, combine = len(numbers) // 2, any if is_or else all
+    sides = [alternating(it, not is_or) for it in (numbers[:middle], numbers[middle:])]
+    text = f"({sides[0][0]} {'OR' if is_or else 'AND'} {sides[1][0]})"
+    return text, lambda values: combine(value(values) for _, value in sides)
+
+
+def reading_by_filter() -> Case:
+    """A filter of many conditions, which rows seldom answer alike: the rows on which a filter takes longest."""
+    where, value = alternating([at * 29 % ATOMS for at in range(LEAVES)])
+    catalog = f"CREATE TABLE t (k bigint PRIMARY KEY);\nCREATE PUBLICATION p FOR TABLE t WHERE ({where});\n"
+    keys = [LEAST_KEY + at * 387_563 % KEYS for at in range(BLOCK)]
+    times = (MAX_INPUT - len(two_parts(catalog, ""))) // (BLOCK * len(f"({LEAST_KEY})\n"))
+    moduli = primes(3, ATOMS)
+    answers = [value([key % it < it // 2 for it in moduli]) for key in keys]
+    text = two_parts(catalog, "".join(f"({key})\n" for key in keys) * times)
+    lines = text_of([f"p={'true' if it else 'false'}" for it in answers]) * times
+    return Case("eval of many rows by a filter of many atoms", ("eval", "t"), text, 0, lines, LONG_SECONDS)
 
 
 def below_lists() -> Case:
