@@ -93,13 +93,17 @@ class Kept:
         """The memory after these steps, in blocks and in bytes."""
         script = self.before + script + PAUSED
         text = three_parts(CATALOG, C + C, "".join(script.steps))
-        try:
-            answer = subprocess.run(
-                [program(), "simulate", *self.words], input=text.encode(), stdout=subprocess.PIPE,
-                stderr=subprocess.PIPE, timeout=SECONDS, env=os.environ | {"LD_PRELOAD": library})
-        except (OSError, subprocess.TimeoutExpired) as fault:
-            tally.check(self.name, f"{type(fault).__name__}: {fault}", "no fault")
-            return 0, 0
+        # A file, since the room for an input that comes in pieces depends on the pieces.
+        with tempfile.TemporaryFile() as file:
+            file.write(text.encode())
+            file.seek(0)
+            try:
+                answer = subprocess.run(
+                    [program(), "simulate", *self.words], stdin=file, stdout=subprocess.PIPE, stderr=subprocess.PIPE,
+                    timeout=SECONDS, env=os.environ | {"LD_PRELOAD": library})
+            except (OSError, subprocess.TimeoutExpired) as fault:
+                tally.check(self.name, f"{type(fault).__name__}: {fault}", "no fault")
+                return 0, 0
         tally.check(self.name, ended(answer.returncode, decoded(answer.stdout)), ended(0, text_of(script.lines)))
         # The last write is made when the book is gone, and those before it in the pause.
         counts = COUNTS.findall(answer.stderr.decode())
@@ -175,6 +179,6 @@ def cases() -> Iterator[Kept]:
     yield Kept("10,000 refused commits", FIRST + refusals(range(100)), refusals(range(100, 100 + MANY)))
     full = Script([commit(insert(key)) for key in KEYS], ["refused LogFull"] * MANY)
     yield Kept("10,000 commits into a full log", FIRST, full, words=("--limit", "1"))
-    for name, lists, most in ("one by one", one_by_one(), 560), ("1,000 at once", all_at_once(), 408):
+    for name, lists, most in ("one by one", one_by_one(), 570), ("1,000 at once", all_at_once(), 408):
         blocks = COMMIT_BLOCKS * len(lists) + ROW_BLOCKS * MANY
         yield Kept(f"10,000 rows that come and go {name}", FIRST, commits(lists, 2), blocks, most * MANY)
