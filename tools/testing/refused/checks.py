@@ -102,7 +102,7 @@ def check_threads(tally: Tally, serving: Serving) -> None:
 
 
 def check_publishing(tally: Tally, publishing: Publishing) -> Counter[str]:
-    """The same for `publish`: a client may be ended for want of memory, and a commit refused."""
+    """The same for `publish`: a client may be ended for lack of memory, and a commit refused."""
     plain = publishing.run(Refusal(0, False), LONG_IDLE_SECONDS)
     tally.check("publish: a plain run", (fault_of_publish(plain), is_whole(plain)), (None, True))
     met: Counter[str] = Counter()
