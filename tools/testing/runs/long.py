@@ -25,8 +25,9 @@ COMMANDS = 1_000
 EVAL_LISTS, EVAL_ENTRIES = 60, 100
 EVAL_NUMBERS = 9_000
 
-# How many seconds of a processor eval may take on the longest input.
-EVAL_SECONDS = 3
+# How many seconds of a processor eval may take on the longest input. It takes two to three of them on a quiet machine;
+# where other work shares the caches, a processor second does less.
+EVAL_SECONDS = 10
 
 # Remainders by so many primes from the first one on, and the keys whose remainders are tested: nearly no two of them
 # are told the same.
