@@ -1,4 +1,5 @@
-"""`check` on certificates of up to 1,000,000 nodes, for 32 ranges of a key, for large filters and for the worst ones.
+"""`check` on certificates of up to 1,000,000 nodes, for 32 ranges of a key, for large filters and for the worst ones;
+and on certificates of 64 tables, which fill an input.
 
 A certificate of ranges tells them apart by halves, as `make` does. After 36 splits, where the first subscriber is found
 or no value is left, it splits by further bounds that tell nothing new and only make nodes: as many as are wanted, in a
@@ -20,6 +21,9 @@ SIZES = (1_000, 30_001, 1_000_000)
 # Instructions are counted of certificates with fewer nodes.
 MOST_COUNTED = 100_000
 SUBSCRIBERS = 32
+# Tables of a catalog, and how many bytes their certificates and it may have.
+TABLES = 64
+MOST_BYTES = 16_500_000
 HEADS = ["Filters", "Leaves", "Nodes", "Splits on a path", "check, ms", "instructions per node", "Answer"]
 
 
@@ -40,7 +44,7 @@ def split(atom, if_true, if_false):
 
 def nodes(tree):
     """The number of nodes: each has a letter and a number."""
-    return (tree.count(" ") + 1) // 2
+    return len(tree.split()) // 2
 
 
 def closed(atoms, tree):
@@ -177,6 +181,20 @@ def in_two_lists(size):
     return catalog.replace(" WHERE (n = n)", ""), f"s 59 e 1 {tree} n 59"
 
 
+def of_tables(kind):
+    """A catalog of tables that are split by ranges alike, and certificates that nearly fill an input."""
+    names = [f"t{at}" for at in range(TABLES)]
+    lines = [f"CREATE TABLE {it} (id integer PRIMARY KEY);" for it in names]
+    for at, condition in enumerate(families.ranges(SUBSCRIBERS).conditions):
+        entries = ", ".join(f"{it} WHERE ({families.condition_text(condition)})" for it in names)
+        lines.append(f"CREATE PUBLICATION p{at} FOR TABLE {entries};")
+        lines.append(f"CREATE SUBSCRIPTION s{at} CONNECTION '' PUBLICATION p{at};")
+    catalog = "\n".join(lines) + "\n"
+    tried = SIZES[1]
+    splits = (MOST_BYTES - len(catalog)) // TABLES * tried // len(certificate(kind, tried)) // 3
+    return catalog, "\n".join([certificate(kind, 1 + 3 * splits)] * TABLES)
+
+
 FLAGS = 12
 
 
@@ -250,6 +268,8 @@ def cases():
         for splits in (9, FLAGS):
             yield words, "o 1", *by_flags(condition, splits)
     yield "52 texts of 65,002 bytes", "o 1", whole_and_others(1, LONG, "note text"), beside_whole(10_000, 1, TEXTS, 1)
+    for kind in KINDS:
+        yield f"ranges of {TABLES} tables", kind, *of_tables(kind)
 
 
 def depth(tree):

@@ -47,11 +47,17 @@ def instructions(words, path="/dev/null"):
     return count_in(ran(COUNTING, words, path))
 
 
+def is_asleep(process):
+    """Whether it is not one that would run if it had a processor (man 5 proc_pid_stat)."""
+    told = pathlib.Path(f"/proc/{process.pid}/stat").read_text()
+    return told.rpartition(")")[2].split()[0] not in ("R", "D")
+
+
 def is_waiting(process):
-    """Whether it takes no processor time for a while."""
+    """Whether it takes no processor time for a while, though it might."""
     before = processor_time(process.pid)
     time.sleep(0.1)
-    return processor_time(process.pid) == before
+    return is_asleep(process) and processor_time(process.pid) == before
 
 
 def instructions_until(line, words, path):

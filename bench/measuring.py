@@ -3,6 +3,7 @@
 import contextlib
 import os
 import pathlib
+import resource
 import subprocess
 import time
 from dataclasses import dataclass
@@ -33,22 +34,30 @@ class Setup:
             os.sched_setaffinity(0, before)
 
     def milliseconds(self, words, path, runs=None):
-        """The least time of some runs of a program whose input is a file, its start and its end included.
+        """The least processor time of some runs of a program whose input is a file, its start and its end included.
 
         Runs that take little are made up to five times as often, for half a second."""
         wanted, times = runs or self.runs, []
         with self.pinned():
             while len(times) < wanted or (len(times) < 5 * wanted and sum(times) < 500):
-                with open(path, "rb") as text:
-                    start = time.perf_counter()
-                    subprocess.run(words, stdin=text, stdout=subprocess.DEVNULL, stderr=subprocess.DEVNULL)
-                    times.append(1000 * (time.perf_counter() - start))
+                times.append(1000 * processor_seconds(words, path))
         return min(times)
 
     def answer(self, words, path):
         """What a program prints on a file."""
         with open(path, "rb") as text:
             return subprocess.run(words, stdin=text, capture_output=True, text=True).stdout
+
+
+def processor_seconds(words, path, check=False):
+    """What a run takes of a processor, by itself and in the kernel, its start and its end included.
+
+    It may be required to end well."""
+    before = resource.getrusage(resource.RUSAGE_CHILDREN)
+    with open(path, "rb") as text:
+        subprocess.run(words, stdin=text, stdout=subprocess.DEVNULL, stderr=subprocess.DEVNULL, check=check)
+    after = resource.getrusage(resource.RUSAGE_CHILDREN)
+    return after.ru_utime + after.ru_stime - before.ru_utime - before.ru_stime
 
 
 def processor_time(process):

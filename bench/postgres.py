@@ -9,6 +9,8 @@ import shutil
 import subprocess
 import tempfile
 
+from measuring import processor_time
+
 USER = "postgres"
 
 
@@ -46,19 +48,18 @@ class Connection:
             lines.append(line.strip())
         raise RuntimeError(f"psql ended at {command!r}")
 
-    def milliseconds(self, command, runs):
-        """The least time of some runs of a command, as psql tells it, and what the last one printed."""
-        self.ask("\\timing on")
-        times = []
-        for _ in range(runs):
-            *lines, told = self.ask(command)
-            times.append(float(told.split()[1]))
-        self.ask("\\timing off")
-        return min(times), lines
-
     def backend(self):
         """The process that answers here."""
         return int(self.ask("SELECT pg_backend_pid();")[0])
+
+    def milliseconds(self, command, runs):
+        """The least processor time that the backend takes for a command in some runs, and what the last one printed."""
+        backend, times = self.backend(), []
+        for _ in range(runs):
+            before = processor_time(backend)
+            lines = self.ask(command)
+            times.append((processor_time(backend) - before) / 1_000)
+        return min(times), lines
 
     @contextlib.contextmanager
     def pinned(self, core):

@@ -66,7 +66,10 @@ def serving(setup, path, connections):
     """A run of `serve`, from its first line on: the process, and its port."""
     port = free_port()
     words = [setup.program, "serve", "--port", str(port), "--connections", str(connections)]
-    with open(path, "rb") as text, subprocess.Popen(words, stdin=text, stdout=subprocess.PIPE, text=True) as process:
+    with (
+        open(path, "rb") as text,
+        subprocess.Popen(words, stdin=text, stdout=subprocess.PIPE, stderr=subprocess.DEVNULL, text=True) as process,
+    ):
         try:
             if process.stdout.readline() != f"listening {port}\n":
                 raise RuntimeError("serve does not listen")

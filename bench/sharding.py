@@ -11,6 +11,8 @@ ENTRIES = (3, 10, 100)
 MOST = 32
 # Runs that take longer, in ms, are not made again to count their instructions.
 LONG = 300
+# Seconds of a processor that z3 may take.
+PATIENCE = 20
 HEADS = ["Answer", "make, ms", "check, ms", "z3, ms", "z3 says", "make, instructions per node"]
 
 
@@ -24,9 +26,8 @@ def z3_time(setup, folder, sharding):
         return None, "not installed"
     path = folder / "question.smt2"
     path.write_text(families.question(sharding))
-    words = ["z3", "-T:20", str(path)]
-    solution = setup.answer(words, path).strip()
-    return None if solution == "timeout" else setup.milliseconds(words, path), solution
+    solution = setup.answer(["bash", "-c", f"ulimit -t {PATIENCE}; exec z3 {path}"], path).strip()
+    return (setup.milliseconds(["z3", str(path)], path), solution) if solution else (None, "timeout")
 
 
 def counted(words, path, milliseconds, count):

@@ -1,10 +1,8 @@
 """The worst known inputs of `eval`, each as long as an input may be, and the processor time that they take."""
 
 import itertools
-import resource
-import subprocess
 
-from measuring import print_table, shown
+from measuring import print_table, processor_seconds, shown
 
 # The longest input, in bytes.
 MAX_INPUT = 16_777_216
@@ -61,19 +59,15 @@ def text_of(conditions, digits):
     return head + "".join(f"({least + at * 387_563 % keys})\n" for at in range(number))
 
 
-def processor_seconds(words, path):
-    """What a run takes of a processor, by itself and in the kernel."""
-    before = resource.getrusage(resource.RUSAGE_CHILDREN)
-    with open(path, "rb") as text:
-        subprocess.run(words, stdin=text, stdout=subprocess.DEVNULL, stderr=subprocess.DEVNULL, check=True)
-    after = resource.getrusage(resource.RUSAGE_CHILDREN)
-    return after.ru_utime + after.ru_stime - before.ru_utime - before.ru_stime
+def taken(setup, words, path):
+    with setup.pinned():
+        return shown(processor_seconds(words, path, check=True))
 
 
 def row(setup, path, kind, digits):
     path.write_text(text_of(KINDS[kind](), digits))
     words = [setup.program, "eval", "t"]
-    return [kind, digits, shown(processor_seconds(words, path)), shown(processor_seconds([*words, "--insert"], path))]
+    return [kind, digits, *(taken(setup, it, path) for it in (words, [*words, "--insert"]))]
 
 
 def measure(setup, folder):
