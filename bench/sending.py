@@ -1,6 +1,5 @@
-"""What it costs to tell slots of commits, up to the bytes that wait to be written, beside a plain program and
-PostgreSQL
-15's walsenders, which read the log of their server and write to sockets besides."""
+"""What it costs to send commits to all slots, up to the bytes that wait to be written, beside a plain program and
+PostgreSQL 15's walsenders, which read the log of their server and write to sockets besides."""
 
 from dataclasses import replace
 
@@ -19,10 +18,10 @@ HEADS = [
     "Bytes of a text",
     "Rows per commit",
     "Slots",
-    "instructions per row and slot",
+    "instructions per row",
     "plain Rust",
-    "backlog, µs per row and slot",
-    "at once, µs per row and slot",
+    "backlog, µs per row",
+    "at once, µs per row",
     "walsender, backlog",
     "walsender, at once",
 ]
@@ -62,19 +61,18 @@ def served(load):
 
 
 def counted(setup, load):
-    """Instructions a row and slot: of `simulate`, and of the plain program."""
+    """Instructions a row, over all slots: of `simulate`, and of the plain program."""
     load = sized(load, 10_000 if load.in_a_commit > 1 else 2_000)
-    shares = load.rows * load.slots
     after, before = (simulating.instructions(setup, load, it) for it in ("taken", "committed"))
     taken, committed = (limits.instructions("stream", *load.words(), it) for it in ("taken", "committed"))
-    return counting.difference(after, before, shares), counting.difference(taken, committed, shares)
+    return counting.difference(after, before, load.rows), counting.difference(taken, committed, load.rows)
 
 
 def timed(setup, load):
-    """µs per row and slot: where the commits wait, and where each is taken as soon as it is made."""
+    """µs per row, over all slots: where the commits wait, and where each is taken as soon as it is made."""
     backlog, idle = simulating.times(setup, load, "delivered"), simulating.times(setup, load, "refused")
     at_once = simulating.time_at_once(setup, load, False) - backlog["changes"]
-    return [(it - idle["takes"]) / load.rows / load.slots for it in (backlog["takes"], at_once)]
+    return [(it - idle["takes"]) / load.rows for it in (backlog["takes"], at_once)]
 
 
 def row(setup, server, load):

@@ -6,9 +6,11 @@ import selectors
 import socket
 import struct
 import subprocess
+import tempfile
 import time
-from dataclasses import dataclass
+from dataclasses import dataclass, replace
 
+import counting
 import postgres
 import simulating
 import streaming
@@ -18,6 +20,8 @@ from workloads import Load
 CONNECTIONS = (1, 2, 8, 32)
 # How many rows there are, by how many are in a commit.
 ROWS = {1_000: 400_000, 1: 90_000}
+# How many rows are counted, likewise: twice as many, and so many.
+COUNTED = {1_000: 20_000, 1: 4_000}
 # What the last row that each subscriber is told of has, and no row before it.
 LAST = b"the last one"
 HEADS = [
@@ -26,6 +30,7 @@ HEADS = [
     "serve, µs per row",
     "serve, µs per row and slot",
     "serve, thousand rows/s",
+    "serve, instructions per row",
     "walsenders, µs per row",
     "walsenders, µs per row and slot",
     "walsenders, thousand rows/s",
@@ -62,13 +67,13 @@ def start_frame(at):
 
 
 @contextlib.contextmanager
-def serving(setup, path, connections):
-    """A run of `serve`, from its first line on: the process, and its port."""
+def serving(setup, path, connections, before=(), told=subprocess.DEVNULL):
+    """A run of `serve`, from its first line on, after these words: the process, and its port."""
     port = free_port()
-    words = [setup.program, "serve", "--port", str(port), "--connections", str(connections)]
+    words = [*before, setup.program, "serve", "--port", str(port), "--connections", str(connections)]
     with (
         open(path, "rb") as text,
-        subprocess.Popen(words, stdin=text, stdout=subprocess.PIPE, stderr=subprocess.DEVNULL, text=True) as process,
+        subprocess.Popen(words, stdin=text, stdout=subprocess.PIPE, stderr=told, text=True) as process,
     ):
         try:
             if process.stdout.readline() != f"listening {port}\n":
@@ -128,6 +133,39 @@ def served(setup, path, count):
     return taken
 
 
+def write_input(setup, path, load):
+    catalog = load.catalog()
+    certificates = simulating.certificates(setup.program, catalog)
+    path.write_text(f"{catalog}%%\n{certificates}%%\n{''.join(script(load))}")
+
+
+def instructions(setup, path, load):
+    """The instructions of a run, whose clients read all."""
+    write_input(setup, path, load)
+    with tempfile.TemporaryFile("w+") as told:
+        with contextlib.ExitStack() as open_now:
+            valgrind = ["valgrind", *counting.COUNTING]
+            process, port = open_now.enter_context(serving(setup, path, load.slots, valgrind, told))
+            clients = [open_now.enter_context(socket.create_connection(("127.0.0.1", port))) for _ in range(load.slots)]
+            for at, it in enumerate(clients):
+                it.sendall(start_frame(at))
+            read_all(clients)
+            for it in clients:
+                it.close()
+            closed(process)
+        told.seek(0)
+        return counting.count_in(told.read())
+
+
+def counted(setup, path, load):
+    """Instructions a row of the whole of `serve`; None without valgrind."""
+    if not counting.is_installed():
+        return None
+    rows = COUNTED[load.in_a_commit]
+    few, many = (instructions(setup, path, replace(load, rows=it)) for it in (rows, 2 * rows))
+    return (many - few) / rows
+
+
 # ---- the server
 
 
@@ -157,11 +195,10 @@ def least(setup, measured, *given):
 
 
 def row(setup, path, load):
-    catalog = load.catalog()
-    certificates = simulating.certificates(setup.program, catalog)
-    path.write_text(f"{catalog}%%\n{certificates}%%\n{''.join(script(load))}")
+    told = shown(counted(setup, path, load))
+    write_input(setup, path, load)
     alone = min(commits_alone(setup, path) for _ in range(setup.runs))
-    line = [f"{load.in_a_commit:,}", load.slots, *cells(least(setup, served, setup, path, load.slots), load, alone)]
+    line = [f"{load.in_a_commit:,}", load.slots, *cells(least(setup, served, setup, path, load.slots), load, alone), told]
     return line + (cells(least(setup, walsenders, load), load) if postgres.folder_of_programs() else ["", "", ""])
 
 

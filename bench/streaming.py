@@ -138,7 +138,7 @@ def gone(connection):
 
 
 def walsenders(folder, connection, load):
-    """µs per row and slot of the walsenders: where changes wait for them, and where they are sent as they come."""
+    """µs per row of all walsenders: where changes wait for them, and where they are sent as they come."""
     half = load.rows // 2
     prepare(connection, load)
     prefix(connection, load)
@@ -157,7 +157,7 @@ def walsenders(folder, connection, load):
         backlog = sent(connection, load.slots) - start
     gone(connection)
     clear(connection, load)
-    return backlog / half / load.slots, at_once / half / load.slots
+    return backlog / half, at_once / half
 
 
 def clear_slots(connection, load):

@@ -47,7 +47,7 @@ def part(theorem: Theorem, found: list[Place], before: set[Place], sentences: di
         lines.extend(["", "Premises that hold of each value of a type:", ""])
         lines.extend(f"- `{place.name}`: `{its}`" for place, its in kept)
     if theorem.tokens:
-        lines.extend(["", "Not read, since their meaning does not matter here:", ""])
+        lines.extend(["", "Not read, since their meaning does not matter here or is said elsewhere:", ""])
         lines.extend(f"- {', '.join(f'`{name}`' for name in its)}: {why}." for why, its in reasons(theorem).items())
     return "\n".join(lines) + "\n"
 

@@ -34,7 +34,14 @@ HANDED = {
     "sub_machine": "what a `Subscriber` keeps; `rows` and `position` show its rows and its position",
 }
 
-SOUNDNESS = Theorem("soundness", [clauses("shard_checker", "sharding.rt", "check", "sound")], most=650)
+FRAMES = {
+    "frames_in": "the `whole_frames` of bytes, with the limit 65,536",
+    "whole_frames": "the frames of bytes, which `bytes_make_frames` defines",
+    "bytes_left": "what comes after the frames of bytes, which `bytes_make_frames` defines",
+    "fault_in": "the fault of what comes after the frames of bytes, which `bytes_make_frames` defines",
+}
+
+SOUNDNESS = Theorem("soundness", [clauses("shard_checker", "sharding.rt", "check", "sound", "kept")], most=650)
 
 SHOWN = Theorem("shown", [
     clauses("commands", "verdicts.rt", "verdict_of", "sound"),
@@ -43,15 +50,14 @@ SHOWN = Theorem("shown", [
 
 CODEC = Theorem("codec", [
     clauses("pgoutput_msgs", "encoding.rt", "encode"),
-    clauses("pgoutput_msgs", "decoding.rt", "decode"),
-    clauses("pgoutput_msgs", "laws.rt", "spellings_are_decoded"),
+    clauses("pgoutput_msgs", "decoding.rt", "decode", "found", "only", "trailing", "fault"),
     clauses("pgoutput_msgs", "laws.rt", "no_spelling_begins_another"),
-], most=400)
+], most=300)
 
 CONNECTION = Theorem("connection", [
     clauses("copy_both", "laws.rt", "links_say_streams", "hears", "takes", "keeps", "passes"),
     clauses("stream_laws", "laws.rt", "fed_subscribers_follow", "fed", "stops"),
-    clauses("test_subscriber", "subscriber.rt", "rows", "found"),
+    clauses("test_subscriber", "subscriber.rt", "rows"),
     clauses("test_subscriber", "subscriber.rt", "position"),
     clauses("copy_both", "link.rt", "output"),
 ], most=1400, tokens={
@@ -73,7 +79,7 @@ CONNECTION = Theorem("connection", [
 HEADLINE = Theorem("headline", [
     clauses("shard_world", "world.rt", "new"),
     clauses("shard_world", "world.rt", "step"),
-    clauses("shard_world", "world.rt", "run", "ok"),
+    clauses("shard_world", "world.rt", "run"),
     clauses("shard_world", "world.rt", "pump"),
     clauses("shard_world", "world.rt", "view"),
 ], most=1800, tokens={
@@ -96,12 +102,15 @@ THREADS = Theorem("threads", [
     clauses("publisher_desk", "publisher.rt", "with_slots"),
     clauses("senders", "closing.rt", "close"),
     clauses("senders", "laws.rt", "closed_publishers_were_followed"),
-], most=2600, tokens={
+    clauses("copy_frames", "laws.rt", "bytes_make_frames", "made"),
+], most=2650, tokens={
     **HANDED,
+    **FRAMES,
     "command_of": "the grammar of START_REPLICATION, of 55.4 of the documentation, and of the options of pgoutput, in "
                   "`copy_both/specs/CommandText`",
     "HasMaps": "how a `Book` keeps its rows, which `row` shows",
     "IsSettled": "how a `Book` keeps its rows, which `row` shows",
+    "IsRouterOf": "how a `Book` finds who gets a change, which `owners` of an entry shows",
     "book_log": "the log of a `Book`, which `entry` shows",
     "book_rows": "the tables of a `Book`, which `row` shows",
     "book_checked": "the catalog of a `Book`, which is the one that `new` was given",
@@ -118,12 +127,17 @@ THREADS = Theorem("threads", [
 PROGRAM = Theorem("program", [
     clauses("cli", "program.rt", "run"),
     clauses("cli", "program.rt", "run_serving"),
-], most=6850, tokens={
+], most=6750, tokens={
     "IsClosed": "what `close` of `senders` ensures, which is read in part 5",
     "RefusedClose": "what `close` of `senders` ensures, which is read in part 5",
     "WasServed": "what `serve` of `senders` ensures, which is read in part 5",
     "IsMade": "what `commit` of `publisher_desk` ensures, which is read in part 5",
     "IsPassedOver": "what `commit` of `publisher_desk` ensures, which is read in part 5",
+    "IsRouterOf": "how a `Book` finds who gets a change, which `owners` of an entry shows",
+    "cut": "the frames of bytes and what comes after them: `bytes_make_frames`, which is read in part 5, says of its "
+           "frames, of its rest and of its fault what they are",
+    "decoded": "the message that bytes spell, or a fault that they have: `spellings_are_decoded` of `pgoutput_msgs` "
+               "says of it what part 2 says of `decode`",
 })
 
 THEOREMS = [SOUNDNESS, SHOWN, CODEC, CONNECTION, HEADLINE, THREADS, PROGRAM]

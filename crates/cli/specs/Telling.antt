@@ -39,6 +39,7 @@ name_of e.CountDiffers = Some (codes "CountDiffers")
 name_of e.ReceiptMissing = Some (codes "ReceiptMissing")
 name_of e.ReadingWrong = Some (codes "ReadingWrong")
 name_of e.TakenDiffers = Some (codes "TakenDiffers")
+name_of e.StartLate = Some (codes "StartLate")
 name_of e.OutOfMemory = None
 
 -- What is served: a checked catalog, with a log of at most `limit` commits, by a session that commits these lists, to

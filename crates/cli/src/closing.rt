@@ -50,6 +50,7 @@ pub(crate) fn name_of(error: CloseError) -> Option<&'static str>
         CloseError::ReceiptMissing => Some("ReceiptMissing"),
         CloseError::ReadingWrong => Some("ReadingWrong"),
         CloseError::TakenDiffers => Some("TakenDiffers"),
+        CloseError::StartLate => Some("StartLate"),
         CloseError::OutOfMemory => None,
     }
 }

@@ -56,7 +56,8 @@ fn publish<
 {
     let subscriptions = checked.catalog().subscriptions.len();
     let mut places = open_places(alloc, service.connections.unwrap_or(subscriptions))?;
-    let (publisher, mut seats) = Publisher::<P>::new(alloc, opening, checked, service.limit)?;
+    let (mut publisher, mut seats) = Publisher::<P>::new(alloc, opening, checked, service.limit)?;
+    publisher.wake_in_batches();
     let Some(mut seat) = seats.seat() else {
         unreachable!()
     };

@@ -1,4 +1,5 @@
 pub mod CommandLoops
+pub mod CountLemmas
 pub mod Crossing
 pub mod Cuts
 pub mod FirstFrames
@@ -17,6 +18,7 @@ pub mod QuotedLoops
 pub mod RefusalLemmas
 pub mod RefusedStarts
 pub mod RepliesLemmas
+pub mod RequestedStarts
 pub mod SeenStreamLemmas
 pub mod SessionLemmas
 pub mod ShortNames

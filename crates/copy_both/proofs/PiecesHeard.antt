@@ -1,11 +1,11 @@
 -- What an ear has heard of all bytes since its first, after another piece.
-use Rattle.std.proofs.Common.{◌≡◌, ℕ, min, Bool, true, false, List, [], ◌∷◌, ◌++◌, length, take, drop, refl, sym, ap, subst, ◌∙◌, append_assoc, inl, inr}
+use Rattle.std.proofs.Common.{◌≡◌, ℕ, ◌<◌, min, Bool, true, false, List, [], ◌∷◌, ◌++◌, length, take, drop, refl, sym, ap, subst, ◌∙◌, append_assoc, append-nil, inl, inr}
 use Rattle.std.specs.Prelude.{Option, Some, None, Result, Ok, Err, IfErr}
 use Rattle.std.proofs.lemmas.List.{take-append-drop}
 use Rattle.filter_tree.specs.Memory.{Answers}
 use Rattle.shard_checker.specs.CheckedView.{CheckedOf}
-use Rattle.tables_log.specs.BookView.{book_log}
-use Rattle.tables_log.specs.Slots.{end_after}
+use Rattle.tables_log.specs.BookView.{book_log, book_slots}
+use Rattle.tables_log.specs.Slots.{confirmed_at, end_after}
 use Rattle.tables_log.specs.declared.book.Book.{Book}
 use Rattle.copy_frames.specs.Frames.{FrameCut, cut, after_frames, cut_fault, frames_of, rest_of, fault_in}
 use Rattle.copy_frames.specs.declared.fault.FrameFault.{FrameFault}
@@ -13,7 +13,7 @@ use Rattle.copy_frames.specs.declared.fault.FrameFault.TheVariants as frame
 use Rattle.copy_frames.specs.declared.frame.Frame.{Frame}
 use Rattle.copy_frames.proofs.PieceLemmas.{cut_more, more_after, rest_after}
 use Rattle.copy_both.specs.Ears.{ear_checked, ear_refusal, ear_started, ear_heard, answer_in, HearLeaves, HearsPiece, Holds}
-use Rattle.copy_both.specs.HeardFrames.{TellsStart, start_told, frames_in, IsAnswered, IsBookFor, AsksIfStarted, IsStartedBy, HasHeard, HasEnd, HasBadFrame, HasLinkFault, sent_then, reach_of, GoesOnOrEnds, Explains, HasHeardOn, NothingIsHeard, PiecesAreHeard}
+use Rattle.copy_both.specs.HeardFrames.{TellsStart, start_told, frames_in, IsAnswered, IsBookFor, AsksIfStarted, IsStartedBy, HasHeard, HasEnd, HasBadFrame, HasLinkFault, sent_then, reach_of, GoesOnOrEnds, Explains, HasHeardOn, LateStartsAreRequested, NothingIsHeard, PiecesAreHeard, Requests}
 use Rattle.copy_both.specs.Hearing.{HearingOf, ServedFrom, answer_by, answer_of, frames_heard, heard_told, is_over, is_over_by, link_fault, then_fault, unless_over, with_fault}
 use Rattle.copy_both.specs.Listening.{silence, Leaves, fed, resting, part_heard}
 use Rattle.copy_both.specs.Phases.{IsReady, phase_after, phase_by}
@@ -26,6 +26,7 @@ use Rattle.copy_both.specs.declared.link_fault.LinkFault.TheVariants as fault
 use Rattle.copy_both.specs.declared.phase.Phase.TheVariants as phase
 use Rattle.copy_both.proofs.FrameRuns.{fault_over, end_over, event_fault, IsEventFault, asks_if_more, Comes, Comes_on, Comes_bad, Comes_refused, Comes_ahead, Comes_ended, Ran, runs_on}
 use Rattle.copy_both.proofs.LinkLemmas.{fault_started, frames_started}
+use Rattle.copy_both.proofs.RequestedStarts.{late_requests, requests_more}
 use Rattle.copy_both.proofs.StartsTold.{all_told}
 
 -- ---- more bytes
@@ -351,6 +352,73 @@ module _ (bytes piece : List ℕ) (old new : Ear) (before after : Book) (sent : 
   by_result (Err (fault.BadStart state)) is left = err_whole (fault.BadStart state) left.leaves is
   by_result (Err fault.StatusAhead) is left = err_whole fault.StatusAhead left.leaves is
   by_result (Err fault.Closed) is left = err_whole fault.Closed left.leaves is
+
+module _ (bytes piece : List ℕ) (old new : Ear) (before after : Book) (sent : ℕ)
+    (has : HasHeard (ear_checked old) bytes old) (is_for : IsBookFor (ear_checked old) before)
+    (idle : ear_started old ≡ None) (slot at : ℕ) (started : ear_started new ≡ Some (slot, at)) (late : confirmed_at (book_slots before) slot < at) where
+  abbrev first_start : HearingOf
+  first_start = hearing_view old.session (silence sent) before
+
+  abbrev of_piece : List Frame
+  of_piece = frames_of (cut old.frames.limit (old.frames.bytes ++ piece))
+
+  no_frames : frames_in bytes ≡ []
+  no_frames = subst (IsStartedBy (ear_checked old) (frames_in bytes)) idle has.started
+
+  -- the first frames of the piece were heard
+  by_some : (some left : List Frame) → some ++ left ≡ of_piece
+      → new.session.started ≡ (frames_heard (served_by old.session before) first_start some).started
+      → Requests (frames_in (bytes ++ piece)) slot at
+  by_some some left split is =
+      let heard : Requests some slot at =
+      late_requests (served_by old.session before) (book_slots before) slot at late some first_start idle refl refl
+      (sym is ∙ started) in
+      let whole : some ++ left ≡ frames_in (bytes ++ piece) =
+      split ∙ sym (ap (λ (x : List Frame). x ++ of_piece) no_frames)
+      ∙ sym (all_frames bytes piece old new before after sent has is_for) in
+      subst (λ (x : List Frame). Requests x slot at) whole (requests_more some left slot at heard)
+
+  by_all : Leaves old.session new.session before after (ear_heard old before piece sent)
+      → Requests (frames_in (bytes ++ piece)) slot at
+  by_all leaves =
+      by_some of_piece [] (append-nil of_piece)
+      (leaves.started ∙ fault_started (fault_in old.frames.limit (old.frames.bytes ++ piece))
+      (frames_heard (served_by old.session before) first_start of_piece))
+
+  requested_by : (result : Result Heard LinkFault) → HearsPiece old new before after piece sent result
+      → Requests (frames_in (bytes ++ piece)) slot at
+  requested_by (Ok heard) left = by_all left.leaves
+  requested_by (Err fault.OutOfMemory) left =
+      by_some (take left.leaves.0 of_piece) (drop left.leaves.0 of_piece) (take-append-drop left.leaves.0 of_piece)
+      left.leaves.1.started
+  requested_by (Err fault.FrameTooLong) left = by_all left.leaves
+  requested_by (Err fault.BadLength) left = by_all left.leaves
+  requested_by (Err (fault.Unexpected byte)) left = by_all left.leaves
+  requested_by (Err (fault.BadStart state)) left = by_all left.leaves
+  requested_by (Err fault.StatusAhead) left = by_all left.leaves
+  requested_by (Err fault.Closed) left = by_all left.leaves
+
+pub late_starts_are_requested : LateStartsAreRequested
+late_starts_are_requested checked bytes piece old new before after sent result has is_for left idle slot start started
+    late =
+    let own : HasHeard (ear_checked old) bytes old = subst (λ (k : CheckedOf). HasHeard k bytes old)
+    (sym has.checked_is) has in
+    let lent : IsBookFor (ear_checked old) before = subst (λ (k : CheckedOf). IsBookFor k before)
+    (sym has.checked_is) is_for in
+    requested_by bytes piece old new before after sent own lent idle slot start started late result
+    (subst (λ p. HearLeaves p old new before after piece sent result) has.phase_is left)
+
+-- a request stays the first frame's, whatever bytes follow
+pub requests_stay : (checked : CheckedOf) (bytes more : List ℕ) (ear : Ear) (slot position : ℕ)
+    → HasHeard checked bytes ear → Requests (frames_in bytes) slot position
+    → Requests (frames_in (bytes ++ more)) slot position
+requests_stay checked bytes more ear slot position has requests =
+    let longer : frames_in (bytes ++ more)
+    ≡ frames_in bytes ++ frames_of (cut 65536 (rest_of (cut 65536 bytes) ++ more)) =
+    ap frames_of (cut_more 65536 bytes more has.good ∙ more_after 65536 more (cut 65536 bytes) has.good)
+    ∙ frames_after (frames_in bytes) (cut 65536 (rest_of (cut 65536 bytes) ++ more)) in
+    subst (λ (x : List Frame). Requests x slot position) (sym longer)
+    (requests_more (frames_in bytes) (frames_of (cut 65536 (rest_of (cut 65536 bytes) ++ more))) slot position requests)
 
 pub pieces_are_heard : PiecesAreHeard
 pieces_are_heard checked bytes piece old new before after sent result has is_for answer left =

@@ -1,5 +1,5 @@
 -- A commit of which the subscriber gets nothing is taken as one that is skipped.
-use Rattle.std.proofs.Common.{◌≡◌, ℕ, ◌+◌, ◌++◌, Bool, List, [], map, refl, sym, ap, ◌∙◌}
+use Rattle.std.proofs.Common.{◌≡◌, ℕ, ◌+◌, ◌++◌, Bool, List, [], map, sym, ap, ◌∙◌}
 use Rattle.std.specs.Prelude.{false}
 use Rattle.std.specs.List.{flat_map}
 use Rattle.std.proofs.lemmas.List.{append-nil}
@@ -10,7 +10,6 @@ use Rattle.tables_log.specs.Lsn.{end_lsn_of}
 use Rattle.pgoutput_msgs.specs.Silent.{IsSilent}
 use Rattle.pgoutput_msgs.specs.declared.message.Msg.{Msg}
 use Rattle.pgoutput_msgs.proofs.SilentLemmas.{quiet_are_silent}
-use Rattle.copy_both.specs.Streams as streams
 use Rattle.copy_both.specs.Streams.{StreamStateOf, Carries, head_of, state_after, spelled, take_bytes}
 use Rattle.copy_both.specs.Tellings.{telling_of}
 use Rattle.copy_both.specs.Voices as voices

@@ -5,7 +5,7 @@ use Rattle.std.specs.Prelude.{◌≡◌, ◌<◌, ◌⊎◌, ℕ, ◌==◌, min,
 use Rattle.filter_tree.specs.Memory.{Answers}
 use Rattle.shard_checker.specs.CheckedView.{CheckedOf}
 use Rattle.tables_log.specs.BookView.{book_checked, book_log, book_slots}
-use Rattle.tables_log.specs.Slots.{end_after}
+use Rattle.tables_log.specs.Slots.{confirmed_at, end_after}
 use Rattle.tables_log.specs.StandsFor.{Transaction, StandsFor}
 use Rattle.tables_log.specs.declared.book.Book.{Book}
 use Rattle.copy_frames.specs.Contents.{status_in}
@@ -17,6 +17,8 @@ use Rattle.copy_both.specs.Ears.{ear_checked, ear_phase, ear_started, ear_held, 
 use Rattle.copy_both.specs.Events.{event_of, is_end}
 use Rattle.copy_both.specs.Hearing.{BeginOf, Begins, Refuses, begin_of}
 use Rattle.copy_both.specs.Refusals.{RefusalOf, state_of, error_response}
+use Rattle.copy_both.specs.StartAnswers.{Stream, asked_of}
+use Rattle.copy_both.specs.StartOrder.{OfferOf}
 use Rattle.copy_both.specs.Streams.{first_sent}
 use Rattle.copy_both.specs.Voices.{told_fault}
 use Rattle.copy_both.specs.declared.ear.Ear.{Ear}
@@ -68,6 +70,13 @@ pub record AsksFor (checked : CheckedOf) (frames : List Frame) (slot start : ℕ
   pub book : Book
   pub is : IsBookFor checked book
   pub begins : begin_with checked book frame ≡ Begins slot start
+
+-- the first frame requests the stream of this slot from this position on
+pub record Requests (frames : List Frame) (slot position : ℕ) : Type 0 where
+  pub frame : Frame
+  pub first : IsFirst frame frames
+  pub offer : OfferOf
+  pub asks : asked_of offer frame.kind frame.body ≡ Stream slot position
 
 abbrev pub AsksIfStarted : CheckedOf → List Frame → Option (ℕ × ℕ) → Type 0
 AsksIfStarted checked frames None = Unit {0}
@@ -201,3 +210,11 @@ PiecesAreHeard = (checked : CheckedOf) (bytes piece : List ℕ) (old new : Ear) 
     → Answers (λ heard. heard) told_fault (hear_answer old before piece sent) result
     → HearLeaves (ear_phase old) old new before after piece sent result
     → HasHeardOn checked (bytes ++ piece) old new before sent result
+
+-- with the piece a stream starts, after the position up to which its slot was confirmed: that is the requested one
+abbrev pub LateStartsAreRequested : Type 0
+LateStartsAreRequested = (checked : CheckedOf) (bytes piece : List ℕ) (old new : Ear) (before after : Book) (sent : ℕ)
+    (result : Result Heard LinkFault) → HasHeard checked bytes old → IsBookFor checked before
+    → HearLeaves (ear_phase old) old new before after piece sent result
+    → ear_started old ≡ None → (slot start : ℕ) → ear_started new ≡ Some (slot, start)
+    → confirmed_at (book_slots before) slot < start → Requests (frames_in (bytes ++ piece)) slot start

@@ -22,8 +22,8 @@ pub(crate) struct Frames {
     pub(crate) bytes: Vec<u8>,
 }
 
-/// Room that is enough for most commits of this number of changes: for the first and the last frame, and for each
-/// change.
+/// Room that is enough for most commits of which a subscriber gets this number of changes: for the first and the last
+/// frame, and for each change.
 fn room_of(changes: usize) -> usize {
     changes.saturating_mul(96).saturating_add(160)
 }
@@ -104,12 +104,12 @@ impl Frames {
         Ok(())
     }
 
-    /// Adds the frame of the Begin message of a commit, and makes room for the others once. The only error is out of
-    /// memory.
-    pub(crate) fn begin(&mut self, commit: &Commit) -> Result<(), AllocError>
+    /// Adds the frame of the Begin message of a commit, and makes room for those of this number of changes once. The
+    /// only error is out of memory.
+    pub(crate) fn begin(&mut self, commit: &Commit, changes: usize) -> Result<(), AllocError>
         ensures { OnOk result (AddsFrame self.old self.new (begin_msg commit.now)) }
     {
-        self.bytes.reserve(room_of(commit.changes().len()))?;
+        self.bytes.reserve(room_of(changes))?;
         self.add(&begin_message(commit))?;
         Ok(())
     }

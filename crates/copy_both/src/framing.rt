@@ -1,7 +1,10 @@
 //! The messages of a commit as frames.
 
-ghost use Rattle.std.specs.Prelude.{◌≡◌, ◌++◌, All, IfOk, OnOk, OnErr};
+ghost use Rattle.std.specs.Prelude.{◌≡◌, ◌≤◌, ◌++◌, All, IfOk, List, OnOk, OnErr, false, length};
+ghost use Rattle.replica_identity.specs.Plans.{PlanOf};
+ghost use Rattle.row_owners.specs.Owners.{AreOwners, concerns};
 ghost use Rattle.shard_checker.specs.CheckedView.{checked_view};
+ghost use Rattle.table_changes.specs.Records.{ChangeOf};
 ghost use Rattle.pgoutput_msgs.specs.Ranges.{HasTexts};
 ghost use Rattle.pgoutput_msgs.specs.Telling.{messages_for, told_after};
 ghost use Rattle.copy_both.specs.Framing.{frames_with};
@@ -10,21 +13,40 @@ use crate::frames::Frames;
 use bytes::BytesMut;
 use copy_frames::XLogData;
 use pgoutput_msgs::tell_changes;
+use row_owners::{OwnerSet, is_spared};
 use shard_checker::Checked;
 use std::alloc::{AllocError, Global};
 use tables_log::Commit;
 
+/// How many of the first changes of a commit may be for the subscriber: all but those that are for others by their
+/// sets.
+fn count_for(owners: &[OwnerSet], changes: usize, slot: usize) -> usize
+    ensures { result ≡ 0 → (plan : PlanOf) (all : List ChangeOf) → length all ≤ changes
+        → AreOwners plan all owners.now → concerns plan all slot ≡ false }
+{
+    let mut count = 0;
+    for place in 0..changes {
+        if !is_spared(owners, place, slot) {
+            count += 1;
+        }
+    }
+    count
+}
+
 /// The frames of the messages that report a commit to the subscriber, each an XLogData with this head: those of
-/// `messages_of`. None if no change is for it. `relation_sent` is, for each table by its number, whether its Relation
-/// was sent. The only error is out of memory.
+/// `messages_of`. None if no change is for it. `owners` are the subscribers that get something from each of the first
+/// changes; if the subscriber is in none of them, no memory is allocated. `relation_sent` is, for each table by its
+/// number, whether its Relation was sent. The only error is out of memory.
 pub(crate) fn commit_frames(
     alloc: Global,
     checked: &Checked,
     slot: usize,
     commit: &Commit,
+    owners: &[OwnerSet],
     relation_sent: &mut [bool],
     head: XLogData,
 ) -> Result<Vec<u8>, AllocError>
+    requires { AreOwners (checked_view checked.now).plan commit.now.changes owners.now }
     ensures frames { IfOk result (λ frames. frames.items
         ≡ frames_with head (messages_for (checked_view checked.now) slot relation_sent.old commit.now)) }
     ensures relation_sent { OnOk result
@@ -32,10 +54,22 @@ pub(crate) fn commit_frames(
     ensures texts { OnOk result
         (All HasTexts (messages_for (checked_view checked.now) slot relation_sent.old commit.now)) }
 {
+    let count = count_for(owners, commit.changes().len(), slot);
+    if count == 0 {
+        return Ok(Vec::new(alloc));
+    }
     let mut frames = Frames::new(alloc, head);
-    frames.begin(commit)?;
+    frames.begin(commit, count)?;
     let begun = frames.bytes.len();
-    tell_changes(alloc, checked, slot, commit, relation_sent, &mut frames)?;
+    tell_changes(
+        alloc,
+        checked,
+        slot,
+        commit,
+        owners,
+        relation_sent,
+        &mut frames,
+    )?;
     if frames.bytes.len() == begun {
         return Ok(Vec::new(alloc));
     }

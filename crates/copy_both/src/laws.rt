@@ -1,7 +1,7 @@
 //! Laws about streams.
 
 ghost use Rattle.copy_both.specs.Ears.{HearingChangesSlots, LosingChangesSlots};
-ghost use Rattle.copy_both.specs.HeardFrames.{NothingIsHeard, PiecesAreHeard};
+ghost use Rattle.copy_both.specs.HeardFrames.{LateStartsAreRequested, NothingIsHeard, PiecesAreHeard};
 ghost use Rattle.copy_both.specs.LinkLaws as links;
 ghost use Rattle.copy_both.specs.SeenStreams.{StreamsTellTransactions};
 ghost use Rattle.copy_both.specs.StreamLaws.{Starts, Takes, Keeps, Passes, Grows};
@@ -79,7 +79,8 @@ pub fn ears_change_slots()
 /// A law about what an ear has heard of all bytes since its first, in whatever pieces they came. It holds what comes
 /// after the last whole frame. If a stream was started, the first frame is a Query that requests it, and it starts where
 /// the book started it that the frame was heard with: at the requested position, or at the slot's confirmed position if
-/// that is later. What was started stays so, and is reported once. A fault is that of a length, of the first frame's
+/// that is later; so one that starts after the confirmed position starts at the requested one (`requested`). What was
+/// started stays so, and is reported once. A fault is that of a length, of the first frame's
 /// start, or of a later frame; and an end is that of a frame of this kind. A start that is refused has the ErrorResponse
 /// of its refusal. The law holds for books of the checked catalog, each of which is that of some transactions.
 ///
@@ -87,6 +88,7 @@ pub fn ears_change_slots()
 pub fn frames_are_heard()
     ensures first { NothingIsHeard }
     ensures pieces { PiecesAreHeard }
+    ensures requested { LateStartsAreRequested }
 {}
 
 /// Accepts what may be sent to another thread.

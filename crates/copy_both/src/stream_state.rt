@@ -7,6 +7,7 @@ use crate::framing::{append_frames, commit_frames};
 use crate::taken::Taken;
 use bytes::BytesMut;
 use copy_frames::XLogData;
+use row_owners::OwnerSet;
 use shard_checker::Checked;
 use std::alloc::{AllocError, Global};
 use tables_log::{Commit, Lsn};
@@ -35,6 +36,7 @@ pub(crate) struct StreamState {
 
 impl StreamState {
     ghost use Rattle.std.specs.Prelude.{◌≡◌, ◌+◌, ◌++◌, IfOk, OnOk, OnErr};
+    ghost use Rattle.row_owners.specs.Owners.{AreOwners};
     ghost use Rattle.shard_checker.specs.CheckedView.{checked_view};
     ghost use Rattle.pgoutput_msgs.specs.Telling.{messages_for};
     ghost use Rattle.copy_both.specs.Streams.{state_at, state_after, take_bytes};
@@ -59,16 +61,19 @@ impl StreamState {
         })
     }
 
-    /// Takes the next commit, whose frames are added to `out`. The only error is out of memory.
+    /// Takes the next commit, whose frames are added to `out`. `owners` are the subscribers that get something from
+    /// each of its first changes. The only error is out of memory.
     pub(crate) fn take(
         &mut self,
         alloc: Global,
         checked: &Checked,
         commit: &Commit,
+        owners: &[OwnerSet],
         now: u64,
         out: &mut BytesMut,
     ) -> Result<Taken, AllocError>
-        requires { commit.now.number ≡ self.old.done + 1 }
+        requires next { commit.now.number ≡ self.old.done + 1 }
+        requires owners { AreOwners (checked_view checked.now).plan commit.now.changes owners.now }
         ensures taken { IfOk result (λ taken. taken ≡ taken_of commit.now.number
             (messages_for (checked_view checked.now) self.old.slot self.old.relation_sent.items commit.now)) }
         ensures state { OnOk result (state_view self.new
@@ -86,7 +91,15 @@ impl StreamState {
             clock: now,
         };
         let relation_sent = self.relation_sent.as_mut_slice();
-        let frames = commit_frames(alloc, checked, self.slot, commit, relation_sent, head)?;
+        let frames = commit_frames(
+            alloc,
+            checked,
+            self.slot,
+            commit,
+            owners,
+            relation_sent,
+            head,
+        )?;
         let taken = if frames.is_empty() {
             Taken::Skipped(number)
         } else {

@@ -5,10 +5,11 @@ use crate::stream_state::StreamState;
 use crate::taken::Taken;
 use bytes::BytesMut;
 use copy_frames::{Keepalive, append_copy_both_response, append_copy_done, append_keepalive};
+use row_owners::OwnerSet;
 use shard_checker::Checked;
 use std::alloc::{AllocError, Global};
 use std::sync::Arc;
-use tables_log::Commit;
+use tables_log::{Commit, Routed};
 
 /// The state of a voice.
 #[derive(Drop)]
@@ -37,7 +38,9 @@ impl Voice {
     ghost use Rattle.std.specs.Prelude.{◌≡◌, ◌≤◌, ◌++◌, ℕ, [], length, IfSome, OnOk, OnErr};
     ghost use Rattle.std.specs.Arc.{arc_value};
     ghost use Rattle.filter_tree.specs.Memory.{Answers, NeedsMemoryOnlyIf};
+    ghost use Rattle.row_owners.specs.Owners.{AreOwners};
     ghost use Rattle.shard_checker.specs.CheckedView.{checked_view};
+    ghost use Rattle.tables_log.specs.Routes.{IsRouted, commit_in};
     ghost use Rattle.copy_frames.specs.Contents.{copy_both_response};
     ghost use Rattle.copy_both.specs.Voices as spec;
     ghost use Rattle.copy_both.specs.Voices.{EntryIsReadBack, IsQuietFor, IsStarted, Sends, Closes, told_fault, voice_checked, voice_stage, voice_output, voice_room};
@@ -119,15 +122,46 @@ impl Voice {
             (EntryIsReadBack (voice_checked self.old) (voice_stage self.old) commit.now) }
         ensures err { OnErr result (Closes self.old self.new) }
     {
-        let taken = self.take(commit, now);
+        let taken = self.take(commit, &[], now);
         if taken.is_err() {
             self.close();
         }
         taken
     }
 
-    fn take(&mut self, commit: &Commit, now: u64) -> Result<Taken, LinkFault>
-        requires { IfSome (spec.next_of (voice_stage self.old)) (λ next. commit.now.number ≡ next) }
+    /// Takes the next commit of a log, as `take_entry` does. A change from which the subscriber gets nothing, by the
+    /// sets that the log keeps with the commit, isn't looked at.
+    ///
+    /// The time it takes is that of the changes that are for the subscriber and their messages, and one test for each
+    /// change.
+    ///
+    /// # Errors
+    ///
+    /// `Closed` if it was closed before; `OutOfMemory`, which closes it, only while the stream runs. Then nothing of
+    /// the commit is sent.
+    pub fn take_routed(&mut self, routed: &Routed, now: u64) -> Result<Taken, LinkFault>
+        requires next { IfSome (spec.next_of (voice_stage self.old)) (λ next. (commit_in routed.now).number ≡ next) }
+        requires routed { IsRouted (voice_checked self.old).plan routed.now }
+        ensures answer { Answers (λ taken. taken) told_fault
+            (spec.entry_answer (voice_checked self.old) (voice_stage self.old) (commit_in routed.now)) result }
+        ensures memory { NeedsMemoryOnlyIf OutOfMemory (IsStarted (voice_stage self.old)) result }
+        ensures ok { OnOk result (Sends self.old self.new
+            (spec.entry_bytes (voice_checked self.old) (voice_stage self.old) (commit_in routed.now) now)
+            (spec.entry_stage (voice_checked self.old) (voice_stage self.old) (commit_in routed.now))) }
+        ensures read_back { OnOk result
+            (EntryIsReadBack (voice_checked self.old) (voice_stage self.old) (commit_in routed.now)) }
+        ensures err { OnErr result (Closes self.old self.new) }
+    {
+        let taken = self.take(routed.commit(), routed.owners(), now);
+        if taken.is_err() {
+            self.close();
+        }
+        taken
+    }
+
+    fn take(&mut self, commit: &Commit, owners: &[OwnerSet], now: u64) -> Result<Taken, LinkFault>
+        requires next { IfSome (spec.next_of (voice_stage self.old)) (λ next. commit.now.number ≡ next) }
+        requires owners { AreOwners (voice_checked self.old).plan commit.now.changes owners.now }
         ensures answer { Answers (λ taken. taken) told_fault
             (spec.entry_answer (voice_checked self.old) (voice_stage self.old) commit.now) result }
         ensures memory { NeedsMemoryOnlyIf OutOfMemory (IsStarted (voice_stage self.old)) result }
@@ -143,7 +177,14 @@ impl Voice {
             Stage::NotStarted => Ok(Taken::NotStarted),
             Stage::Closed => Err(LinkFault::Closed),
             Stage::Started(state) => {
-                Ok(state.take(self.alloc, &self.checked, commit, now, &mut self.out)?)
+                Ok(state.take(
+                    self.alloc,
+                    &self.checked,
+                    commit,
+                    owners,
+                    now,
+                    &mut self.out,
+                )?)
             }
         }
     }

@@ -4,3 +4,4 @@ pub mod FrontLemmas
 pub mod HistoryLemmas
 pub mod InboxLemmas
 pub mod PieceLemmas
+pub mod WholeLemmas

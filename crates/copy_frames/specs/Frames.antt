@@ -90,3 +90,10 @@ after_frames (frame ∷ frames) last = Then frame (after_frames frames last)
 -- the fault of the first length that no frame may have
 abbrev pub fault_in : ℕ → List ℕ → Option FrameFault
 fault_in limit bytes = cut_fault (cut limit bytes)
+
+-- the whole frames at the front of bytes, and what comes after them
+abbrev pub whole_frames : ℕ → List ℕ → List Frame
+whole_frames limit bytes = frames_of (cut limit bytes)
+
+abbrev pub bytes_left : ℕ → List ℕ → List ℕ
+bytes_left limit bytes = rest_of (cut limit bytes)

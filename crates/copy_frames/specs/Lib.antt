@@ -4,3 +4,4 @@ pub mod FrameLaws
 pub mod Frames
 pub mod Inboxes
 pub mod Scans
+pub mod WholeFrames

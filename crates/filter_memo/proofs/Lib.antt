@@ -1,4 +1,5 @@
 pub mod Alike
+pub mod AtomLemmas
 pub mod BitLemmas
 pub mod Branching
 pub mod ClauseLemmas
@@ -6,5 +7,6 @@ pub mod Finding
 pub mod Judging
 pub mod Memos
 pub mod Planning
+pub mod Settling
 pub mod Sides
 pub mod WithinInterval

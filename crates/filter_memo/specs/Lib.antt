@@ -1,3 +1,4 @@
+pub mod Atoms
 pub mod Bits
 pub mod Branches
 pub mod Buckets

@@ -56,7 +56,7 @@ pub struct Counts {
 }
 
 /// The breakpoints of a term. The cells of its buckets start at `base`, and those of its intervals at `first_interval`.
-#[tactic(auto, using(crate::proofs::Memos::breakpoints_settled))]
+#[tactic(auto, using(crate::proofs::Settling::breakpoints_settled))]
 fn breakpoints_of(
     alloc: Global,
     term: Term,

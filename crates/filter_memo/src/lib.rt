@@ -4,6 +4,7 @@
 #![tactic(auto)]
 
 mod all_breakpoints;
+mod atoms;
 mod bounds;
 mod branches;
 mod breakpoints;
@@ -18,5 +19,6 @@ mod plan;
 mod said;
 mod telling;
 
+pub use atoms::Atoms;
 pub use memo::Memo;
 pub use said::Said;

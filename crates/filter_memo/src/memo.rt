@@ -6,13 +6,8 @@ ghost use Rattle.filter_tree.specs.Expr.{Expr, meaning};
 ghost use Rattle.filter_memo.specs.Memos as spec;
 ghost use Rattle.filter_memo.specs.Plans.{filters_view};
 
-use crate::all_breakpoints::{all_breakpoints_of, are_told, cell_counts};
-use crate::branches::run;
-use crate::breakpoints::Breakpoints;
-use crate::parts::parts_of;
-use crate::plan::{Plan, plan_of};
+use crate::atoms::Atoms;
 use crate::said::Said;
-use crate::telling::{Cells, look_all};
 use filter_tree::{Filter, Row, Tri};
 use std::alloc::{AllocError, Global};
 
@@ -30,12 +25,8 @@ pub struct Kept {
 #[derive(Drop)]
 pub struct Memo {
     pub alloc: Global,
-    pub parts: Vec<Filter>,
-    pub plan: Plan,
-    pub all_breakpoints: Vec<Breakpoints>,
-    pub cells: Cells,
+    pub atoms: Atoms,
     pub slots: Vec<Option<Kept>>,
-    pub is_used: bool,
 }
 
 /// The slot for these values of the atoms.
@@ -66,59 +57,19 @@ fn kept_at(slots: &[Option<Kept>], slot: usize) -> Option<&Kept>
     }
 }
 
-fn start_at(starts: &[usize], number: usize) -> Option<usize>
-    ensures { IfSome result (λ start. slice_get starts.now number ≡ Some start) }
-{
-    starts.get(number).copied()
-}
-
 impl Memo {
-    /// A memo that keeps nothing and answers nothing.
-    #[tactic(auto, using(crate::proofs::Memos::unused))]
-    fn unused(alloc: Global) -> Memo
-        ensures { (filters : List (Option Expr)) (text_of : List Datum → List ℕ) → spec.IsMemoOf filters text_of result }
-    {
-        Memo {
-            alloc,
-            parts: Vec::new(alloc),
-            plan: Plan {
-                branches: Vec::new(alloc),
-                starts: Vec::new(alloc),
-            },
-            all_breakpoints: Vec::new(alloc),
-            cells: Cells {
-                buckets: Vec::new(alloc),
-                intervals: Vec::new(alloc),
-            },
-            slots: Vec::new(alloc),
-            is_used: false,
-        }
-    }
-
     /// An empty memo of texts that depend only on the values of these filters. The only error is out of memory.
     pub fn new(alloc: Global, filters: &[Option<&Filter>]) -> Result<Memo, AllocError>
         ensures { IfOk result (λ memo. (text_of : List Datum → List ℕ)
             → spec.Follows (filters_view filters.now) text_of
             → spec.IsMemoOf (filters_view filters.now) text_of memo) }
     {
-        let parts = parts_of(alloc, filters)?;
-        let Some(plan) = plan_of(alloc, &parts, filters)? else {
-            return Ok(Memo::unused(alloc));
-        };
-        let all_breakpoints = all_breakpoints_of(alloc, &parts)?;
-        if !are_told(&all_breakpoints, parts.len()) {
-            return Ok(Memo::unused(alloc));
-        }
-        let counts = cell_counts(&all_breakpoints);
-        let cells = Cells::new(alloc, counts.buckets, counts.intervals)?;
+        let atoms = Atoms::new(alloc, filters)?;
+        let count = if atoms.are_used() { TEXTS } else { 0 };
         Ok(Memo {
             alloc,
-            parts,
-            plan,
-            all_breakpoints,
-            cells,
-            slots: empty_slots(alloc, TEXTS)?,
-            is_used: true,
+            atoms,
+            slots: empty_slots(alloc, count)?,
         })
     }
 
@@ -129,7 +80,7 @@ impl Memo {
         ensures located { (filters : List (Option Expr)) (text_of : List Datum → List ℕ)
             → spec.IsMemoOf filters text_of self.old → spec.IsLocated self.new row.now result }
     {
-        look_all(&mut self.cells, &self.parts, &self.all_breakpoints, row)
+        self.atoms.look(row)
     }
 
     /// The value of a filter, given by its number, for the rows whose atoms have these values. If it is `None`, the
@@ -140,11 +91,7 @@ impl Memo {
             → spec.IsLocated self.now row said → slice_get filters number ≡ Some (Some filter)
             → answer ≡ meaning filter row) }
     {
-        if !self.is_used {
-            return None;
-        }
-        let start = start_at(&self.plan.starts, number)?;
-        run(&self.plan.branches, start, said)
+        self.atoms.answer(said, number)
     }
 
     /// The text of the rows whose atoms have these values, if the memo has it.
@@ -153,7 +100,7 @@ impl Memo {
             (row : List Datum) → spec.IsMemoOf filters text_of self.now → spec.IsLocated self.now row said
             → text.now ≡ text_of row) }
     {
-        if !self.is_used {
+        if !self.atoms.are_used() {
             return None;
         }
         let kept = kept_at(&self.slots, slot_of(said))?;
@@ -169,7 +116,7 @@ impl Memo {
             → spec.IsMemoOf filters text_of self.old → spec.IsLocated self.old row said
             → text.now ≡ text_of row → spec.IsMemoOf filters text_of self.new) }
     {
-        if !self.is_used {
+        if !self.atoms.are_used() {
             return Ok(());
         }
         let kept = Kept {

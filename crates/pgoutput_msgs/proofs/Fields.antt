@@ -53,14 +53,14 @@ chosen : {A : Type 0} (test : Bool) (fault : MsgError) (a b : A) (x rest : List 
 chosen true fault a b x rest e = absurd (never fault b rest e)
 chosen false fault a b x rest e = (refl, same_read a b x rest e)
 
-some_takes : (n : ℕ) (bytes x rest : List ℕ) → some n bytes ≡ Ok (x, rest) → (n ≤ length bytes)
+pub some_takes : (n : ℕ) (bytes x rest : List ℕ) → some n bytes ≡ Ok (x, rest) → (n ≤ length bytes)
     × ((take n bytes ≡ x) × (drop n bytes ≡ rest))
 unfolding some
 some_takes n bytes x rest e =
     let found = chosen (nat_lt (length bytes) n) Short (take n bytes) x (drop n bytes) rest e in
     (ltb-false _ _ found.0, found.1)
 
-some_again : (n : ℕ) (x rest : List ℕ) → length x ≡ n → some n (x ++ rest) ≡ Ok (x, rest)
+pub some_again : (n : ℕ) (x rest : List ℕ) → length x ≡ n → some n (x ++ rest) ≡ Ok (x, rest)
 unfolding some
 some_again n x rest is =
     let long : ltb (length (x ++ rest)) n ≡ false = le-ltb _ _ (omega (arith, length-append x rest)) in
@@ -168,10 +168,10 @@ exact_count32 =
 
 -- ---- texts
 
-abbrev is_zero : ℕ → Bool
+abbrev pub is_zero : ℕ → Bool
 is_zero n = n == 0
 
-abbrev NoZero : List ℕ → Type 0
+abbrev pub NoZero : List ℕ → Type 0
 NoZero text = ¬ Contains text 0
 
 -- how many bytes come before the first zero byte
@@ -237,7 +237,7 @@ zero_again x rest none =
     ∙ ap (λ (found : Option ℕ). cut_at found (x ++ (0 ∷ rest))) (position_is x rest none)
     ∙ ap (λ (y : List ℕ). done y (drop (length x + 1) (x ++ (0 ∷ rest)))) front ∙ ap (λ (y : List ℕ). done x y) behind
 
-exact_up_to_zero : Exact up_to_zero string NoZero
+pub exact_up_to_zero : Exact up_to_zero string NoZero
 unfolding up_to_zero
 exact_up_to_zero = record {
   takes = λ bytes x rest is_bytes e. cut_takes (position is_zero bytes) bytes x rest is_bytes refl e;

@@ -1,6 +1,7 @@
 pub mod Counting
 pub mod Everywhere
 pub mod Exact
+pub mod FaultLemmas
 pub mod Fields
 pub mod GatheringLemmas
 pub mod IntroducingLemmas
@@ -16,7 +17,12 @@ pub mod SeenMessageLemmas
 pub mod SentLemmas
 pub mod SilentLemmas
 pub mod SinkLemmas
+pub mod SparedLemmas
 pub mod SpellingLaws
+pub mod Stopping
+pub mod StoppingFields
+pub mod StoppingMessages
+pub mod StoppingRows
 pub mod TellingLemmas
 pub mod TextLemmas
 pub mod TransactionLemmas

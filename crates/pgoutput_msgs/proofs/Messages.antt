@@ -18,10 +18,10 @@ use Rattle.pgoutput_msgs.proofs.TupleRules.{many_all, old_letter, old_rest, exac
 
 -- ---- messages, after their letter
 
-abbrev Is : ℕ → Msg → Type 0
+abbrev pub Is : ℕ → Msg → Type 0
 Is first message = (msg_letter message ≡ first) × IsMessage message
 
-abbrev three : (ℕ × (ℕ × ℕ)) → List ℕ
+abbrev pub three : (ℕ × (ℕ × ℕ)) → List ℕ
 three f = int64 f.0 ++ (int64 f.1.0 ++ int64 f.1.1)
 
 begin_back : (x : Msg) → Is 66 x → (f : ℕ × (ℕ × ℕ))
@@ -45,7 +45,7 @@ exact_begin =
     (exact_both (big_endian w64) int64 (λ n. n < 2 ^ 64) (big_endian w32) int32
     (λ n. n < 2 ^ 32) exact_int64 exact_int32)) (λ f fits. (refl, (refl, fits))) begin_back
 
-abbrev no_flags : Msg → ℕ
+abbrev pub no_flags : Msg → ℕ
 no_flags message = 0
 
 commit_back : (x : Msg) → (no_flags x ≡ 0) × Is 67 x → (f : ℕ × (ℕ × ℕ))
@@ -59,7 +59,7 @@ commit_back (m.Delete a b) h = absurd (omega (arith, h.1.0))
 commit_back (m.Truncate a b) h = absurd (omega (arith, h.1.0))
 
 -- the fields of a commit after its flags
-abbrev commit_rest : Msg → List ℕ
+abbrev pub commit_rest : Msg → List ℕ
 commit_rest message = drop 1 (fields_spelling message)
 
 exact_commit_by : (flags : ℕ) → Exact (commit_by flags) commit_rest (λ x. (no_flags x ≡ flags) × Is 67 x)
@@ -75,7 +75,7 @@ exact_commit_by flags =
     (λ n. n < 2 ^ 64) exact_int64 exact_int64)) (λ f fits. (refl, (refl, (refl, fits)))) commit_back)
     (λ p. exact_fail (Unknown flags) commit_rest (λ x. (no_flags x ≡ flags) × Is 67 x) (λ x h. p (sym h.0)))
 
-commit_is : (x : Msg) → Is 67 x → 0 ∷ commit_rest x ≡ fields_spelling x
+pub commit_is : (x : Msg) → Is 67 x → 0 ∷ commit_rest x ≡ fields_spelling x
 commit_is (m.Begin a b c) h = absurd (omega (arith, h.0))
 commit_is (m.Commit a b c) h = refl
 commit_is (m.Relation a) h = absurd (omega (arith, h.0))
@@ -143,21 +143,21 @@ exact_insert =
     (λ f fits. (refl, (refl, fits))) insert_back
 
 -- what is sent of an old row, if anything, and a new row
-abbrev Rows : Type 0
+abbrev pub Rows : Type 0
 Rows = Option OldTuple × List Cell
 
-abbrev rows_letter : Rows → ℕ
+abbrev pub rows_letter : Rows → ℕ
 rows_letter (None, new) = 78
 rows_letter (Some old, new) = old_letter old
 
-abbrev rows_rest : Rows → List ℕ
+abbrev pub rows_rest : Rows → List ℕ
 rows_rest (None, new) = tuple_spelling new
 rows_rest (Some old, new) = old_rest old ++ new_spelling new
 
-abbrev rows_spelling : Rows → List ℕ
+abbrev pub rows_spelling : Rows → List ℕ
 rows_spelling f = maybe_old_spelling f.0 ++ new_spelling f.1
 
-abbrev AreRows : Rows → Type 0
+abbrev pub AreRows : Rows → Type 0
 AreRows f = IsMaybeOld f.0 × IsTuple f.1
 
 old_letter_apart : (o : OldTuple) → old_letter o ≡ 78 → ⊥
@@ -188,7 +188,7 @@ exact_rows_by kind =
     (exact_old_by kind) exact_new)
     (λ f fits. (refl, (fits.0.0, (fits.0.1, fits.1)))) (both_back kind apart))
 
-rows_is : (f : Rows) → rows_letter f ∷ rows_rest f ≡ rows_spelling f
+pub rows_is : (f : Rows) → rows_letter f ∷ rows_rest f ≡ rows_spelling f
 rows_is (None, new) = refl
 rows_is (Some old, new) = ap (λ (x : List ℕ). x ++ new_spelling new) (old_is old)
 
@@ -238,11 +238,11 @@ exact_delete =
     (λ f fits. (refl, (refl, fits))) delete_back
 
 -- how many tables a message empties
-abbrev tables_of : Msg → ℕ
+abbrev pub tables_of : Msg → ℕ
 tables_of (m.Truncate options relations) = length relations
 tables_of _ = 0
 
-abbrev truncate_rest : Msg → List ℕ
+abbrev pub truncate_rest : Msg → List ℕ
 truncate_rest (m.Truncate options relations) = int8 options ++ flat_map int32 relations
 truncate_rest _ = []
 
@@ -269,7 +269,7 @@ exact_truncate_by n few =
     (λ f fits. (refl, (fits.1.0, (refl, (subst (λ (k : ℕ). k < 2 ^ 31) (sym fits.1.0) few, (fits.0, fits.1.1))))))
     (truncate_back n)
 
-truncate_is : (x : Msg) → Is 84 x → int32 (tables_of x) ++ truncate_rest x ≡ fields_spelling x
+pub truncate_is : (x : Msg) → Is 84 x → int32 (tables_of x) ++ truncate_rest x ≡ fields_spelling x
 truncate_is (m.Begin a b c) h = absurd (omega (arith, h.0))
 truncate_is (m.Commit a b c) h = absurd (omega (arith, h.0))
 truncate_is (m.Relation a) h = absurd (omega (arith, h.0))

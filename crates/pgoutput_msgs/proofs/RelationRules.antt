@@ -50,10 +50,10 @@ no_identity kind p q r s i.Nothing h = q (sym h.0)
 no_identity kind p q r s i.Full h = r (sym h.0)
 no_identity kind p q r s i.Index h = s (sym h.0)
 
-abbrev nothing_more : {A : Type 0} → A → List ℕ
+abbrev pub nothing_more : {A : Type 0} → A → List ℕ
 nothing_more a = []
 
-abbrev Always : {A : Type 0} → A → Type 0
+abbrev pub Always : {A : Type 0} → A → Type 0
 Always a = Unit {0}
 
 exact_identity_by : (kind : ℕ)
@@ -76,10 +76,10 @@ byte_of_identity i.Nothing = omega arith
 byte_of_identity i.Full = omega arith
 byte_of_identity i.Index = omega arith
 
-abbrev letter_of : ReplicaIdentity → List ℕ
+abbrev pub letter_of : ReplicaIdentity → List ℕ
 letter_of x = int8 (identity_letter x)
 
-exact_identity : Exact identity_at letter_of Always
+pub exact_identity : Exact identity_at letter_of Always
 unfolding identity_at
 exact_identity = exact_as (byte >>= identity_by_letter) (λ x. (identity_letter x ∷ []) ++ [])
     (λ x. (identity_letter x < 256) × Unit {0}) letter_of Always
@@ -111,10 +111,10 @@ byte_of_flag : (x : Bool) → key_flag x < 256
 byte_of_flag false = omega arith
 byte_of_flag true = omega arith
 
-abbrev flag_of : Bool → List ℕ
+abbrev pub flag_of : Bool → List ℕ
 flag_of x = int8 (key_flag x)
 
-exact_flag : Exact key_flag_at flag_of Always
+pub exact_flag : Exact key_flag_at flag_of Always
 unfolding key_flag_at
 exact_flag = exact_as (byte >>= flag_by) (λ x. (key_flag x ∷ []) ++ []) (λ x. (key_flag x < 256) × Unit {0}) flag_of
     Always
@@ -130,16 +130,16 @@ unsigned_fits z fits = Fits-lt-pow (Fits-of_z fits)
 unsigned : (n : ℕ) → n < 2 ^ 32 → cast_unsigned w32 (cast_signed w32 n) ≡ n
 unsigned n fits = of_z-to_z w32 n fits
 
-abbrev column_fields : Type 0
+abbrev pub column_fields : Type 0
 column_fields = Bool × (List ℕ × (ℕ × ℕ))
 
-abbrev column_of : column_fields → RelationColumn
+abbrev pub column_of : column_fields → RelationColumn
 column_of f = record { is_key = f.0; name = f.1.0; type_oid = f.1.1.0; type_modifier = cast_signed w32 f.1.1.1 }
 
-abbrev FieldsFit : column_fields → Type 0
+abbrev pub FieldsFit : column_fields → Type 0
 FieldsFit f = Unit {0} × (IsName f.1.0 × ((f.1.1.0 < 2 ^ 32) × (f.1.1.1 < 2 ^ 32)))
 
-abbrev fields_of : column_fields → List ℕ
+abbrev pub fields_of : column_fields → List ℕ
 fields_of f = flag_of f.0 ++ (string f.1.0 ++ (int32 f.1.1.0 ++ int32 f.1.1.1))
 
 exact_column_fields : Exact (key_flag_at & string_at & big_endian w32 & big_endian w32) fields_of FieldsFit
@@ -152,7 +152,8 @@ exact_column_fields =
     (exact_both (big_endian w32) int32 (λ n. n < 2 ^ 32) (big_endian w32) int32
     (λ n. n < 2 ^ 32) exact_int32 exact_int32))
 
-column_made : (f : column_fields) → FieldsFit f → (fields_of f ≡ column_spelling (column_of f)) × IsColumn (column_of f)
+pub column_made : (f : column_fields) → FieldsFit f
+    → (fields_of f ≡ column_spelling (column_of f)) × IsColumn (column_of f)
 column_made f fits = (
   ap (λ (n : ℕ). flag_of f.0 ++ (string f.1.0 ++ (int32 f.1.1.0 ++ int32 n))) (sym (unsigned f.1.1.1 fits.1.1.1)),
   record { name = fits.1.0; type_oid = fits.1.1.0; type_modifier = signed_fits f.1.1.1 fits.1.1.1 },
@@ -171,12 +172,13 @@ column_back x fits =
       ),
     )
 
-exact_column : Exact column_at column_spelling IsColumn
+pub exact_column : Exact column_at column_spelling IsColumn
 unfolding column_at
 exact_column = exact_mapped (key_flag_at & string_at & big_endian w32 & big_endian w32) fields_of FieldsFit column_of
     column_spelling IsColumn exact_column_fields column_made column_back
 
-exact_columns : Exact relation_columns_at columns_spelling (λ columns. (length columns < 2 ^ 15) × All IsColumn columns)
+pub exact_columns : Exact relation_columns_at columns_spelling
+    (λ columns. (length columns < 2 ^ 15) × All IsColumn columns)
 unfolding relation_columns_at
 exact_columns = exact_then count16 (many column_at) int16 (flat_map column_spelling) (λ n. n < 2 ^ 15) (All IsColumn)
     length exact_count16

@@ -1,13 +1,12 @@
 -- Nothing is sent for a commit of which the subscriber gets nothing.
-use Rattle.std.proofs.Common.{◌≡◌, ℕ, Bool, true, false, ◌||◌, Option, Some, None, List, [], ◌∷◌, refl, sym, ap, ◌∙◌}
+use Rattle.std.proofs.Common.{◌≡◌, ℕ, Bool, true, false, ◌||◌, Option, Some, None, List, [], ◌∷◌, refl, ap}
 use Rattle.std.specs.Prelude.{is_some}
 use Rattle.replica_identity.specs.Transforms.{out_for}
 use Rattle.row_owners.specs.Owners.{concerns, is_for}
 use Rattle.shard_checker.specs.CheckedView.{CheckedOf, setting_in}
 use Rattle.table_changes.specs.Outs.{OutOf, got}
 use Rattle.table_changes.specs.Records.{ChangeOf}
-use Rattle.tables_log.specs.Commits.{CommitOf}
-use Rattle.pgoutput_msgs.specs.Silent.{IsSilent, QuietAreSilent}
+use Rattle.pgoutput_msgs.specs.Silent.{QuietAreSilent}
 use Rattle.pgoutput_msgs.specs.Telling.{said, told_by, said_each, told_each, enclosed}
 use Rattle.pgoutput_msgs.proofs.TellingLemmas.{got_none}
 
@@ -23,7 +22,8 @@ is_none : (out : Option OutOf) → is_some out ≡ false → None ≡ out
 is_none None none = refl
 is_none (Some out) none = absurd cc
 
-gets_none : (checked : CheckedOf) (subscriber : ℕ) (change : ChangeOf)
+-- the subscriber gets nothing of a change that isn't for it
+pub gets_none : (checked : CheckedOf) (subscriber : ℕ) (change : ChangeOf)
     → is_for checked.plan subscriber change ≡ false → got (setting_in checked) subscriber change ≡ None
 gets_none checked subscriber change none =
     got_none checked subscriber change checked.plan refl

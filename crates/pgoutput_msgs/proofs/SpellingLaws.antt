@@ -42,7 +42,7 @@ are_decoded message fits =
     ap (λ (bytes : List ℕ). all_read (message_at bytes)) (sym (append-nil (spelling_of message)))
     ∙ ap all_read (exact_message.again message [] fits)
 
-not_at_end : (message : Msg) (next : ℕ) (more : List ℕ) → all_read (Ok (message, next ∷ more)) ≡ Err Trailing
+pub not_at_end : (message : Msg) (next : ℕ) (more : List ℕ) → all_read (Ok (message, next ∷ more)) ≡ Err Trailing
 not_at_end message next more =
     ap (λ (test : Bool). if test then good message else Err Trailing)
     (not_true (length (next ∷ more) == 0) (λ e. let none = eqb-true (length (next ∷ more)) 0 e in omega (arith, none)))

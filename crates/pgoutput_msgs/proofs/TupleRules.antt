@@ -25,11 +25,11 @@ many_all rule spell Fits one n =
 
 -- ---- TupleData
 
-abbrev cell_letter : Cell → ℕ
+abbrev pub cell_letter : Cell → ℕ
 cell_letter Null = 110
 cell_letter (Text text) = 116
 
-abbrev cell_rest : Cell → List ℕ
+abbrev pub cell_rest : Cell → List ℕ
 cell_rest Null = []
 cell_rest (Text text) = sized text
 
@@ -70,7 +70,7 @@ byte_of_cell : (c : Cell) → cell_letter c < 256
 byte_of_cell Null = omega arith
 byte_of_cell (Text text) = omega arith
 
-exact_cell : Exact cell_at cell_spelling IsCell
+pub exact_cell : Exact cell_at cell_spelling IsCell
 unfolding cell_at
 exact_cell = exact_as (byte >>= cell_by) (λ c. (cell_letter c ∷ []) ++ cell_rest c)
     (λ c. (cell_letter c < 256) × IsCell c) cell_spelling IsCell
@@ -130,7 +130,7 @@ exact_old = exact_as (byte >>= old_by) (λ o. (old_letter o ∷ []) ++ old_rest 
     (exact_then byte old_by int8 old_rest (λ n. n < 256) IsOld old_letter exact_byte (λ kind _. exact_old_by kind))
     (λ o fits. (old_is o, fits.1)) (λ o fits. (byte_of_old o, fits))
 
-abbrev new_letter : List Cell → ℕ
+abbrev pub new_letter : List Cell → ℕ
 new_letter tuple = 78
 
 exact_new_by : (kind : ℕ) → Exact (new_by_letter kind) tuple_spelling (λ t. (new_letter t ≡ kind) × IsTuple t)

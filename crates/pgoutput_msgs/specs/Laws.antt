@@ -1,8 +1,10 @@
 -- What lets a reader separate spellings, and that a spelling is decoded as its message: PostgreSQL 15, 55.9. Logical
 -- Replication Message Formats.
 use Rattle.std.specs.Prelude.{◌≡◌, ◌<◌, ℕ, List, [], ◌∷◌, ◌++◌, get_or, Ok, Err}
+use Rattle.pgoutput_msgs.specs.declared.error.MsgError.{MsgError}
 use Rattle.pgoutput_msgs.specs.declared.error.MsgError.TheVariants.{Trailing}
 use Rattle.pgoutput_msgs.specs.declared.message.Msg.{Msg}
+use Rattle.pgoutput_msgs.specs.Faults.{HasFault}
 use Rattle.pgoutput_msgs.specs.Ranges.{IsMessage}
 use Rattle.pgoutput_msgs.specs.Reading.{decoded}
 use Rattle.pgoutput_msgs.specs.Spelling.{spelling_of}
@@ -33,3 +35,7 @@ DecodedAreSpellings = (bytes : List ℕ) (message : Msg) → IsBytes bytes → d
 abbrev pub NothingMayFollow : Type 0
 NothingMayFollow = (message : Msg) (next : ℕ) (more : List ℕ) → IsMessage message
     → decoded (spelling_of message ++ next ∷ more) ≡ Err Trailing
+
+-- a fault is true of the bytes
+abbrev pub FaultsAreTrue : Type 0
+FaultsAreTrue = (bytes : List ℕ) (fault : MsgError) → IsBytes bytes → decoded bytes ≡ Err fault → HasFault bytes fault

@@ -1,3 +1,4 @@
+pub mod Faults
 pub mod Introducing
 pub mod Laws
 pub mod Ranges

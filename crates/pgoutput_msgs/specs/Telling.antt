@@ -1,6 +1,6 @@
 -- The messages that report a commit to a subscriber: PostgreSQL 15, 55.5.3. Logical Replication Protocol Message Flow,
 -- and 55.9. Logical Replication Message Formats. OIDs are this project's own.
-use Rattle.std.specs.Prelude.{ℕ, ◌+◌, ◌*◌, negsuc, Bool, true, false, List, [], ◌∷◌, ◌++◌, map, slice_get, slice_index_or, slice_set, Option, Some, None}
+use Rattle.std.specs.Prelude.{ℕ, ◌+◌, negsuc, Bool, true, false, List, [], ◌∷◌, ◌++◌, map, slice_get, slice_index_or, slice_set, Option, Some, None}
 use Rattle.filter_tree.specs.declared.table.ColType.{ColType}
 use Rattle.filter_tree.specs.declared.table.ColType.TheVariants as k
 use Rattle.filter_tree.specs.declared.table.Column.{Column}

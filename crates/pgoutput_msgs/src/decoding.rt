@@ -1,7 +1,8 @@
 //! Messages from bytes.
 
-ghost use Rattle.std.specs.Prelude.{◌≡◌, ℕ, List, ◌∷◌, ◌++◌, IfOk, Ok, Err};
+ghost use Rattle.std.specs.Prelude.{◌≡◌, ℕ, List, ◌∷◌, ◌++◌, IfOk, IfErr, Ok, Err};
 ghost use Rattle.filter_tree.specs.Memory.{Answers};
+ghost use Rattle.pgoutput_msgs.specs.Faults.{HasFault};
 ghost use Rattle.pgoutput_msgs.specs.Spelling.{spelling_of};
 ghost use Rattle.pgoutput_msgs.specs.Ranges.{IsMessage};
 ghost use Rattle.pgoutput_msgs.specs.Reading.{Reads, message_at, decoded, msg_fault};
@@ -20,8 +21,9 @@ use std::alloc::Global;
 
 /// The message that all of the bytes spell. If they spell none, the error is the first fault from the left: a byte that
 /// can't be there (`Unknown`), a value that was left out (`Toast`), a negative count or length (`BadCount`), bytes that
-/// are missing (`Short`), a name or text that isn't UTF-8 (`BadText`), bytes after the message (`Trailing`). Out of
-/// memory may be returned in place of any of these.
+/// are missing (`Short`), a name or text that isn't UTF-8 (`BadText`), bytes after the message (`Trailing`). A message
+/// may begin with what is before the fault, and none goes on like the bytes there (`fault`). Out of memory may be
+/// returned in place of any of these.
 ///
 /// PostgreSQL 15, 55.9. Logical Replication Message Formats.
 pub fn decode(alloc: Global, bytes: &[u8]) -> Result<Msg, MsgError>
@@ -31,6 +33,7 @@ pub fn decode(alloc: Global, bytes: &[u8]) -> Result<Msg, MsgError>
         → Answers (λ m. m) msg_fault (Ok message) result }
     ensures trailing { (message : Msg) (next : ℕ) (more : List ℕ) → IsMessage message
         → bytes.now ≡ spelling_of message ++ next ∷ more → Answers (λ m. m) msg_fault (Err MsgError.Trailing) result }
+    ensures fault { IfErr result (λ error. HasFault bytes.now error) }
 {
     whole(alloc, bytes)
 }

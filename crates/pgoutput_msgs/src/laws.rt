@@ -6,7 +6,7 @@ ghost use Rattle.pgoutput_msgs.specs.SeenMessages.{MessagesTellWhatIsSeen};
 ghost use Rattle.pgoutput_msgs.specs.Sent.{MessagesAreReadBack};
 ghost use Rattle.pgoutput_msgs.specs.Silent.{QuietAreSilent};
 ghost use Rattle.pgoutput_msgs.specs.Transactions.{CommitsTellTransactions};
-ghost use Rattle.pgoutput_msgs.specs.Laws.{NoneIsProperPrefix, EachSpellsOne, SpellingsAreDecoded, DecodedAreSpellings, NothingMayFollow};
+ghost use Rattle.pgoutput_msgs.specs.Laws.{NoneIsProperPrefix, EachSpellsOne, SpellingsAreDecoded, DecodedAreSpellings, NothingMayFollow, FaultsAreTrue};
 
 /// A law about spellings: a function without an effect whose contract states it. No message's spelling is a proper
 /// prefix of another's, and no two messages are spelled alike. So whoever reads spellings one after another can tell
@@ -21,11 +21,12 @@ pub fn no_spelling_begins_another()
 {}
 
 /// A law about decoding: a spelling is decoded as its message, what is decoded has that spelling, and a spelling with
-/// bytes after it is refused because of them.
+/// bytes after it is refused because of them. If the bytes have a fault, it is true of them.
 pub fn spellings_are_decoded()
     ensures decoded { SpellingsAreDecoded }
     ensures spelled { DecodedAreSpellings }
     ensures alone { NothingMayFollow }
+    ensures faults { FaultsAreTrue }
 {}
 
 /// A law about rows: the tuple of a row whose values are null or of their columns' types is read back as that row,

@@ -5,6 +5,7 @@ ghost use Rattle.pub_catalog.specs.CatalogLimits.{IsLimitedTable};
 ghost use Rattle.replica_identity.specs.ChangeView.{change_view};
 ghost use Rattle.replica_identity.specs.Plans.{plan_view};
 ghost use Rattle.replica_identity.specs.Transforms.{takes_any};
+ghost use Rattle.row_owners.specs.Owners.{AreOwners};
 ghost use Rattle.shard_checker.specs.CheckedView.{checked_view, setting_in};
 ghost use Rattle.table_changes.specs.Outs as outs;
 ghost use Rattle.table_changes.specs.Outs.{got};
@@ -21,6 +22,7 @@ use crate::spoken::Spoken;
 use crate::transaction::{begin_message, commit_message};
 use filter_tree::Table;
 use replica_identity::{Change, Out, Plan, carries, transform};
+use row_owners::{OwnerSet, is_spared};
 use shard_checker::Checked;
 use std::alloc::{AllocError, Global};
 use tables_log::Commit;
@@ -56,6 +58,7 @@ pub fn messages_of(
         checked,
         subscriber,
         commit.changes(),
+        &[],
         after.as_mut_slice(),
         &mut spoken,
     )?;
@@ -90,8 +93,9 @@ fn tables_of(checked: &Checked) -> &[Table]
 
 /// Reports to the subscriber of this number the changes of a commit that are for it, and tables whose Relation was not
 /// sent: the messages between Begin and Commit of `messages_of`, which a sink takes one after the other.
-/// `relation_sent` is, for each table by its number, whether its Relation was sent. The only error is out of memory;
-/// then `sink` has taken the first few messages.
+/// `relation_sent` is, for each table by its number, whether its Relation was sent. `owners` are the subscribers that get
+/// something from each of the first changes; a change that isn't for the subscriber by its set isn't looked at. The only
+/// error is out of memory; then `sink` has taken the first few messages.
 ///
 /// PostgreSQL 15, 55.5.3. Logical Replication Protocol Message Flow.
 pub fn tell_changes<S: MessageSink>(
@@ -99,9 +103,11 @@ pub fn tell_changes<S: MessageSink>(
     checked: &Checked,
     subscriber: usize,
     commit: &Commit,
+    owners: &[OwnerSet],
     relation_sent: &mut [bool],
     sink: &mut S,
 ) -> Result<(), AllocError>
+    requires { AreOwners (checked_view checked.now).plan commit.now.changes owners.now }
     ensures said { OnOk result (Takes S.takes_one sink.old sink.new
         (spec.said_each (checked_view checked.now) subscriber relation_sent.old commit.now.changes)) }
     ensures relation_sent { OnOk result
@@ -112,28 +118,34 @@ pub fn tell_changes<S: MessageSink>(
         checked,
         subscriber,
         commit.changes(),
+        owners,
         relation_sent,
         sink,
     )?;
     Ok(())
 }
 
-/// Reports changes to the subscriber, one after the other.
+/// Reports changes to the subscriber, one after the other. Those that are only for others are passed over.
 fn tell_each<S: MessageSink>(
     alloc: Global,
     checked: &Checked,
     subscriber: usize,
     changes: &[Change],
+    owners: &[OwnerSet],
     relation_sent: &mut [bool],
     sink: &mut S,
 ) -> Result<(), AllocError>
-    requires { All IsSendableChange (map change_view changes.now) }
+    requires sendable { All IsSendableChange (map change_view changes.now) }
+    requires owners { AreOwners (checked_view checked.now).plan (map change_view changes.now) owners.now }
     ensures said { OnOk result (Takes S.takes_one sink.old sink.new
         (spec.said_each (checked_view checked.now) subscriber relation_sent.old (map change_view changes.now))) }
     ensures relation_sent { OnOk result (relation_sent.new
         ≡ spec.told_each (checked_view checked.now) subscriber relation_sent.old (map change_view changes.now)) }
 {
-    for change in changes {
+    for (place, change) in changes.iter().enumerate() {
+        if is_spared(owners, place, subscriber) {
+            continue;
+        }
         tell_change(alloc, checked, subscriber, change, relation_sent, sink)?;
     }
     Ok(())

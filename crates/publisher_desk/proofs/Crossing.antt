@@ -41,7 +41,7 @@ module _ (Q : RattleType) (p : pub_.Ghosts Q.Denot) (l : led.Ghosts Q.Denot) whe
     search sendable,
     (
       Arc-sync C.the_row checked_send checked_sync,
-      (search (desk_send, crosses), (moved_sync, tt)),
+      (search (desk_send, crosses), (moved_sync, (search sendable, tt))),
     ),
   )
 

@@ -9,7 +9,7 @@ use Rattle.tables_log.specs.BookView.{book_checked, book_log, book_slots}
 use Rattle.tables_log.specs.Commits.{CommitOf}
 use Rattle.tables_log.specs.Committing.{ChangesSlots}
 use Rattle.tables_log.specs.Logs.{entry_at}
-use Rattle.tables_log.specs.Routes.{ArePassed, passed_over}
+use Rattle.tables_log.specs.Routes.{ArePassed, IsRouted, commit_in, passed_over}
 use Rattle.tables_log.specs.Slots.{end_after}
 use Rattle.tables_log.specs.StandsFor.{Transaction, StandsFor}
 use Rattle.tables_log.specs.declared.book.Book.{Book}
@@ -57,7 +57,7 @@ pub record LendsTo {U A : Type 0} (did : U → U → Book → Book → List Conn
 
 -- how many commits a step tells of or passes over
 abbrev pub commits_in : Step → ℕ
-commits_in (Entry commit) = 1
+commits_in (Entry entry) = 1
 commits_in (Skip commits) = length commits.items
 commits_in Reply = 0
 commits_in Ended = 0
@@ -68,8 +68,8 @@ commits_in OutOfMemory = 0
 -- the log's entry of this number only if the slot's subscriber gets something of it. Otherwise it passes over that entry
 -- and those after it, up to the first of which the subscriber gets something, and at most 64.
 abbrev pub IsStepOf : PlanOf → ℕ → List CommitOf → ℕ → Step → Type 0
-IsStepOf plan slot log number (Entry commit) =
-    (entry_at log number ≡ Some (arc_value commit)) × (concerns plan (arc_value commit).changes slot ≡ true)
+IsStepOf plan slot log number (Entry entry) =
+    (entry_at log number ≡ Some (commit_in entry)) × (concerns plan (commit_in entry).changes slot ≡ true)
 IsStepOf plan slot log number (Skip commits) =
     (map (λ commit. arc_value commit) commits.items ≡ passed_over plan slot log (number - 1))
     × (0 < length commits.items)
@@ -78,11 +78,11 @@ IsStepOf plan slot log number Ended = Unit {0}
 IsStepOf plan slot log number Finished = entry_at log number ≡ None
 IsStepOf plan slot log number OutOfMemory = Unit {0}
 
--- And outside the lock: of a commit of this number; or of commits from this number on, of which the subscriber gets
--- nothing.
+-- And outside the lock: of an entry of this number, with exactly the subscribers that get something of it; or of
+-- commits from this number on, of which the subscriber gets nothing.
 abbrev pub IsNext : PlanOf → ℕ → ℕ → Step → Type 0
-IsNext plan slot number (Entry commit) =
-    ((arc_value commit).number ≡ number) × (concerns plan (arc_value commit).changes slot ≡ true)
+IsNext plan slot number (Entry entry) =
+    ((commit_in entry).number ≡ number) × (concerns plan (commit_in entry).changes slot ≡ true) × IsRouted plan entry
 IsNext plan slot number (Skip commits) =
     ArePassed plan slot (number - 1) (map (λ commit. arc_value commit) commits.items)
 IsNext plan slot number Reply = Unit {0}

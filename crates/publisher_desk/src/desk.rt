@@ -108,7 +108,7 @@ fn commit_number(number: u64) -> Option<u32>
 }
 
 /// The next step of the slot's sender, which has sent all commits before this number, and the number of the last commit
-/// in it; none at the log's end. It fails only if memory is refused or a commit is shared too often.
+/// in it; none at the log's end. It fails only if memory is refused or an entry is shared too often.
 fn next_commits(book: &Book, slot: usize, number: u32) -> Result<Option<(Step, u32)>, AllocError>
     requires few { slot < 32 }
     requires some { 1 ≤ number }
@@ -125,10 +125,10 @@ fn next_commits(book: &Book, slot: usize, number: u32) -> Result<Option<(Step, u
         let last = last.number();
         return Ok(Some((Step::Skip(passed), last)));
     }
-    let Some(commit) = book.shared(number)? else {
+    let Some(entry) = book.routed(number)? else {
         return Ok(None);
     };
-    Ok(Some((Step::Entry(commit), number)))
+    Ok(Some((Step::Entry(entry), number)))
 }
 
 impl<P: Publishing> Desk<P> {
@@ -305,18 +305,25 @@ impl<P: Publishing> Desk<P> {
         self.book.concerned(number)
     }
 
-    /// The slots whose sender is to pass over commits before it waits further: at each multiple of `TOGETHER`, those that
-    /// are so many commits behind that of this number.
-    pub(crate) fn behind(&self, number: u32) -> OwnerSet {
+    /// The slots whose sender has something to do since the commit of this number: those whose subscriber gets something
+    /// of it, and at each multiple of `TOGETHER`, those that are so many commits behind.
+    pub(crate) fn waiting(&self, number: u32) -> OwnerSet {
+        let mut slots = self.concerned(number);
+        slots.join(self.behind(number, TOGETHER));
+        slots
+    }
+
+    /// At each multiple of `batch`, the slots whose sender is so many commits behind that of this number; none at another.
+    pub(crate) fn behind(&self, number: u32, batch: u32) -> OwnerSet {
         let mut slots = OwnerSet::none();
-        if number % TOGETHER != 0 {
+        if batch == 0 || number % batch != 0 {
             return slots;
         }
         for (slot, connection) in self.connections.iter().enumerate() {
             if slot < 32 {
                 let sent = Lsn::new(connection.sent).commits_before();
                 let behind = u64::from(number).saturating_sub(sent);
-                slots.put(slot, behind >= u64::from(TOGETHER));
+                slots.put(slot, behind >= u64::from(batch));
             }
         }
         slots

@@ -21,6 +21,12 @@ use std::sync::{Arc, Mutex, Wait};
 use table_changes::Command;
 use tables_log::{Book, CommitError};
 
+/// A commit of fewer commands is small.
+const SMALL: usize = 8;
+
+/// How many small commits make a batch.
+const BATCH: u32 = 1_024;
+
 /// A publisher that several threads share. Its book is behind one lock: each time that a thread gets it, the book is of
 /// the checked catalog that the publisher was made from and of some list of transactions, and the number of its commits
 /// is the total of a ledger whose shares are the seats' counts of receipts. Contracts see the number of its tables.
@@ -32,6 +38,7 @@ pub struct Publisher<P: Publishing> {
     checked: Arc<Checked, Global>,
     desk: Mutex<Desk<P>>,
     moved: Moved,
+    is_batched: bool,
 }
 
 impl<P: Publishing> Model for Publisher<P> {
@@ -94,8 +101,17 @@ impl<P: Publishing> Publisher<P> {
             checked,
             desk: Mutex::new(desk),
             moved: Moved::new(alloc, slots)?,
+            is_batched: false,
         };
         Ok((publisher, Seats::new(alloc, share)))
+    }
+
+    /// From now on small commits wake senders in batches: at every 1,024th commit, and when the publisher is finished. It
+    /// is for commits that are all there before the first one is made; others would wait for their batch.
+    pub fn wake_in_batches(&mut self)
+        ensures { self.new ≡ self.old }
+    {
+        self.is_batched = true;
     }
 
     /// Makes the commands one transaction, and logs it with this time, in microseconds since 2000-01-01. The answer is
@@ -129,17 +145,20 @@ impl<P: Publishing> Publisher<P> {
             token,
         } = seat;
         notes.reserve(1)?;
+        let is_small = commands.len() < SMALL;
         let mut desk = self.desk.lock(rt);
         let receipt = match desk.commit(mark, token, commands, time) {
             Ok(receipt) => receipt,
             Err(error) => return Err(error),
         };
         let number = receipt.number();
-        let concerned = desk.concerned(number);
-        let behind = desk.behind(number);
+        let waiting = if self.is_batched && is_small {
+            desk.behind(number, BATCH)
+        } else {
+            desk.waiting(number)
+        };
         drop(desk);
-        self.moved.wake(concerned);
-        self.moved.wake(behind);
+        self.moved.wake(waiting);
         *high = (*high).max(number);
         notes.push_reserved(Note::Committed(receipt));
         Ok(number)
@@ -296,6 +315,7 @@ impl<P: Publishing> Publisher<P> {
             checked: _,
             desk,
             moved: _,
+            is_batched: _,
         } = self;
         desk.into_inner().into_counted(share, seats)
     }

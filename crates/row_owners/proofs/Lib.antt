@@ -1,2 +1,4 @@
 pub mod BitLemmas
+pub mod Crossing
 pub mod OwnerLemmas
+pub mod RouterLemmas

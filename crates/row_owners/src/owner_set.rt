@@ -29,6 +29,14 @@ impl OwnerSet {
         }
     }
 
+    /// Puts the subscribers of another set into the set.
+    #[tactic(auto, using(crate::proofs::BitLemmas::both_owned))]
+    pub fn join(&mut self, other: OwnerSet)
+        ensures { (subscriber : ℕ) → owned self.new subscriber ≡ (owned self.old subscriber || owned other subscriber) }
+    {
+        self.bits |= other.bits;
+    }
+
     /// Whether the set has the subscriber.
     #[tactic(auto, using(crate::proofs::BitLemmas::bit_tested))]
     pub fn has(self, subscriber: usize) -> bool

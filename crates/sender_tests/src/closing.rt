@@ -19,6 +19,8 @@ pub(crate) enum Lacks {
     Seat,
     /// Two commits, and a finished connection that took the first alone.
     Taken,
+    /// Two commits, and a finished connection that started after the first, and took the second.
+    Start,
     /// Two commits, a finished connection that took them, and 100,000 readings.
     Nothing,
 }
@@ -30,7 +32,7 @@ fn given<P: Publishing, R: Wait>(
     number: u64,
 ) -> Option<Arc<Commit, Global>> {
     match publisher.next_step(rt, 0, number) {
-        Step::Entry(commit) => Some(commit),
+        Step::Entry(entry) => Some(entry.into_commit()),
         Step::Skip(_) | Step::Reply | Step::Ended | Step::Finished | Step::OutOfMemory => None,
     }
 }
@@ -51,9 +53,43 @@ pub(crate) fn finished<P: Publishing, R: Wait>(
     Ok(Served {
         slot: Some(0),
         start: Some(0),
+        is_requested: false,
         taken,
         end: End::Finished,
     })
+}
+
+/// A finished connection that started after the first commit, and took the second.
+fn finished_late<P: Publishing, R: Wait>(
+    rt: &R,
+    alloc: Global,
+    publisher: &Publisher<P>,
+) -> Result<Served, AllocError> {
+    let mut taken = Vec::new(alloc);
+    if let Some(commit) = given(rt, publisher, 2) {
+        taken.push(commit)?;
+    }
+    Ok(Served {
+        slot: Some(0),
+        start: Some(128),
+        is_requested: false,
+        taken,
+        end: End::Finished,
+    })
+}
+
+/// The connection with which a publisher of two commits is closed.
+fn connection<P: Publishing, R: Wait>(
+    rt: &R,
+    alloc: Global,
+    publisher: &Publisher<P>,
+    lacks: Lacks,
+) -> Result<Served, AllocError> {
+    match lacks {
+        Lacks::Start => finished_late(rt, alloc, publisher),
+        Lacks::Taken => finished(rt, alloc, publisher, 1),
+        Lacks::All | Lacks::Seat | Lacks::Nothing => finished(rt, alloc, publisher, 2),
+    }
 }
 
 /// Makes two commits.
@@ -115,8 +151,7 @@ fn expect_two<P: Publishing, R: Wait + Abort>(
     if lacks == Lacks::Nothing && read_often(rt, alloc, &publisher, &mut seat).is_none() {
         return Err(Fail::from("no row is read"));
     }
-    let count = if lacks == Lacks::Taken { 1 } else { 2 };
-    let served = vec![in alloc; finished(rt, alloc, &publisher, count)?]?;
+    let served = vec![in alloc; connection(rt, alloc, &publisher, lacks)?]?;
     let mut list = Vec::new(alloc);
     if lacks != Lacks::Seat {
         list.push(seat)?;
@@ -124,6 +159,7 @@ fn expect_two<P: Publishing, R: Wait + Abort>(
     let wanted = match lacks {
         Lacks::Seat => Some(CloseError::CountDiffers),
         Lacks::Taken => Some(CloseError::TakenDiffers),
+        Lacks::Start => Some(CloseError::StartLate),
         Lacks::All | Lacks::Nothing => None,
     };
     same(rt, answer(publisher, seats, list, served), wanted);

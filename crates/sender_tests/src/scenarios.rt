@@ -123,7 +123,13 @@ fn commits_that_wait_are_written_at_once(rt: HostRuntime) -> Result<(), Fail> {
 
 #[test]
 fn a_publisher_is_closed_where_all_agree(rt: HostRuntime) -> Result<(), Fail> {
-    for lacks in [Lacks::All, Lacks::Seat, Lacks::Taken, Lacks::Nothing] {
+    for lacks in [
+        Lacks::All,
+        Lacks::Seat,
+        Lacks::Taken,
+        Lacks::Start,
+        Lacks::Nothing,
+    ] {
         expect(&rt, rt.alloc(), HALVES, HALVES_SPLIT, Use::Closing(lacks))?;
     }
     Ok(())

@@ -25,12 +25,13 @@ use Rattle.publisher_desk.specs.Seats.{receipts, AreTimed, IsForward}
 use Rattle.publisher_desk.specs.declared.note.Note.{Note}
 use Rattle.publisher_desk.specs.declared.note.Note.TheVariants.{Committed, Looked}
 use Rattle.publisher_desk.specs.declared.note.Reading.{Reading}
-use Rattle.senders.specs.CloseCauses.{IsMissing, IsRepeated, IsNotLogged, IsToldBy, HasWrongReading, HasOtherTaken, IsCloseCause, IsHeldBack, RefusedClose}
+use Rattle.senders.specs.CloseCauses.{IsMissing, IsRepeated, IsNotLogged, IsToldBy, HasWrongReading, HasLateStart, HasOtherTaken, IsCloseCause, IsHeldBack, RefusedClose}
 use Rattle.senders.specs.Closing.{IsClosed}
 use Rattle.publisher_desk.specs.Logged.{RiseTo}
 use Rattle.senders.specs.Gathering.{receipts_in, all_receipts, all_readings, numbers_of, IsRising}
 use Rattle.senders.specs.Histories.{AreInOrder, IsRight}
 use Rattle.senders.specs.Replays.{Replays, IsAsLong, IsUnlikeIn}
+use Rattle.senders.specs.Reached.{AreReached}
 use Rattle.senders.specs.TakenCommits.{IsTaken}
 use Rattle.senders.specs.declared.close_error.CloseError.{CloseError}
 use Rattle.senders.specs.declared.close_error.CloseError.TheVariants as f
@@ -117,6 +118,7 @@ unlike_cause book seats served order f.ReceiptMissing ordered long unlike =
     (long_count book seats order ordered long, IsNotLogged order ordered unlike)
 unlike_cause book seats served order f.ReadingWrong ordered long unlike = absurd unlike
 unlike_cause book seats served order f.TakenDiffers ordered long unlike = absurd unlike
+unlike_cause book seats served order f.StartLate ordered long unlike = absurd unlike
 unlike_cause book seats served order f.OutOfMemory ordered long unlike = tt
 
 module _ (book fresh : Book) (seats : List (List Note)) (order : List ReceiptOf) (ordered : AreInOrder seats order)
@@ -153,10 +155,25 @@ module _ (book fresh : Book) (seats : List (List Note)) (order : List ReceiptOf)
         subst (λ (log : List CommitOf). ¬ All (IsTaken log) served) all.1 other;
   }
 
+  late_cause : (served : List Served)
+      → All (IsRight (book_setting book) (transactions_of order)) (all_readings seats)
+      → All (IsTaken (book_log fresh)) served
+      → ¬ AreReached (length (book_checked book).catalog.subscriptions) served → HasLateStart book seats served
+  unfolding told_by
+  late_cause served right taken late = record {
+    order = order;
+    told = told_by;
+    right = right;
+    taken = let all = replays_all book fresh order replayed long count in
+        subst (λ (log : List CommitOf). All (IsTaken log) served) all.1 taken;
+    late = late;
+  }
+
   is_closed : (served : List Served) → All (IsRight (book_setting book) (transactions_of order)) (all_readings seats)
       → All (IsTaken (book_log fresh)) served
+      → AreReached (length (book_checked book).catalog.subscriptions) served
       → All IsForward seats → All AreTimed seats → IsClosed (book_checked book) (book_limit book) seats served fresh
-  is_closed served right taken forward timed = record {
+  is_closed served right taken reached forward timed = record {
     timed = timed;
     named = replayed.named;
     limited = replayed.limited;
@@ -169,6 +186,7 @@ module _ (book fresh : Book) (seats : List (List Note)) (order : List ReceiptOf)
     right = right;
     forward = forward;
     taken = taken;
+    reached = reached;
   }
 
 -- ---- what is compared, where lists are seen as slices
@@ -233,12 +251,20 @@ module _ (book fresh : Book) (seats : List (List Note)) (receipts seen : List (B
           taken_cause book fresh seats (map (λ (one : Bor ReceiptOf). one.now) seen) seen_ordered seen_long replayed
           seen_count served seen_right other
 
-      pub closed_compared : All (IsTaken (book_log fresh)) served → All IsForward seats → All AreTimed seats
-          → IsClosed (book_checked book) (book_limit book) seats served fresh
+      pub late_compared : All (IsTaken (book_log fresh)) served
+          → ¬ AreReached (length (book_checked book).catalog.subscriptions) served → HasLateStart book seats served
       unfolding seen_count seen_ordered seen_long seen_right
-      closed_compared taken forward timed =
+      late_compared taken late =
+          late_cause book fresh seats (map (λ (one : Bor ReceiptOf). one.now) seen) seen_ordered seen_long replayed
+          seen_count served seen_right taken late
+
+      pub closed_compared : All (IsTaken (book_log fresh)) served
+          → AreReached (length (book_checked book).catalog.subscriptions) served → All IsForward seats
+          → All AreTimed seats → IsClosed (book_checked book) (book_limit book) seats served fresh
+      unfolding seen_count seen_ordered seen_long seen_right
+      closed_compared taken reached forward timed =
           is_closed book fresh seats (map (λ (one : Bor ReceiptOf). one.now) seen) seen_ordered seen_long replayed
-          seen_count served seen_right taken forward timed
+          seen_count served seen_right taken reached forward timed
 
 -- ---- the closed book
 
@@ -258,6 +284,7 @@ still_closed checked limit seats served old new changes closed = record {
   forward = closed.forward;
   timed = closed.timed;
   taken = subst (λ (log : List CommitOf). All (IsTaken log) served) (sym changes.log) closed.taken;
+  reached = closed.reached;
 }
 
 pub closed_as_named : (checked : CheckedOf) (limit : ℕ) (book fresh new : Book) (seats seen : List (List Note))
@@ -295,6 +322,7 @@ held_back book all left seats served f.CountDiffers counted cause = by_test (ltb
 held_back book all left seats served f.ReceiptMissing counted cause = tt
 held_back book all left seats served f.ReadingWrong counted cause = tt
 held_back book all left seats served f.TakenDiffers counted cause = tt
+held_back book all left seats served f.StartLate counted cause = tt
 held_back book all left seats served f.OutOfMemory counted cause = tt
 
 module _ (checked : CheckedOf) (limit all left : ℕ) (book : Book) (seats : List (List Note)) (served : List Served)

@@ -14,11 +14,11 @@ use Rattle.copy_both.specs.HeardFrames.{AsksIfStarted, GoesOnOrEnds, HasLinkFaul
 use Rattle.copy_both.specs.declared.ear.Ear.{Ear}
 use Rattle.copy_both.specs.declared.heard.Heard.{Heard}
 use Rattle.copy_both.specs.declared.link_fault.LinkFault.{LinkFault}
-use Rattle.copy_both.proofs.PiecesHeard.{pieces_are_heard}
+use Rattle.copy_both.proofs.PiecesHeard.{late_starts_are_requested, pieces_are_heard, requests_stay}
 use Rattle.copy_both.specs.Hearing.{first_sent}
 use Rattle.publisher_desk.specs.declared.connection_state.ConnectionState.{ConnectionState}
 use Rattle.senders.specs.Hearing.{HearsPiece, IsExplained, IsSentFrom, StaysStarted, sent_after, sent_by}
-use Rattle.senders.specs.Listening.{EndsOf, HeardPiece, HearsLast, HearsMore, HearsNext, next_by, next_by_end, piece_of}
+use Rattle.senders.specs.Listening.{EndsOf, HasListened, HeardPiece, HearsLast, HearsMore, HearsNext, SaysOfPiece, SaysRequested, next_by, next_by_end, piece_of}
 use Rattle.senders.specs.declared.failed.Failed.{Failed}
 use Rattle.senders.specs.Pieces.{Pulls, PullsNothing, PullsPiece}
 use Rattle.senders.specs.declared.listener_end.ListenerEnd.{ListenerEnd}
@@ -80,6 +80,32 @@ hears_piece checked before after old new connections heard is did = record {
       };
 }
 
+-- ---- the requested start
+
+says_of_piece : (checked : CheckedOf) (before after : Listener) (old new : Book) (connections : List ConnectionState)
+    (heard : Result Heard LinkFault) → IsBookFor checked old → HeardPiece before after old new connections heard
+    → (bytes : List ℕ) → HasListened checked bytes before → (was : Option (ℕ × ℕ)) → ear_started before.ear ≡ was
+    → SaysRequested (bytes ++ piece_of before) after
+says_of_piece checked before after old new connections heard is did bytes has None none slot start started says =
+    late_starts_are_requested checked bytes (piece_of before) before.ear after.ear old new
+    (sent_by (ear_started before.ear) connections) heard has.heard is did.left none slot start started
+    (did.compares.late none slot start started says)
+says_of_piece checked before after old new connections heard is did bytes has (Some was) some slot start started says =
+    let on = pieces_are_heard checked bytes (piece_of before) before.ear after.ear old new
+    (sent_by (ear_started before.ear) connections) heard has.heard is did.answer did.left in
+    let both : Some was ≡ Some (slot, start) = sym (on.stays was some) ∙ started in
+    let same : was ≡ (slot, start) = cc in
+    requests_stay checked bytes (piece_of before) before.ear slot start has.heard
+    (has.requested slot start (some ∙ ap (λ (s : ℕ × ℕ). Some s) same) (sym (did.compares.stays was some) ∙ says))
+
+pub says_requested : (checked : CheckedOf) (before after : Listener) (old new : Book)
+    (connections : List ConnectionState) (heard : Result Heard LinkFault) → IsBookFor checked old
+    → HeardPiece before after old new connections heard → SaysOfPiece checked (piece_of before) before after
+says_requested checked before after old new connections heard is did = record {
+  each = λ bytes has.
+      says_of_piece checked before after old new connections heard is did bytes has (ear_started before.ear) refl;
+}
+
 -- ---- a read
 
 asks_on : (checked : CheckedOf) (bytes : List ℕ) (started : Option (ℕ × ℕ))
@@ -91,16 +117,25 @@ pub has_asked : (checked : CheckedOf) (bytes : List ℕ) (ear : Ear) → HasHear
     → AsksIfStarted checked (frames_in bytes) (ear_started ear)
 has_asked checked bytes ear has = asks_on checked bytes (ear_started ear) has.started
 
-same_ear : (checked : CheckedOf) (bytes : List ℕ) (old new : Ear) → new ≡ old → HasHeard checked bytes old
-    → HasHeard checked bytes new
-same_ear checked bytes old new same has = subst (HasHeard checked bytes) (sym same) has
+-- with the same ear, and said of it the same
+same_listened : (checked : CheckedOf) (bytes : List ℕ) (old new : Listener) → new.ear ≡ old.ear
+    → new.is_requested ≡ old.is_requested → HasListened checked bytes old → HasListened checked bytes new
+same_listened checked bytes old new same said has = record {
+  heard = subst (HasHeard checked bytes) (sym same) has.heard;
+  requested = λ slot start started says.
+      has.requested slot start (sym (ap ear_started same) ∙ started) (sym said ∙ says);
+}
 
 stays_from : (old middle new : Ear) → middle ≡ old → StaysStarted middle new → StaysStarted old new
 stays_from old middle new same stays = subst (λ (ear : Ear). StaysStarted ear new) same stays
 
 module _ (checked : CheckedOf) (left now_left : Option (List ℕ)) (failed ended : Bool) (old middle new : Listener)
     (pulls : PullsPiece left now_left (piece_of middle) old middle)
-    (room : length new.piece.items ≡ length middle.piece.items) where
+    (room : length new.piece.items ≡ length middle.piece.items)
+    (says : SaysOfPiece checked (piece_of middle) middle new) where
+  has_pulled : (bytes : List ℕ) → HasListened checked bytes old → HasListened checked bytes middle
+  has_pulled bytes has = same_listened checked bytes old middle pulls.ear pulls.same has
+
   by_end : (was_over : Bool) (heard : Heard) → HearsPiece checked (piece_of middle) middle.ear new.ear (Ok heard)
       → (kind : Option ℕ) → heard.ended ≡ kind
       → HearsNext checked left now_left failed ended old new (next_by_end was_over kind)
@@ -108,9 +143,13 @@ module _ (checked : CheckedOf) (left now_left : Option (List ℕ)) (failed ended
     more = piece_of middle;
     read = pulls.read;
     heard = λ bytes has.
-        let one = hears.each bytes (same_ear checked bytes old.ear middle.ear pulls.ear has) in
+        let listened = has_pulled bytes has in
+        let one = hears.each bytes listened.heard in
         record {
-          has = subst (GoesOnOrEnds checked (bytes ++ piece_of middle) new.ear) none one.explained;
+          has = record {
+            heard = subst (GoesOnOrEnds checked (bytes ++ piece_of middle) new.ear) none one.explained;
+            requested = says.each bytes listened;
+          };
           stays = stays_from old.ear middle.ear new.ear pulls.ear one.stays;
         };
     room = room ∙ pulls.room;
@@ -119,11 +158,13 @@ module _ (checked : CheckedOf) (left now_left : Option (List ℕ)) (failed ended
     more = piece_of middle;
     read = pulls.read;
     ends = λ bytes has.
-        let one = hears.each bytes (same_ear checked bytes old.ear middle.ear pulls.ear has) in
+        let listened = has_pulled bytes has in
+        let one = hears.each bytes listened.heard in
         record {
           asks = one.asks;
           ends = subst (GoesOnOrEnds checked (bytes ++ piece_of middle) new.ear) some one.explained;
           stays = stays_from old.ear middle.ear new.ear pulls.ear one.stays;
+          requested = says.each bytes listened;
         };
   }
 
@@ -135,20 +176,27 @@ module _ (checked : CheckedOf) (left now_left : Option (List ℕ)) (failed ended
     more = piece_of middle;
     read = pulls.read;
     ends = λ bytes has.
-        let one = hears.each bytes (same_ear checked bytes old.ear middle.ear pulls.ear has) in
+        let listened = has_pulled bytes has in
+        let one = hears.each bytes listened.heard in
         record {
           asks = one.asks;
           ends = one.explained;
           stays = stays_from old.ear middle.ear new.ear pulls.ear one.stays;
+          requested = says.each bytes listened;
         };
   }
 
 -- nothing was read, as the source says
-asks_still : (checked : CheckedOf) (bytes : List ℕ) (old new : Ear) → new ≡ old → HasHeard checked bytes old
-    → AsksIfStarted checked (frames_in (bytes ++ [])) (ear_started new)
-asks_still checked bytes old new same has =
-    subst (λ (all : List ℕ). AsksIfStarted checked (frames_in all) (ear_started new)) (sym (append-nil bytes))
-    (has_asked checked bytes new (same_ear checked bytes old new same has))
+asks_still : (checked : CheckedOf) (bytes : List ℕ) (new : Listener) → HasListened checked bytes new
+    → AsksIfStarted checked (frames_in (bytes ++ [])) (ear_started new.ear)
+asks_still checked bytes new has =
+    subst (λ (all : List ℕ). AsksIfStarted checked (frames_in all) (ear_started new.ear)) (sym (append-nil bytes))
+    (has_asked checked bytes new.ear has.heard)
+
+says_still : (checked : CheckedOf) (bytes : List ℕ) (new : Listener) → HasListened checked bytes new
+    → SaysRequested (bytes ++ []) new
+says_still checked bytes new has =
+    subst (λ (all : List ℕ). SaysRequested all new) (sym (append-nil bytes)) has.requested
 
 stays_same : (old new : Ear) → new ≡ old → StaysStarted old new
 stays_same old new same started is = ap ear_started same ∙ is
@@ -159,12 +207,14 @@ pub read_fails : (checked : CheckedOf) (left now_left : Option (List ℕ)) (fail
 read_fails checked left now_left failed ended old new pulls = record {
   more = [];
   read = pulls.read;
-  ends = λ bytes has. record {
-    asks = asks_still checked bytes old.ear new.ear pulls.ear has;
-    ends = pulls.said;
-    stays =
-        stays_same old.ear new.ear pulls.ear;
-  };
+  ends = λ bytes has.
+      let listened = same_listened checked bytes old new pulls.ear pulls.same has in
+      record {
+        asks = asks_still checked bytes new listened;
+        ends = pulls.said;
+        stays = stays_same old.ear new.ear pulls.ear;
+        requested = says_still checked bytes new listened;
+      };
 }
 
 pub read_ends : (checked : CheckedOf) (left now_left : Option (List ℕ)) (failed ended : Bool) (old new : Listener)
@@ -173,12 +223,14 @@ pub read_ends : (checked : CheckedOf) (left now_left : Option (List ℕ)) (faile
 read_ends checked left now_left failed ended old new pulls = record {
   more = [];
   read = pulls.read;
-  ends = λ bytes has. record {
-    asks = asks_still checked bytes old.ear new.ear pulls.ear has;
-    ends = pulls.said;
-    stays =
-        stays_same old.ear new.ear pulls.ear;
-  };
+  ends = λ bytes has.
+      let listened = same_listened checked bytes old new pulls.ear pulls.same has in
+      record {
+        asks = asks_still checked bytes new listened;
+        ends = pulls.said;
+        stays = stays_same old.ear new.ear pulls.ear;
+        requested = says_still checked bytes new listened;
+      };
 }
 
 -- ---- reads, one after another
@@ -189,9 +241,8 @@ hears_nothing checked left listener = record {
   more = [];
   read = Consumes-nil left;
   heard = λ bytes has. record {
-    has = subst (λ (all : List ℕ). HasHeard checked all listener.ear) (sym (append-nil bytes)) has;
-    stays =
-        λ started is. is;
+    has = subst (λ (all : List ℕ). HasListened checked all listener) (sym (append-nil bytes)) has;
+    stays = λ started is. is;
   };
   room = refl;
 }
@@ -206,8 +257,7 @@ module _ (checked : CheckedOf) (left middle_left last_left : Option (List ℕ)) 
         let one = first.heard bytes has in
         let two = then.heard (bytes ++ first.more) one.has in
         record {
-          has = subst (λ (all : List ℕ). HasHeard checked all new.ear) (append_assoc bytes first.more then.more)
-              two.has;
+          has = subst (λ (all : List ℕ). HasListened checked all new) (append_assoc bytes first.more then.more) two.has;
           stays = λ started is. two.stays started (one.stays started is);
         };
     room = then.room ∙ first.room;
@@ -222,9 +272,13 @@ module _ (checked : CheckedOf) (left middle_left last_left : Option (List ℕ)) 
     ends = λ bytes has.
         let one = first.heard bytes has in
         let two = then.ends (bytes ++ first.more) one.has in
-        subst (λ (all : List ℕ). EndsOf checked all old.ear new.ear failed ended why)
-        (append_assoc bytes first.more then.more)
-        (record { asks = two.asks; ends = two.ends; stays = λ started is. two.stays started (one.stays started is) });
+        subst (λ (all : List ℕ). EndsOf checked all old new failed ended why) (append_assoc bytes first.more then.more)
+        (record {
+          asks = two.asks;
+          ends = two.ends;
+          stays = λ started is. two.stays started (one.stays started is);
+          requested = two.requested;
+        });
   }
 
 -- ---- what came of a read

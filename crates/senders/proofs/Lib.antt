@@ -7,6 +7,7 @@ pub mod GatheringLemmas
 pub mod HearingLemmas
 pub mod LoggedLemmas
 pub mod NumberLemmas
+pub mod ReachLemmas
 pub mod RefusedLemmas
 pub mod ReplayLemmas
 pub mod SendingLemmas

@@ -344,6 +344,7 @@ module _ (checked : CheckedOf) (book : Book) (seats : List (List Note)) (named :
   can_come served f.ReceiptMissing cause = not_missing cause.0 cause.1
   can_come served f.ReadingWrong cause = not_wrong cause
   can_come served f.TakenDiffers cause = tt
+  can_come served f.StartLate cause = tt
   can_come served f.OutOfMemory cause = tt
 
 pub comes_as_named : (checked : CheckedOf) (book : Book) (seats seen : List (List Note)) (served : List Served)

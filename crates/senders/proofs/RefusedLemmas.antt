@@ -6,13 +6,13 @@ use Rattle.std.specs.Io.KnownBytes.{Appends}
 use Rattle.std.proofs.KnownBytes.{Appends-nil, Consumes-nil}
 use Rattle.shard_checker.specs.CheckedView.{CheckedOf}
 use Rattle.copy_both.specs.Ears.{ear_refusal}
-use Rattle.copy_both.specs.HeardFrames.{HasHeard, frames_in}
+use Rattle.copy_both.specs.HeardFrames.{frames_in}
 use Rattle.copy_both.specs.declared.link_fault.LinkFault.{LinkFault}
 use Rattle.copy_both.specs.declared.link_fault.LinkFault.TheVariants as fault
 use Rattle.senders.specs.declared.end.End.{End}
 use Rattle.senders.specs.declared.end.End.TheVariants as end
 use Rattle.senders.specs.declared.served.Served.{Served}
-use Rattle.senders.specs.Listening.{EndsAt, EndsFor}
+use Rattle.senders.specs.Listening.{EndsAt, EndsFor, HasListened}
 use Rattle.senders.specs.Refusing.{AnswersAs, cause_by}
 use Rattle.senders.specs.Serving.{IsUnstartedAnswer, IsEndCause, IsServed, IsServedFor, IsWritten, commits_of, started_of}
 use Rattle.senders.specs.declared.listener_end.ListenerEnd.{ListenerEnd}
@@ -72,13 +72,14 @@ module _ (checked : CheckedOf) (bytes : List ℕ) (source_failed source_ended : 
         (record { none = ap (map (λ commit. arc_value commit)) none; answer = answer.answer }));
     cause = subst (λ (o : Option ℕ). IsEndCause checked bytes (started_of o served.start) source_failed source_ended
         failed served.end) (sym no_slot) cause;
+    requested = λ slot start some begins says. cc;
     left = λ slot some sound client. cc;
   }
 
 -- the connection ended before a stream was started
 pub served_refused : (checked : CheckedOf) (left now_left : Option (List ℕ)) (source_failed source_ended : Bool)
     (before after : Option (List ℕ)) (failed : Bool) (old new : Listener) (served : Served) (why : ListenerEnd)
-    → HasHeard checked [] old.ear → EndsAt checked left now_left source_failed source_ended old new None why
+    → HasListened checked [] old → EndsAt checked left now_left source_failed source_ended old new None why
     → AnswersAs why before after failed (ear_refusal new.ear)
     → served.slot ≡ None → served.start ≡ None → served.taken.items ≡ [] → served.end ≡ cause_by why
     → IsServed checked left now_left source_failed source_ended before after failed served

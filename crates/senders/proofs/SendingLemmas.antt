@@ -237,17 +237,16 @@ module _ {X : Type 0} (view : X → CommitOf) (before middle after : Option (Lis
 
   pub tells_entry : (pushed : List X) (commit : X) (shown : CommitOf) (new : Voice) (next : Option ℕ)
       (number clock : ℕ) → clock < 2 ^ 64 → next ≡ next_of (voice_stage old) → next ≡ Some number
-      → (view commit).number ≡ number → shown ≡ view commit
+      → shown.number ≡ number → shown ≡ view commit
       → Sends between new (entry_bytes (voice_checked between) (voice_stage between) shown clock)
       (entry_stage (voice_checked between) (voice_stage between) shown)
       → pushed ≡ kept ++ commit ∷ [] → TellsOn before after (map view pushed) new told
   tells_entry pushed commit shown new next number clock timed next_is some numbered is says more =
       subst (λ (taken : List CommitOf). TellsOn before after taken new told)
       (sym (ap (map view) more ∙ map-append view kept (commit ∷ [])))
-      (takes_up before after told (map view kept) between new (view commit) number clock timed tells_kept
-      (ap next_of flushes.stage_is ∙ sym next_is ∙ some) numbered
-      (subst (λ (c : CommitOf). Sends between new (entry_bytes (voice_checked between) (voice_stage between) c clock)
-      (entry_stage (voice_checked between) (voice_stage between) c)) is says))
+      (subst (λ (last : CommitOf). TellsOn before after (map view kept ++ last ∷ []) new told) is
+      (takes_up before after told (map view kept) between new shown number clock timed tells_kept
+      (ap next_of flushes.stage_is ∙ sym next_is ∙ some) numbered says))
 
   pub tells_reply : (new : Voice) (clock : ℕ) (want : Bool) → clock < 2 ^ 64
       → Sends between new (kept_bytes (voice_stage between) clock want) (voice_stage between)

@@ -5,7 +5,8 @@ use Rattle.std.proofs.lemmas.List.{drop_more, take_more, take_all, map-append}
 use lib.Seq.{drop-append_seam}
 use Rattle.shard_checker.specs.CheckedView.{CheckedOf}
 use Rattle.tables_log.specs.Commits.{CommitOf}
-use Rattle.tables_log.specs.Routes.{ArePassed}
+use Rattle.tables_log.specs.Routes.{ArePassed, IsRouted}
+use Rattle.tables_log.specs.declared.routed.Routed.{Routed}
 use Rattle.copy_both.specs.StreamLaws.{Start}
 use Rattle.copy_both.specs.Voices as voices
 use Rattle.copy_both.specs.Voices.{IsQuietFor, Sends, StageOf, entry_bytes, entry_stage, next_of, voice_checked, voice_stage}
@@ -141,6 +142,14 @@ next_are_quiet before after taken commits voice checked slot start number passed
     (subst (λ (stage : StageOf). AreQuietFor checked stage commits) (sym tells.stage_is)
     (subst (λ (place : ℕ). ArePassed checked.plan place tells.state.done commits) (sym slot_is)
     (subst (λ (count : ℕ). ArePassed checked.plan slot count commits) done are)))
+
+-- An entry that is routed by the publisher's plan is routed by that of the voice.
+pub next_is_routed : (before after : Option (List ℕ)) (taken : List CommitOf) (voice : Voice) (checked : CheckedOf)
+    (slot start : ℕ) (passed : List ℕ) (entry : Routed)
+    → TellsOn before after taken voice (started_telling checked slot start passed) → IsRouted checked.plan entry
+    → IsRouted (voice_checked voice).plan entry
+next_is_routed before after taken voice checked slot start passed entry on =
+    subst (λ (one : CheckedOf). IsRouted one.plan entry) (sym (on.tells.checked_is ∙ on.follows.checked_is))
 
 -- ---- commits that were appended to those that were taken
 

@@ -6,7 +6,7 @@ use Rattle.shard_checker.specs.CheckedView.{CheckedOf}
 use Rattle.table_changes.specs.Records.{record_of}
 use Rattle.table_changes.specs.Setting.{Setting}
 use Rattle.table_changes.specs.Tables.{no_rows}
-use Rattle.tables_log.specs.BookView.{book_setting, book_log}
+use Rattle.tables_log.specs.BookView.{book_checked, book_setting, book_log}
 use Rattle.tables_log.specs.Commits.{CommitOf, commit_of}
 use Rattle.tables_log.specs.StandsFor.{IsAccepted, AreAccepted, entries_from, after}
 use Rattle.tables_log.specs.declared.book.Book.{Book}
@@ -17,9 +17,10 @@ use Rattle.publisher_desk.specs.declared.note.Note.{Note}
 use Rattle.publisher_desk.specs.Logged.{RiseTo}
 use Rattle.senders.specs.Gathering.{all_receipts, all_readings, numbers_of, IsRising}
 use Rattle.senders.specs.Histories.{AreInOrder, IsRight}
+use Rattle.senders.specs.Reached.{AreReached}
 use Rattle.senders.specs.TakenCommits.{IsTaken}
 use Rattle.senders.specs.declared.close_error.CloseError.{CloseError}
-use Rattle.senders.specs.declared.close_error.CloseError.TheVariants.{CountDiffers, ReceiptMissing, ReadingWrong, TakenDiffers, OutOfMemory}
+use Rattle.senders.specs.declared.close_error.CloseError.TheVariants.{CountDiffers, ReceiptMissing, ReadingWrong, TakenDiffers, StartLate, OutOfMemory}
 
 -- ---- a receipt that the log doesn't have
 
@@ -79,6 +80,13 @@ pub record HasOtherTaken (book : Book) (seats : List (List Note)) (served : List
   pub right : All (IsRight (book_setting book) (transactions_of order)) (all_readings seats)
   pub other : ¬ All (IsTaken (book_log book)) served
 
+pub record HasLateStart (book : Book) (seats : List (List Note)) (served : List Served) : Type 0 where
+  pub order : List ReceiptOf
+  pub told : IsToldBy book seats order
+  pub right : All (IsRight (book_setting book) (transactions_of order)) (all_readings seats)
+  pub taken : All (IsTaken (book_log book)) served
+  pub late : ¬ AreReached (length (book_checked book).catalog.subscriptions) served
+
 -- ---- refusals, each of which passes what comes before it
 
 abbrev pub IsCloseCause : Book → List (List Note) → List Served → CloseError → Type 0
@@ -87,6 +95,7 @@ IsCloseCause book seats served ReceiptMissing = (length (book_log book) ≡ leng
     × IsMissing (book_setting book) (book_log book) seats
 IsCloseCause book seats served ReadingWrong = HasWrongReading book seats
 IsCloseCause book seats served TakenDiffers = HasOtherTaken book seats served
+IsCloseCause book seats served StartLate = HasLateStart book seats served
 IsCloseCause book seats served OutOfMemory = Unit {0}
 
 -- Of all seats, `left` were never handed out. Receipts are too few only if not all others are passed in.
@@ -95,6 +104,7 @@ IsHeldBack all left seats CountDiffers = left + length seats < all
 IsHeldBack all left seats ReceiptMissing = Unit {0}
 IsHeldBack all left seats ReadingWrong = Unit {0}
 IsHeldBack all left seats TakenDiffers = Unit {0}
+IsHeldBack all left seats StartLate = Unit {0}
 IsHeldBack all left seats OutOfMemory = Unit {0}
 
 -- A receipt is never missing, and no reading is wrong: the publisher's history ties them to its log, and a seat of
@@ -104,6 +114,7 @@ CanCome CountDiffers = Unit {0}
 CanCome ReceiptMissing = ⊥
 CanCome ReadingWrong = ⊥
 CanCome TakenDiffers = Unit {0}
+CanCome StartLate = Unit {0}
 CanCome OutOfMemory = Unit {0}
 
 -- The publisher's book is of the checked catalog, takes this number of commits and is of some list of transactions.

@@ -11,12 +11,14 @@ use Rattle.publisher_desk.specs.Seats.{AreTimed, IsForward}
 use Rattle.publisher_desk.specs.declared.note.Note.{Note}
 use Rattle.senders.specs.Gathering.{all_readings}
 use Rattle.senders.specs.Histories.{AreInOrder, IsRight}
+use Rattle.senders.specs.Reached.{AreReached}
 use Rattle.senders.specs.TakenCommits.{IsTaken}
 
 -- The book is of the checked catalog, takes this number of commits, and is that of the transactions of the receipts
 -- in the order of their numbers; its log has an entry for each. Each reading is right by these transactions, and is
 -- of no fewer commits than an earlier note of its seat knows of. Times have 64 bits. Each connection took the commits
--- of the book's log.
+-- of the book's log. Each commit before the start of a connection was taken for a connection of its slot, or is before a
+-- position that a client of the slot requested.
 pub record IsClosed (checked : CheckedOf) (limit : ℕ) (seats : List (List Note)) (served : List Served) (book : Book)
     : Type 0 where
   pub named : book_checked book ≡ checked
@@ -31,3 +33,4 @@ pub record IsClosed (checked : CheckedOf) (limit : ℕ) (seats : List (List Note
   pub forward : All IsForward seats
   pub timed : All AreTimed seats
   pub taken : All (IsTaken (book_log book)) served
+  pub reached : AreReached (length checked.catalog.subscriptions) served

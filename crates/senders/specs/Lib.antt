@@ -10,6 +10,7 @@ pub mod Histories
 pub mod Releasing
 pub mod Listening
 pub mod Pieces
+pub mod Reached
 pub mod Refusing
 pub mod Replays
 pub mod Running

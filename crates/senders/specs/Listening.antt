@@ -1,13 +1,14 @@
 -- What a listener does with what it reads: PostgreSQL 15, 55.4. Streaming Replication Protocol.
-use Rattle.std.specs.Prelude.{◌≡◌, ℕ, Bool, true, List, ◌++◌, length, take, Option, Some, None, Result, Ok, Err}
+use Rattle.std.specs.Prelude.{◌≡◌, ℕ, ◌<◌, Bool, true, List, ◌++◌, length, take, Option, Some, None, Result, Ok, Err}
 use Rattle.std.specs.Io.KnownBytes.{Consumes}
 use Rattle.filter_tree.specs.Memory.{Answers}
 use Rattle.shard_checker.specs.CheckedView.{CheckedOf}
+use Rattle.tables_log.specs.BookView.{book_slots}
+use Rattle.tables_log.specs.Slots.{confirmed_at}
 use Rattle.tables_log.specs.declared.book.Book.{Book}
 use Rattle.copy_both.specs.Ears.{HearLeaves, ear_phase, ear_refusal, ear_started, hear_answer}
-use Rattle.copy_both.specs.HeardFrames.{frames_in, AsksIfStarted, HasEnd, HasHeard}
+use Rattle.copy_both.specs.HeardFrames.{frames_in, AsksIfStarted, HasEnd, HasHeard, Requests}
 use Rattle.copy_both.specs.Voices.{told_fault}
-use Rattle.copy_both.specs.declared.ear.Ear.{Ear}
 use Rattle.copy_both.specs.declared.heard.Heard.{Heard}
 use Rattle.copy_both.specs.declared.link_fault.LinkFault.{LinkFault}
 use Rattle.publisher_desk.specs.declared.connection_state.ConnectionState.{ConnectionState}
@@ -20,6 +21,25 @@ use Rattle.senders.specs.declared.listener.Listened.{Listened}
 use Rattle.senders.specs.declared.listener.Listener.{Listener}
 use Rattle.senders.specs.declared.next.Next.{Next}
 use Rattle.senders.specs.declared.next.Next.TheVariants as next
+
+-- ---- the requested start
+
+-- if it says that its client requested the position where the stream starts, the first frame does
+abbrev pub SaysRequested : List ℕ → Listener → Type 0
+SaysRequested bytes listener = (slot start : ℕ) → ear_started listener.ear ≡ Some (slot, start)
+    → listener.is_requested ≡ true → Requests (frames_in bytes) slot start
+
+-- It has heard these bytes.
+pub record HasListened (checked : CheckedOf) (bytes : List ℕ) (listener : Listener) : Type 0 where
+  pub heard : HasHeard checked bytes listener.ear
+  pub requested : SaysRequested bytes listener
+
+-- Of a stream that starts now it says that its start was requested only if that is after what was confirmed for the
+-- slot; of one that had started before it says what it said then.
+pub record Compares (before after : Listener) (old : Book) : Type 0 where
+  pub late : ear_started before.ear ≡ None → (slot start : ℕ) → ear_started after.ear ≡ Some (slot, start)
+      → after.is_requested ≡ true → confirmed_at (book_slots old) slot < start
+  pub stays : (started : ℕ × ℕ) → ear_started before.ear ≡ Some started → after.is_requested ≡ before.is_requested
 
 -- ---- under the lock
 
@@ -35,19 +55,24 @@ pub record HeardPiece (before after : Listener) (old new : Book) (connections : 
   pub left : HearLeaves (ear_phase before.ear) before.ear after.ear old new (piece_of before)
       (sent_by (ear_started before.ear) connections) heard
   pub room : length after.piece.items ≡ length before.piece.items
+  pub compares : Compares before after old
 
 -- ---- outside of it
 
--- An ear has heard these bytes, and hears on. What it had started stays so.
-pub record HearsOn (checked : CheckedOf) (bytes : List ℕ) (old new : Ear) : Type 0 where
-  pub has : HasHeard checked bytes new
-  pub stays : StaysStarted old new
+-- What it says with the piece is so, whatever it had heard before.
+pub record SaysOfPiece (checked : CheckedOf) (piece : List ℕ) (old new : Listener) : Type 0 where
+  pub each : (bytes : List ℕ) → HasListened checked bytes old → SaysRequested (bytes ++ piece) new
+
+-- A listener has heard these bytes, and hears on. What it had started stays so.
+pub record HearsOn (checked : CheckedOf) (bytes : List ℕ) (old new : Listener) : Type 0 where
+  pub has : HasListened checked bytes new
+  pub stays : StaysStarted old.ear new.ear
 
 -- More bytes were read and heard, and the ear hears on.
 pub record HearsMore (checked : CheckedOf) (before after : Option (List ℕ)) (old new : Listener) : Type 0 where
   pub more : List ℕ
   pub read : Consumes before after more
-  pub heard : (bytes : List ℕ) → HasHeard checked bytes old.ear → HearsOn checked (bytes ++ more) old.ear new.ear
+  pub heard : (bytes : List ℕ) → HasListened checked bytes old → HearsOn checked (bytes ++ more) old new
   pub room : length new.piece.items ≡ length old.piece.items
 
 -- Why it ended, by the bytes, by the response that it has to a refused start, and by what the source says of itself.
@@ -57,19 +82,20 @@ EndsFor checked bytes started response failed ended listener_end.SourceEnded = e
 EndsFor checked bytes started response failed ended (listener_end.Frame kind) = HasEnd (frames_in bytes) kind
 EndsFor checked bytes started response failed ended (listener_end.Fault fault) = Faults checked bytes started response fault
 
-pub record EndsOf (checked : CheckedOf) (bytes : List ℕ) (old new : Ear) (failed ended : Bool) (why : ListenerEnd) : Type 0
-  where
-    pub asks : AsksIfStarted checked (frames_in bytes) (ear_started new)
-    pub ends : EndsFor checked bytes (ear_started new) (ear_refusal new) failed ended why
-    pub stays : StaysStarted old new
+pub record EndsOf (checked : CheckedOf) (bytes : List ℕ) (old new : Listener) (failed ended : Bool)
+    (why : ListenerEnd) : Type 0 where
+  pub asks : AsksIfStarted checked (frames_in bytes) (ear_started new.ear)
+  pub ends : EndsFor checked bytes (ear_started new.ear) (ear_refusal new.ear) failed ended why
+  pub stays : StaysStarted old.ear new.ear
+  pub requested : SaysRequested bytes new
 
 -- More bytes were read and heard, and the listener ended.
 pub record HearsLast (checked : CheckedOf) (before after : Option (List ℕ)) (failed ended : Bool) (old new : Listener)
     (why : ListenerEnd) : Type 0 where
   pub more : List ℕ
   pub read : Consumes before after more
-  pub ends : (bytes : List ℕ) → HasHeard checked bytes old.ear
-      → EndsOf checked (bytes ++ more) old.ear new.ear failed ended why
+  pub ends : (bytes : List ℕ) → HasListened checked bytes old
+      → EndsOf checked (bytes ++ more) old new failed ended why
 
 -- what comes of a piece
 abbrev pub next_by_end : Bool → Option ℕ → Next

@@ -10,12 +10,14 @@ pub record PullsPiece (before after : Option (List ℕ)) (bytes : List ℕ) (old
   pub read : Consumes before after bytes
   pub piece : bytes ≡ piece_of new
   pub ear : new.ear ≡ old.ear
+  pub same : new.is_requested ≡ old.is_requested
   pub room : length new.piece.items ≡ length old.piece.items
 
 -- No byte was read, as the source says of itself.
 pub record PullsNothing (before after : Option (List ℕ)) (says : Bool) (old new : Listener) : Type 0 where
   pub read : Consumes before after []
   pub ear : new.ear ≡ old.ear
+  pub same : new.is_requested ≡ old.is_requested
   pub said : says ≡ true
 
 abbrev pub Pulls : Option (List ℕ) → Option (List ℕ) → Bool → Bool → Listener → Listener → Result Bool Failed → Type 0

@@ -7,7 +7,7 @@ use Rattle.shard_checker.specs.CheckedView.{CheckedOf}
 use Rattle.tables_log.specs.Commits.{CommitOf}
 use Rattle.copy_frames.specs.Contents.{copy_done}
 use Rattle.copy_frames.specs.declared.frame.Frame.{Frame}
-use Rattle.copy_both.specs.HeardFrames.{AsksFor, HasEnd, IsRefusedStart, frames_in}
+use Rattle.copy_both.specs.HeardFrames.{AsksFor, HasEnd, IsRefusedStart, Requests, frames_in}
 use Rattle.copy_both.specs.Refusals.{error_response}
 use Rattle.copy_both.specs.Streams.{Move, count_before, stream}
 use Rattle.copy_both.specs.Tellings.{telling_of}
@@ -113,7 +113,8 @@ pub data HasClientLeft (source_ended : Bool) (frames : List Frame) (written : Li
 abbrev pub commits_of : Served → List CommitOf
 commits_of served = map (λ commit. arc_value commit) served.taken.items
 
--- what came of a connection from which these bytes were read
+-- What came of a connection from which these bytes were read. If it says that its client requested the position where
+-- the stream starts, the first frame does.
 pub record IsServedFor (checked : CheckedOf) (bytes : List ℕ) (source_failed source_ended : Bool)
     (before after : Option (List ℕ)) (sink_failed : Bool) (served : Served) : Type 0 where
   pub written : List ℕ
@@ -122,6 +123,8 @@ pub record IsServedFor (checked : CheckedOf) (bytes : List ℕ) (source_failed s
       served.end
   pub cause : IsEndCause checked bytes (started_of served.slot served.start) source_failed source_ended sink_failed
       served.end
+  pub requested : (slot start : ℕ) → served.slot ≡ Some slot → served.start ≡ Some start
+      → served.is_requested ≡ true → Requests (frames_in bytes) slot start
   pub left : (slot : ℕ) → served.slot ≡ Some slot → sink_failed ≡ false → served.end ≡ end.Client
       → HasClientLeft source_ended (frames_in bytes) written
 

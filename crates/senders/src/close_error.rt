@@ -21,6 +21,10 @@ pub enum CloseError {
     /// before the log's end.
     #[error("a connection took other commits than those of the log")]
     TakenDiffers,
+    /// A stream started after a commit that was taken for no connection of its slot, although no client of the slot
+    /// requested a later position.
+    #[error("a stream started after a commit that its slot was never sent")]
+    StartLate,
     /// An allocation was refused.
     #[error("out of memory")]
     OutOfMemory,

@@ -17,6 +17,7 @@ use crate::close_error::CloseError;
 use crate::closed::Closed;
 use crate::gathering::{readings_of, receipts_of, sort_readings, sort_receipts};
 use crate::numbering::{are_rising, rise};
+use crate::reaching::are_reached;
 use crate::replaying::replay;
 use crate::served::Served;
 use crate::taken::are_taken;
@@ -64,15 +65,18 @@ fn keep_confirmed(fresh: &mut Book, book: &Book, slots: usize)
     }
 }
 
-/// Makes the receipts again on the fresh book, which has no commits, and compares readings and connections with it.
+/// Makes the receipts again on the fresh book, which has no commits, and compares readings and connections with it. The
+/// catalog has this number of slots.
 fn compare<P: Publishing>(
     alloc: Global,
     fresh: &mut Book,
     book: &Book,
+    slots: usize,
     seats: &[Seat<P>],
     served: &[Served],
 ) -> Result<(), CloseError>
-    requires { IsNew fresh.old (book_checked book.now) (book_limit book.now) }
+    requires new { IsNew fresh.old (book_checked book.now) (book_limit book.now) }
+    requires slots { slots ≡ length (book_checked book.now).catalog.subscriptions }
     ensures ok { OnOk result (IsClosed (book_checked book.now) (book_limit book.now) seats.now served.now fresh.new) }
     ensures log { OnOk result (length (book_log book.now) ≡ length (book_log fresh.new)) }
     ensures err { IfErr result (IsCloseCause book.now seats.now served.now) }
@@ -85,6 +89,10 @@ fn compare<P: Publishing>(
     }
     if !are_taken(fresh, served) {
         return Err(CloseError::TakenDiffers);
+    }
+    let reached = are_reached(alloc, slots, served)?;
+    if !reached {
+        return Err(CloseError::StartLate);
     }
     Ok(())
 }
@@ -108,18 +116,21 @@ fn counted_book<P: Publishing>(
 /// again on a book without commits, in the order of their numbers: their commands have to be accepted, and each entry
 /// has to be that of the publisher's log. Each reading has to be the row of its key after the number of commits that
 /// it says. The commits that each connection took have to be those of the log from its start on, up to the log's end
-/// if it was finished. The book that is returned is the one on which the receipts were made again. Its slots are
-/// free, and confirmed as far as the publisher's.
+/// if it was finished. Each commit before the start of a connection has to be one that was taken for a connection of
+/// its slot, or to be before a position that a client of the slot requested; so all connections have to be passed in.
+/// The book that is returned is the one on which the receipts were made again. Its slots are free, and confirmed as far
+/// as the publisher's.
 ///
 /// The time it takes is that of the commands, as in `Book::commit`, of the receipts and the readings, each times the
-/// logarithm of their number, of a look at the row of each reading, and of the commits that were taken.
+/// logarithm of their number, of a look at the row of each reading, of the commits that were taken, and of the
+/// connections, times the logarithm of their number and times the number of slots.
 ///
 /// # Errors
 ///
-/// The first of `CountDiffers`, `ReceiptMissing`, `ReadingWrong` and `TakenDiffers`, or `OutOfMemory` instead of any
-/// of them if an allocation was refused. `CountDiffers` is returned only if a seat is held back. `ReceiptMissing` and
-/// `ReadingWrong` are never returned, since the publisher's history says that the notes of its seats are right. If
-/// there is an error, everything that was passed in is dropped.
+/// The first of `CountDiffers`, `ReceiptMissing`, `ReadingWrong`, `TakenDiffers` and `StartLate`, or `OutOfMemory`
+/// instead of any of them if an allocation was refused. `CountDiffers` is returned only if a seat is held back.
+/// `ReceiptMissing` and `ReadingWrong` are never returned, since the publisher's history says that the notes of its
+/// seats are right. If there is an error, everything that was passed in is dropped.
 ///
 /// PostgreSQL 15, 3.4. Transactions, and 55.4. Streaming Replication Protocol.
 pub fn close<P: Publishing>(
@@ -144,6 +155,7 @@ pub fn close<P: Publishing>(
         alloc,
         &mut fresh,
         &book,
+        slots,
         seats.as_slice(),
         served.as_slice(),
     )?;

@@ -20,6 +20,7 @@ mod listener_end;
 mod listening;
 mod next;
 mod numbering;
+mod reaching;
 mod readings;
 mod refusing;
 mod replaying;

@@ -1,6 +1,8 @@
 //! What hears a connection.
 
-ghost use Rattle.std.specs.Prelude.{◌≡◌, ◌≤◌, length};
+ghost use Rattle.std.specs.Prelude.{◌≡◌, ℕ, ◌<◌, ◌≤◌, IsTrue, length, slice_index};
+ghost use Rattle.tables_log.specs.BookView.{book_slots};
+ghost use Rattle.tables_log.specs.Slots.{confirmed_at};
 ghost use Rattle.senders.specs.Hearing.{sent_by};
 
 use crate::failed::Failed;
@@ -12,15 +14,20 @@ use std::alloc::{AllocError, Global};
 use std::sync::Arc;
 use tables_log::Book;
 
+/// The greatest number of slots: a catalog has at most 32 subscriptions.
+const SLOTS: usize = 32;
+
 /// The greatest number of bytes that are read at a time.
 const PIECE: usize = 16_384;
 
-/// An ear, and the piece that it hears next: the first `filled` bytes. The slot that the ear started is released by
-/// `lose`, and a listener cannot be dropped otherwise.
+/// An ear, and the piece that it hears next: the first `filled` bytes; and whether the client requested the position
+/// where the stream starts, which is after what was confirmed for the slot. The slot that the ear started is released
+/// by `lose`, and a listener cannot be dropped otherwise.
 pub struct Listener {
     ear: Ear,
     piece: Vec<u8>,
     filled: usize,
+    is_requested: bool,
     ghost within: { filled ≤ length piece.items },
 }
 
@@ -29,6 +36,25 @@ pub struct Listener {
 pub struct Listened {
     pub heard: Result<Heard, LinkFault>,
     pub was_over: bool,
+}
+
+/// The positions up to which the slots are confirmed.
+fn confirmed_positions(book: &Book) -> [u64; SLOTS]
+    ensures { (slot : ℕ) → slot < SLOTS → slice_index result slot ≡ confirmed_at (book_slots book.now) slot }
+{
+    let mut positions = [0; SLOTS];
+    for (slot, position) in positions.iter_mut().enumerate() {
+        *position = book.confirmed(slot);
+    }
+    positions
+}
+
+/// Whether the stream of the slot starts after the position of these up to which the slot was confirmed.
+fn is_after(confirmed: &[u64], slot: usize, start: u64) -> bool
+    ensures within { IsTrue result → slot < length confirmed.now }
+    ensures after { IsTrue result → slice_index confirmed.now slot < start }
+{
+    slot < confirmed.len() && confirmed[slot] < start
 }
 
 /// The sent position that statuses are compared with: that up to which the slot's client was sent the log, or the
@@ -78,13 +104,13 @@ impl Listener {
     ghost use Rattle.shard_checker.specs.CheckedView.{checked_view};
     ghost use Rattle.tables_log.specs.BookView.{book_slots};
     ghost use Rattle.tables_log.specs.Committing.{ChangesSlots};
-    ghost use Rattle.copy_both.specs.HeardFrames.{HasHeard};
+    ghost use Rattle.senders.specs.Listening.{HasListened};
     ghost use Rattle.copy_both.specs.Ears.{ear_phase, ear_refusal, ear_started, slots_after_loss};
     ghost use Rattle.senders.specs.Pieces.{Pulls};
 
     /// A listener that has heard nothing. The only error is out of memory.
     pub(crate) fn new(alloc: Global, checked: &Arc<Checked, Global>) -> Result<Listener, AllocError>
-        ensures heard { IfOk result (λ made. HasHeard (checked_view (arc_value checked.now)) [] made.ear) }
+        ensures heard { IfOk result (HasListened (checked_view (arc_value checked.now)) []) }
         ensures started { IfOk result (λ made. ear_started made.ear ≡ None) }
         ensures room { IfOk result (λ made. 0 < length made.piece.items) }
     {
@@ -94,6 +120,7 @@ impl Listener {
             ear,
             piece,
             filled: 0,
+            is_requested: false,
         })
     }
 
@@ -115,6 +142,13 @@ impl Listener {
         self.ear.started()
     }
 
+    /// Whether its client requested the position where the stream starts, after what was confirmed for the slot.
+    pub(crate) fn is_requested(&self) -> bool
+        ensures { result ≡ self.now.is_requested }
+    {
+        self.is_requested
+    }
+
     /// The response to a start that was refused; otherwise empty.
     pub(crate) fn refusal(&self) -> &[u8]
         ensures { result.now ≡ ear_refusal self.now.ear }
@@ -131,6 +165,7 @@ impl Listener {
             mut ear,
             piece: _,
             filled: _,
+            is_requested: _,
         } = self;
         ear.lose(book);
     }
@@ -146,10 +181,14 @@ impl SlotTask for Listener {
 
     fn use_slots(&mut self, book: &mut Book, connections: &mut [ConnectionState]) -> Listened {
         let was_started = self.ear.started().is_some();
+        let confirmed = confirmed_positions(book);
         let sent = sent_position(self.ear.started(), connections);
         let heard = self.ear.hear(&self.piece[..self.filled], book, sent);
         let mut was_over = false;
-        if let Some((slot, _)) = self.ear.started() {
+        if let Some((slot, start)) = self.ear.started() {
+            if !was_started {
+                self.is_requested = is_after(&confirmed, slot, start);
+            }
             if let Some(connection) = connections.get(slot).copied() {
                 was_over = was_started && connection.has_ended;
                 connections[slot] = connection_after(connection, !was_started, &heard);

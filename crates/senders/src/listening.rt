@@ -2,7 +2,7 @@
 
 ghost use Rattle.std.specs.Prelude.{◌≡◌, ◌<◌, length};
 ghost use Rattle.senders.specs.Hearing.{HearsPiece};
-ghost use Rattle.senders.specs.Listening.{BeginsAs, HearsAll, HearsNext, next_after, piece_of};
+ghost use Rattle.senders.specs.Listening.{BeginsAs, HearsAll, HearsNext, SaysOfPiece, next_after, piece_of};
 
 use crate::listener::{Listened, Listener};
 use crate::listener_end::ListenerEnd;
@@ -19,6 +19,7 @@ fn hear_piece<P: Publishing, R: Wait>(
     listener: &mut Listener,
 ) -> Listened
     ensures hears { HearsPiece P.checked (piece_of listener.old) listener.old.ear listener.new.ear result.heard }
+    ensures requested { SaysOfPiece P.checked (piece_of listener.old) listener.old listener.new }
     ensures room { length listener.new.piece.items ≡ length listener.old.piece.items }
 {
     publisher.with_slots(rt, listener)

@@ -116,11 +116,11 @@ fn tell_all<P: Publishing, W: Sink, G: Gate, R: Wait + Clock>(
             return (taken, SenderEnd::WriteFault);
         };
         match step {
-            Step::Entry(commit) => {
-                let Ok(told) = voice.take_entry(&commit, clock(rt)) else {
+            Step::Entry(entry) => {
+                let Ok(told) = voice.take_routed(&entry, clock(rt)) else {
                     return (taken, SenderEnd::OutOfMemory);
                 };
-                taken.push_reserved(commit);
+                taken.push_reserved(entry.into_commit());
                 skips = 0;
                 if let Taken::Sent(number) = told {
                     gate.pass(started.0, number);
@@ -147,10 +147,11 @@ fn tell_all<P: Publishing, W: Sink, G: Gate, R: Wait + Clock>(
 
 /// Sends on a connection whose stream has started and whose CopyBothResponse was written: each commit from the start
 /// on as it comes, and replies, until the connection ends or all commits of a finished publisher are taken. A commit
-/// is taken from the log under the lock, and is encoded and passes the gate without it. Commits of which the
-/// subscriber gets nothing are taken several at a time, and nothing of them is encoded. What several commits appended
-/// is written at once: when there is nothing to do now, when 64 KiB or more wait, after two skips in a row, and at
-/// the end. Returns which commits were taken, and why it stopped.
+/// is taken from the log under the lock, with the subscribers that get something of each of its changes, and is
+/// encoded and passes the gate without it. Commits of which the subscriber gets nothing are taken several at a time,
+/// and nothing of them is encoded. What several commits appended is written at once: when there is nothing to do now,
+/// when 64 KiB or more wait, after two skips in a row, and at the end. Returns which commits were taken, and why it
+/// stopped.
 ///
 /// PostgreSQL 15, 55.4. Streaming Replication Protocol.
 pub(crate) fn send_all<P: Publishing, W: Sink, G: Gate, R: Wait + Clock>(

@@ -12,6 +12,9 @@ pub struct Served {
     pub slot: Option<usize>,
     /// Where in the log the stream started, in bytes; `None` if it started none.
     pub start: Option<u64>,
+    /// Whether its client requested that position, which is after what was confirmed for the slot. If not, the stream
+    /// started where the slot was confirmed, or no stream was started.
+    pub is_requested: bool,
     /// The commits that were taken for it, in order.
     pub taken: Vec<Arc<Commit, Global>>,
     pub end: End,

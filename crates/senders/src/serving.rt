@@ -92,6 +92,7 @@ fn unstarted(alloc: Global, end: End) -> Served
     Served {
         slot: None,
         start: None,
+        is_requested: false,
         taken: Vec::new(alloc),
         end,
     }
@@ -104,6 +105,7 @@ fn without_commits(alloc: Global, started: (usize, u64), end: End) -> Served
     Served {
         slot: Some(started.0),
         start: Some(started.1),
+        is_requested: false,
         taken: Vec::new(alloc),
         end,
     }
@@ -138,6 +140,7 @@ fn conclude<W: Sink>(
     Served {
         slot: Some(started.0),
         start: Some(started.1),
+        is_requested: false,
         taken: sent.taken,
         end,
     }
@@ -243,6 +246,10 @@ pub fn serve<
             gate,
         ),
     };
+    let is_requested = listener.is_requested();
     release_slot(rt, publisher, listener);
-    served
+    Served {
+        is_requested,
+        ..served
+    }
 }

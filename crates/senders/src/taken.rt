@@ -13,7 +13,7 @@ use std::sync::Arc;
 use tables_log::{Book, Commit, Lsn};
 
 /// How many commits of the log begin before the connection's start.
-fn commits_before(served: &Served) -> u64
+pub(crate) fn commits_before(served: &Served) -> u64
     ensures is { result ≡ taken_from served.now }
     ensures within { result ≤ 2 ^ 58 }
 {

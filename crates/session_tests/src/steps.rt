@@ -56,7 +56,7 @@ fn sent_to<P: Publishing, R: Wait>(rt: &R, publisher: &Publisher<P>, slot: usize
 /// for the others.
 fn code(step: Step) -> u32 {
     match step {
-        Step::Entry(commit) => commit.number(),
+        Step::Entry(entry) => entry.commit().number(),
         Step::Skip(commits) => {
             u32::try_from(commits.len()).map_or(0, |count| count.saturating_add(2_000))
         }

@@ -16,6 +16,9 @@ use Rattle.pub_catalog.specs.contracts.catalog.Subscription as Sub
 use Rattle.replica_identity.specs.contracts.share.Share as Sh
 use Rattle.replica_identity.specs.contracts.shared_row.SharedRow as R
 use Rattle.replica_identity.specs.contracts.shares.Plan as Pl
+use Rattle.row_owners.proofs.Crossing.{router_send}
+use Rattle.row_owners.specs.contracts.routes.ChangeOwners as Each
+use Rattle.row_owners.specs.contracts.routes.Routes as Ro
 use Rattle.shard_checker.specs.contracts.checked.Checked as C
 use Rattle.tables_log.specs.contracts.book.Book as B
 use Rattle.tables_log.specs.contracts.commit.Commit as M
@@ -86,8 +89,17 @@ commit_send = search all depth 200 fits 3000 parts 0
 pub commit_sync : IsSync M.the_row
 commit_sync = search all depth 200 fits 3000 parts 0
 
-entry_send : IsSend E.the_row
-entry_send = search (commit_send, commit_sync, all) depth 200 fits 30000 parts 0
+owners_send : IsSend Each.the_row
+owners_send = search all depth 200 fits 3000 parts 0
+
+owners_sync : IsSync Each.the_row
+owners_sync = search all depth 200 fits 3000 parts 0
+
+routes_send : IsSend Ro.the_row
+routes_send = search (owners_send, owners_sync, all) depth 200 fits 3000 parts 0
+
+pub entry_send : IsSend E.the_row
+entry_send = search (commit_send, commit_sync, routes_send, all) depth 200 fits 30000 parts 0
 
 shared_row_send : IsSend R.the_row
 shared_row_send = search all depth 200 fits 3000 parts 0
@@ -107,10 +119,13 @@ book_field_send = struct_send (shape B.the_type) (
   (
     Arc-send C.the_row checked_send checked_sync,
     (
-      search sendable,
+      router_send,
       (
-        Vec-send T.the_row rows_send,
-        (Vec-send E.the_row entry_send, (Vec-send S.the_row slot_send, tt)),
+        search sendable,
+        (
+          Vec-send T.the_row rows_send,
+          (Vec-send E.the_row entry_send, (Vec-send S.the_row slot_send, tt)),
+        ),
       ),
     ),
   ),

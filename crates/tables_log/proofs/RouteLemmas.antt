@@ -1,13 +1,14 @@
 -- Entries of a log of which a subscriber gets nothing.
 use Rattle.std.proofs.Common.{◌≡◌, ℕ, zero, suc, ◌+◌, ◌-◌, ◌≤◌, ◌<◌, Bool, true, false, List, [], ◌∷◌, ◌++◌, map, length, take, drop, refl, sym, ap, subst, ◌∙◌, append_assoc, append-nil, inl, inr, arith}
-use Rattle.std.specs.Prelude.{not, cond, min, All, slice_get, slice_index_or, Some, None}
+use Rattle.std.specs.Prelude.{not, cond, min, nat_lt, slice_get, slice_index_or, Option, Some, None, IfSome, is_some}
+use Rattle.std.specs.Borrow.{Bor}
 use Rattle.std.specs.List.{take_while, prefix_len}
-use Rattle.std.proofs.lemmas.Bool.{cases_lt}
+use Rattle.std.proofs.lemmas.Bool.{cases_lt, ltb-true}
 use Rattle.std.proofs.lemmas.List.{take_all, drop_all, take-map, drop-map, length-drop, length-take}
 use Rattle.std.proofs.lemmas.List.Elements.{All-append, All-cons, All-nil, All-drop, All-take}
 use Rattle.std.proofs.lemmas.List.Sums.{take_while-cons}
 use Rattle.replica_identity.specs.Plans.{PlanOf}
-use Rattle.row_owners.specs.Owners.{OwnedWhere, owned, concerns}
+use Rattle.row_owners.specs.Owners.{AreRoutes, owned, concerns}
 use Rattle.shard_checker.specs.CheckedView.{CheckedOf}
 use Rattle.table_changes.specs.Records.{ChangeOf}
 use Rattle.tables_log.specs.Commits.{CommitOf}
@@ -45,7 +46,7 @@ some_after xs done most = take_within (drop (min done (length xs)) xs) most ∙ 
 
 lacks_it : (plan : PlanOf) (subscriber : ℕ) (entry : Routed) → subscriber < 32 → IsRouted plan entry
     → lacks subscriber entry ≡ not (concerns plan (commit_in entry).changes subscriber)
-lacks_it plan subscriber entry few routed = ap not (routed subscriber few)
+lacks_it plan subscriber entry few routed = ap not (routed.all subscriber few)
 
 first_of : (plan : PlanOf) (entry : Routed) (entries : List Routed) → AreRouted plan (entry ∷ entries)
     → IsRouted plan entry
@@ -88,7 +89,7 @@ shows_passed plan subscriber log done few routed =
 
 -- the rest begins with this entry
 next_quiet : (subscriber : ℕ) (entry : Routed) (rest left : List Routed) (b : Bool)
-    → owned entry.concerned subscriber ≡ b → left ≡ entry ∷ rest
+    → owned entry.routes.all subscriber ≡ b → left ≡ entry ∷ rest
     → take_while (lacks subscriber) left ≡ cond (not b) (entry ∷ take_while (lacks subscriber) rest) []
 next_quiet subscriber entry rest left b is left_is =
     ap (take_while (lacks subscriber)) left_is ∙ take_while-cons (lacks subscriber) entry rest
@@ -96,7 +97,7 @@ next_quiet subscriber entry rest left b is left_is =
 
 pub gathers_one : {X : Type 0} (view : X → CommitOf) (subscriber : ℕ) (old new : List X) (commit : X)
     (entry : Routed) (rest left : List Routed) (all : List CommitOf)
-    → owned entry.concerned subscriber ≡ false → left ≡ entry ∷ rest
+    → owned entry.routes.all subscriber ≡ false → left ≡ entry ∷ rest
     → view commit ≡ commit_in entry → new ≡ old ++ commit ∷ []
     → map view old ++ map commit_in (take_while (lacks subscriber) left) ≡ all
     → map view new ++ map commit_in (take_while (lacks subscriber) rest) ≡ all
@@ -111,7 +112,7 @@ gathers_one view subscriber old new commit entry rest left all lacking left_is s
 
 pub gathered : {X : Type 0} (view : X → CommitOf) (subscriber : ℕ) (commits : List X) (entry : Routed)
     (rest left : List Routed) (all : List CommitOf)
-    → owned entry.concerned subscriber ≡ true → left ≡ entry ∷ rest
+    → owned entry.routes.all subscriber ≡ true → left ≡ entry ∷ rest
     → map view commits ++ map commit_in (take_while (lacks subscriber) left) ≡ all
     → map view commits ≡ all
 gathered view subscriber commits entry rest left all has left_is gathers =
@@ -183,11 +184,10 @@ few_passed plan subscriber log done =
 -- ---- entries that are added
 
 pub routed_entry : (one other : CheckedOf) (entry : Routed) (changes : List ChangeOf) → one ≡ other
-    → changes ≡ (commit_in entry).changes → OwnedWhere entry.concerned (concerns one.plan changes)
-    → IsRouted other.plan entry
+    → changes ≡ (commit_in entry).changes → AreRoutes one.plan changes entry.routes → IsRouted other.plan entry
 routed_entry one other entry changes same seen owned =
     subst (λ (checked : CheckedOf). IsRouted checked.plan entry) same
-    (subst (λ (all : List ChangeOf). OwnedWhere entry.concerned (concerns one.plan all)) seen owned)
+    (subst (λ (all : List ChangeOf). AreRoutes one.plan all entry.routes) seen owned)
 
 pub routed_pushed : (plan : PlanOf) (log : List Routed) (entry : Routed) → IsRouted plan entry → AreRouted plan log
     → AreRouted plan (log ++ entry ∷ [])
@@ -196,3 +196,12 @@ routed_pushed plan log entry is routed =
 
 pub none_routed : (plan : PlanOf) → AreRouted plan []
 none_routed plan = All-nil (IsRouted plan)
+
+pub found_routed : (plan : PlanOf) (log seen : List Routed) (place : ℕ) (found : Option (Bor Routed))
+    → is_some found ≡ nat_lt place (length seen)
+    → IfSome found (λ entry. entry.now ≡ slice_index_or seen place entry.now) → seen ≡ log → AreRouted plan log
+    → IfSome found (λ entry. IsRouted plan entry.now)
+found_routed plan log seen place None within at same routed = tt
+found_routed plan log seen place (Some entry) within at same routed =
+    subst (IsRouted plan) (sym at)
+    (subst (AreRouted plan) (sym same) routed place entry.now (ltb-true place (length seen) (sym within)))

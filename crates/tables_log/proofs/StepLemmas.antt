@@ -1,11 +1,10 @@
 -- A row comes into the maps of its table, or goes out of them, one map after another.
-use Rattle.std.proofs.Common.{◌≡◌, ◌≢◌, ℕ, zero, suc, ◌+◌, ◌<◌, ◌≤◌, Bool, true, false, ◌&&◌, List, [], ◌∷◌, length, map, take, drop, refl, sym, ◌∙◌, ap, subst, arith}
-use Rattle.std.specs.Prelude.{Option, Some, None, ◌==◌, is_some, is_none, slice_get, slice_set, slice_index_or, if◌then◌else◌}
+use Rattle.std.proofs.Common.{◌≡◌, ◌≢◌, ℕ, zero, suc, ◌+◌, ◌<◌, Bool, true, false, ◌&&◌, List, [], ◌∷◌, length, take, drop, refl, sym, ◌∙◌, ap, subst, arith}
+use Rattle.std.specs.Prelude.{Option, Some, None, ◌==◌, is_some, is_none, slice_index_or, if◌then◌else◌}
 use Rattle.std.proofs.lemmas.Option.{slice_get_read}
 use Rattle.filter_tree.specs.Datum.{Datum}
 use Rattle.table_changes.specs.Keys.{UniqueKey}
 use Rattle.table_changes.specs.Tables.{is_row, found_at, is_free_from}
-use Rattle.tables_log.specs.Layers.{flat}
 use Rattle.tables_log.specs.Places.{Places, map_shown, kept_at, seen_at, value_of, put_at, are_free, values_in, KeepsRows, PutsOne, PutsRow}
 use Rattle.tables_log.specs.Staging.{seen}
 use Rattle.tables_log.specs.declared.staged.Staged.{Staged}

@@ -1,10 +1,10 @@
 -- Which subscribers get something of the entries of a log, and which commits a subscriber's connection passes over:
 -- PostgreSQL 15, "Logical Replication", 31.3.3 UPDATE Transformations.
-use Rattle.std.specs.Prelude.{◌≡◌, ℕ, suc, Bool, false, not, List, [], ◌∷◌, All, drop, map, take, Option, Some, None}
+use Rattle.std.specs.Prelude.{◌≡◌, ℕ, suc, Bool, false, not, List, [], ◌∷◌, All, drop, take, Option, Some, None}
 use Rattle.std.specs.Arc.{arc_value}
 use Rattle.std.specs.List.{take_while}
 use Rattle.replica_identity.specs.Plans.{PlanOf}
-use Rattle.row_owners.specs.Owners.{OwnedWhere, concerns, owned}
+use Rattle.row_owners.specs.Owners.{AreRoutes, concerns, owned}
 use Rattle.tables_log.specs.Commits.{CommitOf}
 use Rattle.tables_log.specs.declared.routed.Routed.{Routed}
 
@@ -13,11 +13,11 @@ commit_in entry = arc_value entry.commit
 
 -- the entry's set lacks the subscriber
 abbrev pub lacks : ℕ → Routed → Bool
-lacks subscriber entry = not (owned entry.concerned subscriber)
+lacks subscriber entry = not (owned entry.routes.all subscriber)
 
--- The entry's set has exactly the subscribers that get something of its commit.
+-- The entry's sets have exactly the subscribers that get something of its commit, and of each of its changes.
 abbrev pub IsRouted : PlanOf → Routed → Type 0
-IsRouted plan entry = OwnedWhere entry.concerned (concerns plan (commit_in entry).changes)
+IsRouted plan entry = AreRoutes plan (commit_in entry).changes entry.routes
 
 -- The same holds for each entry.
 abbrev pub AreRouted : PlanOf → List Routed → Type 0

@@ -2,6 +2,7 @@
 
 ghost use Rattle.std.specs.Prelude.{◌≤◌, length, map};
 ghost use Rattle.std.specs.Arc.{arc_value};
+ghost use Rattle.row_owners.specs.Routers.{IsRouterOf};
 ghost use Rattle.shard_checker.specs.CheckedView.{checked_view};
 ghost use Rattle.tables_log.specs.Applying.{HasMaps};
 ghost use Rattle.tables_log.specs.Logs.{IsNumbered};
@@ -16,7 +17,7 @@ use crate::routed::{Routed, entries_after, passed_over};
 use crate::slots::{self, Slot};
 use crate::table_rows::TableRows;
 use filter_tree::Row;
-use row_owners::{OwnerSet, concerned};
+use row_owners::{OwnerSet, Router};
 use shard_checker::Checked;
 use std::alloc::{AllocError, Global};
 use std::sync::Arc;
@@ -33,10 +34,12 @@ use table_changes::Command;
 pub struct Book {
     alloc: Global,
     checked: Arc<Checked, Global>,
+    router: Router,
     limit: u32,
     tables: Vec<TableRows>,
     log: Vec<Routed>,
     slots: Vec<Slot>,
+    ghost routing: { IsRouterOf (checked_view (arc_value checked)).plan router },
     ghost some: { 1 ≤ limit },
     ghost within: { limit ≤ 1000000000 },
     ghost room: { length log.items ≤ limit },
@@ -79,9 +82,11 @@ impl Book {
             taken: false,
         };
         let slots = vec![in alloc; free; catalog.subscriptions.len()]?;
+        let router = Router::new(alloc, &checked)?;
         Ok(Book {
             alloc,
             checked,
+            router,
             limit,
             tables,
             log: Vec::new(alloc),
@@ -125,11 +130,10 @@ impl Book {
             number,
             time,
         )?;
-        let gets = concerned(&self.checked, commit.changes());
-        self.log.push_reserved(Routed {
-            commit,
-            concerned: gets,
-        });
+        let routes = self
+            .router
+            .routes_of(self.alloc, &self.checked, commit.changes());
+        self.log.push_reserved(Routed { commit, routes });
         Ok(number)
     }
 
@@ -179,6 +183,22 @@ impl Book {
         Ok(Some(Arc::try_clone(&entry.commit)?))
     }
 
+    /// The entry of this number: `Some` for 1 to `log_len()`. The only error is that an existing entry is shared too
+    /// often.
+    #[tactic(auto, using(crate::proofs::BookLemmas::found_numbered))]
+    pub fn routed(&self, number: u32) -> Result<Option<Routed>, AllocError>
+        ensures shows { IfOk result (λ found. option_map (λ entry. commit_in entry) found ≡ entry_at
+            (book_log self.now) number) }
+        ensures routed { IfOk result (λ found. IfSome found (IsRouted (book_checked self.now).plan)) }
+        ensures numbered { IfOk result (λ found. IfSome found (λ entry. (commit_in entry).number ≡ number)) }
+        ensures logged { OnErr result (IsSome (entry_at (book_log self.now) number)) }
+    {
+        let Some(found) = self.place(number) else {
+            return Ok(None);
+        };
+        Ok(Some(found.try_clone()?))
+    }
+
     /// The subscribers that get something of the commit of this number; none if there is no such commit.
     ///
     /// PostgreSQL 15, "Logical Replication", 31.3.3 UPDATE Transformations.
@@ -187,7 +207,7 @@ impl Book {
     {
         match self.place(number) {
             None => OwnerSet::none(),
-            Some(entry) => entry.concerned,
+            Some(entry) => entry.routes.all(),
         }
     }
 

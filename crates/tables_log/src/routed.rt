@@ -6,18 +6,58 @@ ghost use Rattle.std.specs.List.{take_while};
 ghost use Rattle.tables_log.specs.Routes.{commit_in, lacks};
 
 use crate::commit::Commit;
-use row_owners::OwnerSet;
+use row_owners::{OwnerSet, Routes};
 use std::alloc::{AllocError, Global};
 use std::sync::Arc;
 
 /// How many entries are passed over at once.
 const MOST: usize = 64;
 
-/// An entry of the log: a commit, and the subscribers that get something of it.
+/// An entry of the log: a commit, the subscribers that get something of it, and those that get something of each of its
+/// changes.
 #[derive(Drop)]
-pub(crate) struct Routed {
+pub struct Routed {
     pub(crate) commit: Arc<Commit, Global>,
-    pub(crate) concerned: OwnerSet,
+    pub(crate) routes: Routes,
+}
+
+impl Routed {
+    ghost use Rattle.std.specs.Prelude.{◌≡◌, IfOk};
+    ghost use Rattle.std.specs.Arc.{arc_value};
+    ghost use Rattle.replica_identity.specs.Plans.{PlanOf};
+    ghost use Rattle.row_owners.specs.Owners.{AreOwners};
+    ghost use Rattle.tables_log.specs.Routes.{IsRouted, commit_in};
+
+    /// The commit.
+    pub fn commit(&self) -> &Commit
+        ensures { result.now ≡ commit_in self.now }
+    {
+        &self.commit
+    }
+
+    /// The commit alone.
+    pub fn into_commit(self) -> Arc<Commit, Global>
+        ensures { arc_value result ≡ commit_in self }
+    {
+        self.commit
+    }
+
+    /// The subscribers that get something of each change: a set for each change, in their order, or for none.
+    pub fn owners(&self) -> &[OwnerSet]
+        ensures { (plan : PlanOf) → IsRouted plan self.now → AreOwners plan (commit_in self.now).changes result.now }
+    {
+        self.routes.each()
+    }
+
+    /// The same entry once more. The only error is that it is shared too often.
+    pub(crate) fn try_clone(&self) -> Result<Routed, AllocError>
+        ensures commit { IfOk result (λ copy. commit_in copy ≡ commit_in self.now) }
+        ensures routed { IfOk result (λ copy. (plan : PlanOf) → IsRouted plan self.now → IsRouted plan copy) }
+    {
+        let commit = Arc::try_clone(&self.commit)?;
+        let routes = self.routes.try_clone()?;
+        Ok(Routed { commit, routes })
+    }
 }
 
 /// The entries after the first `done` ones, and at most `MOST` of them.
@@ -43,7 +83,7 @@ pub(crate) fn passed_over(
 {
     let mut commits = Vec::new(alloc);
     for entry in entries {
-        if entry.concerned.has(subscriber) {
+        if entry.routes.all().has(subscriber) {
             return Ok(commits);
         }
         commits.push(Arc::try_clone(&entry.commit)?)?;

@@ -30,6 +30,7 @@ CLOSINGS = {
     "ReceiptMissing": "a commit in the log is not one that was answered",
     "ReadingWrong": "a row was read that no commit left",
     "TakenDiffers": "a connection took commits other than those of the log",
+    "StartLate": "a stream started after a commit that its slot was never sent",
 }
 
 PARTS = {"eval": 2, "show": 1, "check": 2, "make": 1, "simulate": 3, "serve": 3}

@@ -38,10 +38,12 @@ COMMANDS = 1_000
 SOME_BLOCKS = 5
 SOME_BYTES = 4_000
 
-# The log keeps blocks of each commit: one for itself, and one for its list of changes. Of a row that comes, and of the
-# key of a row that goes, it keeps one that is shared, and one for the list of values; and one for the row's text. The
-# lists of what undoes a commit keep the room of the largest one, which is some 60 bytes for each of its changes.
+# The log keeps blocks of each commit: one for itself, and one for its list of changes; and of a commit of several
+# changes two for the sets of who gets each of them. Of a row that comes, and of the key of a row that goes, it keeps
+# one that is shared, and one for the list of values; and one for the row's text. The lists of what undoes a commit keep
+# the room of the largest one, which is some 60 bytes for each of its changes.
 COMMIT_BLOCKS = 2
+SET_BLOCKS = 2
 ROW_BLOCKS = 5
 
 COUNTS = re.compile("([0-9]+) blocks, ([0-9]+) bytes")
@@ -179,6 +181,7 @@ def cases() -> Iterator[Kept]:
     yield Kept("10,000 refused commits", FIRST + refusals(range(100)), refusals(range(100, 100 + MANY)))
     full = Script([commit(insert(key)) for key in KEYS], ["refused LogFull"] * MANY)
     yield Kept("10,000 commits into a full log", FIRST, full, words=("--limit", "1"))
-    for name, lists, most in ("one by one", one_by_one(), 570), ("1,000 at once", all_at_once(), 408):
-        blocks = COMMIT_BLOCKS * len(lists) + ROW_BLOCKS * MANY
+    ways = ("one by one", one_by_one(), 0, 630), ("1,000 at once", all_at_once(), SET_BLOCKS, 410)
+    for name, lists, sets, most in ways:
+        blocks = (COMMIT_BLOCKS + sets) * len(lists) + ROW_BLOCKS * MANY
         yield Kept(f"10,000 rows that come and go {name}", FIRST, commits(lists, 2), blocks, most * MANY)

@@ -6,3 +6,6 @@ returns-clause-first c = lemmas.nothing_is_heard
 
 pub returns-clause-pieces : goal.returns-clause-pieces
 returns-clause-pieces c = lemmas.pieces_are_heard
+
+pub returns-clause-requested : goal.returns-clause-requested
+returns-clause-requested c = lemmas.late_starts_are_requested

@@ -1,12 +1,18 @@
-use Rattle.std.proofs.Common.{All, sym, subst, arith, rules}
+use Rattle.std.proofs.Common.{All, map, sym, subst, arith, rules}
 use Rattle.std.proofs.lemmas.Grind.{common_steps}
+use Rattle.replica_identity.specs.ChangeView.{change_view}
 use Rattle.shard_checker.specs.CheckedView.{checked_view}
 use Rattle.shard_checker.proofs.LimitFacts.{checked_limited}
 use Rattle.pgoutput_msgs.specs.Ranges.{IsWithinRange}
 use Rattle.pgoutput_msgs.proofs.RoomLemmas.{messages_room}
 use Rattle.pgoutput_msgs.proofs.SentLemmas.{messages_sent}
 use Rattle.pgoutput_msgs.proofs.SinkLemmas.{spoken_messages}
+use Rattle.pgoutput_msgs.proofs.SparedLemmas.{no_owners}
 use Rattle.pgoutput_msgs.proofs.telling.messages_of.Goals as goal
+
+pub tell_each-requires-clause-owners : goal.tell_each-requires-clause-owners
+tell_each-requires-clause-owners c =
+    no_owners (checked_view c.args.checked.now).plan (map change_view c.changes.result.now)
 
 pub returns-clause-exact : goal.returns-clause-exact
 returns-clause-exact c =

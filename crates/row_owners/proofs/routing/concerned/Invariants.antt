@@ -1,10 +1,12 @@
-use Rattle.std.proofs.Common.{map}
+use Rattle.std.proofs.Common.{drop, map}
 use Rattle.replica_identity.specs.ChangeView.{change_view}
-use Rattle.shard_checker.specs.CheckedView.{checked_view}
-use Rattle.row_owners.specs.Owners.{concerns}
-use Rattle.row_owners.proofs.OwnerLemmas.{OwnedBelow}
+use Rattle.replica_identity.specs.Plans.{plan_view}
+use Rattle.row_owners.specs.Routers.{IsRouterOf}
+use Rattle.row_owners.proofs.OwnerLemmas.{OwnsRest}
 use Rattle.row_owners.proofs.routing.concerned.Given as goal
 
-abbrev pub invariant-loop-subscriber : goal.invariant-loop-subscriber
-invariant-loop-subscriber l =
-    OwnedBelow l.set l.subscriber (concerns (checked_view l.checked).plan (map change_view l.changes))
+abbrev pub invariant-loop-change : goal.invariant-loop-change
+invariant-loop-change l = record {
+  router : IsRouterOf (plan_view l.plan) l.router;
+  all : OwnsRest (plan_view l.plan) l.all (map change_view (drop l.change-index l.changes)) (map change_view l.changes);
+}

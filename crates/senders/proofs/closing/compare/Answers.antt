@@ -1,8 +1,9 @@
-use Rattle.std.proofs.Common.{rules}
+use Rattle.std.proofs.Common.{ℕ, rules, subst, sym}
 use Rattle.std.proofs.lemmas.Bool.{MatchBool-at_true, MatchBool-at_false}
 use Rattle.senders.specs.CloseCauses.{IsCloseCause}
+use Rattle.senders.specs.Reached.{AreReached}
 use Rattle.senders.proofs.ReplayLemmas.{passes_on}
-use Rattle.senders.proofs.ClosingLemmas.{unlike_compared, wrong_compared, taken_compared, closed_compared}
+use Rattle.senders.proofs.ClosingLemmas.{unlike_compared, wrong_compared, taken_compared, late_compared, closed_compared}
 use Rattle.senders.proofs.closing.compare.Goals as goal
 
 pub returns-in_err-receipts-clause-err : goal.returns-in_err-receipts-clause-err
@@ -37,6 +38,18 @@ returns-then-not-are_taken-clause-err g c =
     (MatchBool-at_true _ _ c.if-not-branch.false c.in_ok-replay.ensures.right) c.args.served.now
     c.if-not-are_taken.ensures
 
+pub returns-then-not-reached-clause-err : goal.returns-then-not-reached-clause-err
+returns-then-not-reached-clause-err g c =
+    late_compared c.args.book.now c.replay.new.fresh c.args.seats.now c.in_ok-receipts.receipts.items
+    c.as_slice.result.now c.as_slice.ensures.value c.in_ok-receipts.ensures.ok c.in_ok-receipts.ensures.long
+    c.in_ok-readings.readings.items c.sort_readings.new.readings.items c.as_slice-2.result.now
+    c.in_ok-readings.ensures c.sort_readings.ensures.all c.as_slice-2.ensures.value
+    c.in_ok-replay.ensures.ok c.in_ok-replay.ensures.all
+    (MatchBool-at_true _ _ c.if-not-branch.false c.in_ok-replay.ensures.right) c.args.served.now
+    c.if-not-are_taken.ensures
+    (λ all. MatchBool-at_false _ _ c.if-not-reached.true c.in_ok-reached.ensures
+    (subst (λ (slots : ℕ). AreReached slots c.args.served.now) (sym c.requires.slots) all))
+
 pub returns-clause-ok : goal.returns-clause-ok
 returns-clause-ok g c =
     closed_compared c.args.book.now c.replay.new.fresh c.args.seats.now c.in_ok-receipts.receipts.items
@@ -45,4 +58,6 @@ returns-clause-ok g c =
     c.in_ok-readings.ensures c.sort_readings.ensures.all c.as_slice-2.ensures.value
     c.in_ok-replay.ensures.ok c.in_ok-replay.ensures.all
     (MatchBool-at_true _ _ c.if-not-branch.false c.in_ok-replay.ensures.right) c.args.served.now
-    c.if-not-are_taken.ensures c.in_ok-receipts.ensures.forward c.in_ok-receipts.ensures.timed
+    c.if-not-are_taken.ensures
+    (subst (λ (slots : ℕ). AreReached slots c.args.served.now) c.requires.slots
+    (MatchBool-at_true _ _ c.if-not-reached.false c.in_ok-reached.ensures)) c.in_ok-receipts.ensures.forward c.in_ok-receipts.ensures.timed

@@ -18,5 +18,5 @@ returns g c =
     (sym c.next_of.ensures)
     (hears_next g.P.Publishing.checked (left c.args.reader.now) (left c.pull.new.reader) failed ended
     c.args.listener.now c.pull.new.self c.hear_piece-listened.new.listener pulls
-    c.hear_piece-listened.ensures.room c.hear_piece-listened.result.was_over c.hear_piece-listened.result.heard
+    c.hear_piece-listened.ensures.room c.hear_piece-listened.ensures.requested c.hear_piece-listened.result.was_over c.hear_piece-listened.result.heard
     c.hear_piece-listened.ensures.hears)

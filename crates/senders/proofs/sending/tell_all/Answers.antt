@@ -3,13 +3,14 @@ use Rattle.std.specs.Prelude.{false}
 use Rattle.std.proofs.lemmas.List.Elements.{All-nil}
 use Rattle.stream_laws.specs.LayoutRoom.{IsClocked}
 use Rattle.tables_log.specs.Commits.{CommitOf}
+use Rattle.tables_log.specs.Routes.{commit_in}
 use Rattle.std.specs.Arc.{arc_value}
 use Rattle.copy_both.specs.Voices.{next_of}
 use Rattle.copy_frames.specs.Contents.{copy_both_response}
 use Rattle.publisher_desk.specs.Lending.{IsNext}
 use Rattle.senders.specs.Sending.{TellsOn, started_telling}
 use Rattle.senders.proofs.SendingLemmas.{breaks_at, breaks_kept, breaks_unchanged, on_err, on_ok, tells_entry, tells_first, tells_kept, tells_reply, tells_skips}
-use Rattle.senders.proofs.SkippingLemmas.{next_are_quiet}
+use Rattle.senders.proofs.SkippingLemmas.{next_are_quiet, next_is_routed}
 use Rattle.senders.proofs.sending.tell_all.Goals as goal
 
 pub loop-init : goal.loop-init
@@ -29,11 +30,11 @@ loop-preserved-in-Sent g c =
     tells_entry (λ commit. arc_value commit) (taken c.args.writer.now) (taken c.loop.writer)
     (taken c.await_step.new.writer) told c.loop.taken.items c.reserve.new.self.items c.loop.voice
     c.await_step.new.voice c.loop.invariant c.await_step.ensures.flushes c.reserve.ensures.items
-    c.push_reserved.new.self.items c.in-Entry.commit c.deref.result.now c.take_entry.new.self
+    c.push_reserved.new.self.items c.into_commit.result (commit_in c.in-Entry.entry) c.take_routed.new.self
     c.next-in-loop.result c.in-Some-next.number c.clock.result c.clock.ensures c.next-in-loop.ensures
     c.in-Some-next.is (subst (IsNext g.P.Publishing.checked.plan c.args.started.0 c.in-Some-next.number) c.in-Entry.is
-    c.in-Ok.ensures.next).0 c.deref.ensures
-    c.in-Ok-take_entry.ensures.ok c.push_reserved.ensures.items
+    c.in-Ok.ensures.next).0 (sym c.into_commit.ensures)
+    c.in-Ok-take_routed.ensures.ok c.push_reserved.ensures.items
 
 pub loop-preserved-in_default-told : goal.loop-preserved-in_default-told
 loop-preserved-in_default-told g c =
@@ -42,11 +43,25 @@ loop-preserved-in_default-told g c =
     tells_entry (λ commit. arc_value commit) (taken c.args.writer.now) (taken c.loop.writer)
     (taken c.await_step.new.writer) told c.loop.taken.items c.reserve.new.self.items c.loop.voice
     c.await_step.new.voice c.loop.invariant c.await_step.ensures.flushes c.reserve.ensures.items
-    c.push_reserved.new.self.items c.in-Entry.commit c.deref.result.now c.take_entry.new.self
+    c.push_reserved.new.self.items c.into_commit.result (commit_in c.in-Entry.entry) c.take_routed.new.self
     c.next-in-loop.result c.in-Some-next.number c.clock.result c.clock.ensures c.next-in-loop.ensures
     c.in-Some-next.is (subst (IsNext g.P.Publishing.checked.plan c.args.started.0 c.in-Some-next.number) c.in-Entry.is
-    c.in-Ok.ensures.next).0 c.deref.ensures
-    c.in-Ok-take_entry.ensures.ok c.push_reserved.ensures.items
+    c.in-Ok.ensures.next).0 (sym c.into_commit.ensures)
+    c.in-Ok-take_routed.ensures.ok c.push_reserved.ensures.items
+
+-- the entry is routed by the plan of the voice, which is the publisher's
+pub take_routed-requires-clause-routed : goal.take_routed-requires-clause-routed
+take_routed-requires-clause-routed g c =
+    let taken = g.W.Sink.taken in
+    let told = started_telling g.P.Publishing.checked c.args.started.0 c.args.started.1 copy_both_response in
+    next_is_routed (taken c.args.writer.now) (taken c.await_step.new.writer)
+    (map (λ commit. arc_value commit) c.reserve.new.self.items) c.await_step.new.voice g.P.Publishing.checked
+    c.args.started.0 c.args.started.1 copy_both_response c.in-Entry.entry
+    (tells_kept (λ commit. arc_value commit) (taken c.args.writer.now) (taken c.loop.writer)
+    (taken c.await_step.new.writer) told c.loop.taken.items c.reserve.new.self.items c.loop.voice
+    c.await_step.new.voice c.loop.invariant c.await_step.ensures.flushes c.reserve.ensures.items)
+    (subst (IsNext g.P.Publishing.checked.plan c.args.started.0 c.in-Some-next.number) c.in-Entry.is
+    c.in-Ok.ensures.next).2
 
 -- commits that are passed over are the next ones, and the subscriber gets nothing of any
 pub pass_over-requires : goal.pass_over-requires
@@ -103,14 +118,14 @@ returns-in_default-await_step-clause-tells g c =
     (taken c.await_step.new.writer) told c.loop.taken.items c.reserve.new.self.items c.loop.voice
     c.await_step.new.voice c.loop.invariant c.await_step.ensures.flushes c.reserve.ensures.items
 
-pub returns-in_default-take_entry-clause-tells : goal.returns-in_default-take_entry-clause-tells
-returns-in_default-take_entry-clause-tells g c =
+pub returns-in_default-take_routed-clause-tells : goal.returns-in_default-take_routed-clause-tells
+returns-in_default-take_routed-clause-tells g c =
     let taken = g.W.Sink.taken in
     let told = started_telling g.P.Publishing.checked c.args.started.0 c.args.started.1 copy_both_response in
     breaks_at (λ commit. arc_value commit) (taken c.args.writer.now) (taken c.loop.writer)
     (taken c.await_step.new.writer) told c.loop.taken.items c.reserve.new.self.items c.loop.voice
     c.await_step.new.voice c.loop.invariant c.await_step.ensures.flushes c.reserve.ensures.items
-    c.take_entry.new.self c.in_default-take_entry.ensures.err
+    c.take_routed.new.self c.in_default-take_routed.ensures.err
 
 pub returns-then-is_err-2-clause-tells : goal.returns-then-is_err-2-clause-tells
 returns-then-is_err-2-clause-tells g c =

@@ -7,9 +7,10 @@ use Rattle.filter_memo.proofs.memo.Memo.keep.Goals as goal
 
 pub returns-then-slot-len : goal.returns-then-slot-len
 returns-then-slot-len c = λ filters text_of row is located text.
-    let used : c.args.self.now.is_used ≡ true = search rules in
+    let used : c.args.self.now.atoms.is_used ≡ true = search rules in
     let bytes : string_bytes c.in_ok-from_str.field-0 ≡ c.args.text.now = search rules in
-    other_slots c.args.self.now _ filters text_of is refl refl refl refl refl
-    (All-set (IsKept c.args.self.now.parts.items text_of) c.args.self.now.slots.items c.slot_of-slot.result _
+    other_slots c.args.self.now _ filters text_of is refl
+    (λ own. All-set (IsKept c.args.self.now.atoms.parts.items text_of) c.args.self.now.slots.items
+    c.slot_of-slot.result _
     (new_text c.args.self.now filters text_of is row c.args.said located used
-    (record { said = c.args.said; text = c.in_ok-from_str.field-0 }) refl (bytes ∙ text)) is.kept)
+    (record { said = c.args.said; text = c.in_ok-from_str.field-0 }) refl (bytes ∙ text)) (is.kept used))

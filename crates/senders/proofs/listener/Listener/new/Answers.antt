@@ -10,6 +10,9 @@ pub returns-clause-heard : goal.returns-clause-heard
 returns-clause-heard c =
     let new = c.new-ear in
     let same : arc_value c.in_ok-try_clone.field-0 ≡ arc_value c.args.checked.now = c.in_ok-try_clone.ensures in
-    subst (λ (checked : CheckedOf). HasHeard checked [] new.result)
-    (new.ensures.checked ∙ ap (λ (checked : Checked). checked_view checked) same)
-    (nothing_is_heard new.result new.ensures.phase new.ensures.started new.ensures.held)
+    record {
+      heard = subst (λ (checked : CheckedOf). HasHeard checked [] new.result)
+          (new.ensures.checked ∙ ap (λ (checked : Checked). checked_view checked) same)
+          (nothing_is_heard new.result new.ensures.phase new.ensures.started new.ensures.held);
+      requested = λ slot start started says. cc;
+    }

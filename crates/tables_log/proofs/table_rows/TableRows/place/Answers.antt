@@ -1,7 +1,6 @@
 use Rattle.std.proofs.Common.{◌≡◌, ◌<◌, List, length, sym, ◌∙◌, ap, arith}
-use Rattle.std.specs.Prelude.{Option, Some, slice_get, is_some}
+use Rattle.std.specs.Prelude.{Some, slice_get, is_some}
 use Rattle.std.proofs.lemmas.List.{length-map}
-use Rattle.filter_tree.specs.Datum.{Datum}
 use Rattle.replica_identity.specs.Setting.{keys_in}
 use Rattle.table_changes.specs.Keys.{UniqueKey, value_in}
 use Rattle.table_changes.specs.Tables.{found_at}

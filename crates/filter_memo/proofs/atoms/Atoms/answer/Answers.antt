@@ -1,10 +1,10 @@
-use Rattle.std.proofs.Common.{rules, ◌≡◌, true, Option, Some, None, List, ℕ, sym, subst}
+use Rattle.std.proofs.Common.{rules, ◌≡◌, true, Option, Some, None, List, ℕ, subst}
 use Rattle.std.specs.Prelude.{IfSome, slice_get}
-use Rattle.filter_tree.specs.Expr.{meaning}
+use Rattle.filter_tree.specs.declared.tri.Tri.{Tri}
 use Rattle.filter_memo.specs.Branches.{LeadTo}
 use Rattle.filter_memo.specs.declared.branches.Branch.{Branch}
-use Rattle.filter_memo.proofs.Memos.{branches_lead}
-use Rattle.filter_memo.proofs.memo.Memo.answer.Goals as goal
+use Rattle.filter_memo.proofs.AtomLemmas.{branches_say}
+use Rattle.filter_memo.proofs.atoms.Atoms.answer.Goals as goal
 
 if_some : {X : Type 0} {P Q : X → Type 0} (found : Option X) → ((x : X) → P x → Q x) → IfSome found P → IfSome found Q
 if_some None gives has = tt
@@ -17,9 +17,9 @@ returns c =
     subst (λ (starts : List ℕ). slice_get starts c.args.number ≡ Some c.in_ok-start.start) c.deref.ensures.value
     c.in_ok-start.ensures in
     if_some c.run.result
-    (λ tri is_one filters text_of row filter is located asked. is_one (meaning filter row)
-    (subst (λ (branches : List Branch). LeadTo branches c.args.said (meaning filter row) c.in_ok-start.start)
-    (sym c.deref-2.ensures.value)
-    (branches_lead c.args.self.now filters text_of is row c.args.said located used c.args.number c.in_ok-start.start
-    filter found asked)))
+    (λ tri is_one filters row filter is located asked.
+    branches_say c.args.self.now filters is used row c.args.said c.args.number c.in_ok-start.start filter tri located
+    found asked
+    (subst (λ (branches : List Branch). (other : Tri) → LeadTo branches c.args.said other c.in_ok-start.start
+    → tri ≡ other) c.deref-2.ensures.value is_one))
     c.run.ensures

@@ -1,0 +1,42 @@
+-- Changes that are only for other subscribers are passed over: nothing is sent for them.
+use Rattle.std.proofs.Common.{◌≡◌, ℕ, ◌+◌, ◌<◌, Bool, false, Some, None, List, [], length, get_or, drop, map, refl, sym, ap, ◌∙◌}
+use Rattle.std.specs.Prelude.{option_map, slice_get}
+use Rattle.std.proofs.lemmas.Option.{slice_get-map, slice_get_read}
+use Rattle.replica_identity.specs.ChangeView.{change_view}
+use Rattle.replica_identity.specs.Plans.{PlanOf}
+use Rattle.replica_identity.specs.declared.change.Change.{Change}
+use Rattle.row_owners.specs.Owners.{AreOwners, is_for}
+use Rattle.shard_checker.specs.CheckedView.{CheckedOf, setting_in}
+use Rattle.table_changes.specs.Outs.{got}
+use Rattle.table_changes.specs.Records.{ChangeOf}
+use Rattle.pgoutput_msgs.specs.Telling.{told_by}
+use Rattle.pgoutput_msgs.specs.declared.message.Msg.{Msg}
+use Rattle.pgoutput_msgs.proofs.SilentLemmas.{gets_none}
+use Rattle.pgoutput_msgs.proofs.SinkLemmas.{Said, more_said, nothing_taken, said_of}
+use Rattle.pgoutput_msgs.proofs.TellingLemmas.{nothing_told}
+
+-- no sets are the sets of the first few changes
+pub no_owners : (plan : PlanOf) (changes : List ChangeOf) → AreOwners plan changes []
+no_owners plan changes = record { each = λ place change set there none. absurd cc }
+
+-- the change at this place
+pub change_at : (all : List Change) (i : ℕ) (c : Change) → c ≡ get_or all i c → i < length all
+    → slice_get (map change_view all) i ≡ Some (change_view c)
+change_at all i c is within =
+    slice_get-map change_view all i
+    ∙ ap (option_map change_view) (slice_get_read all (length all) i c refl within is)
+
+module _ {S : Type 0} (takes_one : S → S → Msg → Type 0) where
+  pub passed_over : (old now : S) (checked : CheckedOf) (subscriber : ℕ) (sent told_now : List Bool)
+      (all : List Change) (i : ℕ) (c : Change) → c ≡ get_or all i c → i < length all
+      → is_for checked.plan subscriber (change_view c) ≡ false
+      → Said takes_one checked subscriber sent told_now old now all (drop i all)
+      → Said takes_one checked subscriber sent told_now old now all (drop (i + 1) all)
+  passed_over old now checked subscriber sent told_now all i c is within others before =
+      let none : got (setting_in checked) subscriber (change_view c) ≡ None =
+      gets_none checked subscriber (change_view c) others in
+      more_said takes_one old now now checked subscriber sent told_now told_now all i c is within
+      (said_of takes_one now now checked.catalog.tables checked.catalog.tables told_now None
+      (got (setting_in checked) subscriber (change_view c)) refl none
+      (nothing_taken takes_one now checked.catalog.tables told_now))
+      (nothing_told told_now ∙ ap (told_by told_now) (sym none)) before
