@@ -15,21 +15,21 @@ use Rattle.commands.specs.declared.failure.Status.TheVariants.{Done}
 use Rattle.cli.proofs.Sessions.{receipts_are_all}
 use Rattle.cli.specs.Connections.{IsFilled, WasServed}
 use Rattle.cli.specs.Telling.{Closed, Differs, IsFor, IsLast, IsLastOf, IsOver, ServiceOf, closed_line}
-use Rattle.cli.specs.declared.connections.Place.{Place}
-use Rattle.cli.specs.declared.connections.Place.TheVariants.{Ended}
+use Rattle.cli.specs.declared.connections.ConnectionPlace.{ConnectionPlace}
+use Rattle.cli.specs.declared.connections.ConnectionPlace.TheVariants.{Ended}
 
 -- ---- what came of the connections
 
-pub one_more : (all : List Served) (one : Served) (rest : List Place)
+pub one_more : (all : List Served) (one : Served) (rest : List ConnectionPlace)
     → map Ended (all ++ one ∷ []) ++ rest ≡ map Ended all ++ Ended one ∷ rest
 one_more [] one rest = refl
-one_more (first ∷ all) one rest = ap (λ (l : List Place). Ended first ∷ l) (one_more all one rest)
+one_more (first ∷ all) one rest = ap (λ (l : List ConnectionPlace). Ended first ∷ l) (one_more all one rest)
 
 -- places in which connections have ended have what came of them
 pub all_served : (checked : CheckedOf) (served : List Served) → All (IsFilled checked) (map Ended served)
     → All (WasServed checked) served
 all_served checked served filled place other below =
-    subst (λ (p : Place). IsFilled checked p) (get_or-map (λ (s : Served). Ended s) served place other (Ended other) below)
+    subst (λ (p : ConnectionPlace). IsFilled checked p) (get_or-map (λ (s : Served). Ended s) served place other (Ended other) below)
     (filled place (Ended other) (omega (arith, below, length-map served (λ (s : Served). Ended s))))
 
 -- ---- how it ended

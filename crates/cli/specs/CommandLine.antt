@@ -262,7 +262,7 @@ pub record TakesEval (taken : Option (Text × List Row)) (word : Text) (wanted :
   pub arguments : HasArguments found word wanted
 
 -- what clap parses is the subcommand of this name
-pub record Takes (taken : Option (Text × List Row)) (name : Text) : Type 0 where
+pub record TakesSubcommand (taken : Option (Text × List Row)) (name : Text) : Type 0 where
   pub found : List Row
   pub is : taken ≡ Some (name, found)
 
@@ -292,9 +292,9 @@ pub record TakesPublish (taken : Option (Text × List Row)) (feed : Feed) : Type
 
 abbrev pub IsSubcommand : Option (Text × List Row) → Request → Type 0
 IsSubcommand taken (Eval table wanted) = TakesEval taken table.now wanted
-IsSubcommand taken Show = Takes taken (codes "show")
+IsSubcommand taken Show = TakesSubcommand taken (codes "show")
 IsSubcommand taken (Check shows) = TakesCheck taken shows
-IsSubcommand taken Make = Takes taken (codes "make")
+IsSubcommand taken Make = TakesSubcommand taken (codes "make")
 IsSubcommand taken (Simulate limit) = TakesSimulate taken limit
 IsSubcommand taken (Serve service) = TakesServe taken service
 IsSubcommand taken (Publish feed) = TakesPublish taken feed

@@ -6,8 +6,8 @@ use Rattle.copy_both.specs.declared.link_fault.LinkFault.TheVariants.{OutOfMemor
 use Rattle.senders.specs.Serving.{IsServed}
 use Rattle.senders.specs.declared.end.End.TheVariants.{Link}
 use Rattle.senders.specs.declared.served.Served.{Served}
-use Rattle.cli.specs.declared.connections.Place.{Place}
-use Rattle.cli.specs.declared.connections.Place.TheVariants as p
+use Rattle.cli.specs.declared.connections.ConnectionPlace.{ConnectionPlace}
+use Rattle.cli.specs.declared.connections.ConnectionPlace.TheVariants as p
 use Rattle.cli.specs.declared.publish.places.Berth.{Berth}
 
 -- This is the result of a connection that was served to its end. Nothing is known of the bytes of a socket.
@@ -22,7 +22,7 @@ pub record WasServed (checked : CheckedOf) (served : Served) : Type 0 where
   pub is : IsServed checked left now_left source_failed source_ended before after sink_failed served
 
 -- what is in a place when it has ended
-abbrev pub IsFilled : CheckedOf → Place → Type 0
+abbrev pub IsFilled : CheckedOf → ConnectionPlace → Type 0
 IsFilled checked p.Open = ⊥
 IsFilled checked (p.Ended served) = WasServed checked served
 IsFilled checked p.Failed = Unit {0}

@@ -7,9 +7,9 @@ ghost use Rattle.commands.specs.declared.failure.Status.TheVariants.{Done};
 ghost use Rattle.cli.specs.Connections.{HadMemory};
 ghost use Rattle.cli.specs.Telling as spec;
 ghost use Rattle.cli.specs.Telling.{Closes, IsFor, IsLast, IsLastOf, IsOver, IsStop, WritesLine, ServiceOf, closed_line};
-ghost use Rattle.cli.specs.declared.connections.Place.TheVariants.{Ended};
+ghost use Rattle.cli.specs.declared.connections.ConnectionPlace.TheVariants.{Ended};
 
-use crate::connections::Place;
+use crate::connections::ConnectionPlace;
 use crate::unserved::tell_unserved;
 use commands::{Failure, Status, Writer, write_line};
 use copy_both::LinkFault;
@@ -23,14 +23,17 @@ use std::sync::Arc;
 ///
 /// `Output` if the listening socket failed before all connections were accepted; `OutOfMemory`, also if a connection
 /// was refused memory or a thread.
-pub fn served_in<'a>(alloc: Global, places: Vec<Place>) -> Result<Vec<Served>, Failure<'a>>
+pub fn served_in<'a>(
+    alloc: Global,
+    places: Vec<ConnectionPlace>,
+) -> Result<Vec<Served>, Failure<'a>>
     ensures all { IfOk result (λ served. map Ended served.items ≡ places.items) }
     ensures memory { IfOk result (λ served. All HadMemory served.items) }
     ensures stopped { IfErr result IsStop }
 {
     let mut all = Vec::with_capacity(alloc, places.len())?;
     for place in places {
-        let Place::Ended(served) = place else {
+        let ConnectionPlace::Ended(served) = place else {
             return Err(Failure::Output);
         };
         if served.end == End::Link(LinkFault::OutOfMemory) {

@@ -14,7 +14,7 @@ use std::time::Clock;
 
 /// A place for one connection.
 #[derive(Debug, Drop)]
-pub enum Place {
+pub enum ConnectionPlace {
     /// No connection has ended here yet.
     Open,
     /// The result of the connection that was served here.
@@ -24,12 +24,12 @@ pub enum Place {
 }
 
 /// This number of places for connections.
-pub fn open_places(alloc: Global, count: usize) -> Result<Vec<Place>, AllocError>
+pub fn open_places(alloc: Global, count: usize) -> Result<Vec<ConnectionPlace>, AllocError>
     ensures { IfOk result (λ places. length places.items ≡ count) }
 {
     let mut places = Vec::with_capacity(alloc, count)?;
     for _ in 0..count {
-        places.push(Place::Open)?;
+        places.push(ConnectionPlace::Open)?;
     }
     Ok(places)
 }
@@ -66,13 +66,13 @@ fn fill<P: Publishing + Sync, R: Threads + Wait + Clock + Sync>(
     rt: &R,
     publisher: &Publisher<P>,
     listener: &TcpListener,
-    place: &mut Place,
+    place: &mut ConnectionPlace,
 )
     ensures { IsFilled P.checked place.new }
 {
     *place = match next_connection(listener) {
-        Some(stream) => Place::Ended(serve_stream(rt, publisher, &stream)),
-        None => Place::Failed,
+        Some(stream) => ConnectionPlace::Ended(serve_stream(rt, publisher, &stream)),
+        None => ConnectionPlace::Failed,
     };
 }
 
@@ -82,7 +82,7 @@ pub fn fill_all<P: Publishing + Sync, R: Threads + Wait + Clock + Sync>(
     rt: &R,
     publisher: &Publisher<P>,
     listener: &TcpListener,
-    places: &mut [Place],
+    places: &mut [ConnectionPlace],
 )
     ensures { All (IsFilled P.checked) places.new }
 {

@@ -6,7 +6,7 @@ ghost use Rattle.cli.specs.Scripts.{list_view};
 ghost use Rattle.cli.specs.Sessions.{AreCommitted};
 
 use crate::commits::commit_and_finish;
-use crate::connections::{Place, fill_all};
+use crate::connections::{ConnectionPlace, fill_all};
 use senders::{Publisher, Publishing, Seat};
 use std::alloc::AllocError;
 use std::net::TcpListener;
@@ -22,7 +22,7 @@ fn run_in<P: Publishing + Sync, R: Threads + Wait + Clock + Sync>(
     seat: &mut Seat<P>,
     lists: Vec<Vec<Command>>,
     listener: &TcpListener,
-    places: &mut [Place],
+    places: &mut [ConnectionPlace],
 ) -> Result<(), AllocError>
     requires { length lists.items ≤ 100000 }
     ensures committed { OnOk result (AreCommitted P.checked P.limit 1 (map list_view lists.items) seat.old seat.new) }
@@ -51,7 +51,7 @@ pub fn run_both<P: Publishing + Sync, R: Threads + Wait + Clock + Sync>(
     seat: &mut Seat<P>,
     lists: Vec<Vec<Command>>,
     listener: &TcpListener,
-    places: &mut Vec<Place>,
+    places: &mut Vec<ConnectionPlace>,
 ) -> Result<(), AllocError>
     requires { length lists.items ≤ 100000 }
     ensures committed { OnOk result (AreCommitted P.checked P.limit 1 (map list_view lists.items) seat.old seat.new) }

@@ -8,7 +8,7 @@ use Rattle.std.proofs.lemmas.List.Elements.{All-nil, All-cons}
 use Rattle.copy_frames.specs.Contents.{xlog_data_body}
 use Rattle.copy_frames.specs.declared.xlog_data.XLogData.{XLogData}
 use Rattle.pgoutput_msgs.specs.Ranges.{HasTexts, IsMaybeOldText}
-use Rattle.pgoutput_msgs.specs.Sinks.{Takes}
+use Rattle.pgoutput_msgs.specs.Sinks.{TakesEach}
 use Rattle.pgoutput_msgs.specs.Spelling.{spelling_of, maybe_delete_spelling}
 use Rattle.pgoutput_msgs.specs.Telling.{begin_msg, commit_msg, enclosed, oid_of, old_of, maybe_old_of, message_of, named_in}
 use Rattle.pgoutput_msgs.specs.declared.message.Msg.{Msg}
@@ -141,7 +141,7 @@ pub gone_added : (old new : Frames) (opened written : List ℕ) (start table : �
     → written ≡ opened ++ maybe_delete_spelling (oid_of table) (maybe_old_of part)
     → ((front body : List ℕ) → length front ≡ start → written ≡ front ++ 100 ∷ 0 ∷ 0 ∷ 0 ∷ 0 ∷ body
     → new.bytes.items ≡ front ++ 100 ∷ (to_be_bytes w32 (length body + 4) ++ body))
-    → IsMaybeOldText (maybe_old_of part) → Takes AddsFrame old new (message_of (r.Delete table part))
+    → IsMaybeOldText (maybe_old_of part) → TakesEach AddsFrame old new (message_of (r.Delete table part))
 gone_added old new opened written start table None named head at begins wrote closes texts = absurd cc
 gone_added old new opened written start table (Some part) named head at begins wrote closes texts =
     takes_message AddsFrame old new (m.Delete (oid_of table) (old_of part))
@@ -163,7 +163,7 @@ pub record AddsFrames (old new : Frames) (messages : List Msg) : Type 0 where
   pub appended : new.bytes.items ≡ old.bytes.items ++ frames_with old.head messages
   pub texts : All HasTexts messages
 
-pub all_framed : (old new : Frames) (messages : List Msg) → Takes AddsFrame old new messages
+pub all_framed : (old new : Frames) (messages : List Msg) → TakesEach AddsFrame old new messages
     → AddsFrames old new messages
 all_framed old new [] is = record {
   head = ap (λ (frames : Frames). frames.head) is;
@@ -197,7 +197,7 @@ some_bytes head message messages =
 -- ---- the frames of a commit
 
 -- if nothing was added after Begin, the commit has no message
-pub none_framed : (commit : CommitOf) (begin filled : Frames) (said : List Msg) → Takes AddsFrame begin filled said
+pub none_framed : (commit : CommitOf) (begin filled : Frames) (said : List Msg) → TakesEach AddsFrame begin filled said
     → length filled.bytes.items ≡ length begin.bytes.items
     → enclosed commit said ≡ []
 none_framed commit begin filled [] took same = refl
@@ -214,7 +214,7 @@ none_framed commit begin filled (message ∷ messages) took same =
 -- otherwise all its messages are in frames
 pub commit_framed : (commit : CommitOf) (new begin filled ended : Frames) (said : List Msg)
     → AddsFrame new begin (begin_msg commit)
-    → Takes AddsFrame begin filled said → (length filled.bytes.items ≡ length begin.bytes.items → ⊥)
+    → TakesEach AddsFrame begin filled said → (length filled.bytes.items ≡ length begin.bytes.items → ⊥)
     → AddsFrame filled ended (commit_msg commit)
     → AddsFrames new ended (enclosed commit said)
 commit_framed commit new begin filled ended [] one took more last =

@@ -7,7 +7,7 @@ use Rattle.std.proofs.lemmas.List.Concat.{flat_map-append}
 use Rattle.std.proofs.lemmas.Option.{slice_get_within}
 use Rattle.copy_frames.specs.Contents.{copy_both_response}
 use Rattle.copy_both.specs.Streams.{StreamItem, Response, spelled, Telling, StreamStateOf, Move, Take, Keep, take_items, taken_state, keep_item, keep_bytes, move_items, moved, all_items, all_moved}
-use Rattle.copy_both.specs.StreamLaws.{IsThere, AllThere, Start, first_state, HasSent, Starts, Takes, Keeps, Passes, Grows}
+use Rattle.copy_both.specs.StreamLaws.{IsThere, AllThere, Start, first_state, HasSent, StreamStarts, StreamTakes, StreamKeeps, StreamPasses, StreamGrows}
 
 pub moved_append : {C : Type 0} (telling : Telling C) (log : List C) (state : StreamStateOf) (moves : List Move)
     (move : Move)
@@ -56,22 +56,22 @@ speaks_on telling log start moves passed output state move speaks here =
           (let P : StreamStateOf → Type 0 = λ at. IsThere log at move in subst P speaks.at here);
     }
 
-pub starts : {C : Type 0} (telling : Telling C) → Starts telling
+pub starts : {C : Type 0} (telling : Telling C) → StreamStarts telling
 starts telling log start = record { bytes = sym (append-nil copy_both_response); at = refl; there = tt }
 
-pub takes : {C : Type 0} (telling : Telling C) → Takes telling
+pub takes : {C : Type 0} (telling : Telling C) → StreamTakes telling
 takes telling log start moves passed output state commit clock speaks got =
     let on = speaks_on telling log start moves passed output state (Take clock) speaks
     (slice_get_within log state.done commit got) in
     rw got at on
 
-pub keeps : {C : Type 0} (telling : Telling C) → Keeps telling
+pub keeps : {C : Type 0} (telling : Telling C) → StreamKeeps telling
 keeps telling log start moves passed output state clock want speaks =
     subst (λ bytes. HasSent telling log start (moves ++ Keep clock want ∷ []) passed (output ++ bytes) state)
     (append-nil (keep_bytes state clock want))
     (speaks_on telling log start moves passed output state (Keep clock want) speaks tt)
 
-pub passes : {C : Type 0} (telling : Telling C) → Passes telling
+pub passes : {C : Type 0} (telling : Telling C) → StreamPasses telling
 passes telling log start moves passed output state n speaks = record {
   bytes = append_assoc passed (take n output) (drop n output)
       ∙ ap (λ bytes. passed ++ bytes) (take-append-drop n output) ∙ speaks.bytes;
@@ -124,7 +124,7 @@ all_there_longer telling log more state (Take clock ∷ moves) there = (
 all_there_longer telling log more state (Keep clock want ∷ moves) there =
     (tt, all_there_longer telling log more state moves there.1)
 
-pub grows : {C : Type 0} (telling : Telling C) → Grows telling
+pub grows : {C : Type 0} (telling : Telling C) → StreamGrows telling
 grows telling log more start moves passed output state speaks = record {
   bytes = speaks.bytes ∙ ap (λ items. flat_map spelled (Response ∷ items))
       (sym (items_longer telling log more (first_state start) moves speaks.there));

@@ -29,33 +29,33 @@ pub record HasSent {C : Type 0} (telling : Telling C) (log : List C) (start : St
   pub at : state ≡ all_moved telling log (first_state start) moves
   pub there : AllThere telling log (first_state start) moves
 
-abbrev pub Starts : {C : Type 0} → Telling C → Type 0
-Starts {C = C} telling = (log : List C) (start : Start)
+abbrev pub StreamStarts : {C : Type 0} → Telling C → Type 0
+StreamStarts {C = C} telling = (log : List C) (start : Start)
     → HasSent telling log start [] [] copy_both_response (first_state start)
 
-abbrev pub Takes : {C : Type 0} → Telling C → Type 0
-Takes {C = C} telling =
+abbrev pub StreamTakes : {C : Type 0} → Telling C → Type 0
+StreamTakes {C = C} telling =
     (log : List C) (start : Start) (moves : List Move) (passed output : List ℕ) (state : StreamStateOf) (commit : C)
     (clock : ℕ)
     → HasSent telling log start moves passed output state → slice_get log state.done ≡ Some commit
     → HasSent telling log start (moves ++ Take clock ∷ []) passed (output ++ take_bytes telling state commit clock)
     (state_after telling state commit)
 
-abbrev pub Keeps : {C : Type 0} → Telling C → Type 0
-Keeps {C = C} telling =
+abbrev pub StreamKeeps : {C : Type 0} → Telling C → Type 0
+StreamKeeps {C = C} telling =
     (log : List C) (start : Start) (moves : List Move) (passed output : List ℕ) (state : StreamStateOf) (clock : ℕ)
     (want : Bool)
     → HasSent telling log start moves passed output state
     → HasSent telling log start (moves ++ Keep clock want ∷ []) passed (output ++ keep_bytes state clock want) state
 
-abbrev pub Passes : {C : Type 0} → Telling C → Type 0
-Passes {C = C} telling =
+abbrev pub StreamPasses : {C : Type 0} → Telling C → Type 0
+StreamPasses {C = C} telling =
     (log : List C) (start : Start) (moves : List Move) (passed output : List ℕ) (state : StreamStateOf) (n : ℕ)
     → HasSent telling log start moves passed output state
     → HasSent telling log start moves (passed ++ take n output) (drop n output) state
 
-abbrev pub Grows : {C : Type 0} → Telling C → Type 0
-Grows {C = C} telling = (log more : List C) (start : Start) (moves : List Move) (passed output : List ℕ)
+abbrev pub StreamGrows : {C : Type 0} → Telling C → Type 0
+StreamGrows {C = C} telling = (log more : List C) (start : Start) (moves : List Move) (passed output : List ℕ)
     (state : StreamStateOf)
     → HasSent telling log start moves passed output state
     → HasSent telling (log ++ more) start moves passed output state

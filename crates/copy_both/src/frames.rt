@@ -60,7 +60,7 @@ impl Frames {
     ghost use Rattle.table_changes.specs.Records as r;
     ghost use Rattle.tables_log.specs.Sendable.{IsSendableChange};
     ghost use Rattle.pgoutput_msgs.specs.Ranges.{HasTexts, IsWithinRange};
-    ghost use Rattle.pgoutput_msgs.specs.Sinks.{Takes};
+    ghost use Rattle.pgoutput_msgs.specs.Sinks.{TakesEach};
     ghost use Rattle.pgoutput_msgs.specs.Spelling.{spelling_of};
     ghost use Rattle.pgoutput_msgs.specs.Telling.{begin_msg, commit_msg, message_of, named_in};
     ghost use Rattle.copy_both.specs.Framing.{AddsFrame};
@@ -95,7 +95,7 @@ impl Frames {
     fn add_gone(&mut self, table: usize, old: &OldPart) -> Result<(), AllocError>
         requires recorded { named_in (r.Delete table (part_view old.now)) ≡ table ∷ [] }
         requires sendable { IsSendableChange (r.Delete table (part_view old.now)) }
-        ensures { OnOk result (Takes AddsFrame self.old self.new (message_of (r.Delete table (part_view old.now)))) }
+        ensures { OnOk result (TakesEach AddsFrame self.old self.new (message_of (r.Delete table (part_view old.now)))) }
     {
         let start = self.bytes.len();
         open_frame(&self.head, &mut self.bytes)?;

@@ -4,7 +4,7 @@ ghost use Rattle.copy_both.specs.Ears.{HearingChangesSlots, LosingChangesSlots};
 ghost use Rattle.copy_both.specs.HeardFrames.{LateStartsAreRequested, NothingIsHeard, PiecesAreHeard};
 ghost use Rattle.copy_both.specs.LinkLaws as links;
 ghost use Rattle.copy_both.specs.SeenStreams.{StreamsTellTransactions};
-ghost use Rattle.copy_both.specs.StreamLaws.{Starts, Takes, Keeps, Passes, Grows};
+ghost use Rattle.copy_both.specs.StreamLaws.{StreamStarts, StreamTakes, StreamKeeps, StreamPasses, StreamGrows};
 ghost use Rattle.copy_both.specs.Streams.{Telling};
 ghost use Rattle.copy_both.specs.VoiceLaws as voices;
 
@@ -16,11 +16,11 @@ use crate::voice::Voice;
 ///
 /// PostgreSQL 15, 55.4. Streaming Replication Protocol.
 pub fn streams_grow<C>()
-    ensures starts { (telling : Telling C) → Starts telling }
-    ensures takes { (telling : Telling C) → Takes telling }
-    ensures keeps { (telling : Telling C) → Keeps telling }
-    ensures passes { (telling : Telling C) → Passes telling }
-    ensures grows { (telling : Telling C) → Grows telling }
+    ensures starts { (telling : Telling C) → StreamStarts telling }
+    ensures takes { (telling : Telling C) → StreamTakes telling }
+    ensures keeps { (telling : Telling C) → StreamKeeps telling }
+    ensures passes { (telling : Telling C) → StreamPasses telling }
+    ensures grows { (telling : Telling C) → StreamGrows telling }
 {}
 
 /// A law about what a link sends while its stream runs. What was passed on and what waits are together the stream of

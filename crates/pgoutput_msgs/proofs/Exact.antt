@@ -10,7 +10,7 @@ use Rattle.pgoutput_msgs.specs.Laws.{IsBytes}
 use Rattle.pgoutput_msgs.specs.Reading.{Outcome, Rule, pure, fail, and_then, ◌>>=◌, mapped, ◌&◌, if_passed, passed, many}
 
 -- what was taken from the front of some bytes
-pub record Takes {A : Type 0} (spell : A → List ℕ) (Fits : A → Type 0) (bytes : List ℕ) (a : A) (rest : List ℕ) : Type
+pub record TakesSpelling {A : Type 0} (spell : A → List ℕ) (Fits : A → Type 0) (bytes : List ℕ) (a : A) (rest : List ℕ) : Type
     0 where
   pub spelled : bytes ≡ spell a ++ rest
   pub fits : Fits a
@@ -18,7 +18,7 @@ pub record Takes {A : Type 0} (spell : A → List ℕ) (Fits : A → Type 0) (by
 
 pub record Exact {A : Type 0} (rule : Rule A) (spell : A → List ℕ) (Fits : A → Type 0) : Type 0 where
   pub takes : (bytes : List ℕ) (a : A) (rest : List ℕ) → IsBytes bytes → rule bytes ≡ Ok (a, rest)
-      → Takes spell Fits bytes a rest
+      → TakesSpelling spell Fits bytes a rest
   pub again : (a : A) (rest : List ℕ) → Fits a → rule (spell a ++ rest) ≡ Ok (a, rest)
 
 -- ---- outcomes
@@ -209,7 +209,7 @@ unfolding many
 exact_many {A = A} rule spell Fits one zero = record {
   takes = λ bytes x rest is_bytes e.
       let same = same_read [] x bytes rest e in
-      subst (λ (y : List A). Takes (flat_map spell) (λ all. (length all ≡ 0) × AllByRecursion Fits all) bytes y rest)
+      subst (λ (y : List A). TakesSpelling (flat_map spell) (λ all. (length all ≡ 0) × AllByRecursion Fits all) bytes y rest)
       same.0
       (record { spelled = same.1; fits = (refl, tt); left = subst IsBytes same.1 is_bytes });
   again = λ x rest fits. elim x as (λ y. length y ≡ 0 → many rule 0 (flat_map spell y ++ rest) ≡ Ok (y, rest))
@@ -224,7 +224,7 @@ exact_many {A = A} rule spell Fits one (suc n) =
           let later = bound (many rule n parts.middle) (λ all. pure (parts.value ∷ all)) x rest parts.second in
           let u = others.takes parts.middle later.value later.middle t.left later.first in
           let same = same_read (parts.value ∷ later.value) x later.middle rest later.second in
-          subst (λ (y : List A). Takes (flat_map spell) (λ all. (length all ≡ suc n) × AllByRecursion Fits all) bytes
+          subst (λ (y : List A). TakesSpelling (flat_map spell) (λ all. (length all ≡ suc n) × AllByRecursion Fits all) bytes
           y rest) same.0 (record {
             spelled = t.spelled ∙ ap (λ (y : List ℕ). spell parts.value ++ y)
                 (u.spelled ∙ ap (λ (y : List ℕ). flat_map spell later.value ++ y) same.1)

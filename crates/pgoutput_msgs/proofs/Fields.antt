@@ -16,7 +16,7 @@ use Rattle.pgoutput_msgs.specs.Laws.{IsBytes}
 use Rattle.pgoutput_msgs.specs.Ranges.{IsName}
 use Rattle.pgoutput_msgs.specs.Reading.{pure, ◌>>=◌, if_passed, byte, some, big_endian, count16, count32, cut_at, up_to_zero, utf8_text, string_at, text_at}
 use Rattle.pgoutput_msgs.specs.Spelling.{int8, int16, int32, int64, string}
-use Rattle.pgoutput_msgs.proofs.Exact.{Exact, Takes, done, same_read, never, bound, exact_then, exact_passed}
+use Rattle.pgoutput_msgs.proofs.Exact.{Exact, TakesSpelling, done, same_read, never, bound, exact_then, exact_passed}
 
 IsBytes-drop : (n : ℕ) (bytes : List ℕ) → IsBytes bytes → IsBytes (drop n bytes)
 IsBytes-drop n bytes h i = rw get_or-drop (h (n + i))
@@ -31,7 +31,7 @@ IsBytes-take n bytes h i =
 -- ---- a byte
 
 byte_takes : (bytes : List ℕ) (b : ℕ) (rest : List ℕ) → IsBytes bytes → byte bytes ≡ Ok (b, rest)
-    → Takes int8 (λ n. n < 256) bytes b rest
+    → TakesSpelling int8 (λ n. n < 256) bytes b rest
 unfolding byte
 byte_takes [] b rest is_bytes e = absurd (never Short b rest e)
 byte_takes (first ∷ later) b rest is_bytes e =
@@ -114,7 +114,7 @@ wide64 = record {
 
 number_takes : (w : Width) (limit : ℕ) (wide : IsWide w limit) (bytes : List ℕ) (n : ℕ) (rest : List ℕ)
     → IsBytes bytes → big_endian w bytes ≡ Ok (n, rest)
-    → Takes (to_be_bytes w) (λ m. m < limit) bytes n rest
+    → TakesSpelling (to_be_bytes w) (λ m. m < limit) bytes n rest
 unfolding big_endian
 number_takes w limit wide bytes n rest is_bytes e =
     let parts = bound (some (byte_len w) bytes) (λ x. pure (from_be_bytes w x)) n rest e in
@@ -183,7 +183,7 @@ no_zero : (n : ℕ) → n ≡ 0 → is_zero n ≡ false → ⊥
 no_zero n e h = eqb-false n 0 h e
 
 cut_takes : (found : Option ℕ) (bytes x rest : List ℕ) → IsBytes bytes → position is_zero bytes ≡ found
-    → cut_at found bytes ≡ Ok (x, rest) → Takes string NoZero bytes x rest
+    → cut_at found bytes ≡ Ok (x, rest) → TakesSpelling string NoZero bytes x rest
 cut_takes None bytes x rest is_bytes at e = absurd (never Short x rest e)
 cut_takes (Some i) bytes x rest is_bytes at e =
     let same = same_read (take i bytes) x (drop (i + 1) bytes) rest e in

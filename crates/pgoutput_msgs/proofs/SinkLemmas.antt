@@ -7,26 +7,26 @@ use Rattle.replica_identity.specs.declared.change.Change.{Change}
 use Rattle.shard_checker.specs.CheckedView.{CheckedOf, setting_in}
 use Rattle.table_changes.specs.Outs.{got}
 use Rattle.table_changes.specs.Records as r
-use Rattle.pgoutput_msgs.specs.Sinks.{Takes}
+use Rattle.pgoutput_msgs.specs.Sinks.{TakesEach}
 use Rattle.pgoutput_msgs.specs.Telling.{introduced, a_relation, relation_once, relations_of, told_one, told_all, message_of, named_in, said, told_by, said_each, told_each}
 use Rattle.pgoutput_msgs.proofs.TellingLemmas.{Introduces, introduces_on, all_introduced, all_marked, Says, says_on, all_said, all_told}
 use Rattle.pgoutput_msgs.specs.declared.message.Msg.{Msg}
 
 module _ {S : Type 0} (takes_one : S → S → Msg → Type 0) where
-  pub takes_message : (old new : S) (message : Msg) → takes_one old new message → Takes takes_one old new (message ∷ [])
+  pub takes_message : (old new : S) (message : Msg) → takes_one old new message → TakesEach takes_one old new (message ∷ [])
   takes_message old new message took = (new, took, refl)
 
-  pub takes_both : (old between new : S) (first second : List Msg) → Takes takes_one old between first
-      → Takes takes_one between new second → Takes takes_one old new (first ++ second)
-  takes_both old between new [] second one other = subst (λ (s : S). Takes takes_one s new second) one other
+  pub takes_both : (old between new : S) (first second : List Msg) → TakesEach takes_one old between first
+      → TakesEach takes_one between new second → TakesEach takes_one old new (first ++ second)
+  takes_both old between new [] second one other = subst (λ (s : S). TakesEach takes_one s new second) one other
   takes_both old between new (message ∷ first) second one other =
       (one.0, one.1, takes_both one.0 between new first second one.2 other)
 
   -- what is sent for a change that the subscriber gets: the Relations that were not sent before, and the message
   pub takes_said : (old between new : S) (tables : List Table) (sent : List Bool) (change : r.ChangeOf)
-      → Takes takes_one old between (relations_of tables sent (named_in change))
-      → Takes takes_one between new (message_of change)
-      → Takes takes_one old new (said tables sent (Some change))
+      → TakesEach takes_one old between (relations_of tables sent (named_in change))
+      → TakesEach takes_one between new (message_of change)
+      → TakesEach takes_one old new (said tables sent (Some change))
   unfolding said
   takes_said old between new tables sent change relations message =
       takes_both old between new (relations_of tables sent (named_in change)) (message_of change) relations message
@@ -35,7 +35,7 @@ module _ {S : Type 0} (takes_one : S → S → Msg → Type 0) where
 pub record Taken {S : Type 0} (takes_one : S → S → Msg → Type 0) (old now : S) (holds : List Msg → Type 0) : Type 0
   where
     pub messages : List Msg
-    pub taken : Takes takes_one old now messages
+    pub taken : TakesEach takes_one old now messages
     pub so_far : holds messages
 
 abbrev pub Introduced : {S : Type 0} → (S → S → Msg → Type 0) → List Table → List Bool → List Bool → S → S → List ℕ
@@ -52,18 +52,18 @@ module _ {S : Type 0} (takes_one : S → S → Msg → Type 0) where
   -- ---- the Relation of a table
 
   pub was_told : (sink : S) (tables : List Table) (sent : List Bool) (number : ℕ)
-      → true ≡ slice_index_or sent number false → Takes takes_one sink sink (relation_once tables sent number)
+      → true ≡ slice_index_or sent number false → TakesEach takes_one sink sink (relation_once tables sent number)
   unfolding relation_once
   was_told sink tables sent number is =
-      subst (λ (b : Bool). Takes takes_one sink sink (introduced tables b number)) is refl
+      subst (λ (b : Bool). TakesEach takes_one sink sink (introduced tables b number)) is refl
 
   pub was_not_told : (old new : S) (tables : List Table) (sent : List Bool) (number : ℕ)
       → false ≡ slice_index_or sent number false
-      → Takes takes_one old new (a_relation number (slice_get tables number))
-      → Takes takes_one old new (relation_once tables sent number)
+      → TakesEach takes_one old new (a_relation number (slice_get tables number))
+      → TakesEach takes_one old new (relation_once tables sent number)
   unfolding relation_once
   was_not_told old new tables sent number is took =
-      subst (λ (b : Bool). Takes takes_one old new (introduced tables b number)) is took
+      subst (λ (b : Bool). TakesEach takes_one old new (introduced tables b number)) is took
 
   -- ---- Relations
 
@@ -74,7 +74,7 @@ module _ {S : Type 0} (takes_one : S → S → Msg → Type 0) where
 
   pub more_introduced : (old now new : S) (tables : List Table) (sent told_now later : List Bool) (all : List ℕ)
       (i n : ℕ) → n ≡ get_or all i 0 → i < length all
-      → Takes takes_one now new (relation_once tables told_now n) → later ≡ told_one told_now n
+      → TakesEach takes_one now new (relation_once tables told_now n) → later ≡ told_one told_now n
       → Introduced takes_one tables sent told_now old now all (drop i all)
       → Introduced takes_one tables sent later old new all (drop (i + 1) all)
   more_introduced old now new tables sent told_now later all i n is within took marked before =
@@ -90,9 +90,9 @@ module _ {S : Type 0} (takes_one : S → S → Msg → Type 0) where
   pub all_taken : (old now : S) (tables : List Table) (sent told_now : List Bool) (all : List ℕ) (i : ℕ)
       → length all ≤ i
       → Introduced takes_one tables sent told_now old now all (drop i all)
-      → Takes takes_one old now (relations_of tables sent all)
+      → TakesEach takes_one old now (relations_of tables sent all)
   all_taken old now tables sent told_now all i over so =
-      subst (Takes takes_one old now) (all_introduced tables sent told_now [] so.messages all i over so.so_far) so.taken
+      subst (TakesEach takes_one old now) (all_introduced tables sent told_now [] so.messages all i over so.so_far) so.taken
 
   pub all_flags : (old now : S) (tables : List Table) (sent told_now : List Bool) (all : List ℕ) (i : ℕ)
       → length all ≤ i
@@ -109,7 +109,7 @@ module _ {S : Type 0} (takes_one : S → S → Msg → Type 0) where
 
   pub more_said : (old now new : S) (checked : CheckedOf) (subscriber : ℕ) (sent told_now later : List Bool)
       (all : List Change) (i : ℕ) (c : Change) → c ≡ get_or all i c → i < length all
-      → Takes takes_one now new
+      → TakesEach takes_one now new
       (said checked.catalog.tables told_now (got (setting_in checked) subscriber (change_view c)))
       → later ≡ told_by told_now (got (setting_in checked) subscriber (change_view c))
       → Said takes_one checked subscriber sent told_now old now all (drop i all)
@@ -127,9 +127,9 @@ module _ {S : Type 0} (takes_one : S → S → Msg → Type 0) where
   pub all_changes_taken : (old now : S) (checked : CheckedOf) (subscriber : ℕ) (sent told_now : List Bool)
       (all : List Change) (i : ℕ) → length all ≤ i
       → Said takes_one checked subscriber sent told_now old now all (drop i all)
-      → Takes takes_one old now (said_each checked subscriber sent (map change_view all))
+      → TakesEach takes_one old now (said_each checked subscriber sent (map change_view all))
   all_changes_taken old now checked subscriber sent told_now all i over so =
-      subst (Takes takes_one old now) (all_said checked subscriber sent told_now [] so.messages all i over so.so_far)
+      subst (TakesEach takes_one old now) (all_said checked subscriber sent told_now [] so.messages all i over so.so_far)
       so.taken
 
   pub all_changes_told : (old now : S) (checked : CheckedOf) (subscriber : ℕ) (sent told_now : List Bool)
@@ -142,20 +142,20 @@ module _ {S : Type 0} (takes_one : S → S → Msg → Type 0) where
   -- what is sent for what the subscriber gets of a change
   pub said_of : (old new : S) (tables all : List Table) (sent : List Bool) (one other : Option r.ChangeOf)
       → tables ≡ all → other ≡ one
-      → Takes takes_one old new (said tables sent one) → Takes takes_one old new (said all sent other)
+      → TakesEach takes_one old new (said tables sent one) → TakesEach takes_one old new (said all sent other)
   said_of old new tables all sent one other same is took =
-      subst (λ (change : Option r.ChangeOf). Takes takes_one old new (said all sent change)) (sym is)
-      (subst (λ (ts : List Table). Takes takes_one old new (said ts sent one)) same took)
+      subst (λ (change : Option r.ChangeOf). TakesEach takes_one old new (said all sent change)) (sym is)
+      (subst (λ (ts : List Table). TakesEach takes_one old new (said ts sent one)) same took)
 
   -- if the subscriber gets nothing, nothing is taken
   pub nothing_taken : (sink : S) (tables : List Table) (sent : List Bool)
-      → Takes takes_one sink sink (said tables sent None)
+      → TakesEach takes_one sink sink (said tables sent None)
   unfolding said
   nothing_taken sink tables sent = refl
 
   pub nothing_deleted : (sink : S) (tables : List Table) (sent : List Bool) (table : ℕ) (part : Option r.PartOf)
       → part ≡ None
-      → Takes takes_one sink sink (said tables sent (Some (r.Delete table part)))
+      → TakesEach takes_one sink sink (said tables sent (Some (r.Delete table part)))
   unfolding said relations_of
   nothing_deleted sink tables sent table None is = refl
   nothing_deleted sink tables sent table (Some part) is = absurd cc
@@ -163,11 +163,11 @@ module _ {S : Type 0} (takes_one : S → S → Msg → Type 0) where
   -- if the change names this table alone
   pub takes_named : (old between new : S) (tables : List Table) (sent : List Bool) (table : ℕ) (change : r.ChangeOf)
       → named_in change ≡ table ∷ []
-      → Takes takes_one old between (relations_of tables sent (table ∷ []))
-      → Takes takes_one between new (message_of change) → Takes takes_one old new (said tables sent (Some change))
+      → TakesEach takes_one old between (relations_of tables sent (table ∷ []))
+      → TakesEach takes_one between new (message_of change) → TakesEach takes_one old new (said tables sent (Some change))
   takes_named old between new tables sent table change named relations message =
       takes_said takes_one old between new tables sent change
-      (subst (λ (ns : List ℕ). Takes takes_one old between (relations_of tables sent ns)) (sym named) relations)
+      (subst (λ (ns : List ℕ). TakesEach takes_one old between (relations_of tables sent ns)) (sym named) relations)
       message
 
 pub told_named : (sent later : List Bool) (table : ℕ) (change : r.ChangeOf) → named_in change ≡ table ∷ []
@@ -187,11 +187,11 @@ nothing_told_deleted sent table (Some part) is = absurd cc
 abbrev pub is_added : List Msg → List Msg → Msg → Type 0
 is_added old new message = new ≡ old ++ message ∷ []
 
-pub all_added : (old new messages : List Msg) → Takes is_added old new messages → new ≡ old ++ messages
+pub all_added : (old new messages : List Msg) → TakesEach is_added old new messages → new ≡ old ++ messages
 all_added old new [] is = is ∙ sym (append-nil old)
 all_added old new (message ∷ messages) took =
     all_added took.0 new messages took.2 ∙ ap (λ (m : List Msg). m ++ messages) took.1
     ∙ append_assoc old (message ∷ []) messages
 
-pub spoken_messages : (old new messages : List Msg) → old ≡ [] → Takes is_added old new messages → new ≡ messages
+pub spoken_messages : (old new messages : List Msg) → old ≡ [] → TakesEach is_added old new messages → new ≡ messages
 spoken_messages old new messages none took = all_added old new messages took ∙ ap (λ (m : List Msg). m ++ messages) none

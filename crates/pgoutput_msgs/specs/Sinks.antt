@@ -4,7 +4,7 @@ use Rattle.std.specs.Prelude.{◌≡◌, List, [], ◌∷◌}
 use Rattle.pgoutput_msgs.specs.declared.message.Msg.{Msg}
 
 -- these messages were taken, between the old state and the new one
-abbrev pub Takes : {S : Type 0} → (S → S → Msg → Type 0) → S → S → List Msg → Type 0
-Takes takes_one old new [] = new ≡ old
-Takes {S = S} takes_one old new (message ∷ messages) = (next : S) × takes_one old next message
-    × Takes takes_one next new messages
+abbrev pub TakesEach : {S : Type 0} → (S → S → Msg → Type 0) → S → S → List Msg → Type 0
+TakesEach takes_one old new [] = new ≡ old
+TakesEach {S = S} takes_one old new (message ∷ messages) = (next : S) × takes_one old next message
+    × TakesEach takes_one next new messages

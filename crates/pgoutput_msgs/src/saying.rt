@@ -6,7 +6,7 @@ ghost use Rattle.pub_catalog.specs.CatalogLimits.{IsLimitedTable};
 ghost use Rattle.replica_identity.specs.ChangeView.{part_view};
 ghost use Rattle.table_changes.specs.Records as r;
 ghost use Rattle.tables_log.specs.Sendable.{IsSendableChange, IsTableNumber};
-ghost use Rattle.pgoutput_msgs.specs.Sinks.{Takes};
+ghost use Rattle.pgoutput_msgs.specs.Sinks.{TakesEach};
 ghost use Rattle.pgoutput_msgs.specs.Telling as spec;
 
 use crate::sink::MessageSink;
@@ -44,7 +44,7 @@ fn say_new_relation<S: MessageSink>(
 ) -> Result<(), AllocError>
     requires number { IsTableNumber number }
     requires limited { All IsLimitedTable tables.now }
-    ensures { OnOk result (Takes S.takes_one sink.old sink.new
+    ensures { OnOk result (TakesEach S.takes_one sink.old sink.new
         (spec.a_relation number (slice_get tables.now number))) }
 {
     match table_at(tables, number) {
@@ -66,7 +66,7 @@ fn say_relation<S: MessageSink>(
     requires number { IsTableNumber number }
     requires limited { All IsLimitedTable tables.now }
     ensures { OnOk result
-        (Takes S.takes_one sink.old sink.new (spec.relation_once tables.now relation_sent.now number)) }
+        (TakesEach S.takes_one sink.old sink.new (spec.relation_once tables.now relation_sent.now number)) }
 {
     if is_told(relation_sent, number) {
         return Ok(());
@@ -84,7 +84,7 @@ pub(crate) fn say_relations<S: MessageSink>(
 ) -> Result<(), AllocError>
     requires numbers { All IsTableNumber numbers.now }
     requires limited { All IsLimitedTable tables.now }
-    ensures said { OnOk result (Takes S.takes_one sink.old sink.new
+    ensures said { OnOk result (TakesEach S.takes_one sink.old sink.new
         (spec.relations_of tables.now relation_sent.old numbers.now)) }
     ensures relation_sent { OnOk result (relation_sent.new ≡ spec.told_all relation_sent.old numbers.now) }
 {
@@ -105,7 +105,7 @@ pub(crate) fn say_insert<S: MessageSink>(
 ) -> Result<(), AllocError>
     requires sendable { IsSendableChange (r.Insert table new.now) }
     requires limited { All IsLimitedTable tables.now }
-    ensures said { OnOk result (Takes S.takes_one sink.old sink.new
+    ensures said { OnOk result (TakesEach S.takes_one sink.old sink.new
         (spec.said tables.now relation_sent.old (Some (r.Insert table new.now)))) }
     ensures relation_sent { OnOk result
         (relation_sent.new ≡ spec.told_by relation_sent.old (Some (r.Insert table new.now))) }
@@ -126,7 +126,7 @@ pub(crate) fn say_update<S: MessageSink>(
 ) -> Result<(), AllocError>
     requires sendable { IsSendableChange (r.Update table (part_view old.now) new.now) }
     requires limited { All IsLimitedTable tables.now }
-    ensures said { OnOk result (Takes S.takes_one sink.old sink.new
+    ensures said { OnOk result (TakesEach S.takes_one sink.old sink.new
         (spec.said tables.now relation_sent.old (Some (r.Update table (part_view old.now) new.now)))) }
     ensures relation_sent { OnOk result
         (relation_sent.new ≡ spec.told_by relation_sent.old (Some (r.Update table (part_view old.now) new.now))) }
@@ -146,7 +146,7 @@ fn say_gone<S: MessageSink>(
     requires recorded { spec.named_in (r.Delete table (part_view old.now)) ≡ table ∷ [] }
     requires sendable { IsSendableChange (r.Delete table (part_view old.now)) }
     requires limited { All IsLimitedTable tables.now }
-    ensures said { OnOk result (Takes S.takes_one sink.old sink.new
+    ensures said { OnOk result (TakesEach S.takes_one sink.old sink.new
         (spec.said tables.now relation_sent.old (Some (r.Delete table (part_view old.now))))) }
     ensures relation_sent { OnOk result
         (relation_sent.new ≡ spec.told_by relation_sent.old (Some (r.Delete table (part_view old.now)))) }
@@ -166,7 +166,7 @@ pub(crate) fn say_delete<S: MessageSink>(
 ) -> Result<(), AllocError>
     requires sendable { IsSendableChange (r.Delete table (part_view old.now)) }
     requires limited { All IsLimitedTable tables.now }
-    ensures said { OnOk result (Takes S.takes_one sink.old sink.new
+    ensures said { OnOk result (TakesEach S.takes_one sink.old sink.new
         (spec.said tables.now relation_sent.old (Some (r.Delete table (part_view old.now))))) }
     ensures relation_sent { OnOk result
         (relation_sent.new ≡ spec.told_by relation_sent.old (Some (r.Delete table (part_view old.now)))) }
@@ -192,7 +192,7 @@ pub(crate) fn say_truncate<S: MessageSink>(
 ) -> Result<(), AllocError>
     requires sendable { IsSendableChange (r.Truncate numbers.now) }
     requires limited { All IsLimitedTable tables.now }
-    ensures said { OnOk result (Takes S.takes_one sink.old sink.new
+    ensures said { OnOk result (TakesEach S.takes_one sink.old sink.new
         (spec.said tables.now relation_sent.old (Some (r.Truncate numbers.now)))) }
     ensures relation_sent { OnOk result
         (relation_sent.new ≡ spec.told_by relation_sent.old (Some (r.Truncate numbers.now))) }

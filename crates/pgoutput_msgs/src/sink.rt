@@ -14,7 +14,7 @@ pub trait MessageSink {
     ghost use Rattle.replica_identity.specs.ChangeView.{part_view};
     ghost use Rattle.table_changes.specs.Records as r;
     ghost use Rattle.tables_log.specs.Sendable.{IsSendableChange, IsTableNumber};
-    ghost use Rattle.pgoutput_msgs.specs.Sinks.{Takes};
+    ghost use Rattle.pgoutput_msgs.specs.Sinks.{TakesEach};
     ghost use Rattle.pgoutput_msgs.specs.Telling.{message_of, a_relation};
     ghost use Rattle.pgoutput_msgs.specs.declared.message.Msg.{Msg};
 
@@ -24,27 +24,27 @@ pub trait MessageSink {
     fn relation(&mut self, number: usize, table: &Table) -> Result<(), AllocError>
         requires number { IsTableNumber number }
         requires limited { IsLimitedTable table.now }
-        ensures { OnOk result (Takes takes_one self.old self.new (a_relation number (Some table.now))) };
+        ensures { OnOk result (TakesEach takes_one self.old self.new (a_relation number (Some table.now))) };
 
     /// Takes the Insert of a row of the table of this number. The only error is out of memory.
     fn insert(&mut self, table: usize, new: &Row) -> Result<(), AllocError>
         requires { IsSendableChange (r.Insert table new.now) }
-        ensures { OnOk result (Takes takes_one self.old self.new (message_of (r.Insert table new.now))) };
+        ensures { OnOk result (TakesEach takes_one self.old self.new (message_of (r.Insert table new.now))) };
 
     /// Takes the Update of a row of the table of this number. The only error is out of memory.
     fn update(&mut self, table: usize, old: &OldPart, new: &Row) -> Result<(), AllocError>
         requires { IsSendableChange (r.Update table (part_view old.now) new.now) }
         ensures { OnOk result
-            (Takes takes_one self.old self.new (message_of (r.Update table (part_view old.now) new.now))) };
+            (TakesEach takes_one self.old self.new (message_of (r.Update table (part_view old.now) new.now))) };
 
     /// Takes the Delete of a row of the table of this number; none if nothing is recorded of the row. The only error is
     /// out of memory.
     fn delete(&mut self, table: usize, old: &OldPart) -> Result<(), AllocError>
         requires { IsSendableChange (r.Delete table (part_view old.now)) }
-        ensures { OnOk result (Takes takes_one self.old self.new (message_of (r.Delete table (part_view old.now)))) };
+        ensures { OnOk result (TakesEach takes_one self.old self.new (message_of (r.Delete table (part_view old.now)))) };
 
     /// Takes the Truncate of the tables of these numbers. The only error is out of memory.
     fn truncate(&mut self, tables: &[usize]) -> Result<(), AllocError>
         requires { IsSendableChange (r.Truncate tables.now) }
-        ensures { OnOk result (Takes takes_one self.old self.new (message_of (r.Truncate tables.now))) };
+        ensures { OnOk result (TakesEach takes_one self.old self.new (message_of (r.Truncate tables.now))) };
 }

@@ -12,7 +12,7 @@ ghost use Rattle.table_changes.specs.Outs.{got};
 ghost use Rattle.tables_log.specs.Sendable.{IsSendableChange, IsTableNumber};
 ghost use Rattle.pgoutput_msgs.specs.Ranges.{IsWithinRange, HasTexts};
 ghost use Rattle.pgoutput_msgs.specs.Sent.{IsSent};
-ghost use Rattle.pgoutput_msgs.specs.Sinks.{Takes};
+ghost use Rattle.pgoutput_msgs.specs.Sinks.{TakesEach};
 ghost use Rattle.pgoutput_msgs.specs.Telling as spec;
 
 use crate::message::Msg;
@@ -108,7 +108,7 @@ pub fn tell_changes<S: MessageSink>(
     sink: &mut S,
 ) -> Result<(), AllocError>
     requires { AreOwners (checked_view checked.now).plan commit.now.changes owners.now }
-    ensures said { OnOk result (Takes S.takes_one sink.old sink.new
+    ensures said { OnOk result (TakesEach S.takes_one sink.old sink.new
         (spec.said_each (checked_view checked.now) subscriber relation_sent.old commit.now.changes)) }
     ensures relation_sent { OnOk result
         (relation_sent.new ≡ spec.told_after (checked_view checked.now) subscriber relation_sent.old commit.now) }
@@ -137,7 +137,7 @@ fn tell_each<S: MessageSink>(
 ) -> Result<(), AllocError>
     requires sendable { All IsSendableChange (map change_view changes.now) }
     requires owners { AreOwners (checked_view checked.now).plan (map change_view changes.now) owners.now }
-    ensures said { OnOk result (Takes S.takes_one sink.old sink.new
+    ensures said { OnOk result (TakesEach S.takes_one sink.old sink.new
         (spec.said_each (checked_view checked.now) subscriber relation_sent.old (map change_view changes.now))) }
     ensures relation_sent { OnOk result (relation_sent.new
         ≡ spec.told_each (checked_view checked.now) subscriber relation_sent.old (map change_view changes.now)) }
@@ -162,7 +162,7 @@ fn tell_change<S: MessageSink>(
     sink: &mut S,
 ) -> Result<(), AllocError>
     requires { IsSendableChange (change_view change.now) }
-    ensures said { OnOk result (Takes S.takes_one sink.old sink.new (spec.said (checked_view checked.now).catalog.tables
+    ensures said { OnOk result (TakesEach S.takes_one sink.old sink.new (spec.said (checked_view checked.now).catalog.tables
         relation_sent.old (got (setting_in (checked_view checked.now)) subscriber (change_view change.now)))) }
     ensures relation_sent { OnOk result (relation_sent.new
         ≡ spec.told_by relation_sent.old

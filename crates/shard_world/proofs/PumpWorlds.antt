@@ -9,7 +9,7 @@ use Rattle.tables_log.specs.BookView.{book_log}
 use Rattle.tables_log.specs.Lsn.{commits_before, end_lsn_of}
 use Rattle.tables_log.specs.StandsFor.{Transaction}
 use Rattle.stream_laws.specs.Following.{log_of}
-use Rattle.shard_world.specs.Pumping.{EndsIdle, IsPosition, IsEndOfLog, InEach, ReachesEnd, TakesEnough, WantsMemory, WalksAll, TakesAll, PumpsAll, PumpsSome, PumpsThrough, Walks, all_bytes, on_clock, pump_events}
+use Rattle.shard_world.specs.Pumping.{EndsIdle, IsPosition, IsEndOfLog, InEach, ReachesEnd, TakesEnough, WantsMemory, WalksAll, TakesAll, PumpsAll, PumpsSome, PumpsThrough, WalksThrough, all_bytes, on_clock, pump_events}
 use Rattle.shard_world.specs.World as w
 use Rattle.shard_world.specs.World.{Answer, Event, Peer, PeerEvent, Hear, Take, Keep, Deliver, Report, position_now, first_world, StreamSource, source_in, position_of, log_in}
 use Rattle.shard_world.specs.WorldCalls.{IsWorld, Runs, RunsFrom, world_book, world_checked, world_peers}
@@ -237,7 +237,7 @@ module _ (before between later after : World) (now subscriber : ℕ) (timed : no
 -- as the last events are answered
 pub pumped_by : (before between later after : World) (now subscriber : ℕ) → now < 2 ^ 64
     → WalksAll before between now subscriber (Hear all_bytes ∷ []) → TakesAll between later now subscriber
-    → (result : Result (Unit {0}) Answer) → Walks later after now subscriber last_events result
+    → (result : Result (Unit {0}) Answer) → WalksThrough later after now subscriber last_events result
     → PumpsThrough before after now subscriber result
 pumped_by before between later after now subscriber timed hears takes (Ok done) tells =
     pumps_through before between later after now subscriber timed hears takes tells

@@ -81,10 +81,10 @@ MovesFromEach checked now event before after old new answer =
 -- ---- how many bytes can be heard or delivered at once
 
 -- no list of bytes is this long
-abbrev pub IsCounted : Answer → Type 0
-IsCounted (Heard bytes) = bytes < 2 ^ 63
-IsCounted (Delivered bytes) = bytes < 2 ^ 63
-IsCounted answer = Unit {0}
+abbrev pub HasSmallCount : Answer → Type 0
+HasSmallCount (Heard bytes) = bytes < 2 ^ 63
+HasSmallCount (Delivered bytes) = bytes < 2 ^ 63
+HasSmallCount answer = Unit {0}
 
 -- ---- a call that memory may be refused to
 
@@ -92,5 +92,5 @@ IsCounted answer = Unit {0}
 pub record Tries (checked : CheckedOf) (now : ℕ) (event : PeerEvent) (before after : Book) (old : PeerOf)
     (result : Result Answer Halted) (new : PeerOf) : Type 0 where
   pub made : IfOk result (λ answer. MakesFromEach checked now event before after old new answer)
-  pub counted : IfOk result IsCounted
+  pub counted : IfOk result HasSmallCount
   pub stops : OnErr result (StopsFromEach checked now event before after old new)

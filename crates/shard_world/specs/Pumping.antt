@@ -3,7 +3,7 @@
 use Rattle.std.specs.Prelude.{◌≡◌, ◌<◌, ◌⊎◌, ℕ, ◌-◌, ◌^◌, false, List, [], ◌∷◌, ◌++◌, All, length, map, replicate, Some, Result, Ok, Err}
 use Rattle.tables_log.specs.BookView.{book_log}
 use Rattle.tables_log.specs.Lsn.{end_lsn_of}
-use Rattle.shard_world.specs.PeerCalls.{IsCounted}
+use Rattle.shard_world.specs.PeerCalls.{HasSmallCount}
 use Rattle.shard_world.specs.World as w
 use Rattle.shard_world.specs.World.{Answer, At, Connection, Event, Idle, NoSubscriber, NotOpen, On, OutOfMemory, PeerEvent, Hear, Take, Keep, Deliver, Report, position_now, position_of}
 use Rattle.shard_world.specs.WorldCalls.{IsWorld, RunsFromEach, world_book, world_checked}
@@ -30,7 +30,7 @@ abbrev pub KeepsConnection : Answer → Type 0
 KeepsConnection NoSubscriber = ⊥
 KeepsConnection NotOpen = ⊥
 KeepsConnection OutOfMemory = ⊥
-KeepsConnection answer = IsCounted answer
+KeepsConnection answer = HasSmallCount answer
 
 -- they happen one after another
 pub record WalksAll (before after : World) (now subscriber : ℕ) (events : List PeerEvent) : Type 0 where
@@ -49,9 +49,9 @@ pub record WalksSome (before after : World) (now subscriber : ℕ) (events : Lis
     pub ends : EndsWalk answer
     pub runs : RunsFromEach before after (map (on_clock now subscriber) done) (answers ++ answer ∷ [])
 
-abbrev pub Walks : World → World → ℕ → ℕ → List PeerEvent → Result (Unit {0}) Answer → Type 0
-Walks before after now subscriber events (Ok done) = WalksAll before after now subscriber events
-Walks before after now subscriber events (Err answer) = WalksSome before after now subscriber events answer
+abbrev pub WalksThrough : World → World → ℕ → ℕ → List PeerEvent → Result (Unit {0}) Answer → Type 0
+WalksThrough before after now subscriber events (Ok done) = WalksAll before after now subscriber events
+WalksThrough before after now subscriber events (Err answer) = WalksSome before after now subscriber events answer
 
 -- the last of the answers reports that there is no further commit
 pub record EndsIdle (answers : List Answer) : Type 0 where
@@ -68,9 +68,9 @@ pub record TakesSome (before after : World) (now subscriber : ℕ) (answer : Ans
   pub takes : ℕ
   pub some : WalksSome before after now subscriber (replicate takes Take) answer
 
-abbrev pub Takes : World → World → ℕ → ℕ → Result (Unit {0}) Answer → Type 0
-Takes before after now subscriber (Ok done) = TakesAll before after now subscriber
-Takes before after now subscriber (Err answer) = TakesSome before after now subscriber answer
+abbrev pub TakesThrough : World → World → ℕ → ℕ → Result (Unit {0}) Answer → Type 0
+TakesThrough before after now subscriber (Ok done) = TakesAll before after now subscriber
+TakesThrough before after now subscriber (Err answer) = TakesSome before after now subscriber answer
 
 -- ---- a pump
 

@@ -60,7 +60,7 @@ impl Peer {
     ghost use Rattle.std.specs.Arc.{arc_value};
     ghost use Rattle.shard_checker.specs.CheckedView.{CheckedOf, checked_view};
     ghost use Rattle.tables_log.specs.declared.book.Book.{Book as BookType};
-    ghost use Rattle.shard_world.specs.PeerCalls.{Drops, IsCounted, MovesFromEach, Tries};
+    ghost use Rattle.shard_world.specs.PeerCalls.{Drops, HasSmallCount, MovesFromEach, Tries};
     ghost use Rattle.shard_world.specs.World.{Open, Hear, Take, Keep, Deliver, Report, Lose};
 
     /// The subscriber connects, and requests the stream from its position on.
@@ -205,7 +205,7 @@ impl Peer {
     ) -> Answer
         ensures moves { MovesFromEach (checked_view (arc_value checked.now)) now event book.old book.new
             self.old self.new result }
-        ensures counted { IsCounted result }
+        ensures counted { HasSmallCount result }
     {
         match self.try_step(alloc, checked, book, now, event) {
             Ok(answer) => answer,

@@ -41,8 +41,8 @@ impl World {
     ghost use Rattle.table_changes.specs.Commands.{command_view};
     ghost use Rattle.shard_world.specs.World.{event_view, timed_view};
     ghost use Rattle.shard_world.specs.World as w;
-    ghost use Rattle.shard_world.specs.PeerCalls.{IsCounted};
-    ghost use Rattle.shard_world.specs.Pumping.{EndsWalk, KeepsConnection, IsPosition, PumpsFromEach, PumpsThrough, Takes, Walks};
+    ghost use Rattle.shard_world.specs.PeerCalls.{HasSmallCount};
+    ghost use Rattle.shard_world.specs.Pumping.{EndsWalk, KeepsConnection, IsPosition, PumpsFromEach, PumpsThrough, TakesThrough, WalksThrough};
     ghost use Rattle.shard_world.specs.ViewMeaning.{ShowsWorld};
     ghost use Rattle.shard_world.specs.WorldCalls.{IsWorld, RunsFromEach, StepsFromEach, world_checked};
 
@@ -85,7 +85,7 @@ impl World {
     #[tactic(auto, using(crate::proofs::WorldMoves::moves_one, crate::proofs::WorldMoves::none_there))]
     fn on(&mut self, now: u64, subscriber: usize, event: PeerEvent) -> Answer
         ensures steps { StepsFromEach self.old self.new now (w.On subscriber event) result }
-        ensures counted { IsCounted result }
+        ensures counted { HasSmallCount result }
     {
         match self.peers.get_mut(subscriber) {
             Some(peer) => peer.step(self.alloc, &self.checked, &mut self.book, now, event),
@@ -140,7 +140,7 @@ impl World {
         subscriber: usize,
         events: &[PeerEvent],
     ) -> Result<(), Answer>
-        ensures { Walks self.old self.new now subscriber events.now result }
+        ensures { WalksThrough self.old self.new now subscriber events.now result }
     {
         for event in events {
             if let Err(answer) = self.go_on(now, subscriber, *event) {
@@ -153,7 +153,7 @@ impl World {
     /// Each remaining commit is taken.
     #[tactic(auto, using(crate::proofs::PumpLemmas::takes_none, crate::proofs::PumpLemmas::takes_more, crate::proofs::PumpLemmas::takes_idle, crate::proofs::PumpLemmas::takes_enough, crate::proofs::PumpLemmas::takes_end))]
     fn take_all(&mut self, now: u64, subscriber: usize) -> Result<(), Answer>
-        ensures { Takes self.old self.new now subscriber result }
+        ensures { TakesThrough self.old self.new now subscriber result }
     {
         for _ in 0..=self.book.log_len() {
             match self.go_on(now, subscriber, PeerEvent::Take) {

@@ -37,14 +37,14 @@ some_is : {A : Type 0} (x y : A) → Some x ≡ Some y → x ≡ y
 some_is x y e = cc
 
 -- what a rule consumed from the front, if no node was counted
-pub record Takes (here : Here) (text : List ℕ) (after : Here) : Type 0 where
+pub record TakesText (here : Here) (text : List ℕ) (after : Here) : Type 0 where
   pub parts : here.rest ≡ text ++ after.rest
   pub nodes : after.nodes ≡ here.nodes
 
-Takes-are : (here mid after : Here) (text other : List ℕ) → text ≡ other → mid ≡ after → Takes here text mid
-    → Takes here other after
-Takes-are here mid after text other p q takes =
-    subst (λ t. Takes here t after) p (subst (λ m. Takes here text m) q takes)
+TakesText-are : (here mid after : Here) (text other : List ℕ) → text ≡ other → mid ≡ after → TakesText here text mid
+    → TakesText here other after
+TakesText-are here mid after text other p q takes =
+    subst (λ t. TakesText here t after) p (subst (λ m. TakesText here text m) q takes)
 
 -- ---- a word
 
@@ -52,12 +52,12 @@ unless_ended : {A : Type 0} (b : Bool) (fault : CertError) (x y : A) → (if b t
 unless_ended true fault x y e = absurd cc
 unless_ended false fault x y e = cc
 
-word_takes : (here : Here) (y : List ℕ × Here) → word here ≡ Ok y → Takes here y.0 y.1
+word_takes : (here : Here) (y : List ℕ × Here) → word here ≡ Ok y → TakesText here y.0 y.1
 unfolding word
 word_takes here y e =
     let n = word_len here.rest in
     let same = unless_ended (length here.rest == 0) Ended (take n here.rest, past n here) y e in
-    subst (λ (y : List ℕ × Here). Takes here y.0 y.1) same
+    subst (λ (y : List ℕ × Here). TakesText here y.0 y.1) same
     (record { parts = sym (take-append-drop n here.rest); nodes = refl })
 
 -- the bytes have no space, and after a word comes nothing or a space
@@ -151,14 +151,14 @@ digits_are_word (byte ∷ bytes) e =
 
 -- ---- the words of a node
 
-pub letter_takes : (here : Here) (y : Kind × Here) → letter here ≡ Ok y → Takes here (letter_of y.0 ∷ []) y.1
+pub letter_takes : (here : Here) (y : Kind × Here) → letter here ≡ Ok y → TakesText here (letter_of y.0 ∷ []) y.1
 unfolding letter
 letter_takes here y e =
     let a = bind_ok (word here) (λ bytes. meant here.place (kind_of bytes)) y e in
     let takes = word_takes here a.0 a.1 in
     let means = meant_is here.place (kind_of a.0.0) a.0.1 y a.2 in
     let bytes = kind_is a.0.0 y.0 means.0 in
-    Takes-are here a.0.1 y.1 a.0.0 (letter_of y.0 ∷ []) bytes means.1 takes
+    TakesText-are here a.0.1 y.1 a.0.0 (letter_of y.0 ∷ []) bytes means.1 takes
 
 letter_is_no_space : (kind : Kind) → letter_of kind ≢ 32
 letter_is_no_space Split e = omega arith
@@ -181,14 +181,14 @@ letter_again place nodes kind rest ends =
       letter_means kind,
     ) refl
 
-pub number_takes : (here : Here) (y : ℕ × Here) → numeral here ≡ Ok y → Takes here (decimal y.0) y.1 × (y.0 < 2 ^ 32)
+pub number_takes : (here : Here) (y : ℕ × Here) → numeral here ≡ Ok y → TakesText here (decimal y.0) y.1 × (y.0 < 2 ^ 32)
 unfolding numeral
 number_takes here y e =
     let a = bind_ok (word here) (λ bytes. meant here.place (word_number bytes)) y e in
     let takes = word_takes here a.0 a.1 in
     let means = meant_is here.place (word_number a.0.0) a.0.1 y a.2 in
     let is = number_is a.0.0 y.0 means.0 in
-    (Takes-are here a.0.1 y.1 a.0.0 (decimal y.0) is.0 means.1 takes, is.1)
+    (TakesText-are here a.0.1 y.1 a.0.0 (decimal y.0) is.0 means.1 takes, is.1)
 
 pub number_again : (place nodes n : ℕ) (rest : List ℕ) → n < 2 ^ 32 → EndsWord rest
     → numeral (at place nodes (decimal n ++ rest)) ≡ Ok (n, at (place + length (decimal n)) nodes rest)
@@ -215,6 +215,6 @@ space_first_takes here (byte ∷ bytes) y e =
     let is = eqb-true byte 32 found.0 in
     (rw is (ap (λ (y : Unit {0} × Here). 32 ∷ y.1.rest) found.1), ap (λ (y : Unit {0} × Here). y.1.nodes) (sym found.1))
 
-pub space_takes : (here : Here) (y : Unit {0} × Here) → space here ≡ Ok y → Takes here (32 ∷ []) y.1
+pub space_takes : (here : Here) (y : Unit {0} × Here) → space here ≡ Ok y → TakesText here (32 ∷ []) y.1
 unfolding space
 space_takes here y e = let takes = space_first_takes here here.rest y e in record { parts = takes.0; nodes = takes.1 }

@@ -82,10 +82,10 @@ nodes_in text = tree_nodes max_splits at_end (start text)
 -- ---- reading node by node
 
 -- what a call of `next` returns, and what is left after it; after the end and after a fault it returns the same again
-abbrev pub Takes : Stream → Result (Option Node) CertError → Stream → Type 0
-Takes before (Ok (Some node)) after = before ≡ led node after
-Takes before (Ok None) after = (before ≡ over) × (after ≡ before)
-Takes before (Err error) after = (before ≡ fault error) × (after ≡ before)
+abbrev pub TakesNode : Stream → Result (Option Node) CertError → Stream → Type 0
+TakesNode before (Ok (Some node)) after = before ≡ led node after
+TakesNode before (Ok None) after = (before ≡ over) × (after ≡ before)
+TakesNode before (Err error) after = (before ≡ fault error) × (after ≡ before)
 
 -- ---- the tree of the nodes
 

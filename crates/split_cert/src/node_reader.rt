@@ -89,7 +89,7 @@ impl<'a> NodeReader<'a> {
     /// The first fault of the text, as `read_in` returns it. After the end and after a fault, the same result is
     /// returned again.
     pub fn next(&mut self) -> Result<Option<Node>, CertError>
-        ensures { spec.Takes self.old result self.new }
+        ensures { spec.TakesNode self.old result self.new }
     {
         self.levels.close();
         let splits = self.levels.len();

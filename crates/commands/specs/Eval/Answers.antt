@@ -6,22 +6,22 @@ use Rattle.filter_tree.specs.Datum.{Datum}
 use Rattle.filter_tree.specs.Expr.{Expr, meaning}
 use Rattle.filter_tree.specs.declared.tri.Tri.TheVariants.{True, False, Null}
 use Rattle.commands.specs.Eval.Carriers.{CarrierOf}
-use Rattle.commands.specs.declared.eval.answers.Answer.{Answer}
-use Rattle.commands.specs.declared.eval.answers.Answer.TheVariants.{All, Filtered}
+use Rattle.commands.specs.declared.eval.answers.PublicationAnswer.{PublicationAnswer}
+use Rattle.commands.specs.declared.eval.answers.PublicationAnswer.TheVariants.{All, Filtered}
 
 -- where a publication carries the table by a filter, what that says; with no filter it carries all rows
-abbrev pub answer_of : List Datum → Option Expr → Answer
+abbrev pub answer_of : List Datum → Option Expr → PublicationAnswer
 answer_of row None = All
 answer_of row (Some filter) = Filtered (meaning filter row)
 
-abbrev pub word_of : Answer → List ℕ
+abbrev pub word_of : PublicationAnswer → List ℕ
 word_of All = codes "all"
 word_of (Filtered True) = codes "true"
 word_of (Filtered False) = codes "false"
 word_of (Filtered Null) = codes "null"
 
 -- `name=answer`
-abbrev pub answer_text : List ℕ → Answer → List ℕ
+abbrev pub answer_text : List ℕ → PublicationAnswer → List ℕ
 answer_text name answer = name ++ 61 ∷ word_of answer
 
 abbrev pub said_by : List Datum → CarrierOf → List ℕ

@@ -12,11 +12,11 @@ use Rattle.pgoutput_msgs.specs.declared.message.Msg.TheVariants.{Insert}
 use Rattle.commands.specs.Eval.Answers.{answer_of}
 use Rattle.commands.specs.Eval.Carriers.{CarrierOf}
 use Rattle.commands.specs.Eval.Hexadecimal.{hexadecimal}
-use Rattle.commands.specs.declared.eval.answers.Answer.{Answer}
-use Rattle.commands.specs.declared.eval.answers.Answer.TheVariants.{All, Filtered}
+use Rattle.commands.specs.declared.eval.answers.PublicationAnswer.{PublicationAnswer}
+use Rattle.commands.specs.declared.eval.answers.PublicationAnswer.TheVariants.{All, Filtered}
 
 -- a row is carried where the whole table is, or where the filter is true
-abbrev pub is_through : Answer → Bool
+abbrev pub is_through : PublicationAnswer → Bool
 is_through All = true
 is_through (Filtered True) = true
 is_through _ = false

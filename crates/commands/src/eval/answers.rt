@@ -15,14 +15,14 @@ use std::alloc::AllocError;
 
 /// What a publication that carries a table says of a row of it.
 #[derive(Clone, Copy, Debug, PartialEq, Eq)]
-pub enum Answer {
+pub enum PublicationAnswer {
     /// It carries the whole table.
     All,
     /// Its filter's truth value.
     Filtered(Tri),
 }
 
-impl Answer {
+impl PublicationAnswer {
     ghost use Rattle.std.specs.Prelude.{◌≡◌, ◌∷◌};
     ghost use Rattle.commands.specs.Eval.Answers.{word_of};
 
@@ -31,10 +31,10 @@ impl Answer {
         ensures { result.now ≡ 61 ∷ word_of self }
     {
         match self {
-            Answer::All => "=all",
-            Answer::Filtered(Tri::True) => "=true",
-            Answer::Filtered(Tri::False) => "=false",
-            Answer::Filtered(Tri::Null) => "=null",
+            PublicationAnswer::All => "=all",
+            PublicationAnswer::Filtered(Tri::True) => "=true",
+            PublicationAnswer::Filtered(Tri::False) => "=false",
+            PublicationAnswer::Filtered(Tri::Null) => "=null",
         }
     }
 }
@@ -52,18 +52,24 @@ fn truth_of(memo: &Memo, said: Said, number: usize, filter: &Filter, row: &Row) 
 }
 
 /// What the publication of this number says of a row.
-pub fn answer_of(memo: &Memo, said: Said, number: usize, carrier: Carrier<'_>, row: &Row) -> Answer
+pub fn answer_of(
+    memo: &Memo,
+    said: Said,
+    number: usize,
+    carrier: Carrier<'_>,
+    row: &Row,
+) -> PublicationAnswer
     requires { KnowsOne (carrier_view carrier).filter number row.now memo.now said }
     ensures { result ≡ spec.answer_of row.now (carrier_view carrier.entry).filter }
 {
     match carrier.filter {
-        None => Answer::All,
-        Some(filter) => Answer::Filtered(truth_of(memo, said, number, filter, row)),
+        None => PublicationAnswer::All,
+        Some(filter) => PublicationAnswer::Filtered(truth_of(memo, said, number, filter, row)),
     }
 }
 
 /// Writes `name=answer` after what is on the line.
-fn push_answer(line: &mut String, name: &str, answer: Answer) -> Result<(), AllocError>
+fn push_answer(line: &mut String, name: &str, answer: PublicationAnswer) -> Result<(), AllocError>
     ensures { OnOk result (string_bytes line.new ≡ spec.with_said (string_bytes line.old)
         (spec.answer_text name.now answer)) }
 {

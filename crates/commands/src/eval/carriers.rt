@@ -69,7 +69,7 @@ fn add_carrier<'a>(
     }
 }
 
-/// The publications that carry a table, in their order. The only error is want of memory.
+/// The publications that carry a table, in their order. The only error is out of memory.
 pub fn carriers_of(
     alloc: Global,
     publications: &[Publication],

@@ -9,7 +9,7 @@ ghost use Rattle.commands.specs.Eval.Memos.{Knows, KnowsOne, kept_of};
 ghost use Rattle.commands.specs.Eval.Printing.{carriers_in};
 ghost use Rattle.commands.specs.declared.eval.row_output.RowOutput.TheVariants.{Insert};
 
-use crate::eval::answers::{Answer, answer_of};
+use crate::eval::answers::{PublicationAnswer, answer_of};
 use crate::eval::carriers::Carrier;
 use crate::eval::hexadecimal::push_hexadecimal;
 use crate::eval::tables::CatalogTable;
@@ -41,7 +41,7 @@ fn carries(memo: &Memo, said: Said, number: usize, carrier: Carrier<'_>, row: &R
 {
     matches!(
         answer_of(memo, said, number, carrier, row),
-        Answer::All | Answer::Filtered(Tri::True)
+        PublicationAnswer::All | PublicationAnswer::Filtered(Tri::True)
     )
 }
 

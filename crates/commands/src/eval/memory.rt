@@ -36,7 +36,7 @@ fn filters_of<'a>(
     Ok(filters)
 }
 
-/// A memo of what these publications say. The only error is want of memory.
+/// A memo of what these publications say. The only error is out of memory.
 fn line_memo(alloc: Global, wanted: RowOutput, carriers: &[Carrier<'_>]) -> Result<Memo, AllocError>
     ensures { IfOk result (λ memo. spec.IsLineMemo wanted (map carrier_view carriers.now) (Some memo)) }
 {

@@ -1,6 +1,6 @@
 use Rattle.std.proofs.Common.{◌≡◌, ◌++◌, All, map}
 use Rattle.cli.specs.Connections.{HadMemory}
-use Rattle.cli.specs.declared.connections.Place.TheVariants.{Ended}
+use Rattle.cli.specs.declared.connections.ConnectionPlace.TheVariants.{Ended}
 use Rattle.cli.proofs.closing.served_in.Given as goal
 
 abbrev pub invariant-loop-place : goal.invariant-loop-place

@@ -3,8 +3,8 @@ use mir.Syntax.{of_param}
 use denote.Param.{param}
 use denote.Param.Send.{Quiet-if, mut_slice_send}
 use Rattle.publisher_desk.proofs.Crossing.{publisher_sync}
-use Rattle.cli.specs.contracts.connections.Place as Pl
-use Rattle.cli.proofs.connections.Place.TheSendSync as PlS
+use Rattle.cli.specs.contracts.connections.ConnectionPlace as Pl
+use Rattle.cli.proofs.connections.ConnectionPlace.TheSendSync as PlS
 use Rattle.cli.proofs.Crossing.{listener_sync}
 use Rattle.cli.proofs.running.run_in.Goals as goal
 

@@ -10,8 +10,8 @@ use Rattle.cli.specs.Connections.{IsFilled}
 use Rattle.cli.specs.Scripts.{list_view}
 use Rattle.cli.specs.Sessions.{AreCommitted}
 use Rattle.cli.specs.Telling.{IsOver, ServiceOf, service_of}
-use Rattle.cli.specs.declared.connections.Place.{Place}
-use Rattle.cli.specs.declared.connections.Place.TheVariants.{Ended}
+use Rattle.cli.specs.declared.connections.ConnectionPlace.{ConnectionPlace}
+use Rattle.cli.specs.declared.connections.ConnectionPlace.TheVariants.{Ended}
 use Rattle.cli.proofs.serve.publish.Goals as goal
 
 pub returns-in_err-listener : goal.returns-in_err-listener
@@ -50,7 +50,7 @@ returns g c =
           c.in_ok-committed.ensures.committed);
       many = sym (length-map served (λ (s : Served). Ended s)) ∙ (ap length all ∙ (c.run_both-committed.ensures.same
           ∙ (c.in_ok-places.ensures ∙ count)));
-      each = all_served checked served (subst (λ (p : List Place). All (IsFilled checked) p) (sym all)
+      each = all_served checked served (subst (λ (p : List ConnectionPlace). All (IsFilled checked) p) (sym all)
           c.run_both-committed.ensures.served);
       memory = c.in_ok-served.ensures.memory;
     } in

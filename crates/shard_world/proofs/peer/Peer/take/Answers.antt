@@ -3,13 +3,13 @@ use Rattle.std.specs.Prelude.{Ok, Some}
 use Rattle.copy_both.specs.declared.taken.Taken.{Taken}
 use Rattle.copy_both.specs.declared.taken.Taken.TheVariants.{NotStarted, Idle, Skipped, Sent}
 use Rattle.shard_world.specs.Connections.{answer_of}
-use Rattle.shard_world.specs.PeerCalls.{IsCounted, Tries}
+use Rattle.shard_world.specs.PeerCalls.{HasSmallCount, Tries}
 use Rattle.shard_world.specs.World.{Take}
 use Rattle.shard_world.proofs.CallLemmas.{takes_one}
 use Rattle.shard_world.proofs.peer.Peer.take.Goals as goal
 
 -- no answer here counts bytes
-is_counted : (found : Taken) → IsCounted (answer_of found)
+is_counted : (found : Taken) → HasSmallCount (answer_of found)
 is_counted NotStarted = tt
 is_counted Idle = tt
 is_counted (Skipped number) = tt
