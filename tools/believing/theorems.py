@@ -34,6 +34,15 @@ HANDED = {
     "sub_machine": "what a `Subscriber` keeps; `rows` and `position` show its rows and its position",
 }
 
+LINKS = {
+    "HearSays": "what `Link::hear` ensures and the law requires",
+    "HearingOf": "what `Link::hear` heard in a piece: where the stream starts, and how many replies are requested",
+    "LinkPasses": "what `Link::passed` ensures and the law requires",
+    "link_stage": "the state of a link, which calls pass to one another",
+    "link_checked": "the catalog of a link, which is the one that `Link::new` was given",
+    "link_output": "what waits to be sent, which `Link::output` shows",
+}
+
 FRAMES = {
     "frames_in": "the `whole_frames` of bytes, with the limit 65,536",
     "whole_frames": "the frames of bytes, which `bytes_make_frames` defines",
@@ -62,18 +71,22 @@ CONNECTION = Theorem("connection", [
     clauses("copy_both", "link.rt", "output"),
 ], most=1400, tokens={
     **HANDED,
+    **LINKS,
     "FeedStops": "what `Subscriber::feed` ensures if it is refused memory, and the law requires",
     "sub_listed": "what `Subscriber::rows` lists",
-    "HearSays": "what `Link::hear` ensures and the law requires",
-    "HearingOf": "what `Link::hear` heard in a piece: where the stream starts, and how many replies are requested",
     "LinkSays": "what `Link::take` and `Link::keepalive` ensure and the law requires",
     "next_bytes": "ensured by `Link::take` and required by the law, word for word",
     "next_stage": "ensured by `Link::take` and required by the law, word for word",
     "kept_bytes": "ensured by `Link::keepalive` and required by the law, word for word",
-    "LinkPasses": "what `Link::passed` ensures and the law requires",
-    "link_stage": "the state of a link, which calls pass to one another",
-    "link_checked": "the catalog of a link, which is the one that `Link::new` was given",
-    "link_output": "what waits to be sent, which `Link::output` shows",
+})
+
+ENDED = Theorem("ended", [
+    clauses("copy_both", "laws.rt", "links_say_streams", "ends", "breaks", "stops", "rest", "front", "grows"),
+    clauses("copy_both", "link.rt", "output"),
+], most=1000, tokens={
+    **LINKS,
+    "SendsFirst": "what `Link::hear` ensures if it is refused memory, and the law requires",
+    "Closes": "what a call that closes a link ensures, and the law requires",
 })
 
 HEADLINE = Theorem("headline", [
@@ -140,4 +153,4 @@ PROGRAM = Theorem("program", [
                "says of it what part 2 says of `decode`",
 })
 
-THEOREMS = [SOUNDNESS, SHOWN, CODEC, CONNECTION, HEADLINE, THREADS, PROGRAM]
+THEOREMS = [SOUNDNESS, SHOWN, CODEC, CONNECTION, ENDED, HEADLINE, THREADS, PROGRAM]
