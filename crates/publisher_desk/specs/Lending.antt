@@ -19,8 +19,8 @@ use Rattle.publisher_desk.specs.Receipts.{ReceiptOf, transactions_of}
 use Rattle.publisher_desk.specs.Sights.{Sees}
 use Rattle.publisher_desk.specs.declared.note.Note.{Note}
 use Rattle.publisher_desk.specs.declared.sight.Sight.{Sight}
-use Rattle.publisher_desk.specs.declared.step.Step.{Step}
-use Rattle.publisher_desk.specs.declared.step.Step.TheVariants.{Entry, Skip, Reply, Ended, Finished, OutOfMemory}
+use Rattle.publisher_desk.specs.declared.step.SenderStep.{SenderStep}
+use Rattle.publisher_desk.specs.declared.step.SenderStep.TheVariants.{Entry, Skip, Reply, Ended, Finished, OutOfMemory}
 use Rattle.publisher_desk.specs.declared.connection_state.ConnectionState.{ConnectionState}
 
 -- A user was lent a book of the checked catalog and of some list of transactions. It changed its slots, and did what
@@ -56,7 +56,7 @@ pub record LendsTo {U A : Type 0} (did : U → U → Book → Book → List Conn
   pub sees : Sees log old new
 
 -- how many commits a step tells of or passes over
-abbrev pub commits_in : Step → ℕ
+abbrev pub commits_in : SenderStep → ℕ
 commits_in (Entry entry) = 1
 commits_in (Skip commits) = length commits.items
 commits_in Reply = 0
@@ -67,7 +67,7 @@ commits_in OutOfMemory = 0
 -- What a step says of the log, for the sender of this slot that has sent all commits before this number. It sends
 -- the log's entry of this number only if the slot's subscriber gets something of it. Otherwise it passes over that entry
 -- and those after it, up to the first of which the subscriber gets something, and at most 64.
-abbrev pub IsStepOf : PlanOf → ℕ → List CommitOf → ℕ → Step → Type 0
+abbrev pub IsStepOf : PlanOf → ℕ → List CommitOf → ℕ → SenderStep → Type 0
 IsStepOf plan slot log number (Entry entry) =
     (entry_at log number ≡ Some (commit_in entry)) × (concerns plan (commit_in entry).changes slot ≡ true)
 IsStepOf plan slot log number (Skip commits) =
@@ -80,7 +80,7 @@ IsStepOf plan slot log number OutOfMemory = Unit {0}
 
 -- And outside the lock: of an entry of this number, with exactly the subscribers that get something of it; or of
 -- commits from this number on, of which the subscriber gets nothing.
-abbrev pub IsNext : PlanOf → ℕ → ℕ → Step → Type 0
+abbrev pub IsNext : PlanOf → ℕ → ℕ → SenderStep → Type 0
 IsNext plan slot number (Entry entry) =
     ((commit_in entry).number ≡ number) × (concerns plan (commit_in entry).changes slot ≡ true) × IsRouted plan entry
 IsNext plan slot number (Skip commits) =

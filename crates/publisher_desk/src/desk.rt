@@ -15,7 +15,7 @@ use crate::note::copy_found;
 use crate::receipt::Receipt;
 use crate::seat::Seat;
 use crate::slot_task::SlotTask;
-use crate::step::Step;
+use crate::step::SenderStep;
 use filter_tree::Row;
 use row_owners::OwnerSet;
 use shard_checker::Checked;
@@ -109,7 +109,11 @@ fn commit_number(number: u64) -> Option<u32>
 
 /// The next step of the slot's sender, which has sent all commits before this number, and the number of the last commit
 /// in it; none at the log's end. It fails only if memory is refused or an entry is shared too often.
-fn next_commits(book: &Book, slot: usize, number: u32) -> Result<Option<(Step, u32)>, AllocError>
+fn next_commits(
+    book: &Book,
+    slot: usize,
+    number: u32,
+) -> Result<Option<(SenderStep, u32)>, AllocError>
     requires few { slot < 32 }
     requires some { 1 ≤ number }
     ensures entry { IfOk result (λ found. IfSome found (λ next.
@@ -123,12 +127,12 @@ fn next_commits(book: &Book, slot: usize, number: u32) -> Result<Option<(Step, u
     let passed = book.passed_over(slot, number - 1)?;
     if let Some(last) = passed.last() {
         let last = last.number();
-        return Ok(Some((Step::Skip(passed), last)));
+        return Ok(Some((SenderStep::Skip(passed), last)));
     }
     let Some(entry) = book.routed(number)? else {
         return Ok(None);
     };
-    Ok(Some((Step::Entry(entry), number)))
+    Ok(Some((SenderStep::Entry(entry), number)))
 }
 
 impl<P: Publishing> Desk<P> {
@@ -258,14 +262,14 @@ impl<P: Publishing> Desk<P> {
     ///
     /// It sends the commit of this number if the slot's subscriber gets something of it. Otherwise it passes over that
     /// commit and those after it, up to the first of which the subscriber gets something, and at most 64.
-    pub(crate) fn step(&mut self, slot: usize, number: u64) -> Option<Step>
+    pub(crate) fn step(&mut self, slot: usize, number: u64) -> Option<SenderStep>
         ensures log { self.new ≡ self.old }
         ensures entry { IfSome result (IsStepOf P.checked.plan slot self.old number) }
         ensures next { IfSome result (IsNext P.checked.plan slot number) }
         ensures waits { IfNone result (entry_at self.old number ≡ None) }
     {
         let Some(connection) = self.connections.get(slot).copied() else {
-            return Some(Step::Ended);
+            return Some(SenderStep::Ended);
         };
         if connection.wants_reply {
             self.connections[slot] = ConnectionState {
@@ -273,20 +277,20 @@ impl<P: Publishing> Desk<P> {
                 wants_reply: false,
                 has_ended: connection.has_ended,
             };
-            return Some(Step::Reply);
+            return Some(SenderStep::Reply);
         }
         if connection.has_ended {
-            return Some(Step::Ended);
+            return Some(SenderStep::Ended);
         }
         let Some(number) = commit_number(number) else {
-            return Some(Step::Ended);
+            return Some(SenderStep::Ended);
         };
         let Ok(found) = next_commits(&self.book, slot, number) else {
-            return Some(Step::OutOfMemory);
+            return Some(SenderStep::OutOfMemory);
         };
         let Some((step, last)) = found else {
             if self.is_finished {
-                return Some(Step::Finished);
+                return Some(SenderStep::Finished);
             }
             return None;
         };

@@ -31,4 +31,4 @@ pub use receipt::Receipt;
 pub use seat::Seat;
 pub use seats::Seats;
 pub use slot_task::SlotTask;
-pub use step::Step;
+pub use step::SenderStep;

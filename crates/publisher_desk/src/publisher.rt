@@ -12,7 +12,7 @@ use crate::read_fault::ReadFault;
 use crate::seat::Seat;
 use crate::seats::Seats;
 use crate::slot_task::SlotTask;
-use crate::step::Step;
+use crate::step::SenderStep;
 use filter_tree::Row;
 use shard_checker::Checked;
 use std::alloc::{AllocError, Global};
@@ -231,11 +231,11 @@ impl<P: Publishing> Publisher<P> {
     ///
     /// It sends the commit of this number if the slot's subscriber gets something of it. Otherwise it passes over that
     /// commit and those after it, up to the first of which the subscriber gets something, and at most 64.
-    pub fn next_step<R: Wait>(&self, rt: &R, slot: usize, number: u64) -> Step
+    pub fn next_step<R: Wait>(&self, rt: &R, slot: usize, number: u64) -> SenderStep
         ensures { IsNext P.checked.plan slot number result }
     {
         let Some(moved) = self.moved.of(slot) else {
-            return Step::Ended;
+            return SenderStep::Ended;
         };
         let mut desk = self.desk.lock(rt);
         for _ in rt.forever() {
@@ -248,7 +248,7 @@ impl<P: Publishing> Publisher<P> {
     }
 
     /// The next step of the slot's sender, as `next_step` says, if there is something to do now.
-    pub fn step_now<R: Wait>(&self, rt: &R, slot: usize, number: u64) -> Option<Step>
+    pub fn step_now<R: Wait>(&self, rt: &R, slot: usize, number: u64) -> Option<SenderStep>
         ensures { IfSome result (IsNext P.checked.plan slot number) }
     {
         self.desk.lock(rt).step(slot, number)

@@ -4,15 +4,19 @@ use std::alloc::Global;
 use std::sync::Arc;
 use tables_log::{Commit, Routed};
 
-/// What the sender of a slot does next: it sends an entry of which its subscriber gets something; it passes over
-/// commits of which it gets nothing; it replies to its client; or it ends, because its connection has ended, because the
-/// publisher is finished and there is no further commit, or because memory was refused or an entry is shared too often.
+/// What the sender of a slot does next.
 #[derive(Drop)]
-pub enum Step {
+pub enum SenderStep {
+    /// It sends this entry, of which its subscriber gets something.
     Entry(Routed),
+    /// It passes over these commits, of which its subscriber gets nothing.
     Skip(Vec<Arc<Commit, Global>>),
+    /// It replies to its client.
     Reply,
+    /// It ends, since its connection has ended.
     Ended,
+    /// It ends, since the publisher is finished and there is no further commit.
     Finished,
+    /// It ends, since memory was refused or an entry is shared too often.
     OutOfMemory,
 }

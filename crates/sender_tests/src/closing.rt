@@ -2,7 +2,7 @@
 
 use crate::checks::same;
 use crate::work::{Work, key_of};
-use publisher_desk::Step;
+use publisher_desk::SenderStep;
 use senders::{CloseError, End, Publisher, Publishing, Seat, Seats, Served, close};
 use std::alloc::{AllocError, Global};
 use std::process::Abort;
@@ -32,8 +32,12 @@ fn given<P: Publishing, R: Wait>(
     number: u64,
 ) -> Option<Arc<Commit, Global>> {
     match publisher.next_step(rt, 0, number) {
-        Step::Entry(entry) => Some(entry.into_commit()),
-        Step::Skip(_) | Step::Reply | Step::Ended | Step::Finished | Step::OutOfMemory => None,
+        SenderStep::Entry(entry) => Some(entry.into_commit()),
+        SenderStep::Skip(_)
+        | SenderStep::Reply
+        | SenderStep::Ended
+        | SenderStep::Finished
+        | SenderStep::OutOfMemory => None,
     }
 }
 

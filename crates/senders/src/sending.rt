@@ -16,7 +16,7 @@ use crate::gate::Gate;
 use crate::sender_end::SenderEnd;
 use crate::sink::Sink;
 use copy_both::{Taken, Voice};
-use publisher_desk::{Publisher, Publishing, Step};
+use publisher_desk::{Publisher, Publishing, SenderStep};
 use std::alloc::{AllocError, Global};
 use std::sync::{Arc, Wait};
 use std::time::Clock;
@@ -39,7 +39,7 @@ fn await_step<P: Publishing, W: Sink, R: Wait>(
     is_due: bool,
     voice: &mut Voice,
     writer: &mut W,
-) -> Result<Step, Failed>
+) -> Result<SenderStep, Failed>
     ensures flushes { Flushes (W.taken writer.old) (W.taken writer.new) voice.old voice.new }
     ensures next { IfOk result (IsNext P.checked.plan slot number) }
     ensures failed { MatchResult result (λ step. W.has_failed writer.new ≡ W.has_failed writer.old)
@@ -116,7 +116,7 @@ fn tell_all<P: Publishing, W: Sink, G: Gate, R: Wait + Clock>(
             return (taken, SenderEnd::WriteFault);
         };
         match step {
-            Step::Entry(entry) => {
+            SenderStep::Entry(entry) => {
                 let Ok(told) = voice.take_routed(&entry, clock(rt)) else {
                     return (taken, SenderEnd::OutOfMemory);
                 };
@@ -126,20 +126,20 @@ fn tell_all<P: Publishing, W: Sink, G: Gate, R: Wait + Clock>(
                     gate.pass(started.0, number);
                 }
             }
-            Step::Skip(commits) => {
+            SenderStep::Skip(commits) => {
                 let Ok(()) = pass_over(voice, &mut taken, commits) else {
                     return (taken, SenderEnd::OutOfMemory);
                 };
                 skips = skips.saturating_add(1);
             }
-            Step::Reply => {
+            SenderStep::Reply => {
                 if voice.keepalive(clock(rt), false).is_err() {
                     return (taken, SenderEnd::OutOfMemory);
                 }
             }
-            Step::Ended => return (taken, SenderEnd::ConnectionEnded),
-            Step::Finished => return (taken, SenderEnd::Finished),
-            Step::OutOfMemory => return (taken, SenderEnd::OutOfMemory),
+            SenderStep::Ended => return (taken, SenderEnd::ConnectionEnded),
+            SenderStep::Finished => return (taken, SenderEnd::Finished),
+            SenderStep::OutOfMemory => return (taken, SenderEnd::OutOfMemory),
         }
     }
     unreachable!()

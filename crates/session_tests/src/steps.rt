@@ -6,7 +6,7 @@ use crate::calls::{commit, put};
 use crate::checks::same;
 use crate::sharding::accepted;
 use crate::threads::WHOLE;
-use publisher_desk::{ConnectionState, Opening, Publisher, Publishing, Seat, SlotTask, Step};
+use publisher_desk::{ConnectionState, Opening, Publisher, Publishing, Seat, SenderStep, SlotTask};
 use shard_checker::Checked;
 use std::alloc::Global;
 use std::marker::Brand;
@@ -54,21 +54,21 @@ fn sent_to<P: Publishing, R: Wait>(rt: &R, publisher: &Publisher<P>, slot: usize
 
 /// A code for a step: the number of its commit, 2,000 and the number of commits that it passes over, or 1,000 and more
 /// for the others.
-fn code(step: Step) -> u32 {
+fn code(step: SenderStep) -> u32 {
     match step {
-        Step::Entry(entry) => entry.commit().number(),
-        Step::Skip(commits) => {
+        SenderStep::Entry(entry) => entry.commit().number(),
+        SenderStep::Skip(commits) => {
             u32::try_from(commits.len()).map_or(0, |count| count.saturating_add(2_000))
         }
-        Step::Reply => 1_000,
-        Step::Ended => 1_001,
-        Step::Finished => 1_002,
-        Step::OutOfMemory => 1_003,
+        SenderStep::Reply => 1_000,
+        SenderStep::Ended => 1_001,
+        SenderStep::Finished => 1_002,
+        SenderStep::OutOfMemory => 1_003,
     }
 }
 
 /// The code of a step if there is one, or 0.
-fn code_now(step: Option<Step>) -> u32 {
+fn code_now(step: Option<SenderStep>) -> u32 {
     match step {
         Some(step) => code(step),
         None => 0,
