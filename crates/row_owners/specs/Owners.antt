@@ -1,6 +1,6 @@
 -- Which subscribers get a change, and which get some change of a commit: PostgreSQL 15, "Logical Replication", 31.3.3
 -- UPDATE Transformations.
-use Rattle.std.specs.Prelude.{◌≡◌, ℕ, ◌<◌, ◌==◌, Bool, List, Some, is_some, slice_get}
+use Rattle.std.specs.Prelude.{◌≡◌, ℕ, ◌<◌, ◌==◌, Bool, false, List, Some, is_some, slice_get}
 use Rattle.std.specs.Arc.{arc_value}
 use Rattle.std.specs.Int.{bit_at}
 use Rattle.std.specs.List.{list_any}
@@ -36,6 +36,12 @@ OwnsChange plan change set = OwnedWhere set (λ subscriber. is_for plan subscrib
 pub record AreOwners (plan : PlanOf) (changes : List ChangeOf) (sets : List OwnerSet) : Type 0 where
   pub each : (place : ℕ) (change : ChangeOf) (set : OwnerSet) → slice_get changes place ≡ Some change
       → slice_get sets place ≡ Some set → OwnsChange plan change set
+
+-- The sets tell that the subscriber gets nothing from the change at this place.
+abbrev pub IsSpared : List OwnerSet → ℕ → ℕ → Type 0
+IsSpared sets subscriber place =
+    (plan : PlanOf) (changes : List ChangeOf) (change : ChangeOf) → AreOwners plan changes sets
+    → slice_get changes place ≡ Some change → is_for plan subscriber change ≡ false
 
 -- They are the routes of these changes.
 pub record AreRoutes (plan : PlanOf) (changes : List ChangeOf) (routes : Routes) : Type 0 where

@@ -1,14 +1,13 @@
 //! Which subscribers get something from the changes of a commit.
 
-ghost use Rattle.std.specs.Prelude.{◌≡◌, IfOk, IfSome, IsTrue, List, Some, false, map, slice_get};
+ghost use Rattle.std.specs.Prelude.{◌≡◌, IfOk, IfSome, map};
 ghost use Rattle.std.specs.Arc.{arc_value};
 ghost use Rattle.std.specs.List.{AllZip};
 ghost use Rattle.replica_identity.specs.ChangeView.{change_view};
-ghost use Rattle.replica_identity.specs.Plans.{PlanOf, plan_view};
-ghost use Rattle.row_owners.specs.Owners.{AreOwners, AreRoutes, OwnedWhere, OwnsChange, concerns, is_for};
+ghost use Rattle.replica_identity.specs.Plans.{plan_view};
+ghost use Rattle.row_owners.specs.Owners.{AreRoutes, OwnedWhere, OwnsChange, concerns};
 ghost use Rattle.row_owners.specs.Routers.{IsRouterOf};
 ghost use Rattle.shard_checker.specs.CheckedView.{checked_view};
-ghost use Rattle.table_changes.specs.Records.{ChangeOf};
 
 use crate::owner_set::OwnerSet;
 use crate::router::Router;
@@ -90,17 +89,5 @@ impl Router {
             all: concerned(self, plan, changes),
             each: None,
         }
-    }
-}
-
-/// Whether the sets tell that the subscriber gets nothing from the change at this place.
-pub fn is_spared(sets: &[OwnerSet], place: usize, subscriber: usize) -> bool
-    ensures { IsTrue result → (plan : PlanOf) (changes : List ChangeOf) (change : ChangeOf)
-        → AreOwners plan changes sets.now → slice_get changes place ≡ Some change
-        → is_for plan subscriber change ≡ false }
-{
-    match sets.get(place) {
-        Some(set) if subscriber < 32 => !set.has(subscriber),
-        _ => false,
     }
 }
