@@ -1,10 +1,8 @@
 //! The messages of a commit as frames.
 
-ghost use Rattle.std.specs.Prelude.{◌≡◌, ◌≤◌, ◌++◌, All, IfOk, List, OnOk, OnErr, false, length};
-ghost use Rattle.replica_identity.specs.Plans.{PlanOf};
-ghost use Rattle.row_owners.specs.Owners.{AreOwners, concerns};
+ghost use Rattle.std.specs.Prelude.{◌≡◌, ◌++◌, All, IfOk, OnOk, OnErr};
+ghost use Rattle.row_owners.specs.Owners.{AreOwners};
 ghost use Rattle.shard_checker.specs.CheckedView.{checked_view};
-ghost use Rattle.table_changes.specs.Records.{ChangeOf};
 ghost use Rattle.pgoutput_msgs.specs.Ranges.{HasTexts};
 ghost use Rattle.pgoutput_msgs.specs.Telling.{messages_for, told_after};
 ghost use Rattle.copy_both.specs.Framing.{frames_with};
@@ -13,25 +11,10 @@ use crate::frames::Frames;
 use bytes::BytesMut;
 use copy_frames::XLogData;
 use pgoutput_msgs::tell_changes;
-use row_owners::{OwnerSet, is_spared};
+use row_owners::{OwnerSet, count_of};
 use shard_checker::Checked;
 use std::alloc::{AllocError, Global};
 use tables_log::Commit;
-
-/// How many of the first changes of a commit may be for the subscriber: all but those that are for others by their
-/// sets.
-fn count_for(owners: &[OwnerSet], changes: usize, slot: usize) -> usize
-    ensures { result ≡ 0 → (plan : PlanOf) (all : List ChangeOf) → length all ≤ changes
-        → AreOwners plan all owners.now → concerns plan all slot ≡ false }
-{
-    let mut count = 0;
-    for place in 0..changes {
-        if !is_spared(owners, place, slot) {
-            count += 1;
-        }
-    }
-    count
-}
 
 /// The frames of the messages that report a commit to the subscriber, each an XLogData with this head: those of
 /// `messages_of`. None if no change is for it. `owners` are the subscribers that get something from each of the first
@@ -54,7 +37,7 @@ pub(crate) fn commit_frames(
     ensures texts { OnOk result
         (All HasTexts (messages_for (checked_view checked.now) slot relation_sent.old commit.now)) }
 {
-    let count = count_for(owners, commit.changes().len(), slot);
+    let count = count_of(owners, commit.changes().len(), slot);
     if count == 0 {
         return Ok(Vec::new(alloc));
     }

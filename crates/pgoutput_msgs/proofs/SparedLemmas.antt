@@ -1,11 +1,13 @@
 -- Changes that are only for other subscribers are passed over: nothing is sent for them.
-use Rattle.std.proofs.Common.{◌≡◌, ℕ, ◌+◌, ◌<◌, Bool, false, Some, None, List, [], length, get_or, drop, map, refl, sym, ap, ◌∙◌}
+use Rattle.std.proofs.Common.{◌≡◌, ℕ, zero, suc, ◌+◌, ◌-◌, ◌<◌, ◌≤◌, Bool, false, Some, None, List, [], length, get_or, drop, map, refl, sym, ap, subst, ◌∙◌, inl, inr, arith}
 use Rattle.std.specs.Prelude.{option_map, slice_get}
-use Rattle.std.proofs.lemmas.Option.{slice_get-map, slice_get_read}
+use Rattle.std.proofs.lemmas.List.{at_drop_all}
+use Rattle.std.proofs.lemmas.Option.{slice_get-map, slice_get_cases, slice_get_read}
 use Rattle.replica_identity.specs.ChangeView.{change_view}
 use Rattle.replica_identity.specs.Plans.{PlanOf}
 use Rattle.replica_identity.specs.declared.change.Change.{Change}
-use Rattle.row_owners.specs.Owners.{AreOwners, is_for}
+use Rattle.row_owners.specs.Owners.{AreOwners, IsSpared, is_for}
+use Rattle.row_owners.specs.declared.owner_set.OwnerSet.{OwnerSet}
 use Rattle.shard_checker.specs.CheckedView.{CheckedOf, setting_in}
 use Rattle.table_changes.specs.Outs.{got}
 use Rattle.table_changes.specs.Records.{ChangeOf}
@@ -40,3 +42,46 @@ module _ {S : Type 0} (takes_one : S → S → Msg → Type 0) where
       (got (setting_in checked) subscriber (change_view c)) refl none
       (nothing_taken takes_one now checked.catalog.tables told_now))
       (nothing_told told_now ∙ ap (told_by told_now) (sym none)) before
+
+  -- one change that is for others by its set, or a place after the last change
+  one_passed : (old now : S) (checked : CheckedOf) (subscriber : ℕ) (sent told_now : List Bool) (all : List Change)
+      (owners : List OwnerSet) (i : ℕ) → AreOwners checked.plan (map change_view all) owners
+      → IsSpared owners subscriber i
+      → Said takes_one checked subscriber sent told_now old now all (drop i all)
+      → Said takes_one checked subscriber sent told_now old now all (drop (i + 1) all)
+  one_passed old now checked subscriber sent told_now all owners i are spared before =
+      elim (slice_get_cases all i).1 [
+        | inl found ↦
+            passed_over old now checked subscriber sent told_now all i found.0 (sym found.3) found.1
+            (spared checked.plan (map change_view all) (change_view found.0) are
+            (change_at all i found.0 (sym found.3) found.1))
+            before
+        | inr past ↦
+            subst (Said takes_one checked subscriber sent told_now old now all)
+            (at_drop_all (λ (left : List Change). left) all i past.0
+            ∙ sym (at_drop_all (λ (left : List Change). left) all (i + 1) (omega (arith, past.0))))
+            before
+      ]
+
+  -- those from one place up to another
+  pub all_passed : (old now : S) (checked : CheckedOf) (subscriber : ℕ) (sent told_now : List Bool)
+      (all : List Change) (owners : List OwnerSet) (from to : ℕ)
+      → AreOwners checked.plan (map change_view all) owners → from ≤ to
+      → ((place : ℕ) → from ≤ place → place < to → IsSpared owners subscriber place)
+      → Said takes_one checked subscriber sent told_now old now all (drop from all)
+      → Said takes_one checked subscriber sent told_now old now all (drop to all)
+  all_passed old now checked subscriber sent told_now all owners from to are onward spared before =
+      by (to - from) to (omega (arith, onward)) spared
+    where
+      by : (more to : ℕ) → to ≡ from + more
+          → ((place : ℕ) → from ≤ place → place < to → IsSpared owners subscriber place)
+          → Said takes_one checked subscriber sent told_now old now all (drop to all)
+      by zero to is spared =
+          subst (λ (n : ℕ). Said takes_one checked subscriber sent told_now old now all (drop n all))
+          (omega (arith, is)) before
+      by (suc more) to is spared =
+          subst (λ (n : ℕ). Said takes_one checked subscriber sent told_now old now all (drop n all))
+          (omega (arith, is))
+          (one_passed old now checked subscriber sent told_now all owners (from + more) are
+          (spared (from + more) (omega arith) (omega (arith, is)))
+          (by more (from + more) refl (λ place after below. spared place after (omega (arith, below, is)))))

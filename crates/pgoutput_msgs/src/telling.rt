@@ -22,7 +22,7 @@ use crate::spoken::Spoken;
 use crate::transaction::{begin_message, commit_message};
 use filter_tree::Table;
 use replica_identity::{Change, Out, Plan, carries, transform};
-use row_owners::{OwnerSet, is_spared};
+use row_owners::{OwnerSet, next_of};
 use shard_checker::Checked;
 use std::alloc::{AllocError, Global};
 use tables_log::Commit;
@@ -142,11 +142,17 @@ fn tell_each<S: MessageSink>(
     ensures relation_sent { OnOk result (relation_sent.new
         ≡ spec.told_each (checked_view checked.now) subscriber relation_sent.old (map change_view changes.now)) }
 {
-    for (place, change) in changes.iter().enumerate() {
-        if is_spared(owners, place, subscriber) {
-            continue;
-        }
-        tell_change(alloc, checked, subscriber, change, relation_sent, sink)?;
+    let mut place = next_of(owners, 0, subscriber);
+    while place < changes.len() {
+        tell_change(
+            alloc,
+            checked,
+            subscriber,
+            &changes[place],
+            relation_sent,
+            sink,
+        )?;
+        place = next_of(owners, place + 1, subscriber);
     }
     Ok(())
 }

@@ -17,7 +17,7 @@ pub returns-then-count-eq0-clause-frames : goal.returns-then-count-eq0-clause-fr
 returns-then-count-eq0-clause-frames c =
     let silent : IsSilent (checked_view c.args.checked.now) c.args.slot c.args.relation_sent.now c.args.commit.now =
     none_is_said (checked_view c.args.checked.now) c.args.slot c.args.relation_sent.now c.args.commit.now
-    c.args.owners.now c.changes.result.now c.count_for-count.result c.count_for-count.ensures c.if-count-eq0.true
+    c.args.owners.now c.changes.result.now c.count_of-count.result c.count_of-count.ensures.none c.if-count-eq0.true
     c.changes.ensures.shows c.requires in
     c.new.ensures.items ∙ ap (frames_with c.args.head) (sym silent.messages)
 
@@ -25,7 +25,7 @@ pub returns-then-count-eq0-clause-relation_sent : goal.returns-then-count-eq0-cl
 returns-then-count-eq0-clause-relation_sent c =
     let silent : IsSilent (checked_view c.args.checked.now) c.args.slot c.args.relation_sent.now c.args.commit.now =
     none_is_said (checked_view c.args.checked.now) c.args.slot c.args.relation_sent.now c.args.commit.now
-    c.args.owners.now c.changes.result.now c.count_for-count.result c.count_for-count.ensures c.if-count-eq0.true
+    c.args.owners.now c.changes.result.now c.count_of-count.result c.count_of-count.ensures.none c.if-count-eq0.true
     c.changes.ensures.shows c.requires in
     sym silent.after
 
@@ -33,7 +33,7 @@ pub returns-then-count-eq0-clause-texts : goal.returns-then-count-eq0-clause-tex
 returns-then-count-eq0-clause-texts c =
     let silent : IsSilent (checked_view c.args.checked.now) c.args.slot c.args.relation_sent.now c.args.commit.now =
     none_is_said (checked_view c.args.checked.now) c.args.slot c.args.relation_sent.now c.args.commit.now
-    c.args.owners.now c.changes.result.now c.count_for-count.result c.count_for-count.ensures c.if-count-eq0.true
+    c.args.owners.now c.changes.result.now c.count_of-count.result c.count_of-count.ensures.none c.if-count-eq0.true
     c.changes.ensures.shows c.requires in
     subst (All HasTexts) (sym silent.messages) (All-nil HasTexts)
 
