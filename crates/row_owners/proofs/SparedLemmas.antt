@@ -1,13 +1,47 @@
--- If no change of a commit is for a subscriber by its sets, the commit does not concern it.
-use Rattle.std.proofs.Common.{◌≡◌, ℕ, suc, ◌+◌, ◌-◌, ◌<◌, ◌≤◌, Bool, true, false, cond, Some, List, [], ◌∷◌, length, get_or, count_by, refl, sym, ap, ◌∙◌, inl, inr, arith}
-use Rattle.std.specs.Prelude.{slice_get}
+-- Changes that are only for others: those that a subscriber is spared by their sets, and commits that do not concern it.
+use Rattle.std.proofs.Common.{◌≡◌, ℕ, suc, ◌+◌, ◌-◌, ◌<◌, ◌≤◌, Bool, true, false, cond, Some, List, [], ◌∷◌, length, get_or, count_by, refl, sym, ap, subst, ◌∙◌, inl, inr, arith}
+use Rattle.std.specs.Prelude.{Option, IfSome, IsTrue, slice_get}
 use Rattle.std.specs.List.{list_any}
+use Rattle.std.proofs.lemmas.Bool.{cases_eq}
 use Rattle.std.proofs.lemmas.List.Sums.{get_or-le-sum_by}
-use Rattle.std.proofs.lemmas.Option.{slice_get_cases}
+use Rattle.std.proofs.lemmas.Option.{slice_get-get_or, slice_get_cases, slice_get_past}
 use Rattle.replica_identity.specs.Plans.{PlanOf}
 use Rattle.table_changes.specs.Records.{ChangeOf}
-use Rattle.row_owners.specs.Owners.{AreOwners, concerns, is_for, owned}
+use Rattle.row_owners.specs.Owners.{AreOwners, IsSpared, concerns, is_for, owned}
 use Rattle.row_owners.specs.declared.owner_set.OwnerSet.{OwnerSet}
+
+-- ---- the next change
+
+-- the set of this place, which lacks the subscriber
+pub spared_by : (sets : List OwnerSet) (subscriber place : ℕ) (set : OwnerSet) → subscriber < 32 → place < length sets
+    → owned (get_or sets place set) subscriber ≡ false → IsSpared sets subscriber place
+spared_by sets subscriber place set within there lacks = λ plan changes change are at.
+    sym (are.each place change (get_or sets place set) at (slice_get-get_or sets place set there) subscriber within)
+    ∙ lacks
+
+pub one_spared : (sets : List OwnerSet) (subscriber from place : ℕ) → IsSpared sets subscriber place
+    → ((k : ℕ) → from ≤ k → k < place → IsSpared sets subscriber k)
+    → (k : ℕ) → from ≤ k → k < place + 1 → IsSpared sets subscriber k
+one_spared sets subscriber from place spared before k after below =
+    elim (cases_eq k place) [
+      | inl same ↦ subst (IsSpared sets subscriber) (sym same) spared
+      | inr apart ↦ before k after (omega (arith, below, apart))
+    ]
+
+abbrev IsOwn : ℕ → Option OwnerSet → Type 0
+IsOwn subscriber found = IfSome found (λ set. IsTrue (owned set subscriber))
+
+-- the set of this place, which has the subscriber
+pub own_by : (sets : List OwnerSet) (subscriber place : ℕ) (set : OwnerSet) → place < length sets
+    → owned (get_or sets place set) subscriber ≡ true → IsOwn subscriber (slice_get sets place)
+own_by sets subscriber place set there has = subst (IsOwn subscriber) (sym (slice_get-get_or sets place set there)) has
+
+-- a place after the sets
+pub own_past : (sets : List OwnerSet) (subscriber place : ℕ) → length sets ≤ place
+    → IsOwn subscriber (slice_get sets place)
+own_past sets subscriber place past = subst (IsOwn subscriber) (sym (slice_get_past sets place past)) tt
+
+-- ---- no change
 
 none_passes : (test : ChangeOf → Bool) (all : List ChangeOf)
     → ((k : ℕ) (change : ChangeOf) → k < length all → slice_get all k ≡ Some change → test change ≡ false)
