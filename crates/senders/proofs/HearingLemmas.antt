@@ -1,21 +1,32 @@
 -- What a listener has heard, piece by piece.
-use Rattle.std.proofs.Common.{◌≡◌, ◌≤◌, ℕ, min, List, [], ◌++◌, length, refl, sym, ◌∙◌, ap, subst, append_assoc, append-nil, arith}
-use Rattle.std.specs.Prelude.{Bool, true, Option, Some, None, Result, Ok, Err, IfErr, slice_get}
+use Rattle.std.proofs.Common.{◌≡◌, ◌≤◌, ℕ, min, List, [], ◌++◌, length, refl, sym, ◌∙◌, ap, subst, append_assoc, append-nil, arith, take_all}
+use Rattle.std.specs.Prelude.{Bool, true, false, Option, Some, None, Result, Ok, Err, IfErr, slice_get}
 use Rattle.std.proofs.Math.Nat.{le-max_left}
 use Rattle.std.proofs.KnownBytes.{Consumes-nil, Consumes-trans}
 use Rattle.shard_checker.specs.CheckedView.{CheckedOf, setting_in}
 use Rattle.table_changes.specs.Tables.{no_rows}
+use Rattle.tables_log.specs.BookView.{book_log}
 use Rattle.tables_log.specs.Slots.{end_after}
 use Rattle.tables_log.specs.StandsFor.{AreAccepted}
 use Rattle.tables_log.specs.declared.book.Book.{Book}
 use Rattle.tables_log.proofs.StandLemmas.{each_is_logged}
-use Rattle.copy_both.specs.Ears.{ear_refusal, ear_started}
+use Rattle.copy_frames.specs.Frames.{fault_in}
+use Rattle.copy_frames.specs.Inboxes.{Inbox}
+use Rattle.copy_frames.specs.declared.fault.FrameFault.{FrameFault}
+use Rattle.copy_frames.specs.declared.frame.Frame.{Frame}
+use Rattle.copy_both.specs.Ears.{HearLeaves, ear_refusal, ear_started}
 use Rattle.copy_both.specs.HeardFrames.{AsksIfStarted, GoesOnOrEnds, HasLinkFault, HasHeard, Explains, IsAnswered, IsBookFor, frames_in, reach_of, sent_then, IsStartedBy}
 use Rattle.copy_both.specs.declared.ear.Ear.{Ear}
 use Rattle.copy_both.specs.declared.heard.Heard.{Heard}
 use Rattle.copy_both.specs.declared.link_fault.LinkFault.{LinkFault}
+use Rattle.copy_both.specs.declared.link_fault.LinkFault.TheVariants as fault
+use Rattle.copy_both.specs.declared.phase.Phase.{Phase}
+use Rattle.copy_both.specs.declared.phase.Phase.TheVariants as phase
+use Rattle.copy_both.specs.declared.session.Session.{Session}
 use Rattle.copy_both.proofs.PiecesHeard.{late_starts_are_requested, pieces_are_heard, requests_stay}
-use Rattle.copy_both.specs.Hearing.{first_sent}
+use Rattle.copy_both.specs.Hearing.{HearingOf, ServedFrom, first_sent, frames_heard, is_over, link_fault, then_fault, unless_over, with_fault}
+use Rattle.copy_both.specs.Listening.{Leaves, PieceLeaves, fed, held_frames, piece_heard, silence}
+use Rattle.copy_both.specs.Sessions.{hearing_view, served_by}
 use Rattle.publisher_desk.specs.declared.connection_state.ConnectionState.{ConnectionState}
 use Rattle.senders.specs.Hearing.{HearsPiece, IsExplained, IsSentFrom, StaysStarted, sent_after, sent_by}
 use Rattle.senders.specs.Listening.{EndsOf, HasListened, HeardPiece, HearsLast, HearsMore, HearsNext, SaysOfPiece, SaysRequested, next_by, next_by_end, piece_of}
@@ -27,6 +38,64 @@ use Rattle.senders.specs.declared.listener.Listener.{Listener}
 use Rattle.senders.specs.declared.next.Next.{Next}
 use Rattle.senders.specs.declared.next.Next.TheVariants as next
 
+-- ---- a piece, all of whose frames were heard before memory was refused
+
+unless_ended : (old new : Session) (before after : Book) (h : HearingOf) (over : Bool) (fault : LinkFault)
+    → Leaves old new before after (unless_over over h (with_fault fault h)) → Leaves old new before after h
+unless_ended old new before after h true fault left = left
+unless_ended old new before after h false fault left =
+    record { checked = left.checked; started = left.started; response = left.response; book = left.book }
+
+without_fault : (old new : Session) (before after : Book) (h : HearingOf) (fault : Option FrameFault)
+    → Leaves old new before after (then_fault fault h) → Leaves old new before after h
+without_fault old new before after h None left = left
+without_fault old new before after h (Some fault) left =
+    unless_ended old new before after h (is_over h) (link_fault fault) left
+
+all_frames : (inbox : Inbox) (piece : List ℕ) (sent : ℕ) (old new : Session) (before after : Book)
+    → Leaves old new before after (piece_heard old before inbox piece sent)
+    → PieceLeaves (Err fault.OutOfMemory) inbox piece sent old new before after
+all_frames inbox piece sent old new before after left =
+    let frames : List Frame = held_frames (fed inbox piece) in
+    let served : ServedFrom = served_by old before in
+    let start : HearingOf = hearing_view old (silence sent) before in (
+      length frames,
+      subst (λ (all : List Frame). Leaves old new before after (frames_heard served start all))
+          (sym (take_all (length frames) frames (omega arith)))
+          (without_fault old new before after (frames_heard served start frames)
+          (fault_in inbox.limit (inbox.bytes ++ piece)) left),
+    )
+
+memory_part : (f : LinkFault) (inbox : Inbox) (piece : List ℕ) (sent : ℕ) (old new : Session)
+    (before after : Book)
+    → PieceLeaves (Err f) inbox piece sent old new before after
+    → PieceLeaves (Err fault.OutOfMemory) inbox piece sent old new before after
+memory_part fault.OutOfMemory inbox piece sent old new before after left = left
+memory_part fault.FrameTooLong inbox piece sent old new before after left =
+    all_frames inbox piece sent old new before after left
+memory_part fault.BadLength inbox piece sent old new before after left =
+    all_frames inbox piece sent old new before after left
+memory_part (fault.Unexpected byte) inbox piece sent old new before after left =
+    all_frames inbox piece sent old new before after left
+memory_part (fault.BadStart state) inbox piece sent old new before after left =
+    all_frames inbox piece sent old new before after left
+memory_part fault.StatusAhead inbox piece sent old new before after left =
+    all_frames inbox piece sent old new before after left
+memory_part fault.Closed inbox piece sent old new before after left =
+    all_frames inbox piece sent old new before after left
+
+-- what is left of a piece by a fault, a refusal of memory may leave
+pub memory_leaves : (now : Phase) (old new : Ear) (before after : Book) (piece : List ℕ) (sent : ℕ)
+    (f : LinkFault) → HearLeaves now old new before after piece sent (Err f)
+    → HearLeaves now old new before after piece sent (Err fault.OutOfMemory)
+memory_leaves phase.Open old new before after piece sent f left = record {
+  leaves = memory_part f old.frames piece sent old.session new.session before after left.leaves;
+  phase_is = left.phase_is;
+  holds = left.holds;
+}
+memory_leaves phase.Closed old new before after piece sent f left = left
+memory_leaves phase.Lost old new before after piece sent f left = left
+
 -- ---- a piece, under the lock
 
 sent_from : (was now : Option (ℕ × ℕ)) (sent : ℕ) → IsSentFrom was sent
@@ -36,12 +105,18 @@ sent_from (Some started) now sent from stays =
 sent_from None None sent from stays = tt
 sent_from None (Some started) sent from stays = omega arith
 
+-- the log of the book has the start if a status is ahead
+abbrev LogReaches : Book → Ear → Result Heard LinkFault → Type 0
+LogReaches book ear heard =
+    heard ≡ Err fault.StatusAhead → IsSentFrom (ear_started ear) (end_after (length (book_log book)))
+
 explained : (checked : CheckedOf) (bytes : List ℕ) (old new : Ear) (book : Book) (sent : ℕ)
     (heard : Result Heard LinkFault) → IsBookFor checked book → IsSentFrom (ear_started old) sent
-    → StaysStarted old new → IfErr heard (IsAnswered checked (frames_in bytes) (ear_refusal new))
+    → LogReaches book new heard → StaysStarted old new
+    → IfErr heard (IsAnswered checked (frames_in bytes) (ear_refusal new))
     → Explains checked bytes new (reach_of old new book sent) heard → IsExplained checked bytes new heard
-explained checked bytes old new book sent (Ok heard) is from stays answered explains = explains
-explained checked bytes old new book sent (Err fault) is from stays answered explains = record {
+explained checked bytes old new book sent (Ok heard) is from reaches stays answered explains = explains
+explained checked bytes old new book sent (Err fault) is from reaches stays answered explains = record {
   holds = record {
     transactions = is.transactions;
     accepted = subst (λ (c : CheckedOf). AreAccepted (setting_in c) no_rows is.transactions) is.named
@@ -51,6 +126,8 @@ explained checked bytes old new book sent (Err fault) is from stays answered exp
     has = subst (λ (n : ℕ). HasLinkFault checked bytes
         (min (sent_then (ear_started old) sent (ear_started new)) (end_after n)) fault)
         (each_is_logged book is.transactions is.stands) explains;
+    reaches = λ ahead. subst (λ (n : ℕ). IsSentFrom (ear_started new) (end_after n))
+        (each_is_logged book is.transactions is.stands) (reaches (ap (λ (f : LinkFault). Err f) ahead));
   };
   answered = answered;
 }
@@ -76,7 +153,7 @@ hears_piece checked before after old new connections heard is did = record {
         stays = on.stays;
         asks = on.asks;
         explained = explained checked (bytes ++ piece_of before) before.ear after.ear old sent heard is
-            (from_start (ear_started before.ear) connections) on.stays on.answered on.explains;
+            (from_start (ear_started before.ear) connections) did.reaches on.stays on.answered on.explains;
       };
 }
 

@@ -113,5 +113,5 @@ served_nothing checked left source_failed source_ended before failed served no_s
       (subst (Answered checked [] before before failed) (sym same)
       (record { written = []; put = Appends-nil before; answer = refl }))
       (subst (IsEndCause checked [] None source_failed source_ended failed) (sym same)
-      (record { transactions = []; accepted = tt; sent = 0; from = tt; has = tt }));
+      (record { transactions = []; accepted = tt; sent = 0; from = tt; has = tt; reaches = λ ahead. tt }));
 }

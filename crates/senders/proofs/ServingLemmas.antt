@@ -30,7 +30,14 @@ use Rattle.senders.proofs.HearingLemmas.{has_asked}
 memory_cause : (checked : CheckedOf) (bytes : List ℕ) (slot start : ℕ)
     → HoldsFault checked bytes (Some (slot, start)) fault.OutOfMemory
 memory_cause checked bytes slot start =
-    record { transactions = []; accepted = tt; sent = first_sent start; from = omega arith; has = tt }
+    record {
+      transactions = [];
+      accepted = tt;
+      sent = first_sent start;
+      from = omega arith;
+      has = tt;
+      reaches = λ ahead. absurd (let no_status : fault.OutOfMemory ≡ fault.StatusAhead = ahead in cc);
+    }
 
 pub heard_cause : (checked : CheckedOf) (bytes : List ℕ) (started : Option (ℕ × ℕ)) (response : List ℕ)
     (source_failed source_ended sink_failed : Bool) (why : ListenerEnd)

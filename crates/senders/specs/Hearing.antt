@@ -11,12 +11,13 @@ use Rattle.copy_both.specs.Hearing.{first_sent}
 use Rattle.copy_both.specs.declared.ear.Ear.{Ear}
 use Rattle.copy_both.specs.declared.heard.Heard.{Heard}
 use Rattle.copy_both.specs.declared.link_fault.LinkFault.{LinkFault}
+use Rattle.copy_both.specs.declared.link_fault.LinkFault.TheVariants.{StatusAhead}
 use Rattle.publisher_desk.specs.declared.connection_state.ConnectionState.{ConnectionState}
 
--- A sent position is not before the start of the stream, which is 64 for a start at 0.
+-- A position is not before the start of the stream, which is 64 for a start at 0.
 abbrev pub IsSentFrom : Option (ℕ × ℕ) → ℕ → Type 0
-IsSentFrom None sent = Unit {0}
-IsSentFrom (Some started) sent = first_sent started.1 ≤ sent
+IsSentFrom None position = Unit {0}
+IsSentFrom (Some started) position = first_sent started.1 ≤ position
 
 -- the sent position that statuses are compared with: that up to which the slot's client was sent the log, by what its
 -- sender was given, or the first position of the stream if that is greater
@@ -29,6 +30,7 @@ sent_by None connections = 0
 sent_by (Some started) connections = sent_after (first_sent started.1) (slice_get connections started.0)
 
 -- The bytes have this fault, where the log is that of these transactions, and some position from the start on was sent.
+-- The log has the start if a status is ahead, which is then after the start.
 pub record HoldsFault (checked : CheckedOf) (bytes : List ℕ) (started : Option (ℕ × ℕ)) (fault : LinkFault) : Type 0
   where
     pub transactions : List Transaction
@@ -36,6 +38,7 @@ pub record HoldsFault (checked : CheckedOf) (bytes : List ℕ) (started : Option
     pub sent : ℕ
     pub from : IsSentFrom started sent
     pub has : HasLinkFault checked bytes (min sent (end_after (length transactions))) fault
+    pub reaches : fault ≡ StatusAhead → IsSentFrom started (end_after (length transactions))
 
 -- What was started stays so.
 abbrev pub StaysStarted : Ear → Ear → Type 0

@@ -3,16 +3,17 @@ use Rattle.std.specs.Prelude.{◌≡◌, ℕ, ◌<◌, Bool, true, List, ◌++�
 use Rattle.std.specs.Io.KnownBytes.{Consumes}
 use Rattle.filter_tree.specs.Memory.{Answers}
 use Rattle.shard_checker.specs.CheckedView.{CheckedOf}
-use Rattle.tables_log.specs.BookView.{book_slots}
-use Rattle.tables_log.specs.Slots.{confirmed_at}
+use Rattle.tables_log.specs.BookView.{book_log, book_slots}
+use Rattle.tables_log.specs.Slots.{confirmed_at, end_after}
 use Rattle.tables_log.specs.declared.book.Book.{Book}
 use Rattle.copy_both.specs.Ears.{HearLeaves, ear_phase, ear_refusal, ear_started, hear_answer}
 use Rattle.copy_both.specs.HeardFrames.{frames_in, AsksIfStarted, HasEnd, HasHeard, Requests}
 use Rattle.copy_both.specs.Voices.{told_fault}
 use Rattle.copy_both.specs.declared.heard.Heard.{Heard}
 use Rattle.copy_both.specs.declared.link_fault.LinkFault.{LinkFault}
+use Rattle.copy_both.specs.declared.link_fault.LinkFault.TheVariants.{StatusAhead}
 use Rattle.publisher_desk.specs.declared.connection_state.ConnectionState.{ConnectionState}
-use Rattle.senders.specs.Hearing.{Faults, StaysStarted, sent_by}
+use Rattle.senders.specs.Hearing.{Faults, IsSentFrom, StaysStarted, sent_by}
 use Rattle.senders.specs.declared.stream_start.StreamStart.{StreamStart}
 use Rattle.senders.specs.declared.stream_start.StreamStart.TheVariants as stream_start
 use Rattle.senders.specs.declared.listener_end.ListenerEnd.{ListenerEnd}
@@ -47,13 +48,15 @@ pub record Compares (before after : Listener) (old : Book) : Type 0 where
 abbrev pub piece_of : Listener → List ℕ
 piece_of listener = take listener.filled listener.piece.items
 
--- The ear heard the piece, with the sent position of the slot's connection.
+-- The ear heard the piece, with the sent position of the slot's connection. A status is ahead only of a log that has
+-- the start of the stream.
 pub record HeardPiece (before after : Listener) (old new : Book) (connections : List ConnectionState)
     (heard : Result Heard LinkFault) : Type 0 where
   pub answer : Answers (λ heard. heard) told_fault
       (hear_answer before.ear old (piece_of before) (sent_by (ear_started before.ear) connections)) heard
   pub left : HearLeaves (ear_phase before.ear) before.ear after.ear old new (piece_of before)
       (sent_by (ear_started before.ear) connections) heard
+  pub reaches : heard ≡ Err StatusAhead → IsSentFrom (ear_started after.ear) (end_after (length (book_log old)))
   pub room : length after.piece.items ≡ length before.piece.items
   pub compares : Compares before after old
 

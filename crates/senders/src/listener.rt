@@ -1,9 +1,13 @@
 //! What hears a connection.
 
-ghost use Rattle.std.specs.Prelude.{◌≡◌, ℕ, ◌<◌, ◌≤◌, IsTrue, length, slice_index};
-ghost use Rattle.tables_log.specs.BookView.{book_slots};
-ghost use Rattle.tables_log.specs.Slots.{confirmed_at};
-ghost use Rattle.senders.specs.Hearing.{sent_by};
+ghost use Rattle.std.specs.Prelude.{◌≡◌, ℕ, ◌<◌, ◌≤◌, Err, IsTrue, length, slice_index};
+ghost use Rattle.filter_tree.specs.Memory.{Answers};
+ghost use Rattle.tables_log.specs.BookView.{book_log, book_slots};
+ghost use Rattle.tables_log.specs.Slots.{confirmed_at, end_after};
+ghost use Rattle.copy_both.specs.Ears.{HearLeaves, ear_phase, ear_started, hear_answer};
+ghost use Rattle.copy_both.specs.Voices.{told_fault};
+ghost use Rattle.copy_both.specs.declared.link_fault.LinkFault.TheVariants.{StatusAhead};
+ghost use Rattle.senders.specs.Hearing.{IsSentFrom, sent_by};
 
 use crate::failed::Failed;
 use crate::source::Source;
@@ -12,7 +16,7 @@ use publisher_desk::{ConnectionState, Publisher, Publishing, SlotTask};
 use shard_checker::Checked;
 use std::alloc::{AllocError, Global};
 use std::sync::Arc;
-use tables_log::Book;
+use tables_log::{Book, Lsn};
 
 /// The greatest number of slots: a catalog has at most 32 subscriptions.
 const SLOTS: usize = 32;
@@ -69,6 +73,37 @@ fn sent_position(started: Option<(usize, u64)>, connections: &[ConnectionState])
     match connections.get(slot) {
         None => first,
         Some(connection) => first.max(connection.sent),
+    }
+}
+
+/// Whether a log that ends here has the start of the stream, if one was started.
+fn has_start(started: Option<(usize, u64)>, log_end: u64) -> bool
+    ensures { IsTrue result → IsSentFrom started log_end }
+{
+    match started {
+        None => true,
+        Some((_, start)) => first_sent(start) <= log_end,
+    }
+}
+
+/// Hears a piece. A status that is ahead is after the start of the stream, since the log has that start.
+fn hear_piece(ear: &mut Ear, piece: &[u8], book: &mut Book, sent: u64) -> Result<Heard, LinkFault>
+    ensures answer { Answers (λ heard. heard) told_fault (hear_answer ear.old book.old piece.now sent) result }
+    ensures left { HearLeaves (ear_phase ear.old) ear.old ear.new book.old book.new piece.now sent result }
+    ensures reaches { result ≡ Err StatusAhead
+        → IsSentFrom (ear_started ear.new) (end_after (length (book_log book.old))) }
+{
+    let log_end = Lsn::end_of_commit(book.log_len()).to_u64();
+    let heard = ear.hear(piece, book, sent);
+    match heard {
+        Err(LinkFault::StatusAhead) => {}
+        Ok(_) | Err(_) => return heard,
+    }
+    // (a log never gets shorter, so that it has the start of each stream)
+    if has_start(ear.started(), log_end) {
+        heard
+    } else {
+        Err(LinkFault::OutOfMemory)
     }
 }
 
@@ -183,7 +218,7 @@ impl SlotTask for Listener {
         let was_started = self.ear.started().is_some();
         let confirmed = confirmed_positions(book);
         let sent = sent_position(self.ear.started(), connections);
-        let heard = self.ear.hear(&self.piece[..self.filled], book, sent);
+        let heard = hear_piece(&mut self.ear, &self.piece[..self.filled], book, sent);
         let mut was_over = false;
         if let Some((slot, start)) = self.ear.started() {
             if !was_started {
