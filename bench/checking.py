@@ -82,7 +82,7 @@ def bounds_on_path(spot):
 
 
 def filled(count, atoms, leaf):
-    """A tree of so many nodes, which splits by these atoms, with one kind of leaf."""
+    """A tree of this many nodes, which splits by these atoms, with one kind of leaf."""
     if count < 4:
         return leaf
     splits = (count - 4) // 3
@@ -103,18 +103,18 @@ KINDS = {"o 0": (0, "o 0"), f"o {LAST}": (LAST, f"o {LAST}"), "e 0": (0, "e 0")}
 
 
 def certificate(kind, size):
-    """The certificate of so many nodes for ranges."""
+    """The certificate of this many nodes for ranges."""
     return tree_of(size - nodes(tree_of(1, *KINDS[kind])) + 1, *KINDS[kind])
 
 
 def repeated(sharding, times):
-    """The sharding, each of whose conditions is joined by AND with itself so many times."""
+    """The sharding, each of whose conditions is joined by AND with itself this many times."""
     parts = [it[1:] if it[0] == "and" else (it,) for it in sharding.conditions]
     return families.Sharding(sharding.columns, [("and", *(part * times)) for part in parts])
 
 
 def whole_and_others(others, atoms, column):
-    """A catalog in which so many subscriptions share a publication whose filter has these atoms, and no row passes."""
+    """A catalog in which this many subscriptions share a publication with these atoms in its filter. No row passes."""
     condition = ("and", ("or", *atoms), ("cmp", ("id", 1), "=", 1))
     lines = [
         f"CREATE TABLE t (id integer, {column}, PRIMARY KEY (id));",
@@ -127,13 +127,13 @@ def whole_and_others(others, atoms, column):
 
 
 def beside_whole(size, owner, atoms, remainder_term):
-    """The certificate of so many nodes where the last subscriber has the whole table; the atoms are numbered first."""
+    """The certificate of this many nodes if the last subscriber has the whole table; the atoms are numbered first."""
     tree = filled(size - 3, list(range(atoms)), f"o {owner}")
     return f"s {atoms} e {remainder_term} {tree} n {atoms}"
 
 
 def by_lists(size):
-    """The certificate of so many nodes where each subscriber but the last has a list of keys. No key is in two lists,
+    """The certificate of this many nodes where each subscriber but the last has a list of keys. No key is in two lists,
     and
     the further nodes are where one would be in the first two."""
     def tree_with(further):
@@ -146,8 +146,8 @@ def by_lists(size):
 
 
 def of_no_list(size, counts, conditions, column):
-    """A catalog whose first subscription has these lists, and the certificate of so many nodes whose leaves say that no
-    value is left to what the lists are of. After some splits, by which that is found, come others that tell nothing."""
+    """A catalog whose first subscription has these lists, and the certificate of this many nodes whose leaves say that
+    the lists' term has no value left. After some splits that show it, others follow that show nothing."""
     splits, further = counts
     lines = [
         f"CREATE TABLE t (n bigint PRIMARY KEY, {column});",
@@ -223,7 +223,7 @@ def threes_of_flags():
 
 def by_flags(condition, splits):
     """A catalog in which the first filter has this condition of flags, and the certificate in which each leaf is after
-    splits by so many of the last flags."""
+    splits by this many of the last flags."""
     columns = ", ".join(f"f{at} boolean" for at in range(FLAGS))
     numbered = " AND ".join(f"f{at}" for at in range(FLAGS))
     lines = [

@@ -95,5 +95,5 @@ def heap_bytes(words, path="/dev/null"):
 
 
 def difference(after, before, count):
-    """How many more of something, for each of so many; None where one is not known."""
+    """How many more of something, for each of this many; None if one is not known."""
     return None if after is None or before is None else (after - before) / count

@@ -106,7 +106,7 @@ def forgotten_null(count):
     return sharding
 
 
-# ---- the families of lists and of BETWEEN, with so many entries in each list
+# ---- the families of lists and of BETWEEN, with this many entries in each list
 
 
 def region_lists(count, entries):
@@ -131,7 +131,7 @@ def remainder_lists(count, entries):
 
 
 def between(count, entries):
-    """Ranges of so many keys by BETWEEN, and the other keys."""
+    """Ranges of this many keys by BETWEEN, and the other keys."""
     shards = [("between", "id", entries * at, entries * (at + 1) - 1) for at in range(count - 1)]
     return Sharding([Column("id", "integer", True)], shards + [("not", one_of(shards))])
 
@@ -169,14 +169,14 @@ def is_true(name):
 
 
 def some_flag(count):
-    """Rows in which one of so many nullable flags is true, and the others."""
+    """Rows in which one of this many nullable flags is true, and the others."""
     names = [f"f{at}" for at in range(count)]
     some = one_of([("cmp", it, "=", True) for it in names])
     return Sharding(flags_of(names), [some, ("not", ("is true", some))])
 
 
 def first_flag(count):
-    """Rows by the first of so many nullable flags that is true, and those with none."""
+    """Rows by the first of this many nullable flags that is true, and those with none."""
     names = [f"f{at}" for at in range(count)]
     before = [[("not", is_true(it)) for it in names[:at]] for at in range(count)]
     firsts = [("and", *others, is_true(name)) if others else is_true(name) for name, others in zip(names, before)]
@@ -184,14 +184,14 @@ def first_flag(count):
 
 
 def pair_of_flags(count):
-    """Rows in which one of so many pairs of nullable flags is both true, and the others."""
+    """Rows in which one of this many pairs of nullable flags is both true, and the others."""
     pairs = [("and", ("cmp", f"a{at}", "=", True), ("cmp", f"b{at}", "=", True)) for at in range(count)]
     names = [f"{letter}{at}" for at in range(count) for letter in "ab"]
     return Sharding(flags_of(names), [one_of(pairs), ("not", ("is true", one_of(pairs)))])
 
 
 def sign_and_remainder(_):
-    """Negative keys by their remainders, and the other keys, where it has to be known that a negative remainder is of a
+    """Negative keys by their remainders, and the other keys, if it has to be known that a negative remainder is of a
     negative key."""
     odd = ("cmp", ("id", 2), "=", -1)
     even = ("and", ("cmp", "id", "<", 0), ("cmp", ("id", 2), "=", 0))
@@ -199,7 +199,7 @@ def sign_and_remainder(_):
 
 
 def two_remainders(_):
-    """Keys by two divisors, where it has to be known that each remainder 5 of 8 is a remainder 1 of 4."""
+    """Keys by two divisors, if it has to be known that each remainder 5 of 8 is a remainder 1 of 4."""
     quarter = ("cmp", ("id", 4), "=", 1)
     return Sharding([Column("id", "integer", True)], [("or", quarter, ("cmp", ("id", 8), "=", 5)), ("not", quarter)])
 

@@ -76,7 +76,7 @@ def machine():
 
 
 def shown(number):
-    """A number with three digits that say something, or all where it has more; nothing for None."""
+    """A number with three digits that say something, or all if it has more; nothing for None."""
     if number is None:
         return ""
     return f"{number:,.0f}" if abs(number) >= 100 else f"{number:.3g}" if abs(number) >= 0.001 else f"{number:.3f}"

@@ -21,7 +21,7 @@ def written(setup, load):
 
 
 def delivered(setup, load, path, count):
-    """The words of a run in which so many bytes of the messages come to the subscriber, its last line, and how many
+    """The words of a run in which this many bytes of the messages come to the subscriber, its last line, and how many
     bytes
     came."""
     steps = simulating.blocks(load)

@@ -57,14 +57,14 @@ def say(process, lines):
 
 
 def answered(process, count):
-    """Reads the answers of so many commits."""
+    """Reads the answers of this many commits."""
     for number in range(1, count + 1):
         if process.stdout.readline() != f"commit {number}\n":
             raise RuntimeError(f"publish refuses commit {number}")
 
 
 def published(setup, head, lines, count):
-    """What it takes to read and make all commits, and to send each to its client, of so many."""
+    """What it takes to read and make all commits, and to send each to its client, of this many."""
     with contextlib.ExitStack() as open_now:
         process, port = open_now.enter_context(publishing(setup, head))
         clients = [open_now.enter_context(socket.create_connection(("127.0.0.1", port))) for _ in range(count)]

@@ -46,7 +46,7 @@ def loads():
 
 
 def sized(load, rows):
-    """The load with so many rows, or as many as a script may have and as there are."""
+    """The load with this many rows, or as many as a script may have and as there are."""
     of_each = (40 + load.text) * (2 if load.deed == "update" else 1)
     steps = load.slots + 1 if load.in_a_commit == 1 else 0
     there = load.before if load.before and load.deed != "insert" else rows

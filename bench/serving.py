@@ -20,9 +20,9 @@ from workloads import Load
 CONNECTIONS = (1, 2, 8, 32)
 # How many rows there are, by how many are in a commit.
 ROWS = {1_000: 400_000, 1: 90_000}
-# How many rows are counted, likewise: twice as many, and so many.
+# How many rows are counted, likewise: twice as many, and this many.
 COUNTED = {1_000: 20_000, 1: 4_000}
-# What the last row that each subscriber is told of has, and no row before it.
+# What the last row that each subscriber is told about has, and no row before it.
 LAST = b"the last one"
 HEADS = [
     "Rows per commit",

@@ -31,7 +31,7 @@ def z3_time(setup, folder, sharding):
 
 
 def counted(words, path, milliseconds, count):
-    """The instructions for each node of a certificate; None where it took long to make."""
+    """The instructions for each node of a certificate; None if it took long to make."""
     return counting.difference(counting.instructions(words, path), 0, count) if milliseconds < LONG else None
 
 

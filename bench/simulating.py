@@ -40,7 +40,7 @@ def blocks(load):
 
 
 def opened(load):
-    """The rows before, which all slots are told of."""
+    """The rows before, which all slots are told about."""
     return [*load.prefix(), *(f"OPEN {at};\nPUMP {at};\n" for at in range(load.slots))]
 
 

@@ -37,7 +37,7 @@ def least(setup, measured, *given):
 
 
 def prepare(connection, load):
-    """The table with its publications, and a slot for each that is told of all that comes from now on."""
+    """The table with its publications, and a slot for each that is told about all that comes from now on."""
     connection.ask("\n".join([*load.table_lines(), *load.publication_lines()]))
     connection.ask("ALTER TABLE t ALTER COLUMN region SET STORAGE EXTERNAL;")
     for at in range(load.slots):
@@ -161,7 +161,7 @@ def walsenders(folder, connection, load):
 
 
 def clear_slots(connection, load):
-    """New slots, which are told of what comes from now on."""
+    """New slots, which are told about what comes from now on."""
     for at in range(load.slots):
         connection.ask(f"SELECT pg_drop_replication_slot('s{at}');")
         connection.ask(f"SELECT pg_create_logical_replication_slot('s{at}', 'pgoutput');")

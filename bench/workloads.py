@@ -1,4 +1,4 @@
-"""Changes of the rows of a table, each of which a slot is told of: as a catalog and a script of `simulate`, as
+"""Changes of the rows of a table, each of which a slot is told about: as a catalog and a script of `simulate`, as
 statements
 of a PostgreSQL server, and as the words of the program in limits/stream.rs. All three change the same rows.
 
@@ -16,7 +16,7 @@ MOST_COMMANDS = 1_000
 
 @dataclass(frozen=True)
 class Load:
-    """What is done with each of so many rows: insert, update or delete."""
+    """What is done with each of this many rows: insert, update or delete."""
 
     deed: str = "insert"
     identity: str = "DEFAULT"
@@ -81,7 +81,7 @@ class Load:
         return f"UPDATE t ({key}) ({key}, '{'u' * self.text}')" if deed == "update" else f"DELETE t ({key})"
 
     def commits(self, deed, first, count, size):
-        """COMMIT of so many commands each."""
+        """COMMIT of this many commands each."""
         for start in range(first, first + count, size):
             places = range(start, min(start + size, first + count))
             yield f"COMMIT {', '.join(self.command(deed, place) for place in places)};\n"
@@ -101,7 +101,7 @@ class Load:
         return f"UPDATE t SET region = repeat('u', {self.text}) WHERE id = k" if deed == "update" else "DELETE FROM t WHERE id = k"
 
     def loop(self, deed, first, count, size):
-        """A statement a row, each prepared once, and COMMIT after so many."""
+        """A statement a row, each prepared once, and COMMIT after this many."""
         return (
             f"DO $$ DECLARE k integer; BEGIN FOR place IN {first}..{first + count - 1} LOOP "
             f"k := place::bigint * {SPREAD} % {self.all_rows}; {self.statement(deed)}; "

@@ -10,7 +10,7 @@ HEADS = ["Filters", "Digits of a key", "eval, s", "eval --insert, s"]
 
 
 def primes(least, count):
-    """So many prime numbers from one on."""
+    """This many prime numbers from one on."""
     found = (it for it in itertools.count(least) if all(it % one for one in range(2, int(it**0.5) + 1)))
     return list(itertools.islice(found, count))
 
@@ -35,7 +35,7 @@ def alternating(atoms, op="OR"):
 
 
 def chosen(atoms, count, start=0):
-    """So many of the atoms, some of them several times."""
+    """This many of the atoms, some of them several times."""
     return [atoms[(start + at * 29) % len(atoms)] for at in range(count)]
 
 
@@ -51,7 +51,7 @@ RUNS = [(kind, digits) for kind in KINDS for digits in (4, 6)]
 
 
 def text_of(conditions, digits):
-    """A catalog with these filters, and as many keys of so many digits as fit."""
+    """A catalog with these filters, and as many keys of this many digits as fit."""
     publications = (f"CREATE PUBLICATION p{at} FOR TABLE t WHERE ({it});\n" for at, it in enumerate(conditions))
     head = "CREATE TABLE t (k bigint PRIMARY KEY);\n" + "".join(publications) + "%%\n"
     least, keys = 10 ** (digits - 1), 9 * 10 ** (digits - 1)

@@ -163,7 +163,7 @@ def model(code: Code, name: str) -> list[str]:
 
 def contract(path: Path, name: str, clauses: tuple[str, ...]) -> Item | None:
     """The function of this name: its comment, its first lines with the types of its parameters, all that it requires,
-    and these clauses of what it ensures, or all where none is named."""
+    and these clauses of what it ensures, or all if none is named."""
     code = read(path)
     for number, line in enumerate(code.lines):
         match = CALL.match(line)
@@ -190,7 +190,7 @@ def contract(path: Path, name: str, clauses: tuple[str, ...]) -> Item | None:
 
 
 def impl_head(code: Code, number: int) -> str:
-    """The first line of the impl that a function is in; nothing where it is in none."""
+    """The first line of the impl that a function is in; nothing if it is in none."""
     heads = [line for line in code.lines[:number] if line.startswith(("impl", "}"))]
     return heads[-1] if heads and heads[-1].startswith("impl") else ""
 

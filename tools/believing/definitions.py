@@ -33,7 +33,7 @@ class Definition:
     lines: list[str]
     names: list[str] = field(default_factory=list)
     constructors: list[str] = field(default_factory=list)
-    # Words in capitals to the left of `=`, each a constructor if one has its name, and else a variable.
+    # Words in capitals to the left of `=`, each a constructor if one has its name, and otherwise a variable.
     patterns: set[str] = field(default_factory=set)
     # The parameters of the module that it is in.
     parameters: set[str] = field(default_factory=set)

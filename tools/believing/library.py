@@ -52,7 +52,7 @@ def declared(crate: str, rest: list[str]) -> Place | None:
 
 
 def in_path(path: str, name: str) -> Place | None:
-    """What a path of a library has under this name; none where it is the standard library's."""
+    """What a path of a library has under this name; none if it is the standard library's."""
     crate, specs, *rest = path.split(".")
     if crate == "std" or specs != "specs" or not (CRATES / crate).is_dir():
         return None
@@ -125,7 +125,7 @@ def used_by(place: Place) -> list[Place]:
 
 
 def used_in_definition(place: Place, word: str) -> Place | None:
-    """What a word of a definition means; none where it is the standard library's."""
+    """What a word of a definition means; none if it is the standard library's."""
     read = definitions.read(place.path)
     first = word.split(".")[0]
     own = read.defined(first)
@@ -150,7 +150,7 @@ def used_in_code(place: Place, found: code.Item) -> list[Place | None]:
 
 
 def meant(place: Place, imports: list[Import], word: str) -> Place | None:
-    """What a word means by the imports of its file; none where it is the standard library's or the kit's."""
+    """What a word means by the imports of its file; none if it is the standard library's or the kit's."""
     found = imported(imports, word)
     if found is None and not is_of_kit(imports, word):
         raise LookupError(f"{place.file}: {place.name}: the word {word} is not found")
@@ -172,7 +172,7 @@ def is_of_kit(imports: list[Import], word: str) -> bool:
 
 
 def named_type(place: Place, crate: str, read: code.Code, name: str) -> Place | None:
-    """The type or the trait that a word of the code means, which another crate may hand on; none where it is the
+    """The type or the trait that a word of the code means, which another crate may hand on; none if it is the
     kit's."""
     first = read.uses.get(name, "crate")
     owner = crate if first in ("crate", "super", "self") else first

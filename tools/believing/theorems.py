@@ -7,7 +7,7 @@ from believing.library import CRATES, Place
 
 @dataclass
 class Theorem:
-    """A theorem: its mark on the page, where it is said, at most how many lines it may need where that is bounded,
+    """A theorem: its mark on the page, where it is said, at most how many lines it may need if that is bounded,
     the names that are not read, each with the reason, and the traits whose members its clauses name, with the type
     that is behind a lock."""
 

@@ -28,7 +28,7 @@ class Repository:
 
     def prove(self, name, place, before, jobs):
         """Proves and builds the library in the folder `place`, by a command with these words before it, and takes what
-        was built. Answers the log if it failed."""
+        was built. Returns the log if it failed."""
         copy, kept = pathlib.Path(place), self.folder(name) / "out"
         self.copy_to(copy, name)
         made = copy / "crates" / name / "out"
@@ -54,7 +54,7 @@ class Repository:
 
 
 def link(source, target):
-    """The file under a second name, or a copy where the file system has no such names."""
+    """The file under a second name, or a copy if the file system has no such names."""
     try:
         os.link(source, target)
     except OSError:
@@ -62,7 +62,7 @@ def link(source, target):
 
 
 def log_of(words, folder):
-    """Runs a command. Answers what it printed if it failed, and else None."""
+    """Runs a command. Returns what it printed if it failed, and otherwise None."""
     given = {"stdin": subprocess.DEVNULL, "stdout": subprocess.PIPE, "stderr": subprocess.STDOUT}
     ran = subprocess.run(words, cwd=folder, **given)
     return None if ran.returncode == 0 else ran.stdout.decode(errors="replace")

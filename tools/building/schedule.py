@@ -49,7 +49,7 @@ def how_to_prove(behind, name, beside, lanes):
 
 
 def build_all(repository, names, lanes):
-    """Builds each library once those that it uses are built, so many at a time. The status is 1 where one is not
+    """Builds each library once those that it uses are built, this many at a time. The status is 1 where one is not
     proved."""
     clear(repository, names)
     behind, built, running = work_behind(repository, names), set(), {}

@@ -38,7 +38,7 @@ class Source:
         self.walk(0, len(self.tokens), "")
 
     def text(self, at: int) -> str:
-        """The text of a token, or nothing where there is none."""
+        """The text of a token, or nothing if there is none."""
         return self.tokens[at].text if 0 <= at < len(self.tokens) else ""
 
     def written(self, begin: int, end: int) -> str:

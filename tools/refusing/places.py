@@ -98,7 +98,7 @@ class Forms:
         return self.called(opened)
 
     def called(self, opened: int) -> tuple[int, int] | None:
-        """The call or the tuple whose parentheses open at a place, where it is no call of a method but a writer's."""
+        """The call or the tuple whose parentheses open at a place, if it is no call of a method but a writer's."""
         source, before = self.source, self.source.text(opened - 1)
         stop = source.partners[opened] + 1
         if before == "!" and source.text(opened - 2)[:1].isalpha():

@@ -1,4 +1,4 @@
-"""Requests for memory whose size is chosen: a request of an absurd size is refused with memory at hand.
+"""Requests for memory whose size is chosen: a request of an absurd size is refused while memory is available.
 
 Calls of the library's functions that take a size are such requests, and calls of the program's own functions that pass
 a number on to one.

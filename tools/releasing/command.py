@@ -12,7 +12,7 @@ WELL, DIFFERS, BAD_COMMAND = 0, 1, 2
 
 
 def run(words: list[str], help: str, repository: Repository = Repository()) -> int:
-    """Runs the command, and answers its exit status."""
+    """Runs the command, and returns its exit status."""
     match words:
         case []:
             return release(repository)

@@ -11,7 +11,7 @@ ROOT = Path(__file__).resolve().parent.parent.parent
 
 @dataclass(frozen=True)
 class Manifest:
-    """What is said of a program: SHA-256 of its file and of its sources, and who built it when. A line for each."""
+    """What is said about a program: SHA-256 of its file and of its sources, and who built it when. A line for each."""
 
     version: str
     date: str
@@ -24,7 +24,7 @@ class Manifest:
 
 
 def manifest_in(path: Path) -> Manifest | None:
-    """What a file says, or None where there is none or it lacks a line."""
+    """What a file says, or None if there is none or it lacks a line."""
     try:
         lines = path.read_text(encoding="utf-8").splitlines()
     except OSError:
@@ -57,7 +57,7 @@ class Repository:
 
     @property
     def record(self) -> Path:
-        """What is known of that program: a manifest that was written when it had been proved."""
+        """What is known about that program: a manifest that was written when it had been proved."""
         return self.built.parent / "proved"
 
     @property
@@ -77,7 +77,7 @@ class Repository:
 
 
 def sum_of(path: Path) -> str | None:
-    """The SHA-256 of a file, or None where it cannot be read."""
+    """The SHA-256 of a file, or None if it cannot be read."""
     try:
         return hashlib.sha256(path.read_bytes()).hexdigest()
     except OSError:
@@ -85,7 +85,7 @@ def sum_of(path: Path) -> str | None:
 
 
 def kit() -> str | None:
-    """The line by which this machine's kit names itself, or None where there is no kit."""
+    """The line by which this machine's kit names itself, or None if there is no kit."""
     try:
         ran = subprocess.run(["rt", "version"], stdout=subprocess.PIPE, encoding="utf-8")
     except OSError:
@@ -94,7 +94,7 @@ def kit() -> str | None:
 
 
 def version_of(program: Path) -> str | None:
-    """What a program says of its version, or None where it cannot be run."""
+    """What a program says of its version, or None if it cannot be run."""
     try:
         ran = subprocess.run([os.path.abspath(program), "--version"], stdout=subprocess.PIPE, encoding="utf-8")
     except OSError:

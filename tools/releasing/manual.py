@@ -73,7 +73,7 @@ def listed(items: list[tuple[str, str]]) -> str:
 
 
 def word_of(word: str) -> str:
-    """A word of an item: in italics where something is put in place of it, and else in bold type."""
+    """A word of an item: in italics where something is put in place of it, and otherwise in bold type."""
     plain = word.strip("<>")
     return f"\\fI{literal(plain)}\\fR" if plain.isupper() and plain.isalpha() else f"\\fB{literal(word)}\\fR"
 

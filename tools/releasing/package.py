@@ -61,7 +61,7 @@ GLIBC = re.compile(rb"GLIBC_2\.(\d+)\0")
 
 
 def run(words: list[str], help: str) -> int:
-    """Runs the command, and answers its exit status."""
+    """Runs the command, and returns its exit status."""
     parser = argparse.ArgumentParser(
         prog="tools/package", description=help, formatter_class=argparse.RawDescriptionHelpFormatter)
     parser.add_argument("--output", type=Path, default=Path("."), metavar="FOLDER", help="the folder for the package")

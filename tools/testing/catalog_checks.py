@@ -14,7 +14,7 @@ from tally import Tally
 
 CASES = pathlib.Path(__file__).resolve().parent / "cases"
 
-# What judge says of a server where it is told of no subscriptions, and where it is told.
+# What judge says of a server where it is told about no subscriptions, and where it is told.
 NOTE = "each publication counts as a subscriber of its own; -v subscriptions='..' names others\n"
 TOLD = "the subscribers are those of -v subscriptions\n"
 

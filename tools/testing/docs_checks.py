@@ -10,7 +10,7 @@ from tally import Tally
 ROOT = pathlib.Path(__file__).resolve().parent.parent.parent
 CRATES = ROOT / "crates"
 
-# At most so many words.
+# At most this many words.
 WORDS = {"README.md": 1100, "docs/ARCHITECTURE.md": 1200, "docs/TESTED.md": 500, "bench/README.md": 1500}
 
 # How many lines the README of a crate may have.

@@ -30,7 +30,7 @@ class Example:
 
 
 def check_examples(tally: Tally) -> None:
-    """Runs of the examples, and what a person is told of some."""
+    """Runs of the examples, and what a person is told about some."""
     for example in examples():
         status, output = pgshard(*example.words, text=example.text)
         shown = "".join(output.splitlines(keepends=True)[-example.lines:]) if example.lines else output

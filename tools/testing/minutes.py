@@ -62,7 +62,7 @@ def part_of(words: list[str], folder: str) -> Part | None:
 
 
 def process_of(number: str) -> Process | None:
-    """A process, or None where it is gone."""
+    """A process, or None if it is gone."""
     try:
         with open(f"/proc/{number}/stat", "rb") as file:
             # What comes before is the program's name in parentheses, which may have any bytes.

@@ -65,7 +65,7 @@ def run(parts: list[Part], shares: Shared) -> tuple[int, int, str]:
 
 
 def check_runner(tally: Tally) -> None:
-    """A part that fails, one that raises, one that can't be imported and one that needs what is missing."""
+    """A part that fails, one that raises, one that cannot be imported and one that needs what is missing."""
     parts = [
         Part("fails", "", (), "part_checks:fails"),
         Part("raises", "", (), "part_checks:raises"),

@@ -23,7 +23,7 @@ from tally import Tally
 
 @dataclass(frozen=True)
 class Need:
-    """Something that a part needs: its name, and why it is missing here, or None where it is there."""
+    """Something that a part needs: its name, and why it is missing here, or None if it is there."""
 
     name: str
     why_missing: Callable[[], str | None]
@@ -73,7 +73,7 @@ class Part:
     function: str
 
     def why_skipped(self) -> str | None:
-        """Why the part can't run here, or None where it can."""
+        """Why the part cannot run here, or None if it can."""
         return next((why for need in self.needs if (why := need.why_missing()) is not None), None)
 
     def imported(self) -> Callable[..., None]:
@@ -125,7 +125,7 @@ def run_parts(tally: Tally, parts: Sequence[Part], shares: Shared) -> None:
 
 @contextlib.contextmanager
 def ended_within(seconds: int) -> Iterator[None]:
-    """What takes longer raises TimeoutError. Where this does not end it either, the program shows what each of its
+    """What takes longer raises TimeoutError. If this does not end it either, the program shows what each of its
     threads
     waits for, and exits."""
     def raise_late(number: int, frame: object) -> None:

@@ -1,4 +1,4 @@
-"""What a person at a terminal is told of faults: by tools/explain, by the script pgshard and by judge."""
+"""What a person at a terminal is told about faults: by tools/explain, by the script pgshard and by judge."""
 
 import os
 import pathlib

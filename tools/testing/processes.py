@@ -13,7 +13,7 @@ Answer = TypeVar("Answer")
 
 
 def each(function: Callable[[Given], Answer], given: Sequence[Given]) -> Iterator[Answer]:
-    """What a function returns of each value, in their order. Where a process is killed, this raises."""
+    """What a function returns of each value, in their order. If a process is killed, this raises."""
     processes = min(len(os.sched_getaffinity(0)), len(given))
     if processes <= 1:
         yield from map(function, given)

@@ -13,7 +13,7 @@ PGSHARD = os.environ.get("PGSHARD") or str(TOOLS.parent / "pgshard")
 
 @functools.cache
 def why_unusable() -> str | None:
-    """Why the program can't be run, or None. Where PGSHARD names none, the script proves and builds it here."""
+    """Why the program cannot be run, or None. If PGSHARD names none, the script proves and builds it here."""
     try:
         ended = subprocess.run([PGSHARD, "--version"], stdin=subprocess.DEVNULL, stdout=subprocess.DEVNULL)
     except OSError as fault:

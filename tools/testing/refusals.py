@@ -26,7 +26,7 @@ SECONDS = 600
 
 
 def why_not_built() -> str | None:
-    """Why the program can't be run here. One that the environment names is always run."""
+    """Why the program cannot be run here. One that the environment names is always run."""
     return None if NAMED or BUILT.exists() else "the program refused_calls is not built"
 
 

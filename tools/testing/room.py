@@ -23,7 +23,7 @@ def number_in(path: str, pattern: str) -> int | None:
 
 
 def free() -> int | None:
-    """The free memory in bytes, or None where the system does not say."""
+    """The free memory in bytes, or None if the system does not say."""
     kilobytes = number_in("/proc/meminfo", r"^MemAvailable:\s+(\d+)")
     if kilobytes is None:
         return None
@@ -36,7 +36,7 @@ def free() -> int | None:
 
 
 def checks() -> int | None:
-    """One for each processor, or fewer where there is less memory, but at least one; None where that is not known."""
+    """One for each processor, or fewer if there is less memory, but at least one; None if that is not known."""
     memory = free()
     if memory is None:
         return None

@@ -30,7 +30,7 @@ def has_user():
 
 
 def run_as_user(*words):
-    """Runs a program as the server's user, who can't be root."""
+    """Runs a program as the server's user, who cannot be root."""
     words = [str(word) for word in words]
     user = ["runuser", "-u", USER, "--"] if os.geteuid() == 0 else []
     subprocess.run([*user, *words], check=True, stdout=subprocess.DEVNULL, cwd="/tmp", env=environment())

@@ -60,7 +60,7 @@ class Text:
 
 
 def check_shown(tally: Tally, server: Server) -> None:
-    """Makes two databases of each catalog, if the server takes its text, and else one."""
+    """Makes two databases of each catalog, if the server takes its text, and otherwise one."""
     count, compared = 0, 0
     for count, text in enumerate(texts(), 1):
         compared += is_compared(tally, server, count, text)

@@ -141,7 +141,7 @@ class Answers:
         return frames.complete("COMMIT")
 
     def slot(self, found: Found, asker: Asker) -> bytes:
-        """A slot is made, from the begin of the log on, where all tables are empty."""
+        """A slot is made, from the beginning of the log on, where all tables are empty."""
         name, options = found["$name"][0], {word.lower() for word in found["$rest"]}
         wants_snapshot = bool(options & {"use", "export", "use_snapshot", "export_snapshot"})
         if wants_snapshot and not (COPIES.fullmatch(name) and asker.in_transaction):
@@ -165,7 +165,7 @@ def publications(catalog: Catalog, found: Found) -> bytes:
 
 
 def tables(catalog: Catalog, found: Found, width: int) -> bytes:
-    """The tables that some publications carry, with so many columns of the answer."""
+    """The tables that some publications carry, with this many columns of the answer."""
     columns = [("schemaname", TEXT), ("tablename", TEXT), ("attnames", NAMES)]
     listed = [(it.schema, it.name, array(it.columns))[:width] for it in catalog.tables_of(found["$names"])]
     return frames.selected(columns[:width], listed)

@@ -151,7 +151,7 @@ def main() -> int:
 
 
 def run(words: Sequence[str]) -> int:
-    """Runs the command, and answers its exit status."""
+    """Runs the command, and returns its exit status."""
     options = options_of(words)
     logging.basicConfig(stream=sys.stderr, level=logging.INFO, format="%(asctime)s front: %(message)s")
     logging.getLogger("asyncio").setLevel(logging.CRITICAL)

@@ -1,4 +1,4 @@
-"""What a subscriber asks when it copies a table, answered for the begin of the log, where tables are empty."""
+"""What a subscriber asks when it copies a table, answered for the beginning of the log, where tables are empty."""
 
 from pgshard_tools.fronting import frames
 from pgshard_tools.fronting.catalog import Catalog, Table
@@ -30,7 +30,7 @@ COPY = Form("COPY $schema.$table ($rest")
 
 
 class Copying:
-    """The answers of a catalog, which are None where no table is meant."""
+    """The answers of a catalog, which are None if no table is meant."""
 
     def __init__(self, catalog: Catalog) -> None:
         self.catalog = catalog
@@ -52,11 +52,11 @@ class Copying:
         return frames.selected(described, listed)
 
     def row_filters(self, found: Found) -> bytes:
-        """No filter is told of, since there are no rows."""
+        """No filter is told about, since there are no rows."""
         return frames.selected([("pg_get_expr", TEXT)], [(None,)])
 
     def copy(self, found: Found) -> bytes | None:
-        """The rows of a table at the begin of the log."""
+        """The rows of a table at the beginning of the log."""
         names = found["$schema"][0], found["$table"][0]
         for table in self.catalog.tables:
             if (table.schema, table.name) == names:

@@ -6,7 +6,7 @@ from pgshard_tools.fronting.tokens import Kind, Token, tokens_of
 
 # What a query has at the places of a form, by their names.
 Found = dict[str, list[str]]
-# How many tokens of a place there are at the front of some tokens, and what they say; None where there are none.
+# How many tokens of a place there are at the front of some tokens, and what they say; None if there are none.
 Reading = tuple[int, list[str]] | None
 
 
@@ -56,7 +56,7 @@ class Form:
         self.tokens = tokens_of(words)
 
     def match(self, tokens: Sequence[Token]) -> Found | None:
-        """What a query of this form has at its places, or None where it has another form."""
+        """What a query of this form has at its places, or None if it has another form."""
         found: Found = {}
         at = 0
         for wanted in self.tokens:

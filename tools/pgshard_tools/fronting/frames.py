@@ -26,7 +26,7 @@ def frame(kind: bytes, body: bytes = b"") -> bytes:
 
 
 def text(word: str) -> bytes:
-    """A string with its zero byte. What has a zero byte or is no UTF-8 is shown by question marks."""
+    """A string with its zero byte. What has a zero byte or is not UTF-8 is shown by question marks."""
     return word.encode(errors="replace").replace(b"\0", b"?") + b"\0"
 
 

@@ -29,7 +29,7 @@ class Denied(Exception):
 
 @dataclass(frozen=True)
 class Terms:
-    """On what terms clients are let in: a password and TLS, where they are asked for, and how much time they have."""
+    """On what terms clients are let in: a password and TLS, if they are asked for, and how much time they have."""
 
     password: Password | None
     tls: ssl.SSLContext | None
@@ -47,7 +47,7 @@ class Guest:
 
 
 async def greet(client: Peer, terms: Terms) -> Guest | None:
-    """Takes a client's startup packet and its password. None where it only wanted to cancel something."""
+    """Takes a client's startup packet and its password. None if it only wanted to cancel something."""
     packet = await first_packet(client, terms)
     if packet[:4] == CANCEL:
         return None

@@ -117,7 +117,7 @@ class Peer(asyncio.Protocol):
         await self.news.wait()
 
     async def take(self, count: int) -> bytes:
-        """The next bytes, so many."""
+        """The next bytes, this many."""
         while len(self.waiting) < count:
             await self.fill()
         taken = bytes(self.waiting[:count])
@@ -133,7 +133,7 @@ class Peer(asyncio.Protocol):
         return (await self.frames(most=1))[0]
 
     async def frames(self, most: int | None = None) -> list[Frame]:
-        """The frames that are whole, at least one, and at most so many."""
+        """The frames that are whole, at least one, and at most this many."""
         while not (found := self.whole_frames(most)):
             await self.fill()
         return found

@@ -24,7 +24,7 @@ RELATION_OID = slice(26, 30)
 # Where a keepalive has its position.
 KEPT_POSITION = slice(1, 9)
 
-# So many bytes of a transaction are kept in memory before they are written.
+# This many bytes of a transaction are kept in memory before they are written.
 PIECE = 1 << 20
 
 
@@ -36,7 +36,7 @@ class Spool:
         self.end = 0
 
     def append(self, kept: bytes | bytearray) -> int:
-        """Writes some bytes. The answer is where they begin."""
+        """Writes some bytes. Returns where they begin."""
         begin, at = self.end, 0
         while at < len(kept):
             at += os.pwrite(self.file.fileno(), kept[at:], begin + at)
@@ -53,11 +53,11 @@ class Recording:
 
     def __init__(self, spool: Spool) -> None:
         self.spool = spool
-        # From where on nothing is missing, None where that is not known; and up to where clients were told of the log,
+        # From where on nothing is missing, None if that is not known; and up to where clients were told of the log,
         # 0 before they were told anything.
         self.begin: int | None = None
         self.reach = 0
-        # The pieces of transactions: of each its transaction's position, where it is in the file, and how long it is.
+        # The pieces of transactions: for each, the position of its transaction, its place in the file, and its length.
         self.positions, self.places, self.lengths = array("Q"), array("Q"), array("Q")
         self.recorded = 0
         self.relations: dict[bytes, bytes] = {}
@@ -147,7 +147,7 @@ class Recording:
 
     def from_position(self, position: int) -> Iterator[bytes]:
         """What was recorded of the transactions from a position on, with the Relations of all tables in the first, as
-        at the begin of each stream. What is recorded in the meantime comes too."""
+        at the beginning of each stream. What is recorded in the meantime comes too."""
         first = at = bisect_left(self.positions, position)
         while at < len(self.positions) and self.positions[at] < self.recorded:
             piece = self.spool.read(self.places[at], self.lengths[at])

@@ -77,7 +77,7 @@ def text_of(message: bytes) -> str:
 
 
 def split(text: str, count: int) -> list[str]:
-    """So many parts with commas between them; the last one may have more."""
+    """This many parts with commas between them; the last one may have more."""
     parts = text.split(",", count - 1)
     if len(parts) != count:
         raise NotAuthentic("a message of SCRAM lacks a part")

@@ -60,7 +60,7 @@ class Session:
         self.is_streaming = False
 
     async def run(self) -> str:
-        """Serves the client until one of both ends. The answer is how it ended."""
+        """Serves the client until one of both ends. Returns how it ended."""
         try:
             return await self.serve()
         except Lost as lost:
@@ -72,7 +72,7 @@ class Session:
             return str(denied)
 
     async def serve(self) -> str:
-        """Lets the client in, and answers its queries. The answer is how it ended."""
+        """Lets the client in, and answers its queries. Returns how it ended."""
         try:
             async with asyncio.timeout(self.terms.seconds):
                 guest = await greet(self.client, self.terms)
@@ -113,7 +113,7 @@ class Session:
         await self.client.send(frames.ready())
 
     async def answer_query(self, query: str) -> bool:
-        """Answers a query, or serves a stream. The answer is whether the connection goes on."""
+        """Answers a query, or serves a stream. Returns whether the connection goes on."""
         try:
             tokens = tokens_of(query)
             start = start_of(query, tokens, self.answers.version.startswith("15."))

@@ -55,7 +55,7 @@ class Slot:
         return max(start.position, self.confirmed)
 
     def why_not_afresh(self) -> str | None:
-        """Why it cannot be started from the log's begin, if that is known."""
+        """Why it cannot be started from the log's beginning, if that is known."""
         if self.recording.fault is not None:
             return self.recording.fault
         if self.recording.reach == 0 or self.recording.covers(BEGIN_OF_LOG):
@@ -69,7 +69,7 @@ class Slot:
 class Slots:
     """The slots that clients asked for, by their names."""
 
-    # The names that the catalog has, where it is known.
+    # The names that the catalog has, if it is known.
     names: list[str] | None
     spool: Spool = field(default_factory=Spool)
     known: dict[str, Slot] = field(default_factory=dict)

@@ -69,7 +69,7 @@ def is_hexadecimal(token: Token) -> bool:
 
 
 def options_of(tokens: Sequence[Token]) -> list[Option] | None:
-    """The names and values between parentheses, or None where they are not read."""
+    """The names and values between parentheses, or None if they are not read."""
     if len(tokens) < 3 or not tokens[0].is_mark("(") or not tokens[-1].is_mark(")"):
         return None
     options: list[Option] = []

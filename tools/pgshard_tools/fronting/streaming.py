@@ -12,7 +12,7 @@ from pgshard_tools.fronting.peer import Lost, Peer
 from pgshard_tools.fronting.recording import BEGIN_OF_LOG, COMMIT_END, KEPT_POSITION, LETTER, Recording, number
 from pgshard_tools.fronting.slots import Slot
 
-# An XLogData's two positions. Where a status has what is flushed, and its last byte: whether a reply is wanted.
+# The two positions of an XLogData. The flushed position of a status, and its last byte: whether a reply is wanted.
 POSITIONS = slice(1, 17)
 FLUSHED = slice(9, 17)
 WANT = 33
@@ -38,7 +38,7 @@ class Stream:
         self.position = 0
 
     async def relay(self, publisher: Peer, recording: Recording, told: Sequence[Frame]) -> bool:
-        """Relays a stream of pgshard serve, which has told something already. The answer is whether both said that the
+        """Relays a stream of pgshard serve, which has told something already. Returns whether both said that the
         stream is done, so that the client's connection goes on."""
         self.publisher = publisher
         return await self.run(self.relay_down(publisher, recording, told))
@@ -85,7 +85,7 @@ class Stream:
         return True
 
     async def listen(self) -> bool:
-        """Passes on what the client says. The answer is whether it said that the stream is done, and waits for that.
+        """Passes on what the client says. Returns whether it said that the stream is done, and waits for that.
 
         A reply that is wanted is given here, too: pgshard serve gives none once it has made and sent all commits, and a
         subscriber does not wait longer than a minute.
@@ -180,7 +180,7 @@ async def first_of(*events: asyncio.Event) -> None:
 
 
 def position_of(told: Frame) -> int:
-    """The position that a frame tells a client to be at, if it is a Commit or a keepalive, and else 0."""
+    """The position that a frame tells a client to be at, if it is a Commit or a keepalive, and otherwise 0."""
     kind, body = told
     if kind == COPY_DATA and body[:1] == XLOG_DATA and body[LETTER] == b"C":
         return number(body[COMMIT_END])

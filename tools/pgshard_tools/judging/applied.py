@@ -28,12 +28,12 @@ class Context:
     meanings: Meanings
     failing: Failing
     null_of: comparing.NullOf
-    # Formulas that are TRUE where a subject is NULL, and else FALSE.
+    # Formulas that are TRUE where a subject is NULL, and otherwise FALSE.
     nulls: dict[Subject, Formula]
 
 
 def function(call: Call, form: str, arguments: Sequence[Operand], context: Context) -> Operand | None:
-    """A function, None where nothing more is known of it."""
+    """A function, None if nothing more is known about it."""
     meanings, failing = context.meanings, context.failing
     if call.signature in PARTS_OF:
         return part(call, form, arguments, context)

@@ -2,7 +2,7 @@
 
 The server fails where a result does not fit its type, or a divisor is 0. A filter is read as if the number went on;
 that has the server's value wherever the server does not fail, since what it does not evaluate does not count for the
-filter's value either. Where it may fail is noted beside it.
+filter's value either. Where it may fail is noted separately.
 """
 
 import math
@@ -36,15 +36,15 @@ NEVER_FAILING = "&|#"
 NUMBERS = ("int2", "int4", "int8", "numeric", "float4", "float8")
 
 
-# Two numbers between which a column is, where they are known.
+# Two numbers between which a column is, if they are known.
 Bounds: TypeAlias = tuple[Fraction, Fraction] | None
 BoundsOf: TypeAlias = Callable[[Subject], Bounds]
 
 
 @dataclass(frozen=True)
 class Failure:
-    """A part of a filter at which the server fails where a formula is TRUE. Without one, nothing is known of where; it
-    may be known that it is nowhere, if columns are between some numbers."""
+    """A part of a filter at which the server fails where a formula is TRUE. Without a formula it is not known where,
+    but it may be known that it fails nowhere if columns are between some numbers."""
 
     form: str
     where: Formula | None
@@ -149,7 +149,7 @@ def folded(form: str, op: str, left: int, right: int, type: str) -> Value:
 
 
 def of_one_column(form: str, op: str, one: Operand, other: Operand, type: str) -> Whole | None:
-    """The next step, None where it is none of those that are known."""
+    """The next step, None if it is none of those that are known."""
     left, right = whole_of(one), whole_of(other)
     if left is not None and right is not None:
         return of_remainders(form, op, left, right, type)
@@ -232,7 +232,7 @@ def is_never(formula: Formula) -> bool:
 
 
 def of_columns(form: str, op: str, one: Operand, other: Operand, type: str, failing: Failing) -> Operand:
-    """Arithmetic that gets a column of its own: NULL just where one side is, and where the server fails it is
+    """Arithmetic that gets a column of its own: NULL exactly where one side is, and where the server fails it is
     anything."""
     if not (type in NUMBERS and op in OPERATORS):
         raise Unread(form, "it is not arithmetic that judge knows")
@@ -297,7 +297,7 @@ def exact(op: str, one: Fraction, other: Fraction) -> Fraction:
 
 
 def bounds_of(operand: Operand, bounds: BoundsOf) -> Bounds:
-    """Two numbers between which an operand is, None where they are not known."""
+    """Two numbers between which an operand is, None if they are not known."""
     match operand:
         case Value(value=Point() as point) if point.is_finite:
             return point.value, point.value

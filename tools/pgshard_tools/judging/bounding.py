@@ -14,7 +14,7 @@ EVERYTHING: Interval = (None, None)
 
 
 def bounds_of(constraints: Iterable[Formula], subject: Subject) -> Bounds:
-    """The ends of the column, None where one of them is not known."""
+    """The ends of the column, None if one of them is not known."""
     found: Interval | None = type_bounds(subject) or EVERYTHING
     for constraint in constraints:
         found = common(found, where(constraint, subject, True))

@@ -32,7 +32,7 @@ class Source:
 
 
 def judge(path: str, options: Options) -> int:
-    """Judges the catalog of a file, and answers the exit status."""
+    """Judges the catalog of a file, and returns the exit status."""
     only_of_servers = (options.copied, options.partial, options.catalog, options.subscriber, options.migration,
                        options.intent, options.repair, options.keep, options.count, options.html)
     if options.explain or any(only_of_servers):

@@ -51,7 +51,7 @@ class Coding:
         return min(max(int(text), self.low), self.high)
 
     def value(self, code: int) -> Any:
-        """A value of the server, or None where none is known."""
+        """A value of the server, or None if none is known."""
         raise NotImplementedError
 
     def encoded(self, text: str) -> str:
@@ -308,7 +308,7 @@ class Enumerated(Coding):
 class Ranks(Coding):
     """Values of a type whose order is dense: each constant has a code, and so has what is between two neighbours.
 
-    The order decides each comparison, so values between the same neighbours are told apart by none. Where there is no
+    The order decides each comparison, so values between the same neighbours are told apart by none. If there is no
     value between two neighbours, or past the first or the last, there is no code.
     """
 
@@ -369,7 +369,7 @@ class Ranks(Coding):
         return Point(0, Fraction(math.floor(middle))) if is_whole else Point(0, middle)
 
     def text_above(self, low: str) -> str:
-        """A text with more at its end is above it, and one with a later last letter, where it has no room for more. A
+        """A text with more at its end is above it, and one with a later last letter, if it has no room for more. A
         char drops blanks at its end."""
         limit = server_types.length_limit(self.subject.type, self.subject.modifier)
         if limit is not None and len(low) >= limit:

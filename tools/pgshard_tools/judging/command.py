@@ -33,7 +33,7 @@ from pgshard_tools.judging.verdicts import Verdict
 
 @dataclass
 class Judgement:
-    """What is said of a database, repairs that are asked for, and what is published to all or in part on purpose."""
+    """What is said about a database, repairs that are asked for, and what is published to all or in part on purpose."""
 
     answer: report.Report
     db: database.Database
@@ -42,13 +42,13 @@ class Judgement:
 
 
 def main() -> int:
-    """Runs the command with the arguments of this process. Texts that are no UTF-8 are printed with escapes."""
+    """Runs the command with the arguments of this process. Texts that are not UTF-8 are printed with escapes."""
     sys.stdout = io.TextIOWrapper(sys.stdout.buffer, encoding="utf-8", errors="backslashreplace")
     return run(sys.argv[1:])
 
 
 def run(words: Sequence[str]) -> int:
-    """Runs the command, and answers its exit status."""
+    """Runs the command, and returns its exit status."""
     options = None
     try:
         options = options_of(words)
@@ -70,7 +70,7 @@ def run(words: Sequence[str]) -> int:
 def ended(fault: Fault, words: Sequence[str], options: Options | None) -> int:
     """Says why there is no judgement. Options that are not understood are known by the words."""
     if options is not None and options.prometheus is not None:
-        # A file that can't be written is what the first fault may be of.
+        # A file that cannot be written is what the first fault may be of.
         with contextlib.suppress(Fault):
             monitoring.write_metrics(options.prometheus, monitoring.run_metrics(fault.status))
     if "--nagios" in words:
@@ -136,7 +136,7 @@ def judge_server(options: Options) -> int:
 
 
 def reported(options: Options) -> report.Report:
-    """What is said of a server's database."""
+    """What is said about a server's database."""
     return judged(options).answer
 
 

@@ -64,15 +64,15 @@ def as_ref(operand: Operand) -> Ref | None:
 
 
 def opaque_of(whole: Whole) -> Ref:
-    """A result of arithmetic as a column of its own, which is NULL just where its column is."""
+    """A result of arithmetic as a column of its own, which is NULL exactly where its column is."""
     subject = whole.subject
     return Ref(Subject(sql=f"({whole.sql})", type=whole.type, columns=subject.columns, is_strict=subject.is_strict,
                        is_total=subject.is_total), whole.type)
 
 
 def of_extreme(form: str, op: str, extreme: Extreme, other: Operand, null_of: NullOf) -> Formula:
-    """The greatest of some operands is less just where all are that are not NULL, and it is NULL where all of them are.
-    The least is less where one of them is."""
+    """The greatest of some operands is less exactly if all that are not NULL are less, and is NULL if all are NULL. The
+    least is less if one of them is."""
     if op in (">", ">=", "<>"):
         return negation(of_extreme(form, {">": "<=", ">=": "<", "<>": "="}[op], extreme, other, null_of))
     if op == "=":
@@ -192,8 +192,8 @@ def of_whole(form: str, op: str, whole: Whole, constant: Value) -> Formula:
 
 
 def of_day(op: str, subject: Subject, constant: Value) -> Formula:
-    """The date of a timestamp. It is before a date just where the timestamp is before that date's midnight, and after
-    it where the timestamp is not before the next midnight; infinities are dates, too."""
+    """The date of a timestamp. It is before a date exactly if the timestamp is before that date's midnight, and after
+    it if the timestamp is not before the next midnight; infinities are dates, too."""
     if constant.type != "date":
         raise Unread(f"({subject.sql})::date compared with {constant.type}")
     point = constant.value
@@ -242,7 +242,7 @@ def midnight_of(day: Point) -> Point:
 
 
 def of_date_and_time(op: str, subject: Subject, point: Point) -> Formula:
-    """A date and a timestamp: the date counts as its midnight. So it is before the timestamp just where its day is
+    """A date and a timestamp: the date counts as its midnight. So it is before the timestamp exactly where its day is
     below the timestamp's time in days, which need not be whole. The last timestamp is below the date of its own day."""
     if not point.is_finite:
         return compared(subject, op, point)

@@ -36,7 +36,7 @@ def as_value(operand: Operand) -> Operand:
 
 
 def number(text: str) -> Value:
-    """A number without a type behind it: an int4 where it fits, and else an int8 or a numeric."""
+    """A number without a type behind it: an int4 where it fits, and otherwise an int8 or a numeric."""
     point = server_types.value_of("numeric", text)
     if NUMBER.fullmatch(text):
         for type in ("int4", "int8"):
@@ -79,7 +79,7 @@ def text_of(part: Value) -> str:
 
 
 def array_parts(text: str) -> list[str | None] | None:
-    """The elements of an array's text, None for NULL; or None where it has another form than a plain list."""
+    """The elements of an array's text, None for NULL; or None if it has another form than a plain list."""
     if not (text.startswith("{") and text.endswith("}")) or "{" in text[1:]:
         return None
     parts: list[str | None] = []

@@ -28,7 +28,7 @@ class Key:
 @dataclass
 class Counts:
     """What the server counts, or why it does not. `each` has how many rows a subscriber gets, `where` how many rows
-    there are by conditions, and `lacking` how many do not go to each subscriber, where they are to."""
+    there are by conditions, and `lacking` how many do not go to each subscriber, if they are to."""
 
     rows: int = 0
     nobody: int = 0

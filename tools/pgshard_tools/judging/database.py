@@ -111,7 +111,7 @@ class Database:
         return [oid for oid in table["ancestors"] if publication["all"] or self.has(publication, oid)]
 
     def filter_of(self, publication: Publication, oid: int) -> str | None:
-        """The filter under which a publication sends rows as those of a table, None where it sends them all."""
+        """The filter under which a publication sends rows as those of a table, None if it sends them all."""
         if publication["all"] or self.by_oid[oid]["schema"] in publication["schemas"]:
             return None
         entry = self.entry(publication, oid)

@@ -11,11 +11,11 @@ from pgshard_tools.judging.formulas import And, Const, Formula, Is, IsNull, Leaf
 from pgshard_tools.judging.printing import Condition
 from pgshard_tools.judging.shares import Takers
 
-# So many regions are looked at of one table.
+# This many regions are looked at of one table.
 MOST_STEPS = 20_000
 # Of more pieces those of the same subscribers are not joined.
 MOST_JOINED = 2_000
-# So many remainders are looked at one by one.
+# This many remainders are looked at one by one.
 MOST_REMAINDERS = 64
 
 # The values that a condition may have in a region.
@@ -39,7 +39,7 @@ class Piece:
 
 @dataclass
 class Division:
-    """The pieces of a table, and what holds of its rows. Where it is not whole, there are more pieces."""
+    """The pieces of a table, and what holds of its rows. If it is not whole, there are more pieces."""
 
     pieces: list[Piece]
     constraints: Sequence[Formula]
@@ -60,7 +60,7 @@ class Division:
                 yield kept, allowed
 
     def without_remainders_of_none(self, codes: Codes) -> Codes | None:
-        """A region without the remainders that no row in it has, or None where no row is left."""
+        """A region without the remainders that no row in it has, or None if no row is left."""
         for coded, (found, may_be_null) in codes.items():
             if isinstance(coded, Remainders) and found != coded.full and ranges.size(found) <= MOST_REMAINDERS:
                 kept = [it for it in ranges.numbers_of(found)

@@ -20,7 +20,7 @@ NUMBER = '"the row\'s number"'
 
 @dataclass
 class Outcome:
-    """What the server does with a row. Where it is taken and a filter fails at it, the stream ends there."""
+    """What the server does with a row. If it is taken and a filter fails at it, the stream ends there."""
 
     is_accepted: bool = False
     is_failing: bool = False
@@ -140,7 +140,7 @@ def lengths_of(computed: Sequence[Column]) -> list[str]:
 def asked(
         session: Session, questions: Questions, listed: Sequence[Row], places: Sequence[int], texts: Sequence[str]
 ) -> Iterator[tuple[int, list[object] | None]]:
-    """What the server answers of some of the rows, None where it fails at a row. Too many failures end it."""
+    """What the server answers of some of the rows, None if it fails at a row. Too many failures end it."""
     lots = [list(places)] if places else []
     while lots and questions.asked < MOST_QUESTIONS:
         lot = lots.pop()

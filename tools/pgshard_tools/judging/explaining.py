@@ -79,7 +79,7 @@ def walk(nodes: list[str], at: int, atoms: list[Condition], codes: Codes | None,
 
 
 def cut(codes: Codes, atom: Condition, value: bool | None) -> Codes | None:
-    """What is left of a region where a condition has a value, None where that is no row."""
+    """What is left of a region where a condition has a value, None if that is no row."""
     coded = atom.coded
     base = getattr(coded, "base", coded)
     if atom.ranges is None:
@@ -139,7 +139,7 @@ def may_be_null(region: Region, coded: Coding) -> bool:
 
 
 def is_implied(region: Region, coded: Coding) -> bool:
-    """Whether what is known of other columns says as much of this one."""
+    """Whether what is known about other columns says as much of this one."""
     found, with_null = region.codes[coded]
     if isinstance(coded, Remainders):
         low_and_high, _ = region.codes[coded.base]

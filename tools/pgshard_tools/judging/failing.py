@@ -20,7 +20,7 @@ from pgshard_tools.judging.trials import Read
 
 # Operations with filters, beside INSERT.
 CHANGES = ("update", "delete")
-# So many rows at the ends of types are tried.
+# This many rows at the ends of types are tried.
 MOST_CORNERS = 400
 EDGES = {"numeric": ["9e131071", "-9e131071", "0", "1e-16383"], "float8": ["1.7e308", "-1.7e308", "5e-324", "0"],
          "float4": ["3.4e38", "-3.4e38", "1e-45", "0"]}

@@ -16,7 +16,7 @@ class Fault(Exception):
 
 
 class Undecided(Exception):
-    """Why nothing is known of one table. The others are judged."""
+    """Why nothing is known about one table. The others are judged."""
 
     def __init__(self, words: str) -> None:
         super().__init__(words)

@@ -14,12 +14,12 @@ from pgshard_tools.judging.session import Session
 from pgshard_tools.judging.shares import Takers
 from pgshard_tools.judging.trials import Read
 
-# So many regions are listed of a table.
+# This many regions are listed of a table.
 MOST_LISTED = 200
-# Of so many regions rows are looked for among so many, where the first ones are not in them.
+# In how many regions rows are looked for, and among how many rows, if the first ones are not in them.
 MOST_SEARCHED = 40
 MOST_TRIED = 1_000
-# So many rows are asked of at once, each with a condition of its own: a call of the server has 100 arguments at most.
+# This many rows are asked of at once, each with a condition of its own: a call of the server has 100 arguments at most.
 LOT = 80
 MOST_COMBINED = 100_000
 
@@ -49,7 +49,7 @@ class FaultyRegions:
 
 
 def division_of(db: Database, read: Read, takers: Takers, purpose: str | None, session: Session) -> Division:
-    """Who gets which rows of a table, by all that is known of its rows."""
+    """Who gets which rows of a table, by all that is known about its rows."""
     trial = trials.trial_of(
         db, read, takers, purpose, True, read.constraints | read.samples, session.sorted_texts)
     return divisions.divided(trial, takers)

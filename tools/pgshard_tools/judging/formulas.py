@@ -11,7 +11,7 @@ class Subject:
     """What is compared: a column, or an expression of the server that gets a column of its own.
 
     It is null where one of its columns is, if `is_strict`, and there alone, if `is_total` too. A subject that is not
-    a column is opaque: nothing is known of it but that.
+    a column is opaque: nothing is known about it but that.
     """
 
     sql: str
@@ -219,7 +219,7 @@ def has_null(part: Formula) -> bool:
 
 
 def is_true(part: Formula) -> Formula:
-    """A formula without NULL that is TRUE where the part is, and else FALSE or NULL.
+    """A formula without NULL that is TRUE where the part is, and otherwise FALSE or NULL.
 
     Exact, since AND is TRUE where all parts are, and OR where one is; and a filter counts only where it is TRUE.
     """
@@ -238,7 +238,7 @@ def is_true(part: Formula) -> Formula:
 
 
 def is_false(part: Formula) -> Formula:
-    """A formula without NULL that is TRUE where the part is FALSE, and else FALSE or NULL."""
+    """A formula without NULL that is TRUE where the part is FALSE, and otherwise FALSE or NULL."""
     if not has_null(part):
         return negation(part)
     match part:

@@ -2,7 +2,7 @@
 
 Of such a column nothing is known but its type, where it is NULL, and that equal texts of SQL are equal values. So only
 a proof counts where it is named. The server says which function is called, its result, and whether it is strict; the
-tables of signatures.py add what it does not say. Where a function may fail, that is noted, since a filter that fails
+tables of signatures.py add what it does not say. If a function may fail, that is noted, since a filter that fails
 ends the replication.
 """
 
@@ -23,7 +23,7 @@ class Evaluating(Protocol):
 
 
 class Noting(Protocol):
-    """Notes where the server fails: where a formula is TRUE, or None where that is not known."""
+    """Notes where the server fails: where a formula is TRUE, or None if that is not known."""
 
     def note(self, form: str, where: Formula | None, columns: Sequence[str]) -> None: ...
 
@@ -47,7 +47,7 @@ def operator(found: Call, name: str, form: str, arguments: Sequence[Operand], se
 
 def checked(found: Call, row: Row, form: str, arguments: Sequence[Operand], server: Evaluating,
             failing: Noting) -> Operand:
-    """The column of its own, if the server agrees with the table. Where it may fail is noted."""
+    """The column of its own, if the server agrees with the table. Notes where it may fail."""
     if not found.is_immutable or not (found.is_strict or row.null_at):
         raise Unread(form, "the server does not say that it is immutable and NULL where an argument is")
     others = [it for place, it in enumerate(arguments) if place not in row.null_at] if row.null_at else []
@@ -232,7 +232,7 @@ def is_never_null(argument: Operand) -> bool:
 
 
 def collation_of(arguments: Sequence[Operand]) -> str | None:
-    """The collation of a text result: that of the texts that it is of, or None where these differ."""
+    """The collation of a text result: that of the texts that it is of, or None if these differ."""
     refs = [it.ref if isinstance(it, Derived) else it for it in arguments]
     subjects = [it.subject for it in refs if isinstance(it, Ref)]
     found = {it.collation for it in subjects if it.collation}

@@ -51,7 +51,7 @@ def full(name: str) -> str:
 
 
 def read(path: str | None) -> Intent:
-    """What a file says, or nothing where there is none."""
+    """What a file says, or nothing if there is none."""
     if path is None:
         return Intent()
     found = parsed(path)
@@ -125,7 +125,7 @@ def taken(db: Database, intent: Intent, tables: Sequence[Shares]) -> list[Shares
 
 
 def skipped(intent: Intent) -> list[str]:
-    """What is said of tables that are not judged."""
+    """What is said about tables that are not judged."""
     return [f"{name}: not judged, {intent.says(SKIP)}" for name in intent.listed(SKIP)]
 
 

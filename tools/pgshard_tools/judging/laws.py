@@ -18,7 +18,7 @@ from pgshard_tools.judging.formulas import (
 from pgshard_tools.judging.points import Point, finite
 from pgshard_tools.judging.server_types import INTEGERS
 
-# So many constants of two subjects that are compared with each other are brought together.
+# This many constants of two subjects that are compared with each other are brought together.
 MOST_CONSTANTS = 24
 
 

@@ -34,7 +34,7 @@ Judge = Callable[[Options], Report]
 
 @dataclass
 class Answer:
-    """What is said of a database, or why nothing is."""
+    """What is said about a database, or why nothing is."""
 
     name: str
     found: Report | Fault
@@ -52,7 +52,7 @@ class Answer:
 
 
 def judge(options: Options, judged: Judge) -> int:
-    """Judges all databases, or one, once or again and again; answers the exit status of the last time."""
+    """Judges all databases, or one, once or again and again; returns the exit status of the last time."""
     want_alone(options)
     answers = answers_of(options, judged)
     if options.watch is None:
@@ -102,7 +102,7 @@ def answers_of(options: Options, judged: Judge) -> list[Answer]:
 
 
 def answer_of(name: str, options: Options, judged: Judge) -> Answer:
-    """What is said of one database. A fault of one is none of the others."""
+    """What is said about one database. A fault of one is none of the others."""
     try:
         found = judged(options)
         return Answer(found.database.name, found)
@@ -215,7 +215,7 @@ def json_of(answer: Answer, options: Options) -> dict[str, Any]:
 
 
 def states_of(answers: Sequence[Answer], known: States, options: Options) -> States:
-    """What may change. Where there is no judgement, what was known before stays."""
+    """What may change. If there is no judgement, what was known before stays."""
     states: States = {}
     for answer in answers:
         name = answer.name if options.databases else ""

@@ -99,7 +99,7 @@ class Meanings:
         return json.loads(answer)
 
     def top(self, relations: list[int], text: str) -> Tree | None:
-        """The server's tree of a text, None where it has none."""
+        """The server's tree of a text, None if it has none."""
         found = [it for relation in relations for it in self.texts.get((relation, text), ())]
         return tree_of(found[0]) if found else None
 

@@ -1,6 +1,6 @@
 """Where the result of some steps is in some ranges, as a formula of the column that they begin with.
 
-Each formula here is NULL just where the column is, and each function says why what it answers is exact.
+Each formula here is NULL exactly where the column is, and each function says why what it answers is exact.
 """
 
 import math
@@ -143,8 +143,8 @@ def residue_of_product(subject: Subject, before: Sequence[Step], factor: int, mo
 
 
 def residue_of_sum(subject: Subject, done: Sequence[Step], number: int, modulus: int, found: Ranges) -> Formula:
-    """The remainder of y + a has the sign of y + a, and else goes by the remainder of y: y + a is of one class with the
-    remainder v just where y is of that of v - a. So the two signs are asked one by one."""
+    """The remainder of y + a has the sign of y + a, and otherwise depends on the remainder of y: y + a is in the class
+    of the remainder v exactly if y is in that of v - a. So the two signs are treated one by one."""
     is_above = member(subject, done, ((0, END),))
     above = classes(ranges.intersection(found, [(0, modulus - 1)]), number, modulus)
     below = classes(ranges.intersection(found, [(1 - modulus, 0)]), number, modulus)

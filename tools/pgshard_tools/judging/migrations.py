@@ -1,4 +1,4 @@
-"""The statements of a migration, each with its line, and why some can't be tried in a transaction."""
+"""The statements of a migration, each with its line, and why some cannot be tried in a transaction."""
 
 from collections.abc import Iterator
 from dataclasses import dataclass

@@ -182,8 +182,8 @@ def as_date(form: str, operand: Derived, ref: Ref) -> Operand:
 
 
 def moved(form: str, operand: Operand, steps: Sequence[int], ref: Ref, failing: Failing) -> Operand:
-    """A date so many days later, or a timestamp so many microseconds, in one or two steps. It fails where a step leads
-    past the ends of the type."""
+    """A date or timestamp moved by this many days or microseconds, in one or two steps. It fails if a step leads past
+    an end of the type."""
     is_date = type_of(operand) == "date"
     low, high = (points.FIRST_DAY, points.LAST_DAY) if is_date else (points.FIRST_TIME, points.LAST_READ)
     by = 0

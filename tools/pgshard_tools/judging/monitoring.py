@@ -118,7 +118,7 @@ def metrics(reports: Sequence[Report], status: int) -> str:
 
 
 def run_metrics(status: int) -> str:
-    """What is said of each run, also of one without a judgement."""
+    """What is said about each run, also of one without a judgement."""
     return "".join([
         family("pgshard_judge_status", "The exit status of the last run of judge.", [
             sample("pgshard_judge_status", {}, status)]),

@@ -32,7 +32,7 @@ class Tree:
         return value if isinstance(value, str) else ""
 
     def tree(self, name: str) -> "Tree | None":
-        """A field that is a node, None where it is null."""
+        """A field that is a node, None if it is null."""
         value = self.fields.get(name)
         return value if isinstance(value, Tree) else None
 
@@ -43,7 +43,7 @@ class Tree:
 
 
 def tree_of(text: str) -> Tree:
-    """The tree that a text is of; ValueError where it has another form."""
+    """The tree that a text is of; ValueError if it has another form."""
     tokens = TOKEN.findall(text)
     part, at = part_at(tokens, 0)
     if not isinstance(part, Tree) or at != len(tokens):

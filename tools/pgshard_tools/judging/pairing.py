@@ -60,7 +60,7 @@ def pair(raw: Any, tree: Tree, found: dict[int, Tree]) -> None:
 
 
 def parts_of(tree: Tree) -> list[Tree]:
-    """The arguments. Where the first part of AND is an AND, which BETWEEN makes, the parser reads its parts as those of
+    """The arguments. If the first part of AND is an AND, which BETWEEN makes, the parser reads its parts as those of
     the whole, and so it does with OR."""
     parts = tree.trees("args")
     is_joined = bool(parts) and tree.word("boolop") in ("and", "or") and parts[0].kind == "BOOLEXPR"
@@ -90,7 +90,7 @@ def pair_other(raw: Any, tree: Tree, found: dict[int, Tree]) -> None:
 
 
 def form_of_cast(tree: Tree) -> str | None:
-    """How a conversion is written, None where the tree is none."""
+    """How a conversion is written, None if the tree is none."""
     if tree.kind in ONE_ARGUMENT:
         return tree.word(ONE_ARGUMENT[tree.kind])
     is_cast = tree.kind == "FUNCEXPR" and tree.word("funcformat") in (EXPLICIT_CAST, IMPLICIT_CAST)

@@ -12,7 +12,7 @@ from pgshard_tools.judging.ranges import Ranges
 from pgshard_tools.judging.rows import Row
 from pgshard_tools.judging.trials import Read
 
-# So many numbers are tried for one with the remainders of a region, and so many rows of each region.
+# This many numbers are tried for one with the remainders of a region, and this many rows of each region.
 MOST_NUMBERS = 20_000
 MOST_ROWS = 6
 
@@ -28,7 +28,7 @@ def rows_in(read: Read, codes: Codes) -> list[Row]:
 
 
 def codes_in(codes: Codes) -> dict[Any, Any] | None:
-    """One code of each column, None for NULL; or None where no code with the remainders is found."""
+    """One code of each column, None for NULL; or None if no code with the remainders is found."""
     found: dict[Any, Any] = {}
     for coded, (its, may_be_null) in codes.items():
         if isinstance(coded, Remainders):

@@ -9,7 +9,7 @@ from pgshard_tools.judging.divisions import Division, Piece
 from pgshard_tools.judging.explaining import Codes, Region
 from pgshard_tools.judging.ranges import Ranges
 
-# A grid has so many cells on a side at most, and a list so many lines.
+# A grid has this many cells on a side at most, and a list this many lines.
 MOST_CELLS = 24
 MOST_LINES = 60
 
@@ -19,7 +19,7 @@ Part = Ranges | None
 
 @dataclass
 class Cell:
-    """Some rows as a condition in SQL, and who gets them: None where the table has no such row."""
+    """Some rows as a condition in SQL, and who gets them: None if the table has no such row."""
 
     condition: str
     takers: list[str] | None
@@ -86,7 +86,7 @@ def map_of(division: Division) -> Map:
 
 
 def start_of(division: Division) -> Codes | None:
-    """All rows, or None where not all pieces are known."""
+    """All rows, or None if not all pieces are known."""
     if not division.is_whole or not division.pieces:
         return None
     return {coded: (coded.full, not getattr(coded, "base", coded).not_null) for coded in division.pieces[0].codes}
@@ -142,7 +142,7 @@ def combinations(axes: Sequence[Axis]) -> Iterator[tuple[Part, ...]]:
 
 
 def takers_at(division: Division, codes: Codes) -> list[str] | None:
-    """Who gets the rows of a cell, None where there are none."""
+    """Who gets the rows of a cell, None if there are none."""
     piece = next((it for it in division.pieces if overlap(it.codes, codes) is not None), None)
     if piece is None or division.allowed(overlap(piece.codes, codes) or codes) is None:
         return None

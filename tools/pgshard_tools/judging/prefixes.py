@@ -35,7 +35,7 @@ def never(subject: Subject) -> Formula:
 
 
 def next_text(prefix: str) -> str | None:
-    """The first text that comes after all with a prefix, None where there is none."""
+    """The first text that comes after all with a prefix, None if there is none."""
     for end in range(len(prefix), 0, -1):
         letter = ord(prefix[end - 1])
         if letter < LAST:

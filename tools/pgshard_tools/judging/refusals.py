@@ -73,7 +73,7 @@ def identity_refusals(database: Database, shares: Shares) -> Iterator[str]:
 
 
 def identity_of(table: Table) -> list[str] | None:
-    """The columns of a table's replica identity, or None where it has none that the server can use."""
+    """The columns of a table's replica identity, or None if it has none that the server can use."""
     if table["identity"] == "f":
         return [column["name"] for column in table["columns"]]
     return names_of(table, table["identity_numbers"]) if table["identity_numbers"] else None

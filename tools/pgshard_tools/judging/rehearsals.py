@@ -13,7 +13,7 @@ from pgshard_tools.judging.faults import BAD_COMMAND, NO_ANSWER, Fault
 from pgshard_tools.judging.migrations import Statement, refused
 from pgshard_tools.judging.session import LOST, SETUP, Session
 
-# The SQLSTATEs of a statement that can't run in a transaction, a lock that is not had in time, and time that is up.
+# The SQLSTATEs of a statement that cannot run in a transaction, a lock that is not had in time, and time that is up.
 IN_TRANSACTION, LOCKED, CANCELLED = "25001", "55P03", "57014"
 
 ROLLBACK = "ROLLBACK"

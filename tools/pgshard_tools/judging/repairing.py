@@ -148,7 +148,7 @@ def repairs_of(repairer: Repairer, found: Sequence[Verdict]) -> list[Repair]:
 
 
 def say(db: Database, listed: Sequence[Repair], options: Options) -> int:
-    """Prints the repairs, and answers the exit status."""
+    """Prints the repairs, and returns the exit status."""
     print(json_text(db, listed) if options.json else text(listed), flush=True)
     return status_of(listed)
 

@@ -76,21 +76,21 @@ def plans(db: Database, shares: Shares, division: Division, purpose: str | None,
 
 
 def ranks_of(db: Database, shares: Shares, keep: Sequence[str]) -> list[str]:
-    """The subscribers in the order in which they keep rows: those that --keep names, those whose filters can't be
+    """The subscribers in the order in which they keep rows: those that --keep names, those whose filters cannot be
     narrowed, and the others."""
     fixed = [it for it in shares.takers if it not in keep and why_fixed(db, shares, it) is not None]
     return [*keep, *fixed, *(it for it in shares.takers if it not in keep and it not in fixed)]
 
 
 def want_own_publications(db: Database, shares: Shares, name: str) -> None:
-    """Ends it where the filters of a subscriber can't be narrowed."""
+    """Ends it where the filters of a subscriber cannot be narrowed."""
     why = why_fixed(db, shares, name)
     if why is not None:
         raise NoRepair(f"{name} would have to lose rows, but {why}; use --keep {name} to leave them there")
 
 
 def why_fixed(db: Database, shares: Shares, name: str) -> str | None:
-    """Why the filters of a subscriber can't be narrowed."""
+    """Why the filters of a subscriber cannot be narrowed."""
     for taken in shares.takers[name]:
         publication = db.publications[taken]
         others = [it for it, names in shares.takers.items() if it != name and taken in names]

@@ -1,4 +1,4 @@
-"""What is said of a judgement, as lines and as JSON."""
+"""What is said about a judgement, as lines and as JSON."""
 
 import json
 from collections.abc import Iterator, Mapping, Sequence
@@ -42,7 +42,7 @@ class Report:
     verdicts: Sequence[Verdict]
     regions: Regions
     status: int
-    # What is said of tables that are not judged on purpose.
+    # What is said about tables that are not judged on purpose.
     skipped: Sequence[str] = ()
     # What is amiss beside the tables.
     findings: Sequence[str] = ()
@@ -82,7 +82,7 @@ def counts(report: Report, with_all: bool) -> str:
 
 
 def lines_of(verdict: Verdict) -> list[str]:
-    """What is said of a table, the rows on which a filter fails, and how many rows there are."""
+    """What is said about a table, the rows on which a filter fails, and how many rows there are."""
     return [*answer_lines(verdict), *(f"    but {it}" for it in verdict.failing), *count_lines(verdict)]
 
 
@@ -213,7 +213,7 @@ def optional_keys(report: Report) -> Iterator[tuple[str, Any]]:
 
 
 def json_of(verdict: Verdict, regions: list[tuple[str, str]] | None) -> dict[str, Any]:
-    """What is said of a table."""
+    """What is said about a table."""
     found: dict[str, Any] = {"table": verdict.table, "answer": verdict.answer}
     if verdict.because:
         found["because"] = verdict.because

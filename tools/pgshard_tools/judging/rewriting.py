@@ -199,7 +199,7 @@ def free_name(name: str, taken: set[str]) -> str:
 def merged(part: Formula) -> Formula:
     """The formula with comparisons of one subject joined.
 
-    Exact, since all of them are NULL just where the subject is: AND is then the ranges that both have, OR the ranges
+    Exact, since all of them are NULL exactly where the subject is: AND is then the ranges that both have, OR the ranges
     of either, NOT the other ranges. So the two comparisons that the server makes of BETWEEN are one range again.
     """
     match part:

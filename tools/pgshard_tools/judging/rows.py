@@ -12,7 +12,7 @@ from pgshard_tools.judging.parser import is_built_in, shown
 # The values of a row, as constants of SQL by the names of columns.
 Row = dict[str, str]
 
-# Of columns that only functions name, so many plain rows are tried.
+# Of columns that only functions name, this many plain rows are tried.
 MOST_ROWS = 12
 
 
@@ -101,7 +101,7 @@ def columns_that_matter(read: Any) -> list[str]:
 
 
 def remarks(read: Any, row: Row) -> list[str]:
-    """What is not read of the table, where it may refuse the row or concerns a column that a filter names."""
+    """What is not read of the table, if it may refuse the row or concerns a column that a filter names."""
     table = read.shares.table
     if not table["is_publishable"]:
         kind = "a foreign table" if table["kind"] == "f" else "unlogged"

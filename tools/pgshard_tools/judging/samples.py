@@ -14,7 +14,7 @@ from pgshard_tools.judging.formulas import Compare, Formula, IsNull, Subject, Wi
 from pgshard_tools.judging.server_types import INTEGERS, ORDERED, collation_sql, literal, value_of
 
 SAME = {*INTEGERS, "text", "varchar", "date", "timestamp", "timestamptz", "uuid", "time"}
-# So many values are asked for.
+# This many values are asked for.
 MOST = 40
 
 
@@ -45,7 +45,7 @@ def is_function(subject: Subject) -> bool:
 
 
 def sample(subject: Subject, column: Column, point: Any, session: Asking) -> Formula | None:
-    """What a function is at a constant; None where the server fails there."""
+    """What a function is at a constant; None if the server fails there."""
     collation = f" COLLATE {collation_sql(column['collation'])}" if column["collation"] not in (None, "default") else ""
     value = f"({literal(point.subject.type, point.value)})::{column['written']}{collation}"
     answer = session.ask(

@@ -1,4 +1,4 @@
-"""Says a report in the forms that the options want, and answers the exit status."""
+"""Says a report in the forms that the options want, and returns the exit status."""
 
 from typing import Any
 

@@ -14,7 +14,7 @@ NUMBERS = {*INTEGERS, "numeric", "float4", "float8"}
 TIMES = {"date", "timestamp", "timestamptz", "time"}
 ROUNDED = {"timestamp", "timestamptz"}
 TEXTS = {"text", "varchar", "bpchar"}
-# Types of which two values are equal just where the server writes the same text of both.
+# Types of which two values are equal exactly where the server writes the same text of both.
 LABELS = {"name", "char", "bytea", "macaddr8"}
 # Of these a value is a whole number, without a unit.
 WHOLE = {"uuid", "interval", "inet", "cidr", "macaddr", "pg_lsn"}

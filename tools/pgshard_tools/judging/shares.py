@@ -51,7 +51,7 @@ def shares_of_all(database: Database, subscribers: Sequence[Subscriber]) -> list
 
 
 def shares_of_tree(database: Database, root: Table, subscribers: Sequence[Subscriber]) -> list[Shares | None]:
-    """A partitioned table as one, where all its rows are published by the root, and else each partition."""
+    """A partitioned table as one, where all its rows are published by the root, and otherwise each partition."""
     leaves = [it for it in database.tables if root["oid"] in it["ancestors"] and it["kind"] != "p"]
     sent = [it for it in leaves if it["is_publishable"]]
     silent = [it for it in map(lambda leaf: silent_shares(database, leaf, subscribers), leaves) if it is not None]
@@ -96,7 +96,7 @@ def is_below_published(database: Database, leaf: Table) -> bool:
 
 def shares_of(
         database: Database, table: Table, leaves: list[Table], subscribers: Sequence[Subscriber]) -> Shares | None:
-    """Who takes which publications of a table, or None where none carries it.
+    """Who takes which publications of a table, or None if none carries it.
 
     Of a partition's rows a subscriber gets those that are sent as the topmost table that any of its publications names;
     its other publications do not count then.

@@ -11,7 +11,7 @@ from dataclasses import dataclass
 class Row:
     """What judge adds of a function at arguments that meet its limits."""
 
-    # Whether it is NULL just where an argument is, or where it fails. If not, it is NULL there and maybe elsewhere.
+    # Whether it is NULL exactly where an argument is, or where it fails. If not, it is NULL there and maybe elsewhere.
     is_total: bool = True
     # What an argument has to be, by its place: a name in functions.LIMITS.
     limits: tuple[tuple[int, str], ...] = ()

@@ -15,7 +15,7 @@ RANGE = re.compile(rf"([\[(]){END},{END}([\])])")
 
 
 def contains(form: str, range: Operand, element: Operand) -> Formula | None:
-    """Whether a range has an element; None where it is no constant that is known."""
+    """Whether a range has an element; None if it is no constant that is known."""
     if not isinstance(range, Value) or range.type not in ELEMENTS or isinstance(element, Value):
         return None
     if range.value is None:

@@ -144,7 +144,7 @@ def contains(found: Ranges, number: int) -> bool:
 
 
 def modulus_of(steps: Sequence[Step]) -> int | None:
-    """A number by whose remainder alone the result goes, None where there is none. The remainder itself has that
+    """A number by whose remainder alone the result goes, None if there is none. The remainder itself has that
     result, since it has its own remainder."""
     factor: int = 1
     for step in steps:

@@ -84,8 +84,8 @@ def known(database: Database, subscriber: Subscriber) -> Subscriber:
 
 
 def from_walsenders(database: Database) -> list[Subscriber]:
-    """What the connected subscribers asked for, if the role may see that; of some alone nothing is known of the others,
-    which may get the same rows."""
+    """What the connected subscribers asked for, if the role may see it for all of them: those that it cannot see may
+    get the same rows."""
     found: list[Subscriber] = []
     commands = {str(it["slot"]): it["query"] for it in database.walsenders if not COPYING.fullmatch(str(it["slot"]))}
     if all(query is None for query in commands.values()):

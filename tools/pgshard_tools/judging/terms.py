@@ -40,7 +40,7 @@ class Reader:
         # The expressions of generated columns that are read, and what is enforced of these.
         self.kept: list[Any] = []
         self.held: dict[str, Formula] = {}
-        # Where a subject is NULL, if that is not just where a column is.
+        # Where a subject is NULL, if that is not exactly where a column is.
         self.nulls: dict[Subject, Formula] = {}
 
     def formula(self, text: str) -> Formula:
@@ -144,7 +144,7 @@ class Reader:
         return comparing.comparison(written(node), name, one, other, self.null_of)
 
     def null_of(self, subject: Subject) -> Formula:
-        """`subject IS NULL`. What is NULL just where one of its columns is, is asked of these columns."""
+        """`subject IS NULL`. What is NULL exactly where one of its columns is, is asked of these columns."""
         if subject.is_column:
             return IsNull(subject)
         if subject.is_never_null:
@@ -160,7 +160,7 @@ class Reader:
         return of_type(self.subject(node.fields[0].sval)) if computed is None else computed
 
     def computed(self, name: str) -> Operand | None:
-        """A stored generated column is its expression; None where that is not read."""
+        """A stored generated column is its expression; None if that is not read."""
         column = self.columns.get(name)
         if column is None or not column["generation"] or column["kind"] != "b" or not column["is_deterministic"]:
             return None
@@ -247,7 +247,7 @@ class Reader:
         return Array(tuple(as_value(self.operand(part)) for part in node.elements or ()))
 
     def cast(self, node: Any, form: str, type: str, modifier: bool, operand: Operand) -> Operand:
-        """A conversion, which is NULL just where its operand is."""
+        """A conversion, which is NULL exactly where its operand is."""
         if isinstance(operand, Choice):
             return Choice(operand.condition, self.cast(node, form, type, modifier, operand.one),
                           self.cast(node, form, type, modifier, operand.other))
@@ -324,12 +324,12 @@ class Reader:
                 self.comparison(node, "=", one, other)
                 return Truth(comparing.distinct(form, one, other, self.null_of))
             case "AEXPR_NULLIF":
-                # nullif(a, b) is NULL where a = b is TRUE, and else a.
+                # nullif(a, b) is NULL where a = b is TRUE, and otherwise a.
                 return Choice(self.comparison(node, "=", one, other), Value("text", None), one)
         raise Unread(form)
 
     def of_prefix(self, node: Any, name: str, operand: Operand) -> Operand:
-        """An operator with one side, which is NULL just where that is."""
+        """An operator with one side, which is NULL exactly where that is."""
         call, form = self.call(node), faithful(node)
         if call.name == name and call.arguments[0] in INTEGERS:
             if name == "+":
@@ -428,7 +428,7 @@ class Reader:
         return Truth(negation(found) if "NOT" in test else found)
 
     def read_CoalesceExpr(self, node: Any) -> Operand:
-        """coalesce(a, b) is a where a is not NULL, and else b."""
+        """coalesce(a, b) is a where a is not NULL, and otherwise b."""
         return self.coalesced(list(node.args))
 
     def coalesced(self, nodes: list[Any]) -> Operand:
@@ -484,7 +484,7 @@ class Reader:
         return applied.Context(self.meanings, self.failing, self.null_of, self.nulls)
 
     def of_function(self, call: Call, form: str, arguments: Sequence[Operand]) -> Operand:
-        """A function by what is known of it."""
+        """A function by what is known about it."""
         found = applied.function(call, form, arguments, self.context())
         if found is None:
             found = functions.call(call, form, arguments, self.meanings, self.failing)

@@ -23,7 +23,7 @@ ROLE, PORT = "postgres", "5432"
 SETTINGS = (
     "listen_addresses=", "max_logical_replication_workers=0", "wal_level=logical", "fsync=off", "autovacuum=off",
     "shared_buffers=16MB", "logging_collector=off")
-# The server can't be root. Any other user will do.
+# The server cannot be root. Any other user will do.
 USERS = ("postgres", "nobody")
 SECONDS = 60.0
 ENDINGS = (signal.SIGINT, signal.SIGTERM, signal.SIGHUP)

@@ -10,7 +10,7 @@ from types import FrameType
 
 # After the first signal there are others, until the time is over, or should one come where an exception is lost.
 AGAIN = 0.25
-# By the clock a table may take so many times as long, as where the server does not answer.
+# By the clock a table may take this many times as long, as where the server does not answer.
 PATIENCE = 10
 # The processes that are waited for now, with the time at which each began.
 RUNNING: dict[int, float] = {}

@@ -48,7 +48,7 @@ class Read:
     named: dict[str, list[str]]
     # Where the server fails at a filter.
     failures: dict[str, list[Failure]] = field(default_factory=dict)
-    # Where subjects are NULL, if that is not just where a column is.
+    # Where subjects are NULL, if that is not exactly where a column is.
     nulls: dict[Subject, Formula] = field(default_factory=dict)
     # What functions of a column are at its constants, by names.
     samples: dict[str, Formula] = field(default_factory=dict)
@@ -181,7 +181,7 @@ def trial_of(
     """The catalog of one try."""
     names = list(read.filters)
     listed = [read.filters[it] for it in names]
-    # A constraint refuses a row just where it is FALSE.
+    # A constraint refuses a row exactly where it is FALSE.
     held = [formulas.negation(formulas.is_false(it)) for it in constraints.values()]
     known = laws.laws_of([*listed, *held], read.nulls) if with_facts else []
     found = rewritten([*listed, *held, *known], read.not_null, sort)

@@ -22,7 +22,7 @@ NOT_DECIDED, NOT_READ = "not decided", "not read"
 
 @dataclass
 class Verdict:
-    """What is said of a table."""
+    """What is said about a table."""
 
     table: str
     answer: str
@@ -206,7 +206,7 @@ def accepted(name: str, trial: Trial, takers: Takers, purpose: str | None) -> Ve
 
 def without_proof(
         read: Read, name: str, takers: Takers, purpose: str | None, trial: Trial, session: Session) -> Verdict:
-    """A row that shows a fault, if the server says the same of it, and else why nothing is known."""
+    """A row that shows a fault, if the server says the same of it, and otherwise why nothing is known."""
     verdict = Verdict(name, NOT_DECIDED, catalog=trial.catalog, trial=trial)
     if trial.made.row is None:
         verdict.because.append(words_of_made(trial.made))

@@ -17,13 +17,13 @@ MOST_BYTES = 63
 
 
 def publication_names(query: str) -> list[str] | None:
-    """The publications that a command names, each once, or None where it is not understood, as where it is cut off."""
+    """The publications that a command names, each once, or None if it is not understood, as where it is cut off."""
     options = options_of(query)
     return None if options is None or OPTION not in options else names_in(options[OPTION])
 
 
 def options_of(query: str) -> dict[str, str] | None:
-    """The options of a command, or None where it does not end as one does."""
+    """The options of a command, or None if it does not end as one does."""
     tokens = [it for it in TOKEN.finditer(query)]
     if "".join(it[0] for it in tokens) != query.rstrip():
         return None
@@ -49,14 +49,14 @@ def options_of(query: str) -> dict[str, str] | None:
 
 
 def option_name(token: re.Match[str]) -> str | None:
-    """The name of an option, None where a token is none."""
+    """The name of an option, None if a token is none."""
     if token["word"] is not None:
         return token["word"].lower()
     return token["quoted"].replace('""', '"') if token["quoted"] is not None else None
 
 
 def names_in(listed: str) -> list[str] | None:
-    """The names of a list, each once, or None where the server does not read it."""
+    """The names of a list, each once, or None if the server does not read it."""
     found, at = [], 0
     while True:
         one = NAME.match(listed, at)

@@ -14,7 +14,7 @@ BITS = {4: 32, 6: 128}
 
 
 def point_of(type: str, text: str) -> Point:
-    """The number of a value; ValueError where a text is none that the server writes."""
+    """The number of a value; ValueError if a text is none that the server writes."""
     match type:
         case "interval":
             return finite(span(text))
@@ -88,7 +88,7 @@ def first_of(family: int) -> int:
 
 
 def network_text(number: int, with_bits: bool) -> str:
-    """The address at a place. Where there is none, it is one before it in the same network."""
+    """The address at a place. If there is none, it is one before it in the same network."""
     family = 4 if number < first_of(6) else 6
     width = BITS[family]
     place, host = divmod(number - first_of(family) if family == 6 else number, 1 << width)
@@ -105,7 +105,7 @@ def network_text(number: int, with_bits: bool) -> str:
 
 
 def subnets(text: str, with_itself: bool) -> tuple[Point, Point | None]:
-    """The first address that a network contains, and the first one behind it, None where that is none."""
+    """The first address that a network contains, and the first one behind it, None if that is none."""
     family, address, bits = network(text)
     width = BITS[family]
     base = address >> (width - bits) << (width - bits)

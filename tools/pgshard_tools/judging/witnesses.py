@@ -16,13 +16,13 @@ from pgshard_tools.judging.session import Session
 from pgshard_tools.judging.shares import Takers
 from pgshard_tools.judging.trials import Read
 
-# So many rows are asked of, in lots.
+# This many rows are asked of, in lots.
 MOST_ROWS = 600
 LOT = 200
 MOST_VALUES = 120
-# So many questions are asked to find out which values a type takes.
+# This many questions are asked to find out which values a type takes.
 MOST_QUESTIONS = 60
-# So many rows on which a filter fails are told.
+# This many rows on which a filter fails are told.
 MOST_FAILING = 3
 
 

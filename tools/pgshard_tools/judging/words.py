@@ -34,7 +34,7 @@ def not_null_words(coded: Coding) -> str:
 
 
 def range_words(coded: Coding, found: Ranges) -> list[str]:
-    """Conditions one of which holds just where the code is in the ranges."""
+    """Conditions one of which holds exactly where the code is in the ranges."""
     subject = shown(coded.subject.sql)
     if coded.subject.type == "bpchar" and has_blanks(coded):
         # As a char the constant has no blanks at its end.
@@ -113,7 +113,7 @@ def is_single(coded: Coding, low: int, high: int) -> bool:
 
 
 def one_range(coded: Coding, subject: str, low: int, high: int) -> str:
-    """A range by its ends, where it has them."""
+    """A range by its ends, if it has them."""
     if isinstance(coded, Ranks):
         lower = None if low == coded.low else rank_bound(coded, subject, low, ">")
         upper = None if high == coded.high else rank_bound(coded, subject, high, "<")

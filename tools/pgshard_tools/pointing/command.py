@@ -76,7 +76,7 @@ def run(program: str, words: list[str]) -> int:
 
 
 def handed_on(program: str, words: list[str], given: Input) -> tuple[int, bytes]:
-    """The status and the output of a run, whose output is written as it comes. Where that fails, the program is not
+    """The status and the output of a run, whose output is written as it comes. If that fails, the program is not
     read from any more, so that it finds the same failure."""
     kept = bytearray()
     running = subprocess.Popen([program, *words], stdin=given.handle(), stdout=subprocess.PIPE)

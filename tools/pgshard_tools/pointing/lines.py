@@ -16,12 +16,12 @@ UNREAD = re.compile(r"unreadable (\d+) (\w+)")
 UNFIT = re.compile(r"invalid (\w+)(?: (\d+))?")
 VALUE = re.compile(r"'(?:[^']|'')*'|[^,()']+")
 
-# Of bad rows so many are told.
+# Of bad rows this many are told.
 MOST_TOLD = 20
 
 
 def explained(words: list[str], source: Source, status: int, output: str) -> list[str]:
-    """What a person is told of a run, beside its output."""
+    """What a person is told about a run, beside its output."""
     subcommand = next((word for word in words if word in sentences.PARTS), "")
     lines = output.split("\n")[:-1]
     last = lines[-1] if lines else ""
@@ -66,7 +66,7 @@ def line_of(part: Part, number: int) -> tuple[int, str]:
 
 
 def of_rows(source: Source, words: list[str], lines: list[str]) -> list[str]:
-    """Rows that are not read or do not fit. Where a name has a newline it is not known which line is which row's."""
+    """Rows that are not read or do not fit. If a name has a newline it is not known which line is which row's."""
     catalog, rows = source.parts()[:2]
     texts = rows.data.removesuffix(b"\n").split(b"\n")
     if len(texts) != len(lines):
@@ -140,7 +140,7 @@ def at_character(source: Source, place: int) -> str:
 
 
 def of_refusal(source: Source, line: str) -> list[str]:
-    """A sharding that is refused, or a publisher that can't be closed."""
+    """A sharding that is refused, or a publisher that cannot be closed."""
     parts = source.parts()
     tables, publications, _ = made_in(parts[0].text)
     if line.startswith("close "):

@@ -44,7 +44,7 @@ class Source:
         return f"{name}:{before.count(10) + 1}:{column}"
 
     def file_at(self, place: int) -> tuple[str, int]:
-        """The name of the file that has a place, and where it begins. Where there are more parts than files, it is not
+        """The name of the file that has a place, and where it begins. If there are more parts than files, it is not
         known which file has which parts."""
         parts = self.parts()
         if len(self.files) != len(parts):

@@ -18,7 +18,7 @@ from .rows import rows_near, rows_of
 # A table that the server does not take is drawn again, at most so often.
 DRAWS = 40
 ROWS, MOST_ROWS = 330, 1500
-# So many lots more are inserted while a table that is sound has too few rows, since its constraints refuse most.
+# This many lots more are inserted while a table that is sound has too few rows, since its constraints refuse most.
 LOTS = 4
 LOCALES = {
     "": 6, "ENCODING 'UTF8' LC_COLLATE 'C.UTF-8' LC_CTYPE 'C.UTF-8'": 2,
@@ -94,7 +94,7 @@ def loop(place: Place, name: str) -> tuple[str, ...]:
 def attack(
     place: Place, name: str, seed: int, draw: Callable[[random.Random], Draw], count: int, locale: str | None = None,
 ) -> Result:
-    """Makes a database of so many designs, and compares what judge says of them with its slots. Where a locale is
+    """Makes a database of this many designs, and compares what judge says of them with its slots. If a locale is
     given, the database has no settings by chance, and what is to be in it is not drawn again."""
     chance, result = random.Random(seed), Result()
     making, first = setup_of(chance, name)

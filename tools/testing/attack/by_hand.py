@@ -239,7 +239,7 @@ ASCII = [
     Written("a text NOT NULL", ["a = 'é'", "a > 'é'", "a < 'é'"], ["'z'", "'é'", "'ü'", "''"]),
     Written("a jsonb NOT NULL", ["a ->> 'é' = 'ü'", "(a ->> 'é' = 'ü') IS NOT TRUE"], ["'{\"é\": \"ü\"}'", "'{}'"]),
 ]
-# So many are in one database.
+# This many are in one database.
 PIECE = 15
 WRITTEN = {f"by hand from {at}": PLAIN[at:at + PIECE] for at in range(0, len(PLAIN), PIECE)}
 WRITTEN |= {f"edges from {at}": EDGES[at:at + PIECE] for at in range(0, len(EDGES), PIECE)}

@@ -49,7 +49,7 @@ class Judged:
         return self.name if self.is_partitioned else f"ONLY {self.name}"
 
     def finding(self, kind: str, words: str, row: str = "") -> Finding:
-        """A difference in what is said of it."""
+        """A difference in what is said about it."""
         return Finding(kind, words, self.verdict, self.design, row)
 
 

@@ -99,7 +99,7 @@ class Conditions:
         return f"({one}) {self.chance.choice(('AND', 'OR'))} ({other})"
 
     def measure(self, columns: list[Column]) -> str | None:
-        """An integer that is computed of a column, or None where no kind has one."""
+        """An integer that is computed of a column, or None if no kind has one."""
         measured = [it for it in columns if it.kind.measures]
         if not measured:
             return None

@@ -82,7 +82,7 @@ class Designs:
         return self.chance.choices(among, [OFTEN.get(it.name, 1) for it in among])[0]
 
     def unfiltered(self) -> list[Column]:
-        """Now and then a column that filters can't name."""
+        """Now and then a column that filters cannot name."""
         if self.chance.random() < 0.9:
             return []
         return [Column("x4", self.chance.choice(UNFILTERED), self.chance.random() < 0.3)]

@@ -14,7 +14,7 @@ TABLE_SECONDS, SECONDS = 60, 900
 
 @dataclass
 class Verdict:
-    """What is said of a table."""
+    """What is said about a table."""
 
     answer: str
     because: list[str] = field(default_factory=list)
@@ -47,7 +47,7 @@ class Verdict:
 
 @dataclass
 class Judgement:
-    """What is said of all tables by their names, or why nothing is."""
+    """What is said about all tables by their names, or why nothing is."""
 
     verdicts: dict[str, Verdict] = field(default_factory=dict)
     fault: str | None = None

@@ -149,7 +149,7 @@ CASELESS = (
     "CREATE COLLATION IF NOT EXISTS caseless (provider = icu, locale = 'und-u-ks-level2', deterministic = false);")
 OWN = (*ANY, "{c} = {k}", "{c} <> {k}", "{c} {op} {k}", "{c} IN ({k}, {l})", "{c} NOT IN ({k})",
     "coalesce({c}, {k}) = {l}")
-# Filters can't name these; constraints and partitions can.
+# Filters cannot name these; constraints and partitions can.
 UNFILTERED = [
     Kind("mood", "mood", ("'sad'", "'ok'", "'happy'", "'zen'"), OWN, is_filtered=False, needs=MOOD),
     Kind("age", "age", ("0", "1", "149"), (*OWN, "{c} % 2 = 0", "{c}::integer < {k}"), is_filtered=False, needs=AGE),

@@ -38,7 +38,7 @@ HELPERS = """
 """
 # Of encodings that lack some texts, Python's name.
 CODECS = {"LATIN1": "latin-1", "EUC_JP": "euc_jp"}
-# Of the rows at which a filter fails, so many are inserted.
+# Of the rows at which a filter fails, this many are inserted.
 FAILING = 3
 
 
@@ -200,7 +200,7 @@ class Database:
         return [number for number, in found]
 
     def insert_one(self, statement: str, number: int) -> list[int]:
-        """Inserts a row in a transaction of its own; answers its number, or nothing where the server refuses it."""
+        """Inserts a row in a transaction of its own; returns its number, or nothing if the server refuses it."""
         try:
             self.run(statement)
         except psycopg2.Error:

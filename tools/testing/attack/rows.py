@@ -76,7 +76,7 @@ def values_of(chance: random.Random, column: Column) -> list[str]:
 
 
 def rows_of(chance: random.Random, design: Design, most: int, targets: Sequence[str] = ()) -> Iterator[str]:
-    """At most so many rows as INSERT statements, without their number, which is written as {number}."""
+    """At most this many rows as INSERT statements, without their number, which is written as {number}."""
     if design.rows:
         yield from design.rows
         return

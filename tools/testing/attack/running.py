@@ -26,7 +26,7 @@ from .known import Known, prepare
 from .topologies import Topologies
 
 TOOLS = pathlib.Path(__file__).resolve().parent.parent.parent
-# So many designs, and so many topologies, are in one database.
+# This many designs, and this many topologies, are in one database.
 DESIGNS, TOPOLOGIES = 10, 5
 SETTINGS = "-c max_replication_slots=80 -c max_connections=60 -c max_wal_senders=0 -c log_min_messages=panic"
 
@@ -92,7 +92,7 @@ def tasks(given: argparse.Namespace) -> Iterator[tuple[int, str, int]]:
 
 
 def run(words: list[str], help: str) -> int:
-    """Runs the attack; answers the exit status: 1 where something differs."""
+    """Runs the attack; returns the exit status: 1 where something differs."""
     given = arguments(words, help)
     seed = given.seed if given.seed is not None else random.SystemRandom().randrange(10**6)
     print(f"attack with seed {seed}", flush=True)

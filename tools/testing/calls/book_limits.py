@@ -54,7 +54,7 @@ def begun() -> Iterator[Call]:
 
 
 def left(length: int) -> Iterator[Call]:
-    """A refusal left the rows, and the list without the command, so many, is accepted, or is empty."""
+    """A refusal left the rows, and the list without the command, this many, is accepted, or is empty."""
     yield Call("book.log", "1")
     yield Call("book.rows 0", KEPT)
     rest = inserts(1, length)

@@ -1,4 +1,4 @@
-"""Messages of the longest rows and names, messages that are cut short, and what is told of the largest commits."""
+"""Messages of the longest rows and names, messages that are cut short, and what is told about the largest commits."""
 
 import pathlib
 from collections.abc import Iterator
@@ -20,7 +20,7 @@ def server_messages() -> Iterator[str]:
 
 
 def cut_short() -> Iterator[Call]:
-    """Each part of a message from its begin is too short."""
+    """Each part of a message from its beginning is too short."""
     for message in server_messages():
         for length in range(0, len(message), 2):
             yield Call((AGAIN + message[:length]).rstrip(), "Short")
@@ -55,8 +55,8 @@ def relations() -> Iterator[Call]:
 
 
 def lengths_of_inserts(rows: range) -> str:
-    """How many bytes are told of inserts of (7, 'a'), (8, 'a') .. in the table `t` under DEFAULT: Begin, the Relation,
-    the Inserts, and Commit."""
+    """How many bytes the messages of inserts of (7, 'a'), (8, 'a') .. into the table `t` have under DEFAULT: Begin, the
+    Relation, the Inserts, and Commit."""
     relation = 1 + 4 + len(b"public\0t\0d") + 2 + (1 + len(b"id\0") + 8) + (1 + len(b"region\0") + 8)
     inserts = [1 + 4 + 1 + 2 + 5 + len(str(row)) + 5 + 1 for row in rows]
     lengths = [21, relation, *inserts, 26]

@@ -63,7 +63,7 @@ def keys() -> Iterator[Call]:
 
 
 def even(splits: int, leaf: str) -> str:
-    """A certificate of so many splits by atom 0, as even as can be: one node, and three for each split."""
+    """A certificate of this many splits by atom 0, as even as can be: one node, and three for each split."""
     if splits == 0:
         return leaf
     first, second = (splits - 1) // 3, splits // 3

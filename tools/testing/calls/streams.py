@@ -39,7 +39,7 @@ def wide_book() -> Iterator[Call]:
 
 
 def publications(count: int) -> str:
-    """The names of so many publications."""
+    """The names of this many publications."""
     return ", ".join(long_name("p", number) for number in range(count))
 
 
@@ -54,6 +54,6 @@ def published_book() -> Iterator[Call]:
 
 
 def start(count: int) -> str:
-    """The command that starts the stream of `s0` with so many of the publications."""
+    """The command that starts the stream of `s0` with this many of the publications."""
     return (
         f"START_REPLICATION SLOT \"s0\" LOGICAL 0/0 (proto_version '1', publication_names '{publications(count)}')")

@@ -15,10 +15,10 @@ from .publishes import check_publishes
 from .running import READS, WRITES, Answer, Failure, failed_runs, run, run_with
 from .serves import check_serves
 
-# Of so many runs of a case that fail, what is wrong is shown.
+# Of this many runs of a case that fail, what is wrong is shown.
 MOST_SHOWN = 3
 
-# The answer where the input can't be read, and the status where the output can't be written.
+# The answer where the input cannot be read, and the status where the output cannot be written.
 UNREAD = Answer(3, "input\n")
 UNWRITTEN = 4
 
@@ -80,7 +80,7 @@ def is_right(plain: Answer, failure: Failure, found: Answer, has_failed: bool | 
 
 
 def check_files(tally: Tally) -> None:
-    """Files that can't be read or written: a folder, a device that is full, and a socket that is closed."""
+    """Files that cannot be read or written: a folder, a device that is full, and a socket that is closed."""
     with tempfile.TemporaryDirectory() as folder, open("/dev/full", "wb") as full:
         opened = os.open(folder, os.O_RDONLY)
         with tempfile.TemporaryFile() as taken:

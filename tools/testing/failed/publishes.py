@@ -43,7 +43,7 @@ def check_publishes(tally: Tally, library: str) -> Counter[int]:
 
 
 def answer_to(given: bytes, port: int) -> Answer:
-    """A run whose input ends after these bytes, or can't be read any further."""
+    """A run whose input ends after these bytes, or cannot be read any further."""
     lines = given.split(b"\n")[:-1]
     if lines.count(b"%%") < 2:
         return Answer(3, "input\n")

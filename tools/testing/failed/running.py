@@ -1,4 +1,4 @@
-"""Runs in which a read or a write fails, by the library of failing.c or by a file that can't be read or written."""
+"""Runs in which a read or a write fails, by the library of failing.c or by a file that cannot be read or written."""
 
 import os
 import subprocess
@@ -10,7 +10,7 @@ from random_cases.running import program
 # How long a run may take, on a machine that does much else, too.
 SECONDS = 300
 
-# After so many calls no further one fails, though there may be more.
+# After this many calls no further one fails, though there may be more.
 MOST_CALLS = 2_000
 
 READS, WRITES = 0, 1
@@ -18,7 +18,7 @@ READS, WRITES = 0, 1
 
 @dataclass(frozen=True)
 class Answer:
-    """A run's status, or None where it took too long, and its output."""
+    """A run's status, or None if it took too long, and its output."""
 
     status: int | None
     output: str
@@ -43,7 +43,7 @@ class Failure:
 
 
 def run(words: tuple[str, ...], text: bytes, variables: dict[str, str]) -> tuple[Answer, bool | None]:
-    """Makes a run, and tells whether the call failed, or None where the library does not tell."""
+    """Makes a run, and tells whether the call failed, or None if the library does not tell."""
     try:
         ended = subprocess.run(
             [program(), *words], input=text, stdout=subprocess.PIPE, stderr=subprocess.PIPE, timeout=SECONDS,

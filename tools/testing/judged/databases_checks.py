@@ -11,7 +11,7 @@ from judged.published import PUBLISHED
 from programs import PGSHARD, TOOLS, judge, patience
 from server import PROGRAMS, environment
 
-# Of so many regions of a table the row is inserted.
+# Of this many regions of a table the row is inserted.
 MOST_FAULTS = 4
 
 

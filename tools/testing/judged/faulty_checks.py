@@ -10,7 +10,7 @@ from programs import judge
 from server import Server
 from tally import Tally
 
-# Of so many regions of a table the row is inserted.
+# Of this many regions of a table the row is inserted.
 MOST_ROWS = 12
 
 
@@ -71,7 +71,7 @@ def answer_text(faults: Sequence[dict[str, Any]], takers: dict[str, str]) -> str
 
 
 def is_right(answer: list[Any], faults: Sequence[dict[str, Any]], takers: dict[str, str], purpose: str) -> bool:
-    """Whether a row is in one region of those who get it, if it shows a fault, and else in none."""
+    """Whether a row is in one region of those who get it, if it shows a fault, and otherwise in none."""
     regions, names = answer[:2]
     shown = [sorted(fault["goes_to"]) for fault, is_in in zip(faults, regions) if is_in]
     is_fault = {"partial": len(names) > 1, "copied": len(names) < len(takers)}.get(purpose, len(names) != 1)

@@ -52,7 +52,7 @@ WRONG: list[Any] = [
 
 
 def check_json(tally: Tally, server: Server) -> None:
-    """Answers of all kinds are as the schema says, and others are not."""
+    """Answers of all kinds match the schema, and others do not."""
     server.create(DATABASE, SETUP)
     words = server.words(DATABASE)
     with tempfile.TemporaryDirectory() as name:

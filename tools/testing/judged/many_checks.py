@@ -35,7 +35,7 @@ database staff's:
 NAGIOS = ("PGSHARD CRITICAL - shop: 1 table, 1 sound; staff's: 1 table, 0 sound; NOT SOUND: public.people | "
           "databases=2 tables=2 sound=1 not_sound=1 refused=0 not_decided=0 not_read=0 failing=0 not_published=0 "
           "findings=0\nstatus 2\n")
-# What is done to the shop, and what is said of it then.
+# What is done to the shop, and what is said about it then.
 CHANGES = [
     ("DROP PUBLICATION nowhere", """\
 TIME public.orders: sound -> NOT SOUND

@@ -75,7 +75,7 @@ def answers_of(server: Server, database: str) -> dict[str, str]:
 
 
 def check_application(tally: Tally, server: Server, application: Application) -> list[str]:
-    """A database; each of its tables has a publication for each filter. Answers those without a verdict."""
+    """A database; each of its tables has a publication for each filter. Returns those without a verdict."""
     database = f"people_{application.name}"
     statements = [f"ALTER DATABASE {database} SET client_min_messages = error;", application.before, PREPARED]
     for table, (columns, filters) in application.tables.items():
@@ -93,7 +93,7 @@ def check_application(tally: Tally, server: Server, application: Application) ->
 def check_topic(tally: Tally, server: Server, topic: Topic) -> list[str]:
     """Filters of one topic, each of which has a table with one publication of the rows that it lets pass, and one of
     the
-    others. Where the table has no NULL, these are NOT of the filter."""
+    others. If the table has no NULL, these are NOT of the filter."""
     database = f"forms_{topic.name}"
     server.create(database, f"ALTER DATABASE {database} SET client_min_messages = error; {PREPARED} CREATE TABLE source "
                             f"({topic.columns}, row_number integer); CREATE PUBLICATION trial;")

@@ -1,11 +1,11 @@
-"""Databases with tables that are repaired, and such as are not, with what is said of them."""
+"""Databases with tables that are repaired, and such as are not, with what is said about them."""
 
 from dataclasses import dataclass, field
 
 
 @dataclass
 class Repaired:
-    """A database with a table `t`, words for judge, the statements of its repair, and rows to fill it with. Where there
+    """A database with a table `t`, words for judge, the statements of its repair, and rows to fill it with. If there
     is no repair, `why` is the line that says so."""
 
     name: str

@@ -41,7 +41,7 @@ CONNECTS = (
     "the subscription would connect to its publisher; judge reads CREATE SUBSCRIPTION .. WITH (connect = false), as "
     "pg_dump writes it")
 
-# Each file that is refused, and what is said of it after the file's name.
+# Each file that is refused, and what is said about it after the file's name.
 REFUSED = {
     "CREATE TABLE t (id integer PRIMARY KEY);\nCREATE TABLE u (id money PRIMARY KEY, b gone);":
         '2: type "gone" does not exist\n    LINE 1: CREATE TABLE u (id money PRIMARY KEY, b gone);\n'

@@ -20,7 +20,7 @@ sys.path.insert(0, str(TOOLS))
 
 from pgshard_tools.judging.signatures import FUNCTIONS, NAMES, NEGATIONS, OPERATORS, PARTS, Row
 
-# So many calls of one function, by chance where there are more.
+# This many calls of one function, by chance where there are more.
 MOST_CALLS = 300
 # Says of an expression whether the server fails at it, or it is NULL, or else '='.
 TRIED = """

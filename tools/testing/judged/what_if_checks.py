@@ -39,7 +39,7 @@ NOT_SOUND = [
     "    region = NULL, no filter names another column", "    region IS NULL -> nobody, as (0, NULL)"]
 EACH = "each publication counts as a subscriber of its own; -v subscriptions='..' names others"
 
-# Each migration that is refused, and what is said of it after the file's name.
+# Each migration that is refused, and what is said about it after the file's name.
 REFUSED = {
     "BEGIN;\nSELECT 1;\nCOMMIT;":
         "1: --with runs the file in one transaction, which is rolled back, so the file can't begin or end one; try it "

@@ -22,7 +22,7 @@ class Bytes:
         self.told.append(told)
 
     def move(self, most: int) -> tuple[int, list[object]]:
-        """The next bytes come, at most so many: how many, and what the frames tell that are whole by them."""
+        """The next bytes come, at most this many: how many, and what the frames tell that are whole by them."""
         before = self.moved
         self.moved = min(self.length, before + most)
         whole = self.told[bisect_right(self.ends, before):bisect_right(self.ends, self.moved)]

@@ -51,7 +51,7 @@ Texts = tuple[str | None, ...]
 
 
 class Change(NamedTuple):
-    """An Insert, an Update or a Delete: what is told of the old row and of the new one."""
+    """An Insert, an Update or a Delete: what is told about the old row and of the new one."""
 
     oid: int
     old: Texts | None
@@ -75,18 +75,18 @@ class Bytes:
         self.left = left
 
     def take(self, count: int) -> bytes:
-        """So many bytes."""
+        """This many bytes."""
         if len(self.left) < count:
             raise Fault("Msg(Short)")
         taken, self.left = self.left[:count], self.left[count:]
         return taken
 
     def number(self, size: int) -> int:
-        """A number of so many bytes, that is not negative."""
+        """A number of this many bytes, that is not negative."""
         return int.from_bytes(self.take(size), "big")
 
     def signed(self, size: int) -> int:
-        """A number of so many bytes."""
+        """A number of this many bytes."""
         return int.from_bytes(self.take(size), "big", signed=True)
 
     def count(self, size: int) -> int:

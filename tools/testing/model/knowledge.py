@@ -1,4 +1,4 @@
-"""What is known of a row where some atoms are: a path of atoms with their values, from the root on."""
+"""What is known about a row where some atoms are: a path of atoms with their values, from the root on."""
 
 from functools import cache
 
@@ -49,7 +49,7 @@ class Known:
             atom[1] == column and tells_value(atom, value) for atom, value in self.path)
 
     def is_empty(self, term: Term) -> bool:
-        """Whether no row is here by what is known of a term: its column is both null and not, or it is not null and
+        """Whether no row is here by what is known about a term: its column is both null and not, or it is not null and
         has no value left."""
         column = term[0]
         if not self.is_not_null(column):
@@ -57,7 +57,7 @@ class Known:
         return self.is_null(column) or not self.has_value(term)
 
     def has_value(self, term: Term) -> bool:
-        """Whether some value of the term meets all that is known of it."""
+        """Whether some value of the term meets all that is known about it."""
         facts = [
             (atom, value) for atom, value in self.path
             if atom[0] != "null" and term_of(atom) == term and value is not None]

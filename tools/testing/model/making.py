@@ -70,7 +70,7 @@ def certificate(table: Table, shares: list[str | Filter | None]) -> list[Node] |
 
 
 def speaking_rows(table: Table, shares: list[str | Filter | None]) -> list[Row] | None:
-    """Rows that speak for all rows of a table, or None where there would be too many, or where a column is named with
+    """Rows that speak for all rows of a table, or None if there would be too many, or where a column is named with
     its remainders."""
     walk = Walk(table, shares)
     columns = [list(values_of(walk, column)) for column in range(len(table.columns))]
@@ -96,7 +96,7 @@ def values_of(walk: Walk, column: int) -> list[Value]:
 
 
 def counter_row(table: Table, shares: list[str | Filter | None]) -> Row | None | bool:
-    """A row that no subscriber or several get, None where there is none, or False where that is not known."""
+    """A row that no subscriber or several get, None if there is none, or False if that is not known."""
     rows = speaking_rows(table, shares)
     if rows is None:
         return False

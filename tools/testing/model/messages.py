@@ -50,7 +50,7 @@ def change_length(table: Table, old: Row | None, new: Row | None) -> int:
 
 
 def old_part(table: Table, old: Row, new: Row | None) -> Row | None:
-    """What is told of an old row: all of it, or its identity, which an update leaves out where it stays the same."""
+    """What is told about an old row: all of it, or its identity, which an update leaves out where it stays the same."""
     if table.identity == FULL:
         return old
     columns = table.identity_columns()

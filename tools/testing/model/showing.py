@@ -99,7 +99,7 @@ def schemas_of(catalog: Catalog, entries: list[Entry]) -> list[str]:
 
 
 def objects_of(catalog: Catalog, entries: list[Entry]) -> list[str]:
-    """The tables of a publication by name. Where one comes twice, the last ones are named by their schemas: as many as
+    """The tables of a publication by name. If one comes twice, the last ones are named by their schemas: as many as
     are every table of some schemas."""
     named = len(entries)
     if comes_twice(entries):

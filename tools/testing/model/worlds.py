@@ -211,7 +211,7 @@ class World:
         return lines
 
     def apply(self, subscriber: Subscriber, count: int) -> None:
-        """Brings the subscriber's shard to what passes of the tables after so many commits."""
+        """Brings the subscriber's shard to what passes of the tables after this many commits."""
         for changes in self.database.log[subscriber.applied:count]:
             for change in changes:
                 if change[0] == "truncate":

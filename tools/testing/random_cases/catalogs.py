@@ -14,7 +14,7 @@ ALL = ("const", True)
 
 
 class Sharding:
-    """What each subscriber is to get of each table: conditions, or all of it, where they are None."""
+    """What each subscriber is to get of each table: conditions, or all of it, if they are None."""
 
     def __init__(self, chance: random.Random, tables: list[Table], subscribers: int) -> None:
         self.chance = chance
@@ -37,7 +37,7 @@ class Sharding:
         return [(0, None)]
 
     def publications(self, names: Names, each: int) -> tuple[list[Publication], list[list[int]]]:
-        """Publications, and which of them each subscriber takes: at most so many of its own."""
+        """Publications, and which of them each subscriber takes: at most this many of its own."""
         found: list[Publication] = []
         taken: list[list[int]] = []
         for subscriber in range(self.subscribers):
@@ -85,7 +85,7 @@ class CatalogMaker:
         return Names(self.chance, self.special, self.lines)
 
     def sound(self, tables: int, subscribers: int, each: int) -> Catalog:
-        """A catalog of so many tables and subscribers. Each row goes to one of them, by construction."""
+        """A catalog of this many tables and subscribers. Each row goes to one of them, by construction."""
         maker = TableMaker(self.chance, self.names)
         schemas = maker.add_schemas(2)
         made = [maker.table() for _ in range(tables)]

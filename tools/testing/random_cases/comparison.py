@@ -25,7 +25,7 @@ MOST_SHOWN = 20
 MOST_LATE = 20
 
 
-# In so many cases the system may refuse memory, a read or a write; they are not compared.
+# In this many cases the system may refuse memory, a read or a write; they are not compared.
 MOST_REFUSED = 20
 
 

@@ -36,7 +36,7 @@ def case(chance: random.Random, number: int) -> Case:
 
 
 def of_rows(chance: random.Random, catalog: Catalog, text: str, table: int, insert: bool, number: int) -> Case:
-    """So many rows of a table with their answers, or fewer where they are long."""
+    """This many rows of a table with their answers, or fewer if they are long."""
     values = Values(chance, catalog.tables[table], filters_on(list(catalog.publications), table), lines=False)
     found = Case(words(chance, catalog.tables[table], insert), b"", 0, "")
     meet_catalog(found.met, catalog)

@@ -35,7 +35,7 @@ def many_parts(subscribers: int, each: int) -> Catalog:
 
 
 def range_of(at: int, number: int) -> Filter:
-    """One of so many ranges of ten numbers. The first and the last have no other end."""
+    """One of this many ranges of ten numbers. The first and the last have no other end."""
     if number == 1:
         return ("const", True)
     if at == 0:
@@ -51,7 +51,7 @@ def inserts(keys: list[int], text: str = "") -> list[Command]:
 
 
 def in_commits(commands: list[Command], most: int = MOST_COMMANDS) -> list[Step]:
-    """Commits of so many commands."""
+    """Commits of this many commands."""
     return [("commit", commands[at:at + most]) for at in range(0, len(commands), most)]
 
 
@@ -61,7 +61,7 @@ def both(kind: str, *more: object) -> list[Step]:
 
 
 def many_rows(chance: random.Random, number: int, first: float) -> tuple[Catalog, list[Step]]:
-    """A table of so many rows, in an order by chance, of which s0 has a first part; then half of them go."""
+    """A table of this many rows, in an order by chance, of which s0 has a first part; then half of them go."""
     keys = list(range(number))
     chance.shuffle(keys)
     pumps = both("pump")
@@ -86,7 +86,7 @@ def large_commits(chance: random.Random) -> tuple[Catalog, list[Step]]:
 
 
 def long_log(chance: random.Random, commits: int) -> tuple[Catalog, list[Step]]:
-    """So many commits on a few rows, and then the subscribers come, if there are steps left."""
+    """This many commits on a few rows, and then the subscribers come, if there are steps left."""
     steps: list[Step] = []
     there: set[int] = set()
     for _ in range(commits):

@@ -68,7 +68,7 @@ def meet_filter(met: Met, it: Filter) -> None:
 
 
 def is_nested(it: Filter, times: int) -> bool:
-    """Whether a filter begins with so many NOTs."""
+    """Whether a filter begins with this many NOTs."""
     return times == 0 or it[0] == "not" and is_nested(it[1], times - 1)
 
 
@@ -131,7 +131,7 @@ def meet_command(met: Met, catalog: Catalog, command: tuple) -> None:
         meet_row(met, table, command[-1])
 
 
-# Answers of steps that have no number of their own.
+# Answers to steps that have no number of their own.
 ANSWERS = (
     "opened", "already open", "not open", "not started", "idle", "kept", "reported", "lost", "no subscriber",
     "refused EmptyTransaction", "refused TooManyCommands", "refused LogFull")

@@ -41,7 +41,7 @@ class Names:
 
 
 def cut(text: str, most: int) -> str:
-    """The text's first characters, with at most so many bytes."""
+    """The text's first characters, with at most this many bytes."""
     while len(text.encode()) > most:
         text = text[:-1]
     return text

@@ -16,13 +16,13 @@ SECONDS = 300
 
 COUNTS = re.compile("([0-9]+) refused, ([0-9]+) failed")
 
-# Answers that nothing but a refusal of the system may cause, as whole lines.
+# Answers that only a refusal of the system may cause, as whole lines.
 GIVEN_UP = re.compile("^(out of memory|refused OutOfMemory)$", re.M)
 
 
 @dataclass(frozen=True)
 class Answer:
-    """A run's status, or None where it took too long, its output, and how much the program was refused."""
+    """A run's status, or None if it took too long, its output, and how much the program was refused."""
 
     status: int | None
     output: str

@@ -41,7 +41,7 @@ def case(chance: random.Random) -> "Simulation":
 
 
 def refused(chance: random.Random, catalog: Catalog, it: "Simulation") -> "Case | Simulation":
-    """The same script with certificates by chance. Where these are refused, no step is made."""
+    """The same script with certificates by chance. If these are refused, no step is made."""
     certificates = certificates_of(chance, catalog)
     status, line = check_lines(catalog, certificates)
     if status == 0:

@@ -21,7 +21,7 @@ class Splitter:
         self.filters = FilterMaker(chance, table, columns)
 
     def conditions(self, fewest: int) -> Conditions:
-        """At least so many conditions, if some column can be split."""
+        """At least this many conditions, if some column can be split."""
         found: Conditions = [("const", True)]
         while self.columns and len(found) < fewest:
             at = self.chance.randrange(len(found))

@@ -27,7 +27,7 @@ class TableMaker:
         return found
 
     def table(self, with_nothing: bool = False) -> Table:
-        """A table in one of the schemas. Where it may have no identity, it sometimes has none."""
+        """A table in one of the schemas. If it may have no identity, it sometimes has none."""
         chance = self.chance
         schema = chance.choice(list(self.names))
         fewest, most = chance.choices([(1, 5), (6, 20), (100, 100)], [960, 35, 5])[0]
@@ -43,7 +43,7 @@ class TableMaker:
         return Table(schema, self.names[schema].name(), columns, key, indexes, chance.choice(identities))
 
     def columns(self, number: int) -> tuple[Column, ...]:
-        """So many columns. Some types come more often than others."""
+        """This many columns. Some types come more often than others."""
         names = self.new_names()
         return tuple(
             Column(names.name(), self.chance.choice([*KINDS, "integer", "text"]), self.chance.random() < 0.3)

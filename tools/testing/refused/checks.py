@@ -18,7 +18,7 @@ from .serves import LONG_IDLE_SECONDS, SHOP, Serving, refused_serves, refused_th
 # How a run ends to which nothing is refused: it does not give up.
 ENDED_STATUSES = (0, 1, 2, 3)
 
-# Of so many runs of a case that fail, what is wrong is shown.
+# Of this many runs of a case that fail, what is wrong is shown.
 MOST_SHOWN = 3
 
 

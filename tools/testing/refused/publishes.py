@@ -96,7 +96,7 @@ def whole_publisher() -> Publisher:
 
 
 def publisher_of(answers: list[str], unanswered: int = 0) -> Publisher | None:
-    """The publisher that gives these answers, and has made some commits more; none where an answer is wrong."""
+    """The publisher that gives these answers, and has made some commits more; none if an answer is wrong."""
     made = Publisher((TABLE,))
     for commands, answer in zip(COMMITS, answers):
         if answer == f"commit {len(made.log) + 1}\n":
@@ -146,7 +146,7 @@ def without_keepalives(got: bytes, publisher: Publisher, subscriber: Subscriber)
 
 def keepalives_after(frames: list[bytes], publisher: Publisher, subscriber: Subscriber) -> list[bytes]:
     """The keepalives that may come after these frames: between two transactions, each says that the stream is at a
-    position from the end of the one to the begin of the other."""
+    position from the end of the one to the beginning of the other."""
     is_between = frames == [messages.COPY_BOTH_RESPONSE] or frames and messages.is_commit(frames[-1])
     first = messages.end_in(frames, 64)
     begins = [listed[0][0] for listed in publisher.transactions(subscriber, first)]

@@ -18,7 +18,7 @@ SECONDS = 300
 OUT_OF_MEMORY = "out of memory\n"
 NO_MEMORY = 5
 
-# After so many requests no further one is refused, though there may be more.
+# After this many requests no further one is refused, though there may be more.
 MOST_REQUESTS = 20_000
 
 # After so many runs that do not tell how many requests were refused, no more are made.
@@ -35,7 +35,7 @@ COUNT = re.compile("([0-9]+) refused\n")
 
 @dataclass(frozen=True)
 class Answer:
-    """A run's status, or None where it took too long, its output, and how many requests were refused, or None where
+    """A run's status, or None if it took too long, its output, and how many requests were refused, or None if
     that is not told."""
 
     status: int | None

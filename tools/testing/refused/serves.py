@@ -30,7 +30,7 @@ IDLE_SECONDS = 0.15
 STRIDE = 4
 STRIDE_AFTER = 16
 
-# After so many threads no further one is refused, though there may be more.
+# After this many threads no further one is refused, though there may be more.
 MOST_THREADS = 20
 
 # How long a client waits that is to get all, or to be told.

@@ -15,7 +15,7 @@ from model.worlds import Step, Subscriber, World
 REFUSED = {"commit": "refused OutOfMemory"}
 LOST = "out of memory"
 
-# Answers that out of memory never takes the place of.
+# Answers that out of memory never replaces.
 NEEDS_NONE = {
     "refused EmptyTransaction", "refused TooManyCommands", "refused LogFull", "no subscriber", "already open",
     "not open", "not started", "idle", "lost",
@@ -51,7 +51,7 @@ def after_step(place: Place, step: Step, lines: list[str]) -> Iterator[Place]:
 
 
 def after_refusal(world: World, step: Step) -> Iterator[World]:
-    """The worlds after a step that is refused memory. There is none where the step needs no memory."""
+    """The worlds after a step that is refused memory. There is none if the step needs no memory."""
     made = copy.deepcopy(world)
     if made.step(step)[0] in NEEDS_NONE:
         return

@@ -77,7 +77,7 @@ class Made:
 
 @dataclass(frozen=True)
 class Sized:
-    """A catalog of one table whose certificate has at least so many nodes, and fewer than so many."""
+    """A catalog of one table whose certificate has at least this many nodes, and fewer than this many."""
 
     name: str
     catalog: str

@@ -250,7 +250,7 @@ OPEN = "refused SecondOwner public.t 8 s1\n"
 
 
 def tree_of(levels: int) -> str:
-    """A tree of so many levels of splits by the first atom. With 8 it has 9,841 nodes."""
+    """A tree of this many levels of splits by the first atom. With 8 it has 9,841 nodes."""
     below = tree_of(levels - 1) if levels else ""
     return f"s 0 {below} {below} {below}" if levels else "o 0"
 

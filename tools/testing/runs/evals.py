@@ -63,7 +63,7 @@ def primes(least: int) -> Iterator[int]:
 
 
 def remainders(column: int, number: int) -> list[Filter]:
-    """Remainders by so many primes of which half are below a bound."""
+    """Remainders by this many primes of which half are below a bound."""
     return [("cmp", column, it, "<", it // 2) for it in islice(primes(3), number)]
 
 

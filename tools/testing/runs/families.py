@@ -61,7 +61,7 @@ def region_lists(count: int, size: int, others: str) -> list[str]:
 
 
 def key_lists(count: int, size: int, left_out: int) -> list[str]:
-    """Lists of remainders by the number of all entries, those below zero with those above, but for so many."""
+    """Lists of remainders by the number of all entries, those below zero with those above, but for this many."""
     divisor = count * size
     shares = []
     for at in range(count):
@@ -78,7 +78,7 @@ def betweens(count: int, by: int) -> list[str]:
 
 
 def regions_in_ranges(places: int, count: int, by: int) -> list[str]:
-    """Each of so many regions in each of so many ranges. The last region has the others too."""
+    """Each of this many regions in each of this many ranges. The last region has the others too."""
     filters = []
     for place in range(places):
         named = " OR ".join(["FALSE", *(f"region = 'r{other}'" for other in range(place))])
@@ -90,20 +90,20 @@ def regions_in_ranges(places: int, count: int, by: int) -> list[str]:
 
 
 def flags(count: int, others: str) -> list[str]:
-    """A truth value that is true, and the others by this test, in each of so many ranges."""
+    """A truth value that is true, and the others by this test, in each of this many ranges."""
     found = [one_range(at, count, 100 * at + 100) for at in range(count)]
     return [f"paid {test} AND {it}" for it in found for test in ("IS TRUE", others)]
 
 
 def pairs(count: int) -> tuple[str, list[str]]:
-    """The columns of so many pairs of truth values; rows with a pair that is both true, and the others."""
+    """The columns of this many pairs of truth values; rows with a pair that is both true, and the others."""
     columns = "".join(f", a{at} boolean NOT NULL, b{at} boolean NOT NULL" for at in range(count))
     some = " OR ".join(["FALSE", *(f"a{at} AND b{at}" for at in range(count))])
     return ID + columns, [some, f"NOT ({some})"]
 
 
 def names(count: int, letters: str) -> list[str]:
-    """Names of so many columns for each of these letters."""
+    """Names of this many columns for each of these letters."""
     return [f"{letter}{at}" for at in range(count) for letter in letters]
 
 
@@ -113,20 +113,20 @@ def nullable(columns: list[str], filters: list[str]) -> str:
 
 
 def one_of_flags(count: int) -> str:
-    """Rows in which one of so many truth values is true, and the others."""
+    """Rows in which one of this many truth values is true, and the others."""
     some = " OR ".join(names(count, "f"))
     return nullable(names(count, "f"), [some, f"({some}) IS NOT TRUE"])
 
 
 def first_flag(count: int) -> str:
-    """Rows by the first of so many truth values that is true, and those without one."""
+    """Rows by the first of this many truth values that is true, and those without one."""
     flags = names(count, "f")
     before = [" AND ".join(["TRUE", *(f"{it} IS NOT TRUE" for it in flags[:at])]) for at in range(count + 1)]
     return nullable(flags, [*(f"{others} AND {it} IS TRUE" for it, others in zip(flags, before)), before[-1]])
 
 
 def nullable_pairs(count: int) -> str:
-    """Rows in which one of so many pairs is true and true, and the others."""
+    """Rows in which one of this many pairs is true and true, and the others."""
     some = " OR ".join(f"a{at} AND b{at}" for at in range(count))
     return nullable(names(count, "ab"), [some, f"({some}) IS NOT TRUE"])
 
@@ -186,7 +186,7 @@ def cases() -> Iterator[Case | Made | Sized]:
             yield Made(f"make of {name}", text)
         else:
             yield Case(f"make of {name}", ("make",), text, 1, Outline("counter public.t ("))
-    # A certificate for n pairs has at least 6 * 2^n - 5 nodes, for 12 so many that splits are no longer chosen with
+    # A certificate for n pairs has at least 6 * 2^n - 5 nodes, for 12 this many that splits are no longer chosen with
     # care.
     for count, fewest in [(1, 7), (4, 91), (12, 24_571)]:
         yield Sized(f"nodes for {count} pairs", catalog(*pairs(count)), fewest, 2 * fewest + 2)

@@ -24,7 +24,7 @@ EXACTLY_PAID = [it.replace("ok", "paid") for it in EXACTLY]
 TRUE_OR_FALSE = "s 0 s 1 e 0 o 1 n 1 s 1 o 0 e 0 n 1 n 0"
 AFTER_NULLS = f"s 2 s 0 s 1 o 2 e 0 n 1 e 0 n 0 {TRUE_OR_FALSE} n 2"
 
-# The columns, the filters of the subscribers, and certificates with the answers: none where it is accepted.
+# The columns, the filters of the subscribers, and certificates with the answers: none if it is accepted.
 FORMS: list[tuple[str, list[str], list[tuple[str, str]]]] = [
     (ID, ["id BETWEEN 1 AND 9", "id NOT BETWEEN 1 AND 9"], [
         (TWO_WAYS, ""), ("s 0 e 0 o 1 n 0", "NotEmpty public.t 1"), ("s 0 o 0 e 0 n 0", "NotEmpty public.t 2"),

@@ -125,12 +125,12 @@ def last_nodes() -> Iterator[Case]:
 
 
 def empty_tree(splits: int) -> str:
-    """A tree of so many splits. Each of its leaves says that no row comes to it."""
+    """A tree of this many splits. Each of its leaves says that no row comes to it."""
     return tree(splits, "e 0 ")
 
 
 def tree(splits: int, leaf: str) -> str:
-    """A tree of so many splits, with this leaf."""
+    """A tree of this many splits, with this leaf."""
     nodes = []
     left = [splits]
     while left:
@@ -184,7 +184,7 @@ def catalog_of_remainders() -> str:
 
 
 def tree_of_remainders() -> str:
-    """A certificate that asks for one remainder after another, in the order of the publications. Where one is found,
+    """A certificate that asks for one remainder after another, in the order of the publications. If one is found,
     no later one is; where none is found, no value is left."""
     tree = "e 0"
     for atom in reversed(range(63)):

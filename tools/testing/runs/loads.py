@@ -15,7 +15,7 @@ CONNECTIONS = 400
 # else, too.
 LONGEST = 300
 
-# By how much the memory may be more where some clients are rough: by this part, and by so many bytes for what is kept
+# By how much the memory may be more where some clients are rough: by this part, and by this many bytes for what is kept
 # of the connections that they have made beside the last ones.
 PART = 0.25
 KEPT = 40_000_000
@@ -41,7 +41,7 @@ class Load:
             tally.check(f"{self.name}: memory", (plain, rough), "both measured")
 
     def sizes(self, tally: Tally, streams: load.Streams, text: str, are_rough: bool) -> list[int]:
-        """The sizes of a run's memory, none where it did not come so far."""
+        """The sizes of a run's memory, none if it did not come so far."""
         name = f"{self.name} with {'rough' if are_rough else 'plain'} clients"
         try:
             with serving(text, "--connections", str(CONNECTIONS), seconds=LONGEST) as (program, port):

@@ -29,7 +29,7 @@ EVAL_NUMBERS = 9_000
 # where other work shares the caches, a processor second does less.
 EVAL_SECONDS = 10
 
-# Remainders by so many primes from the first one on, and the keys whose remainders are tested: nearly no two of them
+# Remainders by this many primes from the first one on, and the keys whose remainders are tested: nearly no two of them
 # are told the same.
 PRIMES, FIRST_PRIME = 60, 211
 LEAST_KEY, KEYS = 100_000, 900_000
@@ -66,7 +66,7 @@ def cases() -> Iterator[Case]:
 
 
 def simulation(name: str, catalog: str, certificates: str, commits: list[str], subscribers: int) -> Case:
-    """Commits of these commands, which all subscribers are told of when all are made."""
+    """Commits of these commands, which all subscribers are told about when all are made."""
     script = "".join(f"COMMIT {it};\n" for it in commits)
     script += "".join(f"OPEN {at}; PUMP {at};\n" for at in range(subscribers))
     lines = [f"commit {number}" for number in range(1, len(commits) + 1)]
@@ -95,7 +95,7 @@ def reading_by_lists() -> Case:
 
 
 def primes(least: int, number: int) -> list[int]:
-    """So many prime numbers from one on."""
+    """This many prime numbers from one on."""
     found = (it for it in count(least) if all(it % one for one in range(2, int(it**0.5) + 1)))
     return list(islice(found, number))
 

@@ -33,8 +33,8 @@ MANY = 10_000
 KEYS = range(100, 100 + MANY)
 COMMANDS = 1_000
 
-# By so many blocks, and so many bytes, two counts may differ of a program that has kept nothing: a line may be in the
-# making, and a block may be a little longer than what was asked for.
+# Two counts of a program that has kept nothing may differ by this many blocks and bytes: a line may be incomplete, and
+# a block may be a little longer than requested.
 SOME_BLOCKS = 5
 SOME_BYTES = 4_000
 

@@ -12,7 +12,7 @@ MOST_STEPS = 100_000
 
 
 def statements(before: str, each: str) -> Callable[[int], str]:
-    """Makes so many statements, each with its number from 0."""
+    """Makes this many statements, each with its number from 0."""
     return lambda number: before + "".join(f"{each.format(at)}\n" for at in range(number))
 
 
@@ -22,24 +22,24 @@ def condition(text: str) -> str:
 
 
 def atoms(number: int) -> str:
-    """So many comparisons, in two publications."""
+    """This many comparisons, in two publications."""
     first = " OR ".join(f"id = {at}" for at in range(32))
     second = " OR ".join(f"id = {at}" for at in range(32, number))
     return f"{condition(first)}CREATE PUBLICATION q FOR TABLE t WHERE ({second});\n"
 
 
 def nodes(number: int) -> str:
-    """A filter of so many nodes: truth values, what joins them, and NOT where the number is even."""
+    """A filter of this many nodes: truth values, what joins them, and NOT where the number is even."""
     joined = " OR ".join(["FALSE"] * ((number + 1) // 2))
     return condition(joined if number % 2 else f"NOT ({joined})")
 
 
 def entries(number: int) -> str:
-    """A list of so many numbers, of which the last is another one."""
+    """A list of this many numbers, of which the last is another one."""
     return condition(f"id IN ({'7, ' * (number - 1)}8)")
 
 
-# What there is, a catalog with so many, the most that there may be, what eval writes of that for a row, what one more
+# What there is, a catalog with this many, the most that there may be, what eval writes of that for a row, what one more
 # has at its fault, in the last line, and the kind of the fault.
 THINGS: list[tuple[str, Callable[[int], str], int, str, str, str]] = [
     ("tables", statements("", T.replace(" t ", " t{} ").strip()), 64, "", "t64", "TooMany"),

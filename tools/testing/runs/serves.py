@@ -55,7 +55,7 @@ VERY_MANY = 300
 @dataclass(frozen=True)
 class Run:
     """A run of serve with clients, in which the commits of a sharding are made. It accepts a connection for each
-    subscriber, or so many."""
+    subscriber, or this many."""
 
     name: str
     sharding: Sharding
@@ -64,7 +64,7 @@ class Run:
     words: tuple[str, ...] = ()
 
     def check(self, tally: Tally) -> None:
-        """Makes the run. Where clients may make fewer connections than are accepted, others are made and ended."""
+        """Makes the run. If clients may make fewer connections than are accepted, others are made and ended."""
         publisher = self.sharding.publisher()
         more = () if self.connections is None else ("--connections", str(self.connections))
         try:

@@ -5,7 +5,7 @@ from collections.abc import Iterator
 from .case import Case
 from .catalogs import INDEXED, C, halves
 
-# Rows go to s0 where the number is below 100, and else to s1.
+# Rows go to s0 where the number is below 100, and otherwise to s1.
 B = halves(" WHERE (id < 100)", " WHERE (id >= 100)")
 
 # Two tables, both by their numbers.
@@ -196,7 +196,7 @@ def three_parts(catalog: str, certificates: str, script: str) -> str:
 
 
 def lost_downwards(delivered: int) -> tuple[str, list[str]]:
-    """A connection is lost after so many bytes of its second transaction, of 174, and the subscriber connects again."""
+    """A connection is lost after this many bytes, of 174, of its second transaction, and the subscriber reconnects."""
     script = (
         "COMMIT INSERT t (7, 'eu'); OPEN 0; PUMP 0; COMMIT UPDATE t (7) (8, 'eu'); TAKE 0;"
         f" DELIVER 0 {delivered}; LOSE 0; OPEN 0; HEAR 0 92; TAKE 0; DELIVER 0 257; VIEW;")
@@ -209,7 +209,7 @@ def lost_downwards(delivered: int) -> tuple[str, list[str]]:
 
 
 def lost_upwards(heard: int) -> tuple[str, list[str]]:
-    """A connection is lost after so many bytes of a status, of 39."""
+    """A connection is lost after this many bytes of a status, of 39."""
     script = (
         "COMMIT INSERT t (7, 'eu'); OPEN 0; HEAR 0 91; TAKE 0; DELIVER 0 241; REPORT 0;"
         f" HEAR 0 {heard}; LOSE 0; VIEW;")
@@ -235,12 +235,12 @@ def many() -> tuple[str, list[str]]:
 
 
 def end_of(commits: int) -> str:
-    """Where a log of so many commits ends: each takes 64 bytes, and 64 come before the first."""
+    """Where a log of this many commits ends: each takes 64 bytes, and 64 come before the first."""
     return f"0/{64 * commits + 64:X}"
 
 
 def view_of(commits: int, rows: list[str], shards: dict[str, list[str]]) -> list[str]:
-    """The lines of VIEW where each subscriber was pumped after so many commits: the rows, each with its table before
+    """The lines of VIEW where each subscriber was pumped after this many commits: the rows, each with its table before
     it, and those of each subscriber, by its name."""
     at = end_of(commits)
     lines = [f"log {commits}", *rows]

@@ -182,7 +182,7 @@ def limits() -> Iterator[tuple[str, str, str]]:
 
 
 def check_limits(tally: Tally, text: str) -> None:
-    """Lines at the limits, with memory at hand, and the stream of the commit of the most commands."""
+    """Lines at the limits, while memory is available, and the stream of the commit of the most commands."""
     with answering(text, "--keepalive", "86400") as (program, port, callers), calling(callers) as caller:
         for what, line, expected in limits():
             tally.check(f"a caller says {what}", caller.ask(line), f"{expected}\n")

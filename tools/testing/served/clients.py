@@ -38,7 +38,7 @@ class Connection:
         self.send(messages.start(subscriber.slot, position, list(subscriber.publications)))
 
     def receive(self, count: int) -> bytes:
-        """So many bytes, with no clocks and no times."""
+        """This many bytes, with no clocks and no times."""
         return messages.without_times(self.receive_as_is(count))
 
     def receive_as_is(self, count: int) -> bytes:
@@ -90,7 +90,7 @@ def client(port: int, room: int | None = None) -> Iterator[Connection]:
 def back_again(
         port: int, subscriber: Subscriber, position: int, answers: tuple[bytes, ...] = (b"E",),
 ) -> Iterator[Connection]:
-    """A client that has started, as one does that was lost. Where it is refused it tries again, since its slot may be
+    """A client that has started, as one does that was lost. If it is refused it tries again, since its slot may be
     in use for a moment, or its position ahead of a log that grows. Its answer begins with one of some bytes then."""
     until = time.monotonic() + SECONDS
     for tries in itertools.count(1):
@@ -103,7 +103,7 @@ def back_again(
 
 
 def first_byte(made: Connection) -> bytes:
-    """The first byte that comes, which is still there to be received; none where the connection ends."""
+    """The first byte that comes, which is still there to be received; none if the connection ends."""
     try:
         return made.opened.recv(1, socket.MSG_PEEK)
     except ConnectionError:

@@ -1,5 +1,5 @@
-"""Subscriptions with default options: their tables are copied as they are at the begin of the log, which is empty, and
-then catch up. No row is lost, whenever the copies come, and after the subscription is dropped and made again."""
+"""Subscriptions with default options: their tables are copied as they are at the beginning of the log, empty, and then
+catch up. No row is lost, whenever the copies come, and after the subscription is dropped and made again."""
 
 import tempfile
 import time
@@ -14,7 +14,7 @@ from .subscribers_checks import SETTINGS, check_rows, transaction_text
 
 CONNECTIONS = 60
 
-# So many workers copy tables at a time. With two workers for two subscriptions and these, tables wait for each other.
+# This many workers copy tables at a time. With two workers for two subscriptions and these, tables wait for each other.
 WORKERS = "ALTER SYSTEM SET max_sync_workers_per_subscription = 1;"
 
 # The process of the subscription that was sent something.

@@ -89,7 +89,7 @@ def check_rest(tally: Tally, program: Publication) -> None:
 
 
 def throw(junk: contextlib.ExitStack, port: int, number: int) -> None:
-    """One junk connection. Each fifth is gone at once. Where many wait it is not made yet, and sends nothing."""
+    """One junk connection. Each fifth is gone at once. If many wait it is not made yet, and sends nothing."""
     made = socket.socket()
     made.setblocking(False)
     with contextlib.suppress(BlockingIOError):

@@ -7,7 +7,7 @@ from collections.abc import Iterator
 
 
 class Cutter:
-    """Relays to a port, and cuts the first connection that begins with a slot's start once so many bytes went down."""
+    """Relays to a port, and cuts the first connection that starts a slot, after this many bytes to the client."""
 
     def __init__(self, listener: socket.socket, backend: int, slot: str, after: int) -> None:
         self.listener = listener

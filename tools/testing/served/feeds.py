@@ -75,7 +75,7 @@ def random_row(chosen: random.Random, name: str) -> Row:
 
 @dataclass
 class Cuts:
-    """Relays to a port, and cuts the next streams, each after so many bytes."""
+    """Relays to a port, and cuts the next streams, each after this many bytes."""
 
     port: int
     left: list[int]
@@ -103,7 +103,7 @@ class Cuts:
             down.join()
 
     def relay_down(self, source: socket.socket, sink: socket.socket, budget: list[int]) -> None:
-        """Relays what comes down, up to so many bytes if there is a budget."""
+        """Relays what comes down, up to this many bytes if there is a budget."""
         with contextlib.suppress(OSError):
             while piece := source.recv(1 << 16):
                 if budget:

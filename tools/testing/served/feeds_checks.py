@@ -28,7 +28,7 @@ CONNECTIONS = 1_000
 # How long a subscriber may take to receive its rows, in seconds. It may notice a lost connection only after
 # wal_receiver_timeout, which is a minute.
 PATIENCE = 180
-# At most so many streams are cut on each side of the front, each after so many bytes.
+# At most this many streams are cut on each side of the front, each after this many bytes.
 CUTS = 4
 LATEST_CUT = 6_000
 # Each such workload goes by TLS and with a password, where the cuts before the front find no start.
@@ -58,7 +58,7 @@ def check_feeds(tally: Tally, server: Server) -> None:
 
 
 def secured_by(folder: pathlib.Path) -> list[str]:
-    """The words by which a front demands a password and TLS, none where openssl is not installed."""
+    """The words by which a front demands a password and TLS, none if openssl is not installed."""
     if shutil.which("openssl") is None:
         return []
     make_certificate(folder)
@@ -70,7 +70,7 @@ def secured_by(folder: pathlib.Path) -> list[str]:
 def check_feed(
         tally: Tally, server: Server, name: str, made: Sharding, text: str, chosen: random.Random, secured: list[str],
 ) -> int:
-    """One workload. The answer is how many connections were cut."""
+    """One workload. Returns how many connections were cut."""
     server.psql(MADE["publisher"], "\n".join([f"TRUNCATE {TABLES};", *map(transaction_text, made.commits)]))
     behind, before = ([chosen.randrange(1, LATEST_CUT) for _ in range(chosen.randrange(CUTS + 1))] for _ in range(2))
     options = [chosen.choice(["", ", create_slot = false, copy_data = false"]) for _ in SHOP.subscribers]

@@ -1,5 +1,5 @@
 """Clients of `pgshard serve` under load: 100,000 commits, each of a row of one of 32 subscribers, whose clients are
-served side by side. Where some of them are rough, a few stop reading until the others have all, and others lose their
+served side by side. If some of them are rough, a few stop reading until the others have all, and others lose their
 connections again and again; those that are lost come back at the position that they have reached."""
 
 import contextlib
@@ -16,7 +16,7 @@ from .shardings import CROWD, of_crowd
 
 COMMITS = 100_000
 
-# So many of the first subscribers stop reading. Their rows are so long that a system doesn't keep a whole stream of a
+# This many of the first subscribers stop reading. Their rows are so long that a system doesn't keep a whole stream of a
 # client that doesn't read it, nor half of one.
 STOPPING = 3
 LONG = 1_250
@@ -24,7 +24,7 @@ LONG = 1_250
 # How many bytes such a client reads before it stops.
 BEFORE_STOP = 100_000
 
-# So many subscribers after them lose their connections, each time after so many bytes.
+# This many subscribers after them lose their connections, each time after this many bytes.
 LOST = 8
 READ_BEFORE_LOSS = (3, 50, 20_000, 100_001, 250_007)
 

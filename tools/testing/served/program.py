@@ -15,7 +15,7 @@ from programs import PGSHARD, TOOLS, decoded
 # How long anything here may take, on a machine that does much else, too.
 SECONDS = 120
 
-# How many ports are tried, and the status of a program that can't have one.
+# How many ports are tried, and the status of a program that cannot have one.
 PORTS = 3
 NO_PORT = 4
 
@@ -44,13 +44,13 @@ class Started:
             self.log.append(decoded(line))
 
     def write(self, given: bytes) -> None:
-        # A program that ends before it has read all is told of by its status.
+        # A program that ends before it has read all is told about by its status.
         with contextlib.suppress(OSError):
             self.process.stdin.write(given)
             self.process.stdin.close()
 
     def line(self, seconds: float = SECONDS) -> str | None:
-        """The next line, or None where there is no further one, or it does not come."""
+        """The next line, or None if there is no further one, or it does not come."""
         try:
             line = self.lines.get(timeout=seconds)
         except queue.Empty:
@@ -63,7 +63,7 @@ class Started:
         return self.process.poll() is None
 
     def end(self, seconds: float = SECONDS) -> tuple[int | None, list[str]]:
-        """The status, None where it does not end, and the lines that were not read."""
+        """The status, None if it does not end, and the lines that were not read."""
         try:
             status = self.process.wait(seconds)
         except subprocess.TimeoutExpired:
@@ -111,8 +111,8 @@ class NotStarted(Exception):
 
 @contextlib.contextmanager
 def listening(words: list[str], text: str = "", seconds: float = SECONDS) -> Iterator[tuple[Started, int]]:
-    """A program that listens within so many seconds, and its port, which it is told by `--port`. Another port is tried
-    where somebody else has taken the first one."""
+    """A program that listens within this many seconds, and its port, which is given by `--port`. Another port is tried
+    if the first one is taken."""
     for tries in range(1, PORTS + 1):
         port = free_port()
         with started([*words, "--port", str(port)], text) as program:
@@ -182,7 +182,7 @@ def processor_time(process: int) -> float:
 
 
 def use_up(program: Started, port: int) -> None:
-    """Makes connections and ends them at once, until the program that accepts so many has ended."""
+    """Makes connections and ends them at once, until the program that accepts this many has ended."""
     until = time.monotonic() + SECONDS
     while program.is_running() and time.monotonic() < until:
         with contextlib.suppress(OSError):

@@ -45,7 +45,7 @@ def check_psycopg(tally: Tally) -> None:
 
 
 def read(python: str, port: int, transactions: Transactions, confirmed: int) -> str:
-    """What a client prints that reads so many messages as these have."""
+    """What a client prints that reads this many messages as these have."""
     words = [port, TOKYO.slot, ",".join(TOKYO.publications), sum(map(len, transactions)), confirmed]
     until = time.monotonic() + SECONDS
     while True:

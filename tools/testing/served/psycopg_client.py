@@ -41,7 +41,7 @@ def main(port: str, slot: str, publications: str, count: str, confirmed: str) ->
 
 
 def next_message(cursor):
-    """The next message, or None where none comes."""
+    """The next message, or None if none comes."""
     message = cursor.read_message()
     while message is None:
         readable, _, _ = select.select([cursor], [], [], SECONDS)

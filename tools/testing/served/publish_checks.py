@@ -147,7 +147,7 @@ def check_following(tally: Tally, text: str) -> None:
 
 
 def commit_ends(connection: Connection, count: int) -> list[int]:
-    """Reads so many Commit messages. The answer is where their transactions end."""
+    """Reads this many Commit messages. Returns where their transactions end."""
     got, found = b"", []
     while len(found) < count:
         piece = connection.receive_as_is(1)
@@ -219,7 +219,7 @@ def check_workloads(tally: Tally, server: Server, text: str) -> None:
 
 
 def check_workload(tally: Tally, server: Server, name: str, text: str, chosen: random.Random) -> int:
-    """One workload. The answer is how many connections were cut."""
+    """One workload. Returns how many connections were cut."""
     made = dataclasses.replace(SHOP, commits=workload(chosen))
     server.psql(MADE["publisher"], "\n".join([f"TRUNCATE {TABLES};", *map(transaction_text, made.commits)]))
     left = [chosen.randrange(1, LATEST_CUT) for _ in range(chosen.randrange(CUTS + 1))]

@@ -131,7 +131,7 @@ class Publisher:
         return sorted(row for row in self.rows[table].values() if subscriber.takes(table, row))
 
     def transactions(self, subscriber: Subscriber, position: int = 0) -> list[list[tuple[int, bytes]]]:
-        """The messages of each commit that a subscriber is told of from a position on, with no times, each with the
+        """The messages of each commit that a subscriber is told about from a position on, with no times, each with the
         position in the log that it is sent with."""
         told: set[str] = set()
         found = []
@@ -151,7 +151,7 @@ class Publisher:
         return messages.COPY_BOTH_RESPONSE + b"".join(messages.xlog_data(*it) for it in told)
 
     def said(self, subscriber: Subscriber, change: Change, told: set[str]) -> list[bytes]:
-        """The message of a change, after the Relations of tables that come for the first time; nothing where the
+        """The message of a change, after the Relations of tables that come for the first time; nothing if the
         subscriber gets nothing of it."""
         message = self.message(subscriber, change)
         if message is None:

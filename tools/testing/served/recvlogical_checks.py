@@ -12,7 +12,7 @@ from .program import SECONDS, fronting, serving, use_up
 from .publisher import Subscriber, end_of
 from .shop import LONDON, SHOP, TOKYO
 
-# What is asked for in turn of one publisher: slots, and positions. It can't be asked twice for a slot, since whatever
+# What is asked for in turn of one publisher: slots, and positions. It cannot be asked twice for a slot, since whatever
 # was read is confirmed.
 ASKED = [
     [(TOKYO, 0), (LONDON, end_of(4))],
@@ -31,7 +31,7 @@ def check_recvlogical(tally: Tally) -> None:
 
 
 def check_start(tally: Tally, port: int, subscriber: Subscriber, position: int) -> None:
-    """What it writes, that it ends by itself at the end of the log, and what it is told of its slot."""
+    """What it writes, that it ends by itself at the end of the log, and what it is told about its slot."""
     name = f"pg_recvlogical of {subscriber.slot} from {messages.written(position)}"
     with tempfile.TemporaryDirectory() as folder:
         file = pathlib.Path(folder) / "messages"
@@ -47,7 +47,7 @@ def check_start(tally: Tally, port: int, subscriber: Subscriber, position: int) 
 
 
 def not_dropped(subscriber: Subscriber, position: int) -> str:
-    """What it says where a slot would not start afresh, since nobody had its stream from the begin of the log."""
+    """What it says where a slot would not start afresh, since nobody had its stream from the beginning of the log."""
     return (
         f'pg_recvlogical: error: could not send replication command "DROP_REPLICATION_SLOT "{subscriber.slot}"": '
         f'ERROR:  replication slot "{subscriber.slot}" cannot be dropped, since it would not start from the beginning: '

@@ -50,7 +50,7 @@ def lines_of(messages: list[bytes]) -> str:
 
 
 def line_of(message: bytes, names: dict[bytes, str]) -> str:
-    """A message's line, none where it is the Relation of a table that `names` has already."""
+    """A message's line, none if it is the Relation of a table that `names` has already."""
     letter, oid = message[:1].decode(), message[1:5]
     match letter:
         case "B" | "C":

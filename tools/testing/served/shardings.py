@@ -29,7 +29,7 @@ MOST_COMMANDS = 64
 
 
 def halves(commits: list[list[Command]], refused: frozenset[int] = frozenset()) -> Sharding:
-    """Rows go to s0 where the number is below 100, and else to s1."""
+    """Rows go to s0 where the number is below 100, and otherwise to s1."""
     return Sharding(HALVES_CATALOG, (TABLE,), (S0, S1), commits, refused)
 
 

@@ -23,7 +23,7 @@ CONNECTIONS = 30
 # Of which transaction that tokyo gets the first half comes, and then the end of the connection.
 CUT = 6
 
-# Which versions of PostgreSQL clients are told of.
+# Which versions of PostgreSQL clients are told about.
 VERSIONS = ["15.18", "13.18"]
 
 # In place of the five seconds that a server waits before it connects again.
@@ -37,7 +37,7 @@ def check_versions(tally: Tally, server: Server) -> None:
 
 
 def check_subscribers(tally: Tally, server: Server, version: str) -> None:
-    """Both subscribers, where clients are told of a version of the publisher."""
+    """Both subscribers, where clients are told about a version of the publisher."""
     name = f"subscribers of a publisher {version}"
     for setting in SETTINGS:
         server.psql("postgres", setting)

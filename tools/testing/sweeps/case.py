@@ -32,7 +32,7 @@ class Plain(random.Random):
 
 
 class NestedText(CatalogText):
-    """Writes a catalog, with so many levels of parentheses and NOT in each filter, of which WHERE has the first."""
+    """Writes a catalog, with this many levels of parentheses and NOT in each filter, of which WHERE has the first."""
 
     def __init__(self, catalog: Catalog, nesting: int) -> None:
         super().__init__(catalog, Plain(), False)
@@ -105,7 +105,7 @@ class SweepCase:
 
 
 def name_of(row: Row) -> str:
-    """A name of so many bytes, all of one character."""
+    """A name of this many bytes, all of one character."""
     return chr(row["character"]) * row["name"]
 
 
@@ -140,7 +140,7 @@ def conditions_of(row: Row) -> list[Filter | None]:
 
 
 def keys_of(row: Row, count: int) -> list[int]:
-    """So many numbers around the number of a row."""
+    """This many numbers around the number of a row."""
     begin = min(max(row["number"] - count // 2, LEAST), GREATEST - count + 1)
     return list(range(begin, begin + count))
 

@@ -53,7 +53,7 @@ def rows() -> list[Row]:
 
 
 def in_turn(chance: random.Random, values: list[int], count: int) -> list[int]:
-    """So many values: all in an order by chance, and again in another."""
+    """This many values: all in an order by chance, and again in another."""
     found: list[int] = []
     while len(found) < count:
         found += chance.sample(values, len(values))

@@ -1,4 +1,4 @@
-"""Who subscribes, by what is known of it."""
+"""Who subscribes, by what is known about it."""
 
 import unittest
 from unittest import mock
