@@ -1,1 +1,1 @@
-"""What tools/front is made of."""
+"""The modules of tools/front."""

@@ -43,7 +43,7 @@ NO_CATALOG = frames.error(
 
 @dataclass
 class Asker:
-    """Who asks: the database that it named, and whether it has begun a transaction, and has a slot's snapshot in it."""
+    """A client that asks: which database it named, and whether it is in a transaction, with the snapshot of a slot."""
 
     database: str
     in_transaction: bool = False
@@ -51,7 +51,7 @@ class Asker:
 
 
 class Answers:
-    """The answers of a front, which tells a version and may know a catalog."""
+    """The answers of a front, which reports a version and may have a catalog."""
 
     def __init__(self, version: str, catalog: Catalog | None, slots: Slots) -> None:
         self.version = version
@@ -87,7 +87,7 @@ class Answers:
             (form, lambda found, asker: NO_CATALOG) for form in (PUBLICATIONS, TABLES, TABLES_WITH_COLUMNS)]
 
     def catalog_forms(self, catalog: Catalog) -> list[tuple[Form, Callable[[Found, Asker], bytes]]]:
-        """The forms that only a catalog answers."""
+        """The forms that can only be answered with a catalog."""
         made = Copying(catalog)
         return [
             (PUBLICATIONS, lambda found, asker: publications(catalog, found)),
@@ -101,7 +101,7 @@ class Answers:
         ]
 
     def answer(self, tokens: Sequence[Token], asker: Asker) -> bytes:
-        """The answer of a query that starts no stream, without ReadyForQuery."""
+        """The answer to a query that starts no stream, without ReadyForQuery."""
         if not tokens:
             return frames.frame(b"I")
         try:
@@ -130,18 +130,18 @@ class Answers:
 
     @staticmethod
     def begin(found: Found, asker: Asker) -> bytes:
-        """A transaction begins in which a table is copied."""
+        """Begins the transaction in which a table is copied."""
         asker.in_transaction = True
         return frames.complete("BEGIN")
 
     @staticmethod
     def commit(found: Found, asker: Asker) -> bytes:
-        """The transaction has ended, and its snapshot with it."""
+        """Ends the transaction, and with it the snapshot."""
         asker.in_transaction = asker.has_snapshot = False
         return frames.complete("COMMIT")
 
     def slot(self, found: Found, asker: Asker) -> bytes:
-        """A slot is made, from the beginning of the log on, where all tables are empty."""
+        """Creates a slot that starts at the beginning of the log, where all tables are empty."""
         name, options = found["$name"][0], {word.lower() for word in found["$rest"]}
         wants_snapshot = bool(options & {"use", "export", "use_snapshot", "export_snapshot"})
         if wants_snapshot and not (COPIES.fullmatch(name) and asker.in_transaction):
@@ -153,19 +153,19 @@ class Answers:
         return frames.rows(columns, [row], "CREATE_REPLICATION_SLOT")
 
     def drop(self, found: Found, asker: Asker) -> bytes:
-        """A slot is dropped."""
+        """Drops a slot."""
         self.slots.drop(found["$name"][0])
         return frames.complete("DROP_REPLICATION_SLOT")
 
 
 def publications(catalog: Catalog, found: Found) -> bytes:
-    """Which of some publications are there."""
+    """Which of these publications exist."""
     listed = [(name,) for name in found["$names"] if name in catalog.publications]
     return frames.selected([("pubname", TEXT)], listed)
 
 
 def tables(catalog: Catalog, found: Found, width: int) -> bytes:
-    """The tables that some publications carry, with this many columns of the answer."""
+    """The tables that these publications carry, with this many columns of the answer."""
     columns = [("schemaname", TEXT), ("tablename", TEXT), ("attnames", NAMES)]
     listed = [(it.schema, it.name, array(it.columns))[:width] for it in catalog.tables_of(found["$names"])]
     return frames.selected(columns[:width], listed)

@@ -1,4 +1,4 @@
-"""What the catalog of pgshard serve says of publications, tables and subscriptions, for subscribers that ask."""
+"""What the catalog of pgshard serve says about publications, tables and subscriptions, for subscribers that ask."""
 
 from collections.abc import Iterator, Sequence
 from dataclasses import dataclass, field, replace
@@ -53,7 +53,7 @@ class Catalog:
                 self.subscriptions.append(stored(statement[2]))
 
     def take_table(self, statement: list[str]) -> None:
-        """Takes over what a statement says of a table."""
+        """Adds what a statement says about a table."""
         if is_first(statement, "CREATE", "TABLE"):
             self.tables.append(table_of(statement[2:], FIRST_OID + len(self.tables)))
         elif is_first(statement, "CREATE", "UNIQUE", "INDEX"):
@@ -67,7 +67,7 @@ class Catalog:
             self.put(table, with_identity(table, tokens))
 
     def put(self, before: Table, after: Table) -> None:
-        """Puts a table in another's place."""
+        """Replaces a table by another."""
         self.tables[self.tables.index(before)] = after
 
     def table(self, schema: str, name: str) -> Table:
@@ -78,7 +78,7 @@ class Catalog:
         raise LookupError(name)
 
     def carried(self, tokens: list[str]) -> list[Table]:
-        """The tables of what follows a publication's name."""
+        """The tables in the clause after a publication's name."""
         if is_first(tokens, "FOR", "ALL"):
             return self.tables
         schemas, names = objects_of(tokens[1:] if is_first(tokens, "FOR") else [])
@@ -96,19 +96,19 @@ def is_first(tokens: Sequence[str], *words: str) -> bool:
 
 
 def without_only(tokens: list[str]) -> list[str]:
-    """Without ONLY, which changes nothing."""
+    """The tokens without ONLY, which has no effect."""
     return tokens[1:] if is_first(tokens, "ONLY") else tokens
 
 
 def name_of(tokens: Sequence[str]) -> Name:
-    """The schema and the name at the front of some tokens."""
+    """The schema and the name at the beginning of some tokens."""
     if tokens[1:2] == ["."]:
         return stored(tokens[0]), stored(tokens[2])
     return "public", stored(tokens[0])
 
 
 def table_of(tokens: list[str], oid: int) -> Table:
-    """The table of what follows CREATE TABLE."""
+    """The table of the tokens after CREATE TABLE."""
     types: list[tuple[str, int]] = []
     key: list[str] = []
     for element in elements_of(tokens[tokens.index("(") + 1:-1]):
@@ -147,7 +147,7 @@ def objects_of(tokens: list[str]) -> tuple[set[str], set[Name]]:
 
 
 def elements_of(tokens: Sequence[str]) -> Iterator[list[str]]:
-    """The parts of a list that commas outside of parentheses separate, up to WITH."""
+    """The elements of a list, separated by commas outside of parentheses, up to WITH."""
     element: list[str] = []
     depth = 0
     for token in tokens:

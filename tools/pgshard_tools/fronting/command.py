@@ -121,7 +121,7 @@ def address(word: str) -> ipaddress.IPv4Address | ipaddress.IPv6Address:
 
 
 def password(path: str) -> Password:
-    """The password at the front of a file."""
+    """The password in the first line of a file."""
     try:
         with open(path, encoding="ascii") as file:
             word = file.readline().rstrip("\r\n")
@@ -133,7 +133,7 @@ def password(path: str) -> Password:
 
 
 def catalog(path: str) -> Catalog:
-    """The catalog at the front of a file, which a line %% ends."""
+    """The catalog at the beginning of a file, up to a line %%."""
     try:
         with open(path, encoding="utf-8", newline="") as file:
             text = file.read()
@@ -165,7 +165,7 @@ def run(words: Sequence[str]) -> int:
 
 
 async def serve(options: argparse.Namespace) -> int:
-    """Serves clients until a signal asks it to end."""
+    """Serves clients until a signal ends it."""
     slots = Slots(options.catalog.subscriptions if options.catalog is not None else None)
     front = Front(
         Answers(options.told, options.catalog, slots),
@@ -180,5 +180,5 @@ async def serve(options: argparse.Namespace) -> int:
 
 
 def tell(port: int) -> None:
-    """Says that clients may connect."""
+    """Prints that clients can connect."""
     print(f"listening {port}", flush=True)

@@ -1,4 +1,4 @@
-"""What a subscriber asks when it copies a table, answered for the beginning of the log, where tables are empty."""
+"""The queries of a subscriber that copies a table, answered as of the beginning of the log, where tables are empty."""
 
 from pgshard_tools.fronting import frames
 from pgshard_tools.fronting.catalog import Catalog, Table
@@ -30,7 +30,7 @@ COPY = Form("COPY $schema.$table ($rest")
 
 
 class Copying:
-    """The answers of a catalog, which are None if no table is meant."""
+    """The answers from a catalog; None if the query is about no table of it."""
 
     def __init__(self, catalog: Catalog) -> None:
         self.catalog = catalog
@@ -46,13 +46,13 @@ class Copying:
         return frames.selected([("attrs", VECTOR)], [(None,)])
 
     def columns(self, found: Found) -> bytes:
-        """A table's columns, with their types, and which are its replica identity."""
+        """A table's columns, with their types, and which of them are in the replica identity."""
         listed = [row for it in self.catalog.tables if str(it.oid) == found["$oid"][0] for row in columns_of(it)]
         described = [("attnum", SMALLINT), ("attname", TEXT), ("atttypid", OID), ("?column?", BOOLEAN)]
         return frames.selected(described, listed)
 
     def row_filters(self, found: Found) -> bytes:
-        """No filter is told about, since there are no rows."""
+        """Reports no filter, since there are no rows."""
         return frames.selected([("pg_get_expr", TEXT)], [(None,)])
 
     def copy(self, found: Found) -> bytes | None:

@@ -40,7 +40,7 @@ def number(tokens: Sequence[Token]) -> Reading:
 
 
 def rest(tokens: Sequence[Token]) -> Reading:
-    """All that is left, which may be nothing."""
+    """All remaining tokens, if any."""
     return len(tokens), [token.text for token in tokens]
 
 
@@ -50,13 +50,13 @@ PLACES: dict[str, Callable[[Sequence[Token]], Reading]] = {
 
 
 class Form:
-    """A query's words, with `$` before what differs from query to query."""
+    """The words of a query, with `$` before the parts that differ from query to query."""
 
     def __init__(self, words: str) -> None:
         self.tokens = tokens_of(words)
 
     def match(self, tokens: Sequence[Token]) -> Found | None:
-        """What a query of this form has at its places, or None if it has another form."""
+        """The parts of a query of this form, or None if it has another form."""
         found: Found = {}
         at = 0
         for wanted in self.tokens:
@@ -74,5 +74,5 @@ class Form:
 
 
 def is_same(token: Token, wanted: Token) -> bool:
-    """Whether a token is the one of a form; a keyword may not be quoted."""
+    """Whether a token is that of the form; a keyword may not be quoted."""
     return token.kind is wanted.kind and token.text == wanted.text

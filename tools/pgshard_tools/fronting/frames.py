@@ -21,12 +21,12 @@ Frame = tuple[bytes, bytes]
 
 
 def frame(kind: bytes, body: bytes = b"") -> bytes:
-    """A frame of a kind."""
+    """A frame of this kind."""
     return kind + struct.pack("!I", len(body) + 4) + body
 
 
 def text(word: str) -> bytes:
-    """A string with its zero byte. What has a zero byte or is not UTF-8 is shown by question marks."""
+    """A string with its zero byte. Zero bytes and what is not UTF-8 are replaced by question marks."""
     return word.encode(errors="replace").replace(b"\0", b"?") + b"\0"
 
 
@@ -42,7 +42,7 @@ def parameter(name: str, value: str) -> bytes:
 
 
 def authentication(code: int, body: bytes = b"") -> bytes:
-    """A request or an answer about the client's authentication."""
+    """A message about the client's authentication."""
     return frame(b"R", struct.pack("!I", code) + body)
 
 
@@ -57,7 +57,7 @@ def complete(tag: str) -> bytes:
 
 
 def rows(columns: Sequence[tuple[str, int]], listed: Sequence[tuple[str | None, ...]], tag: str) -> bytes:
-    """The answer of a query: its columns with the OIDs of their types, and its rows."""
+    """The answer to a query: the columns with the OIDs of their types, and the rows."""
     described = b"".join(text(name) + struct.pack("!IHIhih", 0, 0, oid, -1, -1, 0) for name, oid in columns)
     answer = [frame(b"T", struct.pack("!H", len(columns)) + described)]
     answer += [frame(b"D", struct.pack("!H", len(row)) + b"".join(map(cell, row))) for row in listed]
@@ -65,7 +65,7 @@ def rows(columns: Sequence[tuple[str, int]], listed: Sequence[tuple[str | None, 
 
 
 def selected(columns: Sequence[tuple[str, int]], listed: Sequence[tuple[str | None, ...]]) -> bytes:
-    """The answer of a SELECT."""
+    """The answer to a SELECT."""
     return rows(columns, listed, f"SELECT {len(listed)}")
 
 
@@ -78,13 +78,13 @@ def cell(value: str | None) -> bytes:
 
 
 def empty_copy(columns: int) -> bytes:
-    """The answer of a COPY TO STDOUT of no rows, in text format."""
+    """The answer to a COPY TO STDOUT of no rows, in text format."""
     response = frame(b"H", struct.pack("!BH", 0, columns) + bytes(2 * columns))
     return response + frame(COPY_DONE) + complete("COPY 0")
 
 
 def copy_both() -> bytes:
-    """CopyBothResponse, by which a stream begins."""
+    """CopyBothResponse, which begins a stream."""
     return frame(COPY_BOTH, bytes(3))
 
 
@@ -99,7 +99,7 @@ def xlog_data(position: int, message: bytes) -> bytes:
 
 
 def keepalive(position: int, wants_reply: bool = False) -> bytes:
-    """Tells a client how far it is."""
+    """A keepalive, which tells a client the position up to which it was sent the log."""
     return frame(COPY_DATA, KEEPALIVE + struct.pack("!QQB", position, clock(), wants_reply))
 
 
@@ -109,5 +109,5 @@ def status(position: int, wants_reply: bool) -> bytes:
 
 
 def position_text(position: int) -> str:
-    """A position as a pg_lsn is written."""
+    """A position, written as a pg_lsn."""
     return f"{position >> 32:X}/{position & 0xFFFFFFFF:X}"

@@ -1,4 +1,4 @@
-"""A client's first packets, up to its password: what it wants, and whether it may have it."""
+"""A client's first packets, up to its password: what it wants, and whether it is admitted."""
 
 import secrets
 import ssl
@@ -29,7 +29,8 @@ class Denied(Exception):
 
 @dataclass(frozen=True)
 class Terms:
-    """On what terms clients are let in: a password and TLS, if they are asked for, and how much time they have."""
+    """The terms on which clients are admitted: a password and TLS, if these are required, and the time that they
+    have."""
 
     password: Password | None
     tls: ssl.SSLContext | None
@@ -38,7 +39,7 @@ class Terms:
 
 @dataclass(frozen=True)
 class Guest:
-    """What a client said of itself."""
+    """What a client said about itself."""
 
     user: str
     database: str
@@ -47,7 +48,7 @@ class Guest:
 
 
 async def greet(client: Peer, terms: Terms) -> Guest | None:
-    """Takes a client's startup packet and its password. None if it only wanted to cancel something."""
+    """Reads a client's startup packet and its password. None if it only wanted to cancel a query."""
     packet = await first_packet(client, terms)
     if packet[:4] == CANCEL:
         return None
@@ -66,7 +67,7 @@ async def greet(client: Peer, terms: Terms) -> Guest | None:
 
 
 async def first_packet(client: Peer, terms: Terms) -> bytes:
-    """The packet after those that ask for encryption, each of which may come once."""
+    """The packet after those that request encryption, each of which may come once."""
     asked = {TLS, GSS}
     is_secure = False
     while (packet := await client.startup_body()) in asked:
@@ -97,7 +98,7 @@ async def authenticate(client: Peer, password: Password, user: str) -> None:
 
 
 async def password_body(client: Peer) -> bytes:
-    """What a client says of its password."""
+    """What a client sends about its password."""
     kind, body = await client.frame()
     if kind != PASSWORD:
         raise Denied("08P01", "expected a password message")

@@ -23,7 +23,7 @@ PROBES = {"TCP_KEEPIDLE": 60, "TCP_KEEPINTVL": 10, "TCP_KEEPCNT": 3}
 
 
 class Lost(Exception):
-    """A connection is of no further use, for the reason that it says."""
+    """A connection is lost, for this reason."""
 
     def __init__(self, peer: "Peer", words: str) -> None:
         super().__init__(f"{peer.name} {words}")
@@ -31,7 +31,8 @@ class Lost(Exception):
 
 
 class Peer(asyncio.Protocol):
-    """A connection that lasts until the other end closes it, sends what is no frame, or takes nothing for too long."""
+    """A connection, which lasts until the other end closes it, sends something that is not a frame, or reads nothing
+    for too long."""
 
     transport: asyncio.Transport
 
@@ -62,14 +63,14 @@ class Peer(asyncio.Protocol):
         self.on_made(self)
 
     def data_received(self, data: bytes) -> None:
-        """Keeps what has come."""
+        """Keeps the bytes that have arrived."""
         self.waiting += data
         if len(self.waiting) >= MOST_WAITING:
             self.transport.pause_reading()
         self.news.set()
 
     def eof_received(self) -> None:
-        """The other end says nothing more, so that the connection is closed."""
+        """The other end will send nothing more, so the connection is closed."""
         self.end()
 
     def connection_lost(self, exc: Exception | None) -> None:
@@ -83,15 +84,15 @@ class Peer(asyncio.Protocol):
         self.room.set()
 
     def pause_writing(self) -> None:
-        """Too much waits to be sent."""
+        """Too many bytes wait to be sent."""
         self.room.clear()
 
     def resume_writing(self) -> None:
-        """What waited was sent."""
+        """The bytes that waited were sent."""
         self.room.set()
 
     def write(self, sent: bytes) -> None:
-        """Sends some bytes when they can be sent."""
+        """Sends some bytes, as soon as they can be sent."""
         if not self.ended.is_set():
             self.transport.write(sent)
 
@@ -117,7 +118,7 @@ class Peer(asyncio.Protocol):
         await self.news.wait()
 
     async def take(self, count: int) -> bytes:
-        """The next bytes, this many."""
+        """The next bytes, exactly this many."""
         while len(self.waiting) < count:
             await self.fill()
         taken = bytes(self.waiting[:count])
@@ -133,13 +134,13 @@ class Peer(asyncio.Protocol):
         return (await self.frames(most=1))[0]
 
     async def frames(self, most: int | None = None) -> list[Frame]:
-        """The frames that are whole, at least one, and at most this many."""
+        """Complete frames, at least one and at most this many."""
         while not (found := self.whole_frames(most)):
             await self.fill()
         return found
 
     def whole_frames(self, most: int | None) -> list[Frame]:
-        """The frames that are whole, taken out of what has come. One of an invalid length is answered when it is the
+        """The complete frames among the bytes that have arrived. A frame of invalid length is answered once it is the
         first."""
         found: list[Frame] = []
         at = 0
@@ -156,19 +157,19 @@ class Peer(asyncio.Protocol):
 
     @staticmethod
     def is_valid(number: bytes | bytearray, longest: int) -> bool:
-        """Whether a length can be one."""
+        """Whether a frame may have this length."""
         return 4 <= int.from_bytes(number, "big", signed=True) <= longest + 4
 
     def length_of(self, number: bytes | bytearray, longest: int) -> int:
-        """How many bytes come after a length."""
+        """How many bytes follow a length."""
         if not self.is_valid(number, longest):
             self.write(frames.error("08P01", "invalid message length", severity="FATAL"))
             raise Lost(self, "sent a frame of an invalid length")
         return int.from_bytes(number, "big") - 4
 
     async def secure(self, context: ssl.SSLContext, seconds: float) -> None:
-        """Goes on by TLS, which the client has asked for. Bytes that came with that request would be taken for
-        encrypted ones, so that they end the connection."""
+        """Continues with TLS, which the client has requested. Bytes that came with the request would be taken for
+        encrypted ones, so they end the connection."""
         if self.waiting:
             raise Lost(self, "sent bytes before the TLS handshake")
         self.transport.pause_reading()
@@ -183,7 +184,7 @@ class Peer(asyncio.Protocol):
         self.transport = secured
 
     def close(self) -> None:
-        """Ends the connection once what was sent has gone, or has had some time to go."""
+        """Ends the connection when everything was sent, or after some time."""
         if hasattr(self, "transport") and not self.transport.is_closing():
             self.transport.close()
             asyncio.get_running_loop().call_later(min(self.patience, 5), self.transport.abort)

@@ -1,4 +1,4 @@
-"""What a slot's clients were sent, kept in a temporary file, so that it can be sent again from its beginning."""
+"""Keeps what the clients of a slot were sent in a temporary file, so that it can be sent again from the beginning."""
 
 import asyncio
 import os
@@ -29,7 +29,7 @@ PIECE = 1 << 20
 
 
 class Spool:
-    """A temporary file that all recordings write to, and that is gone with the program."""
+    """A temporary file to which all recordings are written, and which is removed with the program."""
 
     def __init__(self) -> None:
         self.file = tempfile.TemporaryFile(buffering=0)
@@ -44,12 +44,12 @@ class Spool:
         return begin
 
     def read(self, begin: int, length: int) -> bytes:
-        """The bytes that were written at a place."""
+        """The bytes at a place of the file."""
         return os.pread(self.file.fileno(), length, begin)
 
 
 class Recording:
-    """The transactions of a slot, from a position on and without a gap."""
+    """The transactions of a slot from a position on, without a gap."""
 
     def __init__(self, spool: Spool) -> None:
         self.spool = spool
@@ -70,11 +70,11 @@ class Recording:
         self.grown = asyncio.Event()
 
     def covers(self, position: int) -> bool:
-        """Whether all is here from a position on."""
+        """Whether everything from a position on is recorded."""
         return self.begin is not None and self.begin <= max(position, BEGIN_OF_LOG) and self.fault is None
 
     def fits(self, position: int) -> bool:
-        """Whether there is no gap where a stream comes from a position on."""
+        """Whether a stream that starts at a position leaves no gap."""
         return (self.begin is None or self.begin <= max(position, BEGIN_OF_LOG)) and position <= self.reach
 
     def take(self, told: Sequence[Frame]) -> None:
@@ -95,7 +95,7 @@ class Recording:
         self.grown = asyncio.Event()
 
     def end(self, why: str) -> None:
-        """Ends the recording; readers get the reason."""
+        """Ends the recording, and gives readers the reason."""
         self.fault = self.fault or why
         self.announce()
 
@@ -108,7 +108,7 @@ class Recording:
             self.open.clear()
 
     def take_keepalive(self, position: int) -> None:
-        """Remembers how far the client is. Before anything else it says from where the stream comes."""
+        """Remembers the position in a keepalive. Before anything else was sent, it is where the stream starts."""
         if self.reach == 0:
             self.begin = position
         self.reach = max(self.reach, position)
@@ -131,14 +131,14 @@ class Recording:
             self.position = None
 
     def forget_unfinished(self) -> None:
-        """Forgets what was recorded of a transaction whose end did not come."""
+        """Drops what was recorded of a transaction whose end has not arrived."""
         self.open.clear()
         while self.positions and self.positions[-1] >= self.recorded:
             for column in self.positions, self.places, self.lengths:
                 column.pop()
 
     def keep(self, position: int) -> None:
-        """Writes what there is of a transaction."""
+        """Writes the part of a transaction that has arrived."""
         place = self.spool.append(self.open)
         self.positions.append(position)
         self.places.append(place)
@@ -146,8 +146,8 @@ class Recording:
         self.open.clear()
 
     def from_position(self, position: int) -> Iterator[bytes]:
-        """What was recorded of the transactions from a position on, with the Relations of all tables in the first, as
-        at the beginning of each stream. What is recorded in the meantime comes too."""
+        """The recorded transactions from a position on, with the Relations of all tables in the first one, as at the
+        beginning of each stream. This includes what is recorded in the meantime."""
         first = at = bisect_left(self.positions, position)
         while at < len(self.positions) and self.positions[at] < self.recorded:
             piece = self.spool.read(self.places[at], self.lengths[at])

@@ -1,5 +1,5 @@
-"""Authentication by a password that is never sent: SCRAM-SHA-256, as RFC 5802 and RFC 7677 have it ("55.3. SASL
-Authentication"). No channel is bound."""
+"""Authentication by a password that is never sent: SCRAM-SHA-256, by RFC 5802 and RFC 7677 ("55.3. SASL
+Authentication"), without channel binding."""
 
 import base64
 import binascii
@@ -15,11 +15,11 @@ HEADERS = ("n", "y")
 
 
 class NotAuthentic(Exception):
-    """The client does not know the password, or does not keep to the protocol."""
+    """The client does not know the password, or violates the protocol."""
 
 
 class Password:
-    """What a server keeps of a password."""
+    """What a server stores of a password."""
 
     def __init__(self, password: str) -> None:
         self.salt = secrets.token_bytes(16)
@@ -51,7 +51,7 @@ class Exchange:
         return answer.encode()
 
     def last_answer(self, message: bytes) -> bytes:
-        """The server's last message, after a client's last that proves that it knows the password."""
+        """The server's last message, if the client's last message proves that it knows the password."""
         text = text_of(message)
         without_proof, _, proof = text.rpartition(",")
         binding, nonce = split(without_proof, 2)
@@ -72,12 +72,12 @@ def signed(key: bytes, message: bytes) -> bytes:
 
 
 def text_of(message: bytes) -> str:
-    """A message's text. A user's name may have any bytes, and counts for nothing."""
+    """The text of a message. A user's name may have any bytes, and is ignored."""
     return message.decode("latin-1")
 
 
 def split(text: str, count: int) -> list[str]:
-    """This many parts with commas between them; the last one may have more."""
+    """This many parts, separated by commas; the last one may contain further commas."""
     parts = text.split(",", count - 1)
     if len(parts) != count:
         raise NotAuthentic("a message of SCRAM lacks a part")

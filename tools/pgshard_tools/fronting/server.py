@@ -29,7 +29,7 @@ logger = logging.getLogger("front")
 
 @dataclass
 class Front:
-    """The clients of a front. One whose connection ends, whatever the reason, is one line of the log."""
+    """The clients of a front. When a connection ends, for whatever reason, the log gets one line."""
 
     answers: Answers
     backend: Backend
@@ -68,7 +68,7 @@ class Front:
         task.add_done_callback(partial(self.ended, session, address))
 
     def make_room(self) -> bool:
-        """Ends the oldest connection that is not in a stream, so that nobody keeps subscribers out by doing nothing."""
+        """Ends the oldest connection that is not in a stream, so that idle clients keep no subscriber out."""
         for session in self.sessions:
             if not session.is_streaming:
                 self.end(session, TOO_MANY)
@@ -76,13 +76,13 @@ class Front:
         return False
 
     def end(self, session: Session, farewell: Denied) -> None:
-        """Ends a connection from this side, and sends its client the reason."""
+        """Ends a connection, and sends its client the reason."""
         session.client.write(farewell.response)
         session.client.close()
         self.sessions.pop(session).cancel(str(farewell))
 
     def ended(self, session: Session, address: str, task: "asyncio.Task[str]") -> None:
-        """Logs how a connection ended. A fault of the front itself ends that connection alone."""
+        """Logs how a connection ended. A fault of the front itself ends only that connection."""
         self.sessions.pop(session, None)
         session.client.close()
         if task.cancelled():
@@ -94,13 +94,13 @@ class Front:
 
 
 def name_of(client: Peer) -> str:
-    """Where a client is."""
+    """A client's address."""
     name = client.transport.get_extra_info("peername")
     return f"{name[0]}:{name[1]}" if name else "nowhere"
 
 
 def most_clients() -> int:
-    """How many clients there may be with the files that the process may open."""
+    """How many clients the number of files that the process may open allows."""
     most, _ = resource.getrlimit(resource.RLIMIT_NOFILE)
     if most == resource.RLIM_INFINITY:
         return MOST_CLIENTS
@@ -108,6 +108,6 @@ def most_clients() -> int:
 
 
 def tell_fault(loop: asyncio.AbstractEventLoop, context: dict[str, object]) -> None:
-    """Logs what is no connection's own end, such as that no more files can be opened."""
+    """Logs a fault that is not the end of a connection, such as that no more files can be opened."""
     fault = context.get("exception")
     logger.warning("%s%s", context["message"], f": {fault}" if fault else "")

@@ -36,7 +36,7 @@ TOO_LATE = frames.error("57014", "canceling authentication due to timeout", seve
 
 @dataclass(frozen=True)
 class Backend:
-    """Where pgshard serve listens, how many seconds it has for an answer, and how many a client in a stream may be
+    """The port of pgshard serve, how many seconds it has for an answer, and how many a client in a stream may be
     silent."""
 
     port: int
@@ -45,7 +45,7 @@ class Backend:
 
 
 class Session:
-    """A client that is answered until it starts streams, and then between them."""
+    """A client, which is answered until it starts a stream, and between streams."""
 
     def __init__(self, client: Peer, answers: Answers, backend: Backend, terms: Terms, number: int) -> None:
         self.client = client
@@ -60,7 +60,7 @@ class Session:
         self.is_streaming = False
 
     async def run(self) -> str:
-        """Serves the client until one of both ends. Returns how it ended."""
+        """Serves the client until either side ends. Returns how it ended."""
         try:
             return await self.serve()
         except Lost as lost:
@@ -72,7 +72,7 @@ class Session:
             return str(denied)
 
     async def serve(self) -> str:
-        """Lets the client in, and answers its queries. Returns how it ended."""
+        """Admits the client, and answers its queries. Returns how it ended."""
         try:
             async with asyncio.timeout(self.terms.seconds):
                 guest = await greet(self.client, self.terms)
@@ -88,7 +88,7 @@ class Session:
         return "the client ended the connection"
 
     async def answer_queries(self) -> None:
-        """Answers queries up to the end that the client asks for. After each the other clients have their turn."""
+        """Answers queries until the client ends. After each, the other clients get their turn."""
         while True:
             await asyncio.sleep(0)
             kind, body = await self.client.frame()
@@ -107,13 +107,13 @@ class Session:
                 raise Denied("08P01", f"invalid frontend message type {kind[0]}")
 
     async def skip_to_sync(self) -> None:
-        """Passes over what belongs to a query of the extended protocol."""
+        """Skips the messages of a query of the extended protocol."""
         while (await self.client.frame())[0] != SYNC:
             pass
         await self.client.send(frames.ready())
 
     async def answer_query(self, query: str) -> bool:
-        """Answers a query, or serves a stream. Returns whether the connection goes on."""
+        """Answers a query, or serves a stream. Returns whether the connection continues."""
         try:
             tokens = tokens_of(query)
             start = start_of(query, tokens, self.answers.version.startswith("15."))
@@ -134,7 +134,7 @@ class Session:
             self.is_streaming = False
 
     async def wait_for_slot(self, tokens: Sequence[Token]) -> None:
-        """Waits for a while until a slot is free that is to be dropped then."""
+        """Waits a while for a slot that is to be dropped to become free."""
         found = DROP_FREE_SLOT.match(tokens)
         slot = self.slots.known.get(found["$name"][0]) if found is not None else None
         if slot is not None:
@@ -145,7 +145,7 @@ class Session:
                 pass
 
     async def copy(self, start: Start) -> bool:
-        """Serves the stream by which a subscriber catches up that has copied a table."""
+        """Serves the stream with which a subscriber that has copied a table catches up."""
         slot = self.slots.copied(start)
         self.story = f"{slot.name}, a copy, from {position_text(start.position)}"
         await self.client.send(frames.copy_both())
@@ -172,7 +172,7 @@ class Session:
             slot.is_free.set()
 
     async def relay(self, start: Start, slot: Slot, stream: Stream) -> bool:
-        """Starts a stream by a connection of its own to the publisher, and relays it."""
+        """Starts a stream on a new connection to the publisher, and relays it."""
         begin = slot.begin_of(start)
         if slot.recording.reach and not slot.recording.fits(begin):
             slot.recording.end(f"the slot continues from {position_text(begin)}")
@@ -200,7 +200,7 @@ class Session:
             publisher.close()
 
     async def resume(self, start: Start, slot: Slot, stream: Stream) -> bool:
-        """Starts a slot that was dropped, by what was recorded of it."""
+        """Starts a slot that was dropped, from its recording."""
         begin = slot.begin_of(start)
         opened: list[Peer] = []
 
@@ -224,8 +224,8 @@ class Session:
                 publisher.close()
 
     async def finish(self, is_done: bool) -> bool:
-        """Completes the command of a stream that is done, with both answers that a server gives: a subscriber that ends
-        a stream waits for the second."""
+        """Completes the command of a finished stream with both answers that a server gives: a subscriber that ends a
+        stream waits for the second one."""
         if is_done:
             await self.client.send(frames.complete("COPY 0") + frames.complete("START_REPLICATION"))
         return is_done
@@ -239,7 +239,7 @@ class Session:
             raise Refused("08001", f"no pgshard serve is at port {self.backend.port}: {why}") from fault
 
     async def answer_of(self, publisher: Peer, query: bytes) -> Frame:
-        """The publisher's answer, unless it takes too long, or the client is gone before it comes."""
+        """The publisher's answer, unless it takes too long, or the client leaves first."""
         await publisher.send(query)
         answer = asyncio.create_task(publisher.frame())
         gone = asyncio.create_task(self.client.ended.wait())
@@ -256,8 +256,8 @@ class Session:
             await asyncio.gather(answer, gone, return_exceptions=True)
 
     async def first_told(self, publisher: Peer, slot: Slot, begin: int) -> list[Frame]:
-        """The first frames of a stream whose slot has to be fresh. The first says from where the stream comes, which is
-        to be where it is wanted, and not later."""
+        """The first frames of a stream that has to start where it is requested. The first one, a keepalive, says where the
+        stream starts; a later start is refused."""
         try:
             async with asyncio.timeout(self.backend.seconds):
                 told = await publisher.frames()

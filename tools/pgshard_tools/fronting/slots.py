@@ -24,7 +24,7 @@ ANEW = "Restart pgshard serve and tools/front together to start all slots from t
 
 
 class Refused(Exception):
-    """What a client asks of a slot is refused, by the ErrorResponse that it carries."""
+    """A request about a slot is refused, with this ErrorResponse."""
 
     def __init__(self, code: str, words: str, hint: str = "") -> None:
         super().__init__(words)
@@ -33,7 +33,7 @@ class Refused(Exception):
 
 @dataclass
 class Slot:
-    """A slot of the catalog that was asked for."""
+    """A slot of the catalog that a client has used."""
 
     name: str
     recording: Recording
@@ -51,11 +51,11 @@ class Slot:
         self.is_free.set()
 
     def begin_of(self, start: Start) -> int:
-        """From where a stream comes that is wanted from a position on."""
+        """Where a stream starts that is requested from a position on."""
         return max(start.position, self.confirmed)
 
     def why_not_afresh(self) -> str | None:
-        """Why it cannot be started from the log's beginning, if that is known."""
+        """Why it cannot be started from the beginning of the log, if that is known."""
         if self.recording.fault is not None:
             return self.recording.fault
         if self.recording.reach == 0 or self.recording.covers(BEGIN_OF_LOG):
@@ -67,7 +67,7 @@ class Slot:
 
 @dataclass
 class Slots:
-    """The slots that clients asked for, by their names."""
+    """The slots that clients have used, by name."""
 
     # The names that the catalog has, if it is known.
     names: list[str] | None
@@ -78,7 +78,7 @@ class Slots:
     copies: dict[str, bool] = field(default_factory=dict)
 
     def slot(self, name: str) -> Slot:
-        """A slot of the catalog, or one of which pgshard serve will say that it is not there."""
+        """A slot of the catalog, or one that pgshard serve will report as missing."""
         if self.names is not None and name not in self.names:
             raise Refused(
                 "42704", f'replication slot "{name[:63]}" does not exist',
@@ -86,7 +86,7 @@ class Slots:
         return self.known.get(name) or Slot(name, Recording(self.spool))
 
     def keep(self, slot: Slot) -> None:
-        """Keeps a slot that is there."""
+        """Keeps a slot that exists."""
         self.known[slot.name] = slot
 
     def make(self, name: str) -> None:
@@ -118,7 +118,7 @@ class Slots:
         slot.confirmed, slot.before = 0, slot.recording.reach
 
     def promise(self, slot: Slot, done: str) -> None:
-        """Promises that a slot starts from the beginning. If that is not known yet, its next start decides it."""
+        """Promises that a slot starts from the beginning. If that is not yet known, the next start decides."""
         why = slot.why_not_afresh()
         if why is not None:
             raise Refused(
@@ -132,7 +132,7 @@ class Slots:
         self.keep(slot)
 
     def copied(self, start: Start) -> Slot:
-        """The slot whose stream a subscriber needs that copies a table."""
+        """The slot whose stream a subscriber that copies a table needs."""
         if start.slot not in self.copies:
             raise Refused("42704", f'replication slot "{start.slot}" does not exist')
         for slot in self.known.values():

@@ -1,4 +1,4 @@
-"""START_REPLICATION as clients say it, and as pgshard serve takes it."""
+"""START_REPLICATION as clients send it, and as pgshard serve accepts it."""
 
 from collections.abc import Sequence
 from dataclasses import dataclass, replace
@@ -19,8 +19,8 @@ Option = tuple[Token, Token | None]
 
 @dataclass(frozen=True)
 class Start:
-    """A slot, the position from where its stream is wanted, and the options as they are written, with the publications
-    that they name."""
+    """A slot, the position from which its stream is requested, and the options as written, with the publications that
+    they name."""
 
     slot: str
     position: int
@@ -33,13 +33,13 @@ class Start:
         return replace(self, position=position)
 
     def query(self) -> str:
-        """What the publisher is sent."""
+        """The command that the publisher is sent."""
         return f"{self.before}{position_text(self.position)}{self.options}"
 
 
 def start_of(query: str, tokens: Sequence[Token], in_version_1: bool) -> Start | None:
-    """The start that a query is, if it is one. It is put into protocol version 1 if that is wanted, and its options are
-    read."""
+    """The start that a query requests, if it does. It is rewritten to protocol version 1 if that is wanted and its
+    options can be read."""
     if len(tokens) < HEAD or [tokens[at].text for at in (0, 1, 3)] != ["start_replication", "slot", "logical"]:
         return None
     position = position_of(tokens[4:HEAD])
@@ -55,7 +55,7 @@ def start_of(query: str, tokens: Sequence[Token], in_version_1: bool) -> Start |
 
 
 def position_of(tokens: Sequence[Token]) -> int | None:
-    """The position X/X that three tokens are."""
+    """The position X/X that three tokens spell."""
     high, slash, low = tokens
     is_whole = slash.is_mark("/") and high.end == slash.begin and slash.end == low.begin
     if not is_whole or not is_hexadecimal(high) or not is_hexadecimal(low):
@@ -64,12 +64,12 @@ def position_of(tokens: Sequence[Token]) -> int | None:
 
 
 def is_hexadecimal(token: Token) -> bool:
-    """Whether it is half of a position."""
+    """Whether a token is half of a position."""
     return token.kind is Kind.WORD and 1 <= len(token.text) <= 8 and set(token.text) <= set("0123456789abcdef")
 
 
 def options_of(tokens: Sequence[Token]) -> list[Option] | None:
-    """The names and values between parentheses, or None if they are not read."""
+    """The names and values between parentheses, or None if they cannot be read."""
     if len(tokens) < 3 or not tokens[0].is_mark("(") or not tokens[-1].is_mark(")"):
         return None
     options: list[Option] = []
@@ -89,7 +89,7 @@ def options_of(tokens: Sequence[Token]) -> list[Option] | None:
 
 
 def written_options(query: str, options: Sequence[Option]) -> list[str]:
-    """The options of the same start in version 1, without permissions."""
+    """The options of the same start in version 1, without those that only permit more."""
     written = []
     for name, value in options:
         word = name.text.lower()
@@ -102,5 +102,5 @@ def written_options(query: str, options: Sequence[Option]) -> list[str]:
 
 
 def names_of(listed: str) -> list[str]:
-    """The names of a list, as publication_names has them."""
+    """The names in a list, as in publication_names."""
     return [token.text for token in tokens_of(listed) if token.is_name()]

@@ -1,4 +1,4 @@
-"""A stream: what pgshard serve says is relayed to a client and recorded, or what was recorded is sent again."""
+"""A stream: what pgshard serve sends is relayed to a client and recorded, or a recording is sent again."""
 
 import asyncio
 import time
@@ -38,23 +38,21 @@ class Stream:
         self.position = 0
 
     async def relay(self, publisher: Peer, recording: Recording, told: Sequence[Frame]) -> bool:
-        """Relays a stream of pgshard serve, which has told something already. Returns whether both said that the
-        stream is done, so that the client's connection goes on."""
+        """Relays a stream of pgshard serve, which has already sent something. Returns whether both sides ended the
+        stream, so that the client's connection continues."""
         self.publisher = publisher
         return await self.run(self.relay_down(publisher, recording, told))
 
     async def repeat(self, recording: Recording, position: int) -> bool:
-        """Sends what was recorded from a position on and what is recorded in the meantime, for a subscriber that
-        catches
-        up."""
+        """Sends the recording from a position on, as it grows, to a subscriber that catches up."""
         return await self.run(self.repeat_down(recording, position))
 
     async def resume(self, recording: Recording, position: int, connect: Connect) -> bool:
-        """Sends what was recorded from a position on, and then relays what pgshard serve says after that."""
+        """Sends the recording from a position on, and then relays what pgshard serve sends after it."""
         return await self.run(self.resume_down(recording, position, connect))
 
     async def run(self, speaking: Awaitable[None]) -> bool:
-        """Speaks to the client, and listens to it and for its silence."""
+        """Sends to the client, listens to it, and watches for its silence."""
         up = asyncio.create_task(self.listen())
         down = asyncio.ensure_future(speaking)
         watch = asyncio.create_task(self.watch())
@@ -67,7 +65,7 @@ class Stream:
 
     async def follow(
             self, up: "asyncio.Future[bool]", down: "asyncio.Future[None]", watch: "asyncio.Future[None]") -> bool:
-        """Waits until both directions have ended, or one has for both."""
+        """Waits until both directions have ended, or one has ended both."""
         pending: set[asyncio.Future[Any]] = {up, down, watch}
         while not (up.done() and down.done()):
             limit = self.limit if up.done() else None
@@ -108,8 +106,8 @@ class Stream:
                 await self.client.send(frames.keepalive(self.position))
 
     async def watch(self) -> None:
-        """Asks a silent client for a sign of life, as a server does after half of wal_sender_timeout, and gives it up
-        when none comes."""
+        """Asks a silent client for a reply, as a server does after half of wal_sender_timeout, and disconnects it if
+        none comes."""
         asked = 0.0
         while True:
             silence = time.monotonic() - self.heard
@@ -126,7 +124,7 @@ class Stream:
                 await asyncio.sleep(self.patience / 2 - silence)
 
     async def relay_down(self, publisher: Peer, recording: Recording, told: Sequence[Frame] = ()) -> None:
-        """Relays what pgshard serve says, up to its end."""
+        """Relays what pgshard serve sends, to its end."""
         while True:
             said = [as_server_says(it) for it in told or await publisher.frames()]
             recording.take(said)
@@ -137,7 +135,7 @@ class Stream:
             told = ()
 
     async def replay(self, recording: Recording, position: int) -> None:
-        """Sends what was recorded from a position on, and how far that is."""
+        """Sends the recording from a position on, and then a keepalive with its end."""
         for piece in recording.from_position(position):
             await self.client.send(piece)
             if self.is_done.is_set():
@@ -148,9 +146,8 @@ class Stream:
         await self.client.send(frames.keepalive(self.position))
 
     async def repeat_down(self, recording: Recording, position: int) -> None:
-        """Sends what was recorded and, as it grows, what follows, until the client has what it wants. A subscriber
-        whose
-        connection is lost while a table catches up may want more than was recorded when this stream began."""
+        """Sends the recording, as it grows, until the client has what it needs. A subscriber whose connection is lost
+        while a table catches up may need more than was recorded when this stream began."""
         while not self.is_done.is_set():
             grown = recording.grown
             await self.replay(recording, position)
@@ -159,7 +156,7 @@ class Stream:
         await self.client.send(frames.frame(COPY_DONE))
 
     async def resume_down(self, recording: Recording, position: int, connect: Connect) -> None:
-        """Sends what was recorded, and goes on with what pgshard serve says from there on."""
+        """Sends the recording, and continues with what pgshard serve sends after it."""
         await self.replay(recording, position)
         publisher = await connect(recording.reach)
         if self.is_done.is_set():
@@ -170,7 +167,7 @@ class Stream:
 
 
 async def first_of(*events: asyncio.Event) -> None:
-    """Waits for one of some events."""
+    """Waits for one of several events."""
     waits = [asyncio.ensure_future(it.wait()) for it in events]
     try:
         await asyncio.wait(waits, return_when=asyncio.FIRST_COMPLETED)
@@ -180,7 +177,7 @@ async def first_of(*events: asyncio.Event) -> None:
 
 
 def position_of(told: Frame) -> int:
-    """The position that a frame tells a client to be at, if it is a Commit or a keepalive, and otherwise 0."""
+    """The position that a frame gives the client, if it is a Commit or a keepalive; otherwise 0."""
     kind, body = told
     if kind == COPY_DATA and body[:1] == XLOG_DATA and body[LETTER] == b"C":
         return number(body[COMMIT_END])
@@ -188,8 +185,8 @@ def position_of(told: Frame) -> int:
 
 
 def as_server_says(told: Frame) -> Frame:
-    """A frame with the positions that a server gives: a Commit comes with the end of its transaction, by which clients
-    know how far they are, and not with its own position."""
+    """A frame with the positions that a server sends: that of a Commit is the end of its transaction, which clients
+    confirm, and not its own position."""
     kind, body = told
     if kind == COPY_DATA and body[:1] == XLOG_DATA and body[LETTER] == b"C":
         body = body[:POSITIONS.start] + 2 * body[COMMIT_END] + body[POSITIONS.stop:]

@@ -1,4 +1,4 @@
-"""The words of a query, cut in one pass: the time is proportional to the length, whatever a client sends."""
+"""The words of a query, cut in one pass, in time proportional to its length, whatever a client sends."""
 
 import string
 from collections.abc import Iterator
@@ -13,11 +13,11 @@ MOST_TOKENS = 1_000
 
 
 class TooManyTokens(Exception):
-    """A query is longer than any that is answered."""
+    """The query is longer than any that is answered."""
 
 
 class Kind(Enum):
-    """What a token is."""
+    """The kind of a token."""
 
     WORD = auto()
     NAME = auto()
@@ -55,7 +55,7 @@ def tokens_of(query: str) -> list[Token]:
 
 
 def cut(query: str) -> Iterator[Token]:
-    """The tokens from the left. A quote that nothing closes is a mark, and the rest of the query with it."""
+    """The tokens from the left. A quote that is not closed is a mark, with the rest of the query."""
     at = 0
     while at < len(query):
         letter = query[at]
@@ -74,7 +74,7 @@ def cut(query: str) -> Iterator[Token]:
 
 
 def word_end(query: str, begin: int) -> int:
-    """Where the word ends that begins at a place, which is that place if no word begins there."""
+    """The end of the word that begins at a place; the place itself if no word begins there."""
     end = begin
     while end < len(query) and (query[end].isalnum() or query[end] in "_$"):
         end += 1

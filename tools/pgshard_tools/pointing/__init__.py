@@ -1,1 +1,1 @@
-"""What a person is told about a run of pgshard: where in the input a line of its output points, in a sentence."""
+"""Explains the output of a run of pgshard in sentences, with positions in the input."""

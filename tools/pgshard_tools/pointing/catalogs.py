@@ -1,4 +1,4 @@
-"""Where the tables and the publications of a catalog are made."""
+"""Where the tables and the publications of a catalog are created."""
 
 from pgshard_tools.judging.catalog_tokens import Table, placed_tokens, stored, table_of
 

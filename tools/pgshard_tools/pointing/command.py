@@ -1,4 +1,4 @@
-"""Runs pgshard, hands its output on as it comes, and then says what it points at, on standard error."""
+"""Runs pgshard, passes its output on as it comes, and then explains it on standard error."""
 
 import os
 import stat
@@ -23,8 +23,8 @@ MOST_LOOKED_AT = 1 << 26
 
 
 class Input:
-    """The input of a run, of which what the program reads is kept. A file is handed to the program as it is; of a pipe
-    or a terminal nothing is read before the program could read it."""
+    """The input of a run, of which everything that the program reads is kept. A file is passed to the program as it is.
+    A pipe or a terminal is read no earlier than the program could read it."""
 
     def __init__(self) -> None:
         self.is_pipe = not (stat.S_ISREG(os.fstat(0).st_mode) or stat.S_ISDIR(os.fstat(0).st_mode))
@@ -35,14 +35,14 @@ class Input:
         return subprocess.PIPE if self.is_pipe else None
 
     def begin(self, running: "subprocess.Popen[bytes]") -> None:
-        """Hands on what comes, beside the run."""
+        """Passes on what arrives, while the program runs."""
         if self.is_pipe:
             threading.Thread(target=self.hand_on, args=[running.stdin], daemon=True).start()
         elif stat.S_ISREG(os.fstat(0).st_mode):
             self.pieces.append(os.pread(0, MAX_BYTES + 1, 0))
 
     def hand_on(self, pipe: IO[bytes]) -> None:
-        """Until the input ends, or the program reads no more."""
+        """Passes on the input until it ends, or the program stops reading."""
         try:
             while piece := os.read(0, PIECE):
                 self.pieces.append(piece)
@@ -66,7 +66,7 @@ def main() -> int:
 
 
 def run(program: str, words: list[str]) -> int:
-    """The exit status of the run."""
+    """Runs the program, explains its output, and returns its exit status."""
     given = Input()
     status, output = handed_on(program, words, given)
     source = Source(name_of_input(), given.data(), files_of_input())
@@ -76,8 +76,8 @@ def run(program: str, words: list[str]) -> int:
 
 
 def handed_on(program: str, words: list[str], given: Input) -> tuple[int, bytes]:
-    """The status and the output of a run, whose output is written as it comes. If that fails, the program is not
-    read from any more, so that it finds the same failure."""
+    """The status and the output of a run, whose output is written as it comes. If that fails, no more of it is read, so
+    that the program meets the same failure."""
     kept = bytearray()
     running = subprocess.Popen([program, *words], stdin=given.handle(), stdout=subprocess.PIPE)
     printed = running.stdout

@@ -1,4 +1,4 @@
-"""What the lines of a run point at: `file:line:column: sentence`, or `pgshard: sentence` where there is no place."""
+"""Explains the lines of a run: `file:line:column: sentence`, or `pgshard: sentence` if there is no position."""
 
 import re
 
@@ -21,7 +21,7 @@ MOST_TOLD = 20
 
 
 def explained(words: list[str], source: Source, status: int, output: str) -> list[str]:
-    """What a person is told about a run, beside its output."""
+    """The sentences about a run."""
     subcommand = next((word for word in words if word in sentences.PARTS), "")
     lines = output.split("\n")[:-1]
     last = lines[-1] if lines else ""
@@ -42,7 +42,7 @@ def explained(words: list[str], source: Source, status: int, output: str) -> lis
 
 
 def of_input(subcommand: str, source: Source, line: str) -> str:
-    """An input that is not read."""
+    """The sentence about an input that cannot be read."""
     parts = source.parts()
     if (placed := PLACED.fullmatch(line)) is not None:
         part = parts[0 if placed[1] == "catalog" else 2]
@@ -66,7 +66,7 @@ def line_of(part: Part, number: int) -> tuple[int, str]:
 
 
 def of_rows(source: Source, words: list[str], lines: list[str]) -> list[str]:
-    """Rows that are not read or do not fit. If a name has a newline it is not known which line is which row's."""
+    """Rows that cannot be read or do not fit. If a name has a newline, it is unknown which line is about which row."""
     catalog, rows = source.parts()[:2]
     texts = rows.data.removesuffix(b"\n").split(b"\n")
     if len(texts) != len(lines):
@@ -89,7 +89,7 @@ def of_rows(source: Source, words: list[str], lines: list[str]) -> list[str]:
 
 
 def of_unfit(source: Source, columns: list[str], begin: int, row: str, fault: str, number: str | None) -> str:
-    """A row that does not fit its table, at the value that does not."""
+    """The sentence about a row that does not fit its table, at the value that is wrong."""
     sentence = sentences.ROWS.get(fault, fault)
     if number is None:
         return f"{source.at(begin)}: {sentence}"
@@ -101,14 +101,14 @@ def of_unfit(source: Source, columns: list[str], begin: int, row: str, fault: st
 
 
 def columns_of(catalog: Part, words: list[str]) -> list[str]:
-    """The names of the columns of the table that a word names, with its schema or as one of public."""
+    """The names of the columns of the table that a word names, with its schema or in public."""
     tables, _, _ = made_in(catalog.text)
     named = {name for word in words for name in (word, f"public.{word}")}
     return next((table.columns for _, table in tables if table.name in named), [])
 
 
 def of_tables(source: Source, output: str) -> list[str]:
-    """The tables that have no certificate."""
+    """The sentences about tables that have no certificate."""
     tables, _, subscriptions = made_in(source.parts()[0].text)
     found: list[str] = []
     at = 0
@@ -135,12 +135,12 @@ def why_not(made: Made) -> str:
 
 
 def at_character(source: Source, place: int) -> str:
-    """Where a character of the first part is."""
+    """The position of a character of the first part."""
     return source.at(len(source.parts()[0].text[:place].encode("utf-8", "surrogateescape")))
 
 
 def of_refusal(source: Source, line: str) -> list[str]:
-    """A sharding that is refused, or a publisher that cannot be closed."""
+    """The sentence about a sharding that is refused, or a publisher that cannot be closed."""
     parts = source.parts()
     tables, publications, _ = made_in(parts[0].text)
     if line.startswith("close "):
@@ -165,7 +165,7 @@ def of_refusal(source: Source, line: str) -> list[str]:
 
 
 def of_table(source: Source, parts: list[Part], tables: list[tuple[int, Table]], line: str) -> list[str]:
-    """A sharding that is refused for a table or a node of its certificate."""
+    """The sentence about a sharding that is refused for a table or a node of its certificate."""
     for number, (place, table) in enumerate(tables):
         if line == f"refused NoIdentity {table.name}":
             return [f"{at_character(source, place)}: the replica identity of {table.name} does not identify its rows"]

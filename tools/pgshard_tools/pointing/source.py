@@ -1,4 +1,4 @@
-"""An input of pgshard: its parts, and the line and the column of a place."""
+"""An input of pgshard: its parts, and the line and the column of a position."""
 
 import os
 import re
@@ -9,7 +9,7 @@ from pgshard_tools.judging.catalog_tokens import TOKEN
 
 @dataclass(frozen=True)
 class Part:
-    """A part of an input, and where it begins there, in bytes."""
+    """A part of an input, and the byte of the input at which it begins."""
 
     data: bytes
     begin: int
@@ -21,14 +21,14 @@ class Part:
 
 @dataclass(frozen=True)
 class Source:
-    """An input, with the name that a person knows it by, or those of the files that are its parts."""
+    """An input, with its name, or the names of the files that are its parts."""
 
     name: str
     data: bytes
     files: tuple[str, ...] = ()
 
     def parts(self) -> list[Part]:
-        """The texts between the lines that are `%%` and nothing else."""
+        """The texts between the lines that are exactly `%%`."""
         found, begin = [], 0
         for line in re.finditer(rb"(?m)^%%(?:\n|\Z)", self.data):
             found.append(Part(self.data[begin:line.start()], begin))
@@ -36,7 +36,7 @@ class Source:
         return [*found, Part(self.data[begin:], begin)]
 
     def at(self, place: int) -> str:
-        """The file, the line and the column of a place in bytes. A column is counted in characters, from 1."""
+        """The file, the line and the column of a position in bytes. Columns are counted in characters, from 1."""
         name, begin = self.file_at(place)
         before = self.data[begin:place]
         begin = before.rfind(b"\n") + 1
