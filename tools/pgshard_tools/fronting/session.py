@@ -256,8 +256,8 @@ class Session:
             await asyncio.gather(answer, gone, return_exceptions=True)
 
     async def first_told(self, publisher: Peer, slot: Slot, begin: int) -> list[Frame]:
-        """The first frames of a stream that has to start where it is requested. The first one, a keepalive, says where the
-        stream starts; a later start is refused."""
+        """The first frames of a stream that has to start where it is requested. The first one, a keepalive, says where
+        the stream starts; a later start is refused."""
         try:
             async with asyncio.timeout(self.backend.seconds):
                 told = await publisher.frames()

@@ -1,1 +1,1 @@
-"""What tools/judge is made of: it reads a server, rewrites its filters, and has pgshard decide."""
+"""The modules of tools/judge, which reads a server, rewrites its filters, and has pgshard decide."""

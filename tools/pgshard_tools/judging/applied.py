@@ -1,4 +1,5 @@
-"""Calls of which more is known than that they are functions: what a comparison of their result means of an argument."""
+"""Calls about which more is known than that they are functions: what a comparison of the result says about an
+argument."""
 
 from dataclasses import dataclass, replace
 from typing import Sequence
@@ -65,7 +66,7 @@ def function(call: Call, form: str, arguments: Sequence[Operand], context: Conte
 
 
 def in_utc(form: str, moment: Ref, failing: Failing) -> Operand:
-    """A timestamptz in UTC is the timestamp of the same microsecond. Of the last one there is none."""
+    """A timestamptz in UTC is the timestamp of the same microsecond. The last one has none."""
     failing.note(form, moments.is_last(form, moment), moment.subject.columns)
     return Ref(moment.subject, "timestamp")
 
@@ -80,7 +81,7 @@ def own(form: str, call: Call, is_total: bool, arguments: Sequence[Operand]) -> 
 
 
 def part(call: Call, form: str, arguments: Sequence[Operand], context: Context) -> Operand | None:
-    """extract, or date_part; that of a date is that of its midnight, which not each date has as a timestamp."""
+    """extract, or date_part. For a date it is that of its midnight, which is not a timestamp for every date."""
     name = arguments[0].value if isinstance(arguments[0], Value) else None
     if not isinstance(name, str) or name not in PARTS[call.arguments[1]] or isinstance(arguments[1], Choice):
         return None
@@ -98,7 +99,7 @@ def part(call: Call, form: str, arguments: Sequence[Operand], context: Context) 
 
 
 def as_whole(form: str, type: str, operand: Operand, context: Context) -> Operand | None:
-    """A function with whole numbers as one of a type that has room for them."""
+    """A function with whole numbers as a value of a type that has room for them."""
     if type not in ("int4", "int8"):
         return None
     if isinstance(operand, Derived) and operand.too_large is not None:
@@ -128,7 +129,8 @@ def starts(text: Operand, prefix: Operand, meanings: Meanings) -> Formula | None
 
 def operator(call: Call, name: str, form: str, one: Operand, other: Operand, span: str | None,
              context: Context) -> Operand | None:
-    """An operator; `name` is that of which it is NOT, if it is one, and `span` the text of an interval on the right."""
+    """An operator. `name` is the operator of which it is the negation, if there is one, and `span` the text of an
+    interval on the right."""
     signature, meanings, failing = f"{name}({','.join(call.arguments)})", context.meanings, context.failing
     found: Formula | None = None
     if signature == "~~(text,text)" and isinstance(other, Value) and isinstance(other.value, str):
@@ -158,7 +160,7 @@ def moved(call: Call, form: str, one: Operand, other: Operand, span: str | None,
 
 
 def days_since(call: Call, form: str, one: Operand, other: Operand, failing: Failing) -> Operand | None:
-    """A date less one that is constant."""
+    """A date minus a constant date."""
     if not isinstance(other, Value) or other.value is None or not other.value.is_finite:
         return None
     ref = own(form, call, True, [one])
@@ -168,7 +170,7 @@ def days_since(call: Call, form: str, one: Operand, other: Operand, failing: Fai
 
 
 def nulls(arguments: Sequence[Operand], is_of_nulls: bool, null_of: comparing.NullOf, found: int = 0) -> Operand | None:
-    """How many arguments are NULL, or are not."""
+    """The number of arguments that are NULL, or that are not."""
     if len(arguments) > MOST_COUNTED:
         return None
     if not arguments:

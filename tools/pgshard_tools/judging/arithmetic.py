@@ -56,7 +56,7 @@ class Failure:
 
 @dataclass
 class Failing:
-    """What is noted while a filter is read: the conditions under which a part is evaluated, and where it fails."""
+    """What is recorded while a filter is read: the conditions under which a part is evaluated, and where it fails."""
 
     path: list[Formula] = field(default_factory=list)
     found: list[Failure] = field(default_factory=list)
@@ -71,7 +71,7 @@ class Failing:
 
 
 def is_arithmetic(name: str, arguments: Sequence[str]) -> bool:
-    """Whether an operator is one of numbers that is read here."""
+    """Whether an operator is an arithmetic operator that is read here."""
     if name not in OPERATORS:
         return False
     is_whole = all(it in INTEGERS for it in arguments)
@@ -101,14 +101,14 @@ def number_of(operand: Operand) -> int | None:
 
 
 def whole_of(operand: Operand) -> Whole | None:
-    """A column of whole numbers with what is done of it."""
+    """A column of whole numbers, with the steps that are applied to it."""
     if isinstance(operand, Ref) and operand.type in INTEGERS and operand.subject.type in INTEGERS:
         return Whole(operand.subject, (), operand.type, operand.subject.sql)
     return operand if isinstance(operand, Whole) and operand.type in INTEGERS else None
 
 
 def combined(form: str, op: str, one: Operand, other: Operand, type: str, failing: Failing) -> Operand:
-    """An operand for `one op other`, whose result is of a type."""
+    """An operand for `one op other`, whose result has this type."""
     for side in one, other:
         if isinstance(side, Value) and side.value is None:
             return Value(type, None)
@@ -127,7 +127,7 @@ def combined(form: str, op: str, one: Operand, other: Operand, type: str, failin
 
 
 def distributed(choice: Choice, change: Callable[[Operand], Operand], failing: Failing) -> Operand:
-    """What is done of a CASE, done in each branch; there it is evaluated where the branch is taken."""
+    """An operation on a CASE, applied in each branch, where it is evaluated only if the branch is taken."""
     taken = tested("TRUE", choice.condition)
     failing.path.append(taken)
     one = change(choice.one)
@@ -149,7 +149,7 @@ def folded(form: str, op: str, left: int, right: int, type: str) -> Value:
 
 
 def of_one_column(form: str, op: str, one: Operand, other: Operand, type: str) -> Whole | None:
-    """The next step, None if it is none of those that are known."""
+    """The next step, or None if it is not one of the known ones."""
     left, right = whole_of(one), whole_of(other)
     if left is not None and right is not None:
         return of_remainders(form, op, left, right, type)
@@ -163,7 +163,7 @@ def of_one_column(form: str, op: str, one: Operand, other: Operand, type: str) -
 
 
 def next_steps(form: str, op: str, number: int, is_turned: bool, type: str) -> tuple[Step, ...] | None:
-    """The steps of `x op number`, or of `number op x` where it is turned."""
+    """The steps of `x op number`, or of `number op x` if it is turned around."""
     if op in "/%" and not is_turned and number == 0:
         raise Unread(form, BY_ZERO)
     match op:
@@ -185,7 +185,7 @@ def next_steps(form: str, op: str, number: int, is_turned: bool, type: str) -> t
 
 
 def masking(number: int) -> tuple[Step, ...] | None:
-    """x & -2^k takes the last k bits away; of other masks those are read that are not negative."""
+    """x & -2^k clears the last k bits. Other masks are read if they are not negative."""
     if number >= 0:
         return (Mask(number),)
     bits = (-number).bit_length() - 1
@@ -193,7 +193,8 @@ def masking(number: int) -> tuple[Step, ...] | None:
 
 
 def of_remainders(form: str, op: str, left: Whole, right: Whole, type: str) -> Whole | None:
-    """Two results that go by remainders of one column go by its remainder by a common multiple of the moduli."""
+    """Two results that depend on remainders of one column depend on its remainder by a common multiple of the
+    moduli."""
     moduli = [steps.modulus_of(it.steps) for it in (left, right)]
     known = [it for it in moduli if it is not None]
     if left.subject != right.subject or len(known) < 2 or op == ">>":
@@ -224,7 +225,7 @@ def note_failures(form: str, found: Whole, failing: Failing) -> None:
 
 
 def is_never(formula: Formula) -> bool:
-    """Whether a comparison holds of no number of its type, at a glance."""
+    """Whether a comparison obviously holds for no number of its type."""
     if isinstance(formula, Remainder):
         return not formula.ranges
     is_below = isinstance(formula, Compare) and formula.op == "<" and formula.subject.type in INTEGERS
@@ -232,8 +233,7 @@ def is_never(formula: Formula) -> bool:
 
 
 def of_columns(form: str, op: str, one: Operand, other: Operand, type: str, failing: Failing) -> Operand:
-    """Arithmetic that gets a column of its own: NULL exactly where one side is, and where the server fails it is
-    anything."""
+    """Arithmetic that gets a column of its own: NULL exactly if one side is, and any value where the server fails."""
     if not (type in NUMBERS and op in OPERATORS):
         raise Unread(form, "it is not arithmetic that judge knows")
     found = functions.opaque(form, type, True, (one, other))
@@ -244,7 +244,8 @@ def of_columns(form: str, op: str, one: Operand, other: Operand, type: str, fail
 
 
 def where_zero(op: str, one: Operand, other: Operand, type: str) -> Formula | None:
-    """Where the divisor is 0, if a division fails just there. The least number divided by -1 does not fit its type."""
+    """Where the divisor is 0, if a division fails exactly there. The least number divided by -1 does not fit its
+    type."""
     divisor, left = whole_of(other), bounds_of(one, type_bounds)
     if op not in "/%" or type not in INTEGERS or divisor is None:
         return None
@@ -257,7 +258,8 @@ def where_zero(op: str, one: Operand, other: Operand, type: str) -> Formula | No
 
 
 def type_bounds(subject: Subject) -> Bounds:
-    """The ends of a column's type. NaN and infinity make no numeric fail; one with a limit has no infinity at all."""
+    """The ends of a column's type. NaN and infinity make no numeric fail, and a numeric with a limit has no
+    infinity."""
     if subject.type in INTEGERS:
         low, high = numbers_of(subject.type)
         return Fraction(low), Fraction(high)
@@ -269,7 +271,7 @@ def type_bounds(subject: Subject) -> Bounds:
 
 
 def is_within(op: str, one: Operand, other: Operand, type: str, bounds: BoundsOf) -> bool:
-    """Whether the results of all numbers of the sides fit the type, and no divisor is 0."""
+    """Whether the results for all numbers of both sides fit the type, and no divisor is 0."""
     left, right = bounds_of(one, bounds), bounds_of(other, bounds)
     if left is None or right is None:
         return False
@@ -297,7 +299,7 @@ def exact(op: str, one: Fraction, other: Fraction) -> Fraction:
 
 
 def bounds_of(operand: Operand, bounds: BoundsOf) -> Bounds:
-    """Two numbers between which an operand is, None if they are not known."""
+    """Two numbers between which the operand is, or None if they are not known."""
     match operand:
         case Value(value=Point() as point) if point.is_finite:
             return point.value, point.value
@@ -343,7 +345,7 @@ def complement(form: str, operand: Operand, type: str, failing: Failing) -> Oper
 
 
 def stepped(form: str, operand: Operand, done: tuple[Step, ...], type: str, failing: Failing) -> Operand:
-    """A column with some more steps."""
+    """A column with further steps."""
     column = whole_of(operand)
     if column is None or len(column.steps) + len(done) > steps.MOST_STEPS:
         raise Unread(form, "it is not arithmetic of one column of whole numbers")

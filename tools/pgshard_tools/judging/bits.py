@@ -15,7 +15,7 @@ TYPE = "bits"
 
 
 def expanded(listed: list[Formula | None]) -> list[Formula | None]:
-    """The formulas with comparisons of such columns in the place of masks."""
+    """The formulas with comparisons of such columns instead of masks."""
     masks: dict[Subject, set[int]] = {}
     for formula in listed:
         for leaf in formulas.leaves_of(formula) if formula is not None else ():
@@ -30,7 +30,7 @@ def expanded(listed: list[Formula | None]) -> list[Formula | None]:
 
 
 def runs_of(masks: Iterable[int]) -> list[tuple[int, int]]:
-    """Runs of bits from the first to the last, none of which a mask has in part, from the highest on."""
+    """Runs of bits from the first to the last, highest first, none of which a mask contains only in part."""
     listed = list(masks)
     last = max(it.bit_length() for it in listed)
     runs: list[tuple[int, int]] = []
@@ -47,7 +47,7 @@ def runs_of(masks: Iterable[int]) -> list[tuple[int, int]]:
 
 
 def subject_of(base: Subject, low: int, high: int) -> Subject:
-    """A run of bits, whose modifier is how many they are."""
+    """A run of bits, whose modifier is its length."""
     mask = 2 ** (high + 1) - 2**low
     return Subject(
         sql=f"({base.sql} & {mask})", type=TYPE, columns=base.columns, modifier=high - low + 1,
@@ -56,7 +56,7 @@ def subject_of(base: Subject, low: int, high: int) -> Subject:
 
 
 def of_masked(leaf: Masked, runs: list[tuple[int, int]]) -> Formula:
-    """Whether the bits of the mask are in the ranges, by comparisons of the runs that it has, from the highest on."""
+    """Whether the bits of the mask are in the ranges, by comparisons of its runs, highest first."""
     kept = [(low, high) for low, high in runs if leaf.mask >> low & 1]
     parts = []
     for low, high in ranges.intersection(leaf.ranges, [(0, leaf.mask)]):
@@ -86,7 +86,7 @@ def at_most(base: Subject, runs: list[tuple[int, int]], number: int) -> Formula:
 
 
 def bits_in(low: int, high: int, below: int, width: int) -> Ranges:
-    """What some bits are of the numbers between two ends."""
+    """The values of some bits of the numbers between two ends."""
     first, last, count = low >> below, high >> below, 1 << width
     if last - first + 1 >= count:
         return ((0, count - 1),)

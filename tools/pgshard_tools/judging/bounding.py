@@ -1,5 +1,5 @@
-"""Between which numbers a column is, by the constraints that the server enforces: the least and the greatest number at
-which none of them is FALSE."""
+"""The bounds of a column, by the constraints that the server enforces: the least and the greatest number at which none
+of them is FALSE."""
 
 from fractions import Fraction
 from typing import Iterable
@@ -14,7 +14,7 @@ EVERYTHING: Interval = (None, None)
 
 
 def bounds_of(constraints: Iterable[Formula], subject: Subject) -> Bounds:
-    """The ends of the column, None if one of them is not known."""
+    """The ends of the column, or None if one of them is not known."""
     found: Interval | None = type_bounds(subject) or EVERYTHING
     for constraint in constraints:
         found = common(found, where(constraint, subject, True))
@@ -51,7 +51,7 @@ def of_comparison(op: str, number: Fraction, is_true: bool) -> Interval:
 
 
 def common(one: Interval | None, other: Interval | None) -> Interval | None:
-    """What two intervals have in common."""
+    """The intersection of two intervals."""
     if one is None or other is None:
         return None
     lows = [it for it in (one[0], other[0]) if it is not None]
@@ -61,7 +61,7 @@ def common(one: Interval | None, other: Interval | None) -> Interval | None:
 
 
 def hull(one: Interval | None, other: Interval | None) -> Interval | None:
-    """The least interval that has two."""
+    """The least interval that contains two others."""
     if one is None or other is None:
         return other if one is None else one
     low = None if one[0] is None or other[0] is None else min(one[0], other[0])

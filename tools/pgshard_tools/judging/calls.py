@@ -1,11 +1,11 @@
-"""A function or an operator, as the server that is judged describes it."""
+"""A function or an operator, as the judged server describes it."""
 
 from dataclasses import dataclass
 
 
 @dataclass(frozen=True)
 class Call:
-    """Its name, the types that it is declared with, and what pg_proc says of it."""
+    """Its name, its declared types, and what pg_proc says about it."""
 
     name: str
     arguments: tuple[str, ...]
@@ -17,7 +17,7 @@ class Call:
 
     @property
     def signature(self) -> str:
-        """`lower(text)`, by which the tables of judge name it."""
+        """The name that judge's tables have for it, such as `lower(text)`."""
         return f"{self.name}({','.join(self.arguments)})"
 
     @property

@@ -1,4 +1,4 @@
-"""A catalog text that is judged as it is, by what it names."""
+"""Judges a catalog text as it is."""
 
 import re
 from collections.abc import Sequence
@@ -14,7 +14,7 @@ from pgshard_tools.judging.verdicts import Verdict
 
 @dataclass
 class Names:
-    """What a catalog names, as it is stored and in its order, and all words of its publications, their filters' too."""
+    """The names in a catalog, as stored and in order, and all words of its publications, including their filters."""
 
     tables: list[Table]
     publications: list[str]
@@ -24,7 +24,7 @@ class Names:
 
 @dataclass
 class Source:
-    """What a report says of where the catalog is from."""
+    """What a report says about the source of the catalog."""
 
     name: str
     unpublished: tuple[str, ...] = ()
@@ -89,7 +89,7 @@ def why_not_read(fault: program.Unreadable, catalog: str) -> str:
 
 
 def names_of(catalog: str) -> Names:
-    """Of a catalog that pgshard reads."""
+    """The names in a catalog that pgshard reads."""
     names = Names([], [], [], set())
     for statement in statements_of(catalog):
         match [word.upper() for word in statement[:2]]:
@@ -104,7 +104,7 @@ def names_of(catalog: str) -> Names:
 
 
 def verdicts_of(catalog: str, names: Names, made: str) -> list[Verdict]:
-    """What is found of each table. `make` prints only certificates that the check accepts; the check of all tables
+    """What is found about each table. `make` prints only certificates that the check accepts; the check of all tables
     together says what else is refused."""
     answers, at = [], 0
     for table in names.tables:
@@ -125,7 +125,7 @@ def verdicts_of(catalog: str, names: Names, made: str) -> list[Verdict]:
 
 
 def verdict_of(table: Table, answer: program.Made, names: Names) -> Verdict:
-    """What `make` answers of a table."""
+    """The verdict on a table by the answer of `make`."""
     if answer.certificate:
         return Verdict(table.name, verdicts.SOUND, certificate=answer.certificate)
     if answer.row is None:
@@ -154,7 +154,7 @@ def check(catalog: str, names: Names, certificates: Sequence[str]) -> tuple[dict
 
 
 def refusal_of(line: str, names: Names) -> tuple[Table, str] | None:
-    """The table whose identity the check refuses, if it refuses one, and what an operator is told."""
+    """The table whose identity the check refuses, if it refuses one, and the message about it."""
     for table in names.tables:
         if line == f"refused NoIdentity {table.name}":
             return table, "it has no replica identity that can be used, so the server refuses its updates and deletes"
@@ -169,6 +169,6 @@ def refusal_of(line: str, names: Names) -> tuple[Table, str] | None:
 
 
 def words_of_missing(line: str) -> str:
-    """That an operation is not published, in words."""
+    """The message that an operation is not published."""
     publication, operation = line.removeprefix("refused PublishMissing ").rsplit(" ", 1)
     return f"publication {publication}, which has a subscriber, does not publish {operation}"

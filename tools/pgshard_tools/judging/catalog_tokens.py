@@ -9,7 +9,7 @@ TOKEN = re.compile(r"""\s+|--[^\n\r]*|/\*|'(?:[^']|'')*'|"(?:[^"]|"")*"|[\w$]+|.
 
 @dataclass
 class Table:
-    """The name of a table, as it is stored and as it is written, and its columns."""
+    """The name of a table, as stored and as written, and its columns."""
 
     name: str
     written: str
@@ -63,7 +63,7 @@ def stored(token: str) -> str:
 
 
 def table_of(tokens: list[str]) -> Table:
-    """The table that a CREATE TABLE makes, by what follows these words."""
+    """The table that CREATE TABLE creates, by the tokens after these words."""
     begin = tokens.index("(")
     name = ".".join(stored(token) for token in tokens[:begin] if token != ".")
     columns: list[str] = []

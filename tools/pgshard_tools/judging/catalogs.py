@@ -1,4 +1,4 @@
-"""The catalog of one table that pgshard is given."""
+"""The catalog of one table, which is passed to pgshard."""
 
 from collections.abc import Sequence
 from typing import Any
@@ -50,7 +50,7 @@ def catalog_of(shares: Shares, takers: Takers, purpose: str | None, trial: Any) 
 
 
 def table_name(table: Table) -> str:
-    """The name of a table as it is written."""
+    """The name of a table as written."""
     return f"{name_text(table['schema'])}.{name_text(table['name'])}"
 
 
@@ -67,7 +67,7 @@ def table_text(table: str, listed: Sequence[Any]) -> str:
 
 
 def origin_text(coded: Any) -> str:
-    """A comment with what a printed column is of, where it is not that column itself."""
+    """A comment that says what a printed column is computed from, if it is not a column of the table."""
     if coded.is_tight and coded.subject.is_column:
         return ""
     origin = f"{coded.subject.sql} of type {coded.subject.type}".translate(str.maketrans("", "", "*/"))
@@ -75,7 +75,7 @@ def origin_text(coded: Any) -> str:
 
 
 def filter_text(formula: Any, held: Any) -> Any:
-    """A filter where constraints hold; None for none."""
+    """A filter, restricted to rows that meet the constraints; None for no filter."""
     if held is None:
         return formula
     is_held = negation(tested("FALSE", held))
@@ -83,7 +83,7 @@ def filter_text(formula: Any, held: Any) -> Any:
 
 
 def extra_publications(trial: Any, taken: Sequence[str], held: Any, purpose: str | None) -> dict[str, Any]:
-    """Publications that the server does not have, with their filters."""
+    """Additional publications, which the server does not have, with their filters."""
     extras: dict[str, Any] = {}
     if held is not None:
         extras[REFUSED_ROWS] = tested("FALSE", held)

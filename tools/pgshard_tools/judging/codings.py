@@ -47,21 +47,21 @@ class Coding:
         return str(code)
 
     def code_printed(self, text: str) -> int:
-        """The code of a printed value, the nearest one where no value of the server has it."""
+        """The code of a printed value, or the nearest one that a value of the server has."""
         return min(max(int(text), self.low), self.high)
 
     def value(self, code: int) -> Any:
-        """A value of the server, or None if none is known."""
+        """A value of the server with this code, or None if none is known."""
         raise NotImplementedError
 
     def encoded(self, text: str) -> str:
-        """What is printed for a value of the server, which is given as the server writes it."""
+        """What is printed for a value of the server, given as the server writes it."""
         value = server_types.value_of(self.subject.type, text)
         (low, _), = self.ranges_of("=", value)
         return self.literal(low)
 
     def constant(self, code: int) -> str:
-        """A code's value as a constant of SQL."""
+        """The value of a code as a constant of SQL."""
         return server_types.literal(self.subject.type, self.value(code))
 
 
@@ -90,7 +90,7 @@ class Steps(Coding):
         return self.past(op, point, last)
 
     def past(self, op: str, point: Point, last: int) -> Ranges:
-        """Above all that is finite: the value past the end is this very point, or a greater or a lesser one."""
+        """A point above all finite ones: the value past the end is this point, or a greater or a lesser one."""
         if op == "=":
             return ((self.high, self.high),) if self.above == point else ()
         if self.above is None:
@@ -107,7 +107,7 @@ class Steps(Coding):
 
 
 class Integers(Steps):
-    """An integer column stays as it is."""
+    """An integer column, which is its own code."""
 
     is_tight = True
 
@@ -155,7 +155,7 @@ class Bits(Coding):
 
 
 class Remainders(Coding):
-    """A column of integers, of which only the remainder by a modulus is asked. It is null where the column is."""
+    """A column of integers of which only the remainder by a modulus matters. It is null where the column is."""
 
     is_tight = True
     modulus: int
@@ -182,7 +182,7 @@ class Remainders(Coding):
 
 
 class Truths(Coding):
-    """A boolean: 0 is FALSE and 1 TRUE."""
+    """A boolean: 0 for FALSE and 1 for TRUE."""
 
     is_tight = True
 
@@ -203,7 +203,7 @@ class Truths(Coding):
 
 
 class Nulls(Coding):
-    """Of any type, where only NULL is asked for: all other values have one code."""
+    """A column of any type that is only tested for NULL: all other values have one code."""
 
     def __init__(self, subject: Subject) -> None:
         super().__init__(subject, "text", 0, 0)
@@ -284,7 +284,7 @@ class Labels(Coding):
 
 
 class Enumerated(Coding):
-    """An enum: each value has its place."""
+    """An enum: the code of a value is its place."""
 
     def __init__(self, subject: Subject) -> None:
         super().__init__(subject, "integer", 0, len(subject.labels) - 1)
@@ -344,7 +344,7 @@ class Ranks(Coding):
         return ranges.normal([(self.low, code if op == "<=" else code - 1)])
 
     def place(self, code: int) -> tuple[int, bool]:
-        """The place of a code's constant, or of the last one below, and whether it is that constant."""
+        """The place of a code's constant, or of the last constant below it, and whether it is that constant."""
         place = sum(it <= code for it in self.codes) - 1
         return place, place >= 0 and self.codes[place] == code
 
@@ -369,8 +369,8 @@ class Ranks(Coding):
         return Point(0, Fraction(math.floor(middle))) if is_whole else Point(0, middle)
 
     def text_above(self, low: str) -> str:
-        """A text with more at its end is above it, and one with a later last letter, if it has no room for more. A
-        char drops blanks at its end."""
+        """A longer text that begins with this one is above it; so is one with a later last letter, if there is no room
+        for a longer one. A char drops blanks at its end."""
         limit = server_types.length_limit(self.subject.type, self.subject.modifier)
         if limit is not None and len(low) >= limit:
             return low[:limit - 1] + chr(ord(low[limit - 1]) + 1)

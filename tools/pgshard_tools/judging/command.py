@@ -1,4 +1,4 @@
-"""What tools/judge does with its command line."""
+"""The command line of tools/judge, and what it does."""
 
 import contextlib
 import io
@@ -33,7 +33,7 @@ from pgshard_tools.judging.verdicts import Verdict
 
 @dataclass
 class Judgement:
-    """What is said about a database, repairs that are asked for, and what is published to all or in part on purpose."""
+    """The report on a database, requested repairs, and what is published to all or in part on purpose."""
 
     answer: report.Report
     db: database.Database
@@ -68,7 +68,8 @@ def run(words: Sequence[str]) -> int:
 
 
 def ended(fault: Fault, words: Sequence[str], options: Options | None) -> int:
-    """Says why there is no judgement. Options that are not understood are known by the words."""
+    """Reports why there is no judgement. If the options are not understood, the form of the report is found in the
+    arguments."""
     if options is not None and options.prometheus is not None:
         # A file that cannot be written is what the first fault may be of.
         with contextlib.suppress(Fault):
@@ -113,7 +114,7 @@ def judge_database(options: Options) -> int:
 
 
 def file_of(options: Options) -> str | None:
-    """The file that is meant, if one is: a single word that is no option and no connection text."""
+    """The file to be judged, if any: a single argument that is neither an option nor a connection string."""
     if len(options.names) != 1:
         return None
     word = options.names[0]
@@ -136,12 +137,12 @@ def judge_server(options: Options) -> int:
 
 
 def reported(options: Options) -> report.Report:
-    """What is said about a server's database."""
+    """The report on a server's database."""
     return judged(options).answer
 
 
 def judged(options: Options) -> Judgement:
-    """All that comes of judging a server's database."""
+    """Everything that judging a server's database yields."""
     intent = intents.read(options.intent)
     options = intents.with_intent(options, intent)
     db = database.read_database(options.words)
@@ -164,7 +165,7 @@ def judged(options: Options) -> Judgement:
 
 
 def print_catalog(word: str, found: Sequence[Verdict]) -> int:
-    """Prints what pgshard was given of a table."""
+    """Prints the catalog that pgshard was given for a table."""
     for verdict in found:
         if verdict.table in (word, f"public.{word}") and verdict.catalog:
             print(verdict.catalog, end="")

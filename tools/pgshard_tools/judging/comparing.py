@@ -1,4 +1,4 @@
-"""Comparisons between operands, as formulas. Each function says why what it answers is exact."""
+"""Comparisons between operands, as formulas. Each function says why its result is exact."""
 
 from fractions import Fraction
 from typing import Callable, Sequence, TypeAlias
@@ -32,7 +32,7 @@ NullOf: TypeAlias = Callable[[Subject], Formula]
 
 
 def comparison(form: str, op: str, one: Operand, other: Operand, null_of: NullOf) -> Formula:
-    """`one op other`, by the kinds of its sides. A constant is brought to the right."""
+    """`one op other`, by the kinds of its sides. A constant is moved to the right."""
     if isinstance(one, Extreme):
         return of_extreme(form, op, one, other, null_of)
     if isinstance(other, Extreme):
@@ -57,7 +57,8 @@ def comparison(form: str, op: str, one: Operand, other: Operand, null_of: NullOf
 
 
 def as_ref(operand: Operand) -> Ref | None:
-    """What is compared with what is no constant: a result of arithmetic gets a column of its own."""
+    """An operand that is compared with something other than a constant: a result of arithmetic gets a column of its
+    own."""
     if isinstance(operand, Derived):
         return operand.ref
     return opaque_of(operand) if isinstance(operand, Whole) else operand if isinstance(operand, Ref) else None
@@ -136,7 +137,7 @@ def order_of_truths(form: str, op: str, one: Operand, other: Operand) -> Formula
 
 
 def with_constant(form: str, op: str, operand: Operand, constant: Value) -> Formula:
-    """A comparison with NULL is NULL. Any other goes by the kind of the left side."""
+    """A comparison with NULL is NULL. Any other depends on the kind of the left side."""
     if constant.value is None:
         return UNKNOWN
     if isinstance(operand, Value):
@@ -153,7 +154,7 @@ def with_constant(form: str, op: str, operand: Operand, constant: Value) -> Form
 
 
 def of_derived(form: str, op: str, operand: Derived, constant: Value) -> Formula:
-    """What the function says of its comparison, or else a comparison of the column that it gets."""
+    """The comparison as the function defines it, or otherwise a comparison of the column that the function gets."""
     if op in (">", ">=", "<>"):
         return negation(of_derived(form, {">": "<=", ">=": "<", "<>": "="}[op], operand, constant))
     found = operand.means(operand.ref, op, constant)
@@ -215,7 +216,7 @@ def of_day(op: str, subject: Subject, constant: Value) -> Formula:
 
 
 def of_subject(form: str, op: str, operand: Ref, constant: Value) -> Formula:
-    """A column, or what has a column of its own, compared with a constant of its family."""
+    """A column, or an expression with a column of its own, compared with a constant of its family."""
     subject, type = operand.subject, operand.type
     if type == "date" and constant.type == "timestamp":
         return of_date_and_time(op, subject, constant.value)
@@ -233,8 +234,8 @@ def of_subject(form: str, op: str, operand: Ref, constant: Value) -> Formula:
 
 
 def midnight_of(day: Point) -> Point:
-    """A date as it is compared with timestamps. One that is too late to be one is above all that are finite, also above
-    the last one, which is its midnight."""
+    """A date as it is compared with timestamps. A date that is too late to be a timestamp is above all finite ones,
+    also above the last one, which is its midnight."""
     if not day.is_finite:
         return day
     midnight = day.value * points.DAY
@@ -264,7 +265,7 @@ def of_two(form: str, op: str, one: Ref, other: Ref) -> Formula:
 
 
 def of_itself(op: str, subject: Subject) -> Formula:
-    """x = x is TRUE but where x is NULL."""
+    """x = x is TRUE unless x is NULL."""
     never = both(IsNull(subject), UNKNOWN)
     return negation(never) if op in ("=", "<=", ">=") else never
 
@@ -301,7 +302,7 @@ def is_null(operand: Operand, null_of: NullOf) -> Formula:
 
 
 def distinct(form: str, one: Operand, other: Operand, null_of: NullOf) -> Formula:
-    """IS DISTINCT FROM: TRUE where one side alone is NULL or both are not and differ, and never NULL."""
+    """IS DISTINCT FROM: TRUE if exactly one side is NULL, or neither is and they differ. It is never NULL."""
     if isinstance(one, Truth) and isinstance(other, Truth):
         return unlike_truth(one.formula, other.formula)
     if isinstance(one, Value):

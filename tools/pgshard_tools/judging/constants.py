@@ -36,7 +36,7 @@ def as_value(operand: Operand) -> Operand:
 
 
 def number(text: str) -> Value:
-    """A number without a type behind it: an int4 where it fits, and otherwise an int8 or a numeric."""
+    """A number without a type: an int4 if it fits, and otherwise an int8 or a numeric."""
     point = server_types.value_of("numeric", text)
     if NUMBER.fullmatch(text):
         for type in ("int4", "int8"):
@@ -55,7 +55,7 @@ def typed(type: str, text: str | None, is_enum: bool) -> Operand:
 
 
 def cast_value(form: str, type: str, operand: Value) -> Value:
-    """A constant as one of another type, where that changes nothing."""
+    """A constant as one of another type, if that changes nothing."""
     if operand.value is None:
         return Value(type, None)
     if operand.type in INTEGERS and type in INTEGERS:
@@ -79,7 +79,7 @@ def text_of(part: Value) -> str:
 
 
 def array_parts(text: str) -> list[str | None] | None:
-    """The elements of an array's text, None for NULL; or None if it has another form than a plain list."""
+    """The elements of an array's text, with None for NULL; or None if the text is not a plain list."""
     if not (text.startswith("{") and text.endswith("}")) or "{" in text[1:]:
         return None
     parts: list[str | None] = []
