@@ -68,8 +68,8 @@ def run(words: Sequence[str]) -> int:
 
 
 def ended(fault: Fault, words: Sequence[str], options: Options | None) -> int:
-    """Reports why there is no judgement. If the options are not understood, the form of the report is found in the
-    arguments."""
+    """Reports why there is no judgement. The form of the report is found in the arguments, even if they are not
+    understood."""
     if options is not None and options.prometheus is not None:
         # A file that cannot be written is what the first fault may be of.
         with contextlib.suppress(Fault):

@@ -15,7 +15,7 @@ SORTED = ORDERED | LABELS | {"bool", "jsonb", "timetz", "money", "bit", "varbit"
 
 
 def is_sorted(operand: Operand) -> bool:
-    """Whether the server finds the greatest of such operands: their type has an order."""
+    """Whether the server can find the greatest of such operands, since their type has an order."""
     if isinstance(operand, Ref):
         return operand.type in SORTED or bool(operand.subject.labels)
     return isinstance(operand, (Whole, Derived, Value))
@@ -37,12 +37,12 @@ def text_in(node: Any) -> str | None:
 
 
 def of_type(subject: Subject) -> Operand:
-    """A subject as an operand: what has truth values is a condition."""
+    """A subject as an operand; a subject with truth values is a condition."""
     return Truth(Compare(subject, "=", True)) if subject.type == "bool" else Ref(subject, subject.type)
 
 
 def collated(operand: Operand, collation: str) -> Operand:
-    """An operand whose texts have the order by which the server compares them there."""
+    """An operand whose texts are ordered as the server compares them there."""
     match operand:
         case Ref(subject=subject) if subject.collation is not None:
             return replace(operand, subject=replace(subject, collation=collation))

@@ -19,7 +19,7 @@ TOLD = "\\echo\n\\echo :ERROR :LAST_ERROR_SQLSTATE :LAST_ERROR_MESSAGE\n"
 
 @dataclass
 class Key:
-    """A row by its key, as constants by the names of columns, and who gets it."""
+    """The key of a row, as constants by column name, and who gets the row."""
 
     values: dict[str, str]
     takers: list[str]
@@ -27,8 +27,8 @@ class Key:
 
 @dataclass
 class Counts:
-    """What the server counts, or why it does not. `each` has how many rows a subscriber gets, `where` how many rows
-    there are by conditions, and `lacking` how many do not go to each subscriber, if they are to."""
+    """What the server counted, or why it did not. `each` is how many rows each subscriber gets, `where` how many rows
+    meet each condition, and `lacking` how many rows each subscriber lacks, if it is to get all."""
 
     rows: int = 0
     nobody: int = 0
@@ -42,7 +42,7 @@ class Counts:
 
 def counts_of(session: Session, shares: Shares, conditions: Sequence[str], purpose: str | None, rows: int,
               seconds: float) -> Counts:
-    """Asks the server in one query, which reads the table and nothing else."""
+    """Asks the server in one query, which only reads the table."""
     question = Question(shares, list(dict.fromkeys(conditions)), purpose, rows)
     timeout = f"SET LOCAL statement_timeout = '{max(1, int(seconds * 1000))}ms'"
     # Policies would hide rows from the count; the server then says so instead.
@@ -57,7 +57,7 @@ def counts_of(session: Session, shares: Shares, conditions: Sequence[str], purpo
 
 
 def advice(state: str) -> str:
-    """What to do where the server does not count."""
+    """What to do if the server does not count."""
     if state == "42501":
         return "try it as a role that may read all rows of the table"
     return "a filter that fails at a row stops the replication there" if state.startswith("22") else "try it again"
@@ -73,7 +73,7 @@ class Question:
     rows: int
 
     def text(self) -> str:
-        """The query, which has one JSON object as its answer."""
+        """The query, whose answer is one JSON object."""
         each = counted(self.takers().values())
         where = counted(map(condition_text, self.conditions))
         parts = {
@@ -104,7 +104,7 @@ class Question:
         return f"SELECT {TABLE}.*, tableoid, ctid, {count} AS {COUNT} FROM {only}{table['quoted']} AS {TABLE}"
 
     def takers(self) -> dict[str, str]:
-        """For each subscriber whether it takes a row. Of some partitions the server sends nothing."""
+        """For each subscriber, whether it takes a row. The server sends nothing of some partitions."""
         silent = ", ".join(str(it.table["oid"]) for it in self.shares.silent)
         sent = f"tableoid NOT IN ({silent}) AND " if silent else ""
         return {name: f"({sent}({self.any_filter(names)}))" for name, names in self.shares.takers.items()}
@@ -114,7 +114,7 @@ class Question:
         return "true" if None in texts else " OR ".join(f"({it}) IS TRUE" for it in texts) or "false"
 
     def key(self) -> dict[str, str]:
-        """The columns that name a row, or else where it is."""
+        """The columns that identify a row, or otherwise its physical location."""
         table = self.shares.table
         numbers = table.get("key_numbers") or table["identity_numbers"]
         names = names_of(table, numbers) if numbers else []
@@ -122,7 +122,7 @@ class Question:
         return {it: by_name[it] for it in names} or {"tableoid": "tableoid::regclass", "ctid": "ctid"}
 
     def counts(self, answer: dict[str, Any]) -> Counts:
-        """The answer as it is said."""
+        """The counts as they are reported."""
         names = list(self.shares.takers)
         columns = {it["name"]: it for it in self.shares.table["columns"]}
         keys = [Key({name: constant(columns.get(name), value) for name, value in key.items()},
@@ -139,7 +139,7 @@ def counted(conditions: Iterable[str]) -> str:
 
 
 def condition_text(condition: str) -> str:
-    """Whether a condition is TRUE of a row."""
+    """Whether a condition is TRUE for a row."""
     return "true" if condition == "all rows" else f"({condition}) IS TRUE"
 
 

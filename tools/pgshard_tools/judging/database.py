@@ -1,4 +1,4 @@
-"""What a server's catalog says of tables and publications, as psql reads it."""
+"""What a server's catalog says about tables and publications, as psql reads it."""
 
 import json
 import os
@@ -23,7 +23,8 @@ Entry = dict[str, Any]
 
 @dataclass
 class Subscriber:
-    """Somebody who takes publications. `missing` has those that are not there, at which the server ends its stream."""
+    """A subscriber, which takes publications. `missing` are those that do not exist, at which the server ends its
+    stream."""
 
     name: str
     publications: list[str]
@@ -45,7 +46,7 @@ def run_psql(words: Sequence[str], script: str | None = None, text: str | None =
 
 
 def read_database(words: Sequence[str]) -> "Database":
-    """What reading.sql says of the database that psql's words name."""
+    """What reading.sql returns for the database that psql's arguments name."""
     printed = run_psql(words, script=os.path.join(FOLDER, "reading.sql"))
     try:
         found = json.loads(printed)
@@ -58,7 +59,7 @@ def read_database(words: Sequence[str]) -> "Database":
 
 
 def version_text(number: int) -> str:
-    """A version as people write it."""
+    """A version in its usual form."""
     return f"{number // 10000}.{number % 10000}"
 
 
@@ -77,7 +78,7 @@ class Database:
 
     @property
     def note(self) -> str | None:
-        """That the server is later than the rules by which it is judged."""
+        """The remark that the server is later than the rules by which it is judged."""
         if self.version // 10000 == VERSIONS[0]:
             return None
         return f"the server has version {version_text(self.version)}: judged by the rules of {VERSIONS[0]}"
@@ -90,16 +91,14 @@ class Database:
 
     @staticmethod
     def entry(publication: Publication, oid: int) -> Entry | None:
-        """What a publication says of a table that it names."""
+        """What a publication says about a table that it names."""
         entries: list[Entry] = publication["entries"]
         return next((it for it in entries if it["oid"] == oid), None)
 
     def published_as(self, publication: Publication, table: Table) -> int | None:
-        """The oid of the table as which a publication sends the rows of a table that has rows itself, or None.
-
-        A partition's rows are sent as those of the topmost of its partitioned tables that the publication has, if it
-        publishes by the root.
-        """
+        """The OID of the table in whose name a publication sends the rows of a table that stores rows, or None. Rows of
+        a partition are sent as those of the topmost partitioned table above it that the publication contains, if it
+        publishes via the root."""
         ancestors = self.ancestors_in(publication, table)
         if ancestors and publication["via_root"]:
             return ancestors[-1]
@@ -119,7 +118,7 @@ class Database:
 
 
 def full_name(table: Table) -> str:
-    """The name of a table with its schema, as both are stored."""
+    """The name of a table with its schema, both as stored."""
     return f"{table['schema']}.{table['name']}"
 
 

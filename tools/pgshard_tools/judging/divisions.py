@@ -1,4 +1,5 @@
-"""Who gets which rows of a table, sound or not: all its rows in pieces, each with the subscribers that get its rows."""
+"""Who gets which rows of a table, sound or not: divides all its rows into pieces, each with the subscribers that get
+it."""
 
 from collections.abc import Iterator, Sequence
 from dataclasses import dataclass
@@ -39,14 +40,14 @@ class Piece:
 
 @dataclass
 class Division:
-    """The pieces of a table, and what holds of its rows. If it is not whole, there are more pieces."""
+    """The pieces of a table, and what holds for its rows. If it is not whole, there are more pieces."""
 
     pieces: list[Piece]
     constraints: Sequence[Formula]
     is_whole: bool = True
 
     def allowed(self, codes: Codes) -> Codes | None:
-        """A region in this one that may have rows, by all that is known, or None."""
+        """The part of a region that may have rows, by all that is known, or None."""
         walk = Walk(self.constraints)
         found = walk.allowed(codes, self.constraints)
         return codes if walk.steps > MOST_STEPS else found
@@ -72,7 +73,7 @@ class Division:
 
 
 def divided(trial: Any, takers: Takers) -> Division:
-    """All rows that the constraints may allow. A subscriber gets a row where a filter of its publications is TRUE."""
+    """All rows that the constraints may allow. A subscriber gets a row if a filter of its publications is TRUE."""
     walk = Walk(trial.constraints)
     found = Division([], trial.constraints)
     shares = {name: share_of(trial.filters, names) for name, names in takers.items()}
@@ -84,7 +85,7 @@ def divided(trial: Any, takers: Takers) -> Division:
 
 
 def share_of(filters: dict[str, Any], names: Sequence[str]) -> Formula:
-    """The condition of which a subscriber gets the rows at which it is TRUE."""
+    """The condition that is TRUE for exactly the rows that a subscriber gets."""
     formulas = [filters[it] for it in names]
     return Const(True) if None in formulas else either(*formulas)
 
@@ -97,7 +98,7 @@ class Walk:
     steps: int = 0
 
     def pieces(self, codes: Codes, shares: dict[str, Formula], takers: tuple[str, ...]) -> Iterator[Piece]:
-        """The pieces of a region, of which some takers are known, and of the others the conditions."""
+        """The pieces of a region for which some takers are known, and for the others their conditions."""
         if self.is_over() or any(possible(it, codes) == FALSE for it in self.constraints):
             return
         values = {name: possible(formula, codes) for name, formula in shares.items()}
@@ -112,7 +113,7 @@ class Walk:
             yield Piece(codes, takers)
 
     def allowed(self, codes: Codes, constraints: Sequence[Formula]) -> Codes | None:
-        """A region in this one at which no constraint is FALSE, or None."""
+        """The part of a region in which no constraint is FALSE, or None."""
         values = [possible(it, codes) for it in constraints]
         if self.is_over() or FALSE in values:
             return None
@@ -124,7 +125,7 @@ class Walk:
         return next((it for it in found if it is not None), None)
 
     def is_over(self) -> bool:
-        """Whether enough was looked at."""
+        """Counts a step, and returns whether there were too many."""
         self.steps += 1
         return self.steps > MOST_STEPS
 
@@ -146,7 +147,7 @@ def cuts(codes: Codes, leaf: Leaf) -> Iterator[Codes]:
 
 
 def possible(part: Formula, codes: Codes) -> Values:
-    """The values that a formula may have in a region; where each condition in it has one, it has that one alone."""
+    """The values that a formula may have in a region: exactly one if each of its conditions has one."""
     match part:
         case Const():
             return frozenset([part.value])
@@ -190,7 +191,7 @@ def any_of(listed: Sequence[Values]) -> Values:
 
 
 def joined(pieces: list[Piece]) -> list[Piece]:
-    """Pieces of the same subscribers that differ in one column alone are one."""
+    """Joins pieces of the same subscribers that differ in only one column."""
     count = 0
     while count != len(pieces):
         count = len(pieces)
@@ -220,7 +221,7 @@ def plain_parts(piece: Piece) -> list[Codes]:
 
 
 def choices_of(coded: Coding, found: ranges.Ranges, may_be_null: bool) -> list[tuple[ranges.Ranges, bool]]:
-    """What a piece has of one column, in parts."""
+    """The part of a column that a piece has, divided further."""
     if isinstance(coded, Remainders) or not found or found == coded.full:
         return [(found, may_be_null)]
     nulls: list[tuple[ranges.Ranges, bool]] = [((), True)] if may_be_null else []

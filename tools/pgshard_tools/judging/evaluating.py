@@ -1,4 +1,5 @@
-"""What the server says of rows: whether it takes them, what generated columns are in them, and who gets them."""
+"""What the server says about rows: whether it accepts them, the values of their generated columns, and who gets
+them."""
 
 import json
 from collections.abc import Iterator, Sequence
@@ -30,7 +31,7 @@ class Outcome:
 
 @dataclass
 class Questions:
-    """What is asked of each row of a table, and of which columns."""
+    """What the server is asked about each row of a table, and about which columns."""
 
     columns: list[Column]
     computed: list[Column]
@@ -60,7 +61,7 @@ def confirmed(session: Session, read: Read, takers: Takers, row: Row) -> Confirm
 
 
 def refuses(session: Session, read: Read, row: Row, check: str) -> bool:
-    """Whether a CHECK may refuse a row. Functions of the database's own are called by nobody here."""
+    """Whether a CHECK may refuse a row. Functions of the database's own are never called here."""
     if not is_of_server(check, [read.shares.table, *read.shares.leaves]):
         return True
     questions = Questions(*columns_named(read, [check]), [], {})
@@ -74,14 +75,14 @@ def takers_of(takers: Takers, outcome: Outcome) -> list[str]:
 
 
 def is_value(session: Session, column: Column, literal: str) -> bool:
-    """Whether a type of the database's own takes a value. Of these a domain may refuse NULL."""
+    """Whether a type of the database's own accepts a value. A domain may refuse NULL."""
     if literal == "DEFAULT" or literal == "NULL" and column["kind"] != "d":
         return True
     return session.ask(f"SELECT ({literal})::{column['written']} IS NULL") != ""
 
 
 def questions_of(read: Read) -> Questions:
-    """The filters that are taken, the constraints that may be asked of, and the columns that these name."""
+    """The filters of the subscribers, the constraints that may be evaluated, and the columns that these name."""
     filters = {name: text or "true" for name, text in read.shares.filters.items() if name in read.filters}
     checks = checks_of(read)
     return Questions(*columns_named(read, [*filters.values(), *checks]), checks, filters)
@@ -99,15 +100,15 @@ def columns_named(read: Read, texts: Sequence[str]) -> tuple[list[Column], list[
 
 
 def checks_of(read: Read) -> list[str]:
-    """The constraints that the server is asked of: not those with functions of the database's own, which are called
-    by nobody here."""
+    """The constraints that the server is asked to evaluate: not those with functions of the database's own, which are
+    never called here."""
     texts = dict(constraint_texts(read.shares))
     unread = [it.text for it in read.unread.values() if it.is_built_in]
     return [*(texts[name] for name in read.constraints if name in texts), *unread]
 
 
 def outcomes(session: Session, questions: Questions, listed: Sequence[Row]) -> list[Outcome]:
-    """What the server does with each row. Rows at which it fails are found by halves."""
+    """What the server does with each row. Rows at which it fails are found by bisection."""
     found = [Outcome() for _ in listed]
     taken = []
     checks = [f"({text}) IS NOT FALSE" for text in [*questions.checks, *lengths_of(questions.computed)]]
@@ -131,7 +132,7 @@ def outcomes(session: Session, questions: Questions, listed: Sequence[Row]) -> l
 
 
 def lengths_of(computed: Sequence[Column]) -> list[str]:
-    """That a text that is computed fits its column: what is too much may only be blanks."""
+    """The condition that a computed text fits its column: only blanks may exceed it."""
     limits = [(it, length_limit(it["type"], it["modifier"])) for it in computed]
     return [f"rtrim(substr(({it['generation']})::text, {limit + 1}), ' ') = ''"
             for it, limit in limits if limit is not None]
@@ -140,7 +141,8 @@ def lengths_of(computed: Sequence[Column]) -> list[str]:
 def asked(
         session: Session, questions: Questions, listed: Sequence[Row], places: Sequence[int], texts: Sequence[str]
 ) -> Iterator[tuple[int, list[object] | None]]:
-    """What the server answers of some of the rows, None if it fails at a row. Too many failures end it."""
+    """What the server answers about some of the rows, or None if it fails at a row. Too many failures end the
+    search."""
     lots = [list(places)] if places else []
     while lots and questions.asked < MOST_QUESTIONS:
         lot = lots.pop()

@@ -1,4 +1,4 @@
-"""Who gets which rows, by the certificate of a table that is sound: regions that are exactly all rows."""
+"""Who gets which rows, by the certificate of a sound table: regions that together are exactly all rows."""
 
 from dataclasses import dataclass
 from typing import Any, TypeAlias
@@ -15,7 +15,7 @@ Codes: TypeAlias = dict[Coding, tuple[Ranges, bool]]
 
 @dataclass
 class Region:
-    """For each coding the ranges of codes, and whether NULL is in it. Remainders are NULL where their column is."""
+    """For each coding, the ranges of codes, and whether NULL is included. Remainders are NULL where their column is."""
 
     codes: Codes
     owner: str
@@ -34,7 +34,8 @@ def regions(verdict: Any) -> list[tuple[str, str]]:
 
 
 def guarded_part(verdict: Any) -> str | None:
-    """A part of the filters that no region can have: the server fails at it, and evaluates it at some rows alone."""
+    """A part of the filters that no region may contain, since the server fails at it and evaluates it only for some
+    rows."""
     codings = verdict.trial.rewritten.codings if verdict.trial is not None else []
     expressions = [it.subject.sql for it in codings if not it.subject.is_column]
     return next((parser.shown(it) for it in verdict.guarded if any(it in text for text in expressions)), None)
@@ -66,7 +67,7 @@ def start(trial: Any) -> Codes:
 
 def walk(nodes: list[str], at: int, atoms: list[Condition], codes: Codes | None, names: list[str],
          found: list[Region]) -> int:
-    """Goes through a certificate's nodes from a place on; answers where the next one begins."""
+    """Goes through a certificate's nodes from a place on. Returns where the next one begins."""
     letter, number = nodes[at], int(nodes[at + 1])
     at += 2
     if letter == "o" and codes is not None:
@@ -102,7 +103,7 @@ def with_null(codes: Codes, base: Coding, is_null: bool) -> Codes | None:
 
 
 def merged(found: list[Region]) -> list[Region]:
-    """Regions of one subscriber that differ in one column alone are one."""
+    """Joins regions of one subscriber that differ in only one column."""
     found, at = list(found), 0
     while at < len(found):
         joints = ((it, joint(found[at], found[it])) for it in range(at + 1, len(found)))
@@ -139,7 +140,7 @@ def may_be_null(region: Region, coded: Coding) -> bool:
 
 
 def is_implied(region: Region, coded: Coding) -> bool:
-    """Whether what is known about other columns says as much of this one."""
+    """Whether what is known about other columns implies as much about this one."""
     found, with_null = region.codes[coded]
     if isinstance(coded, Remainders):
         low_and_high, _ = region.codes[coded.base]
@@ -155,7 +156,7 @@ def is_implied(region: Region, coded: Coding) -> bool:
 
 
 def is_said(region: Region, coded: Coding) -> bool:
-    """Whether a region's text has a condition that is NULL where a column of this one is."""
+    """Whether the text of a region has a condition that is NULL if this column is."""
     if isinstance(coded, Remainders):
         return region.codes[coded][0] != coded.full and not is_implied(region, coded)
     return coded.subject.is_strict and bool(region.codes[coded][0]) and not region.codes[coded][1]

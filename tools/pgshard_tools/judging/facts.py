@@ -1,7 +1,5 @@
-"""What holds of all rows, though no certificate can tell it by itself: formulas that are never FALSE.
-
-They are given to pgshard as constraints. Each is a law of arithmetic or of NULL, so no row is lost by them.
-"""
+"""What holds for all rows, although no certificate can express it by itself: formulas that are never FALSE. They are
+given to pgshard as constraints. Each is a law of arithmetic or of NULL, so they exclude no row."""
 
 from typing import Callable
 
@@ -16,13 +14,13 @@ MOST_PIECES = 100
 
 
 def facts_of(rewritten: Rewritten, not_null_columns: set[str]) -> list[Formula]:
-    """All facts that join what is asked of a table's columns."""
+    """All facts that connect what is asked about a table's columns."""
     return [*facts_of_remainders(rewritten), *facts_of_bits(rewritten), *facts_of_bounds(rewritten),
             *facts_of_nulls(rewritten, not_null_columns)]
 
 
 def facts_of_bounds(rewritten: Rewritten) -> list[Formula]:
-    """A function with few results has none but these."""
+    """The fact that a function with few results has only these."""
     return [Within(coded, (coded.subject.bounds,)) for coded in rewritten.codings
             if coded.subject.bounds is not None and isinstance(coded, codings.Integers)]
 
@@ -63,7 +61,7 @@ def facts_of_bits(rewritten: Rewritten) -> list[Formula]:
 
 
 def pieces_of(rewritten: Rewritten, base: Coding) -> list[Range]:
-    """The column's numbers, cut at all ends of ranges that a formula asks for."""
+    """The column's numbers, divided at the ends of all ranges in formulas."""
     cuts: set[int] = set()
     for formula in rewritten.formulas:
         for leaf in leaves_of(formula) if formula is not None else ():
@@ -76,7 +74,7 @@ def pieces_of(rewritten: Rewritten, base: Coding) -> list[Range]:
 
 def facts_between(one: Coding, other: Coding, pieces: list[Range],
                   possible: Callable[[int, int], Ranges]) -> list[Formula]:
-    """Where one coding is in some pieces, the other is in what is possible there."""
+    """The fact that if one coding is in some pieces, the other is in what is possible there."""
     by_ranges: dict[Ranges, list[Range]] = {}
     for piece in pieces:
         found = possible(*piece)
@@ -108,7 +106,8 @@ def wrapped(coded: Remainders, low: int, high: int) -> list[Range]:
 
 
 def facts_of_nulls(rewritten: Rewritten, not_null_columns: set[str]) -> list[Formula]:
-    """An expression is NULL where one of its columns is, if it is strict, and only there, if it is total, too."""
+    """The fact that an expression is NULL if one of its columns is, if it is strict, and only then, if it is also
+    total."""
     by_column: dict[str, list[Coding]] = {}
     for coding in rewritten.codings:
         for name in coding.subject.columns:
@@ -132,7 +131,7 @@ def facts_of_nulls(rewritten: Rewritten, not_null_columns: set[str]) -> list[For
 
 
 def column_coding(rewritten: Rewritten, name: str, shared: list[Coding]) -> Coding:
-    """The coding of a column itself; one is made where only expressions over it are asked for."""
+    """The coding of a column itself, which is made if only expressions over it occur."""
     for coding in [*shared, *rewritten.codings]:
         if coding.subject.is_column and coding.subject.columns == (name,):
             return coding

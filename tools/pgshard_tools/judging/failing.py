@@ -1,6 +1,5 @@
-"""Rows at which a filter fails: the server accepts such a row, and then the replication of whoever takes the
-publication
-ends there."""
+"""Rows at which a filter fails: the server accepts such a row, and then ends the replication of everyone who takes the
+publication."""
 
 import itertools
 from dataclasses import replace
@@ -27,7 +26,7 @@ EDGES = {"numeric": ["9e131071", "-9e131071", "0", "1e-16383"], "float8": ["1.7e
 
 
 def words_of(db: Database, read: Read, session: Session) -> list[str]:
-    """What an operator is told: rows that stop the replication, and filters of which this is not known."""
+    """The messages: rows that stop the replication, and filters for which it is not known whether there are any."""
     stopped: dict[str, list[str]] = {}
     unknown: dict[str, bool] = {}
     for name, failures in read.failures.items():
@@ -61,14 +60,14 @@ def unprepared(db: Database, read: Read, session: Session) -> Iterator[str]:
 
 
 def is_prepared(read: Read, text: str, session: Session) -> bool:
-    """Whether the server evaluates a filter where all columns are NULL."""
+    """Whether the server can evaluate a filter when all columns are NULL."""
     questions = evaluating.Questions(*evaluating.columns_named(read, [text]), [], {})
     row = {it["name"]: "NULL" for it in questions.columns}
     return session.ask(evaluating.query_of(questions, [row], [f"({text}) IS TRUE"])) != ""
 
 
 def rows_of(db: Database, read: Read, name: str, failure: Failure, session: Session) -> Iterator[Row]:
-    """Rows that the server takes and at which it then fails."""
+    """Rows that the server accepts and at which it then fails."""
     questions = evaluating.questions_of(read)
     questions.filters = {name: questions.filters[name]}
     listed = list(corners(read, failure) if failure.where is None else found_rows(db, read, name, failure, session))
@@ -78,9 +77,8 @@ def rows_of(db: Database, read: Read, name: str, failure: Failure, session: Sess
 
 
 def trial_of(db: Database, read: Read, name: str, failure: Failure, session: Session) -> trials.Trial | None:
-    """A sharding in which nobody gets the rows at which the filter fails, and one subscriber all others: it is sound
-    just
-    where there are no such rows."""
+    """A sharding in which nobody gets the rows at which the filter fails, and one subscriber gets all others: it is
+    sound exactly if there are no such rows."""
     if failure.where is None:
         return None
     never = replace(read, filters={name: negation(tested("TRUE", failure.where))})
@@ -102,7 +100,7 @@ def found_rows(db: Database, read: Read, name: str, failure: Failure, session: S
 
 
 def is_nowhere(db: Database, read: Read, name: str, failure: Failure, session: Session) -> bool:
-    """Whether no row that the server takes makes the filter fail there."""
+    """Whether no row that the server accepts makes the filter fail."""
     if failure.where is None:
         constraints = list(read.constraints.values())
         return failure.is_nowhere(lambda subject: bounding.bounds_of(constraints, subject))
@@ -111,7 +109,7 @@ def is_nowhere(db: Database, read: Read, name: str, failure: Failure, session: S
 
 
 def corners(read: Read, failure: Failure) -> Iterator[Row]:
-    """Rows with the ends of the types, and of what constraints leave of them."""
+    """Rows at the ends of the types, and at the ends of what constraints leave of them."""
     columns = read.shares.table["columns"]
     plain = {it["name"]: rows.values_of(it, {})[0] for it in columns}
     named = [it for it in columns if it["name"] in failure.columns]

@@ -1,4 +1,4 @@
-"""Exit statuses, and what ends a run or the reading of a form."""
+"""Exit statuses, and the exceptions that end a run or the reading of a filter."""
 
 SOUND, NOT_SOUND, BAD_COMMAND, NOT_READ, NO_ANSWER, NO_PROGRAM, NO_OUTPUT = range(7)
 
@@ -7,7 +7,7 @@ FAILURES = (ArithmeticError, AttributeError, LookupError, RecursionError, StopIt
 
 
 class Fault(Exception):
-    """An exit status and the line that is said."""
+    """An exit status, and the line that is printed."""
 
     def __init__(self, status: int, words: str) -> None:
         super().__init__(words)
@@ -24,7 +24,7 @@ class Undecided(Exception):
 
 
 class Unread(Exception):
-    """A form of a filter that is not read, and how to write it otherwise where that is known."""
+    """A form of filter that is not read, and how to write it otherwise, if that is known."""
 
     def __init__(self, form: str, advice: str = "") -> None:
         super().__init__(form)

@@ -1,4 +1,5 @@
-"""The regions of a table that is not sound: rows that reach nobody or several, each with one that the server takes."""
+"""The regions of a table that is not sound: rows that reach nobody or several subscribers, each with a row that the
+server accepts."""
 
 import itertools
 from collections.abc import Sequence
@@ -41,7 +42,7 @@ class FaultyRegion:
 
 @dataclass
 class FaultyRegions:
-    """Those of a table. `more` counts those that are not listed; where not all are counted, `is_whole` is False."""
+    """The regions of a table. `more` counts those that are not listed; if not all are counted, `is_whole` is False."""
 
     listed: list[FaultyRegion] = field(default_factory=list)
     more: int = 0
@@ -90,7 +91,7 @@ def condition_of(codes: Codes) -> str:
 
 
 def set_rows(regions: Sequence[FaultyRegion], read: Read, session: Session) -> None:
-    """Gives each region a row that the server takes, and sends where the region says."""
+    """Finds for each region a row that the server accepts, and sends where the region says."""
     questions = evaluating.questions_of(read)
     tried = [(region, row) for region in regions for row in picking.rows_in(read, region.allowed)]
     confirm(tried, questions, read, session)
@@ -100,7 +101,7 @@ def set_rows(regions: Sequence[FaultyRegion], read: Read, session: Session) -> N
 
 
 def confirm(tried: Sequence[tuple[FaultyRegion, Row]], questions: Questions, read: Read, session: Session) -> None:
-    """Asks the server of rows, each of which may be one of a region."""
+    """Asks the server about rows, each of which may be in a region."""
     for begin in range(0, len(tried), LOT):
         lot = inside([it for it in tried[begin:begin + LOT] if it[0].row is None], questions, session)
         questions.asked = 0
@@ -128,7 +129,7 @@ def inside(tried: Sequence[tuple[FaultyRegion, Row]], questions: Questions, sess
 
 
 def search(regions: Sequence[FaultyRegion], questions: Questions, read: Read, session: Session) -> None:
-    """Looks for rows of regions whose expressions tell nothing of their columns, among values near the constants."""
+    """Looks among values near the constants for rows of regions whose expressions say nothing about their columns."""
     chance = witnesses.chance_of(read)
     choices = witnesses.choices_of(session, questions, chance)
     for region in regions[:MOST_SEARCHED]:
@@ -147,12 +148,12 @@ def search(regions: Sequence[FaultyRegion], questions: Questions, read: Read, se
 
 def values_in(region: FaultyRegion, name: str, listed: Sequence[str], plain: Row, questions: Questions,
               session: Session) -> list[str]:
-    """Those values of a column that are in a region by what it says of this column alone."""
+    """The values of a column that are in a region by what the region says about this column alone."""
     condition = condition_of({it: its for it, its in region.codes.items() if it.subject.columns == (name,)})
     own = replace(region, condition=condition)
     return [row[name] for _, row in inside([(own, plain | {name: it}) for it in listed], questions, session)]
 
 
 def is_of(read: Read, table: str) -> bool:
-    """Whether what was read is the table itself, and not a partition of it of which the server sends nothing."""
+    """Whether what was read is the table itself, and not a partition whose rows the server never sends."""
     return full_name(read.shares.table) == table

@@ -1,4 +1,4 @@
-"""What is amiss with subscriptions and slots, beside the tables."""
+"""Problems with subscriptions and slots."""
 
 from collections.abc import Sequence
 
@@ -8,8 +8,8 @@ from pgshard_tools.judging.subscribers import COPYING
 
 
 def findings_of(db: Database, listed: Sequence[Subscriber]) -> list[str]:
-    """Subscriptions that take nothing, and slots that nobody uses. A slot is told with its subscription, if there is
-    something amiss with that."""
+    """Subscriptions that get nothing, and slots that nobody uses. A slot is reported with its subscription if that has
+    a problem."""
     told = {it.slot for it in listed if it.remarks}
     waiting = [it for it, is_active in db.slots.items()
                if not is_active and it not in told and not COPYING.fullmatch(it)]
@@ -18,5 +18,5 @@ def findings_of(db: Database, listed: Sequence[Subscriber]) -> list[str]:
 
 
 def status_with(status: int, findings: Sequence[str]) -> int:
-    """The exit status of tables, and of what is amiss beside them."""
+    """The exit status for tables, and for problems with subscriptions and slots."""
     return NOT_SOUND if findings else status

@@ -88,7 +88,7 @@ class Remainder:
 
 @dataclass(frozen=True)
 class Masked:
-    """Whether the bits of a subject that are in a mask, as a number that is not negative, are in some ranges."""
+    """Whether the bits of a subject that are in a mask, as a nonnegative number, are in some ranges."""
 
     subject: Subject
     mask: int
@@ -102,7 +102,8 @@ class IsNull:
 
 @dataclass(frozen=True)
 class Within:
-    """Whether the code of a subject is in some ranges, both ends included. Codings make it of what is above."""
+    """Whether the code of a subject is in some ranges, both ends included. Codings turn the leaves above into this
+    one."""
 
     coded: Any
     ranges: Ranges
@@ -122,7 +123,7 @@ def either(*parts: Formula) -> Formula:
 
 
 def joined(kind: type[And] | type[Or], strong: bool, parts: tuple[Formula, ...]) -> Formula:
-    """AND or OR of parts, without constants that say nothing."""
+    """AND or OR of parts, without constants that have no effect."""
     kept: list[Formula] = []
     for part in parts:
         if isinstance(part, (And, Or)) and isinstance(part, kind):
@@ -151,7 +152,7 @@ def tested(test: str, part: Formula) -> Formula:
 
 
 def compared(subject: Subject, op: str, value: Any) -> Formula:
-    """A comparison by any of the six operators, by three of them."""
+    """A comparison by any of the six operators, expressed by three of them."""
     match op:
         case "<>":
             return Not(Compare(subject, "=", value))
@@ -191,7 +192,7 @@ def leaves_of(part: Formula) -> Iterator[Leaf]:
 
 
 def replaced(part: Formula, change: Callable[[Any], Formula]) -> Formula:
-    """The formula with each leaf changed."""
+    """The formula with each leaf replaced."""
     if isinstance(part, LEAVES):
         return change(part)
     match part:
@@ -207,7 +208,7 @@ def replaced(part: Formula, change: Callable[[Any], Formula]) -> Formula:
 
 
 def has_null(part: Formula) -> bool:
-    """Whether NULL is written somewhere in it."""
+    """Whether a formula contains NULL as a constant."""
     match part:
         case Const():
             return part.value is None

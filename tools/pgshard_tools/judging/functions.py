@@ -29,7 +29,7 @@ class Noting(Protocol):
 
 
 def call(found: Call, form: str, arguments: Sequence[Operand], server: Evaluating, failing: Noting) -> Operand:
-    """A function of the server, by the table."""
+    """A function of the server, by the table of signatures."""
     row = FUNCTIONS.get(found.signature)
     if row is None:
         raise Unread(form, advice_of(found))
@@ -38,7 +38,8 @@ def call(found: Call, form: str, arguments: Sequence[Operand], server: Evaluatin
 
 def operator(found: Call, name: str, form: str, arguments: Sequence[Operand], server: Evaluating,
              failing: Noting) -> Operand:
-    """An operator of the server, by the table; `name` is that of the operator that it is NOT of, if it is one."""
+    """An operator of the server, by the table of signatures. `name` is the operator of which it is the negation, if
+    there is one."""
     row = OPERATORS.get(f"{name}({','.join(found.arguments)})")
     if row is None:
         raise Unread(form, advice_of(found))
@@ -60,7 +61,7 @@ def checked(found: Call, row: Row, form: str, arguments: Sequence[Operand], serv
 
 
 def is_within(found: Call, row: Row, form: str, arguments: Sequence[Operand], server: Evaluating) -> bool:
-    """Whether the arguments are what they have to be. A constant that is not makes each row fail, and is not read."""
+    """Whether the arguments are valid. An invalid constant makes each row fail, and is not read."""
     is_so = True
     for (place, limit), argument in ((it, arguments[it[0]]) for it in row.limits if it[0] < len(arguments)):
         if not LIMITS[limit](argument, found, server):
@@ -120,7 +121,7 @@ def is_array(operand: Operand, found: Call, server: Evaluating) -> bool:
 
 
 def is_short(operand: Operand, found: Call, server: Evaluating) -> bool:
-    """A length that a text may have many times over."""
+    """A length far below the greatest that a text may have."""
     return is_number(operand, found, server) and (whole(operand) is None or (whole(operand) or 0) <= 10_000)
 
 
@@ -190,7 +191,7 @@ def opaque(form: str, type: str, is_total: bool, arguments: Sequence[Operand]) -
 
 
 def subjects_of(form: str, argument: Operand) -> list[Subject]:
-    """What an argument is computed of. Of what comes of a CASE it is only known whether it is never NULL."""
+    """What an argument is computed from. For the result of a CASE it is only known whether it is never NULL."""
     match argument:
         case Value():
             return []

@@ -1,4 +1,4 @@
-"""What the operator means, as a file of --intent says it: what a schema cannot say."""
+"""The intentions in a file of --intent: what a schema cannot say."""
 
 from collections.abc import Mapping, Sequence
 from dataclasses import dataclass, field, replace
@@ -19,7 +19,7 @@ LISTS, MAPPINGS = (COPIED, PARTIAL, APPEND_ONLY, SKIP), (OMITTED, SUBSCRIBERS)
 
 @dataclass(frozen=True)
 class Intent:
-    """What a file says: lists of tables by what is meant of them, and operations of tables, and who subscribes."""
+    """The contents of the file: lists of tables by intention, omitted operations of tables, and who subscribes."""
 
     path: str = ""
     lists: Mapping[str, Sequence[str]] = field(default_factory=dict)
@@ -46,12 +46,12 @@ class Intent:
 
 
 def full(name: str) -> str:
-    """A table's name with its schema, which is public where none is said."""
+    """A table's name with its schema, which is public if none is given."""
     return name if "." in name else f"public.{name}"
 
 
 def read(path: str | None) -> Intent:
-    """What a file says, or nothing if there is none."""
+    """The contents of the file, or nothing if there is none."""
     if path is None:
         return Intent()
     found = parsed(path)
@@ -82,7 +82,7 @@ def parsed(path: str) -> dict[str, Any]:
 
 
 def mapping(path: str, key: str, found: Mapping[str, Any]) -> list[tuple[str, Any]]:
-    """The lists by name of a table of the file."""
+    """The lists, by name, in a table of the file."""
     value = found.get(key, {})
     if not isinstance(value, dict):
         raise Fault(BAD_COMMAND, f"{path}: {key} is a table of lists, as in [{key}]")
@@ -97,13 +97,13 @@ def names(path: str, key: str, value: Any) -> list[str]:
 
 
 def with_intent(options: Options, intent: Intent) -> Options:
-    """The options, with those that the file stands for."""
+    """The options, with those that the file implies."""
     return replace(options, copied=[*options.copied, *intent.listed(COPIED)],
                    partial=[*options.partial, *intent.listed(PARTIAL)])
 
 
 def subscribers_of(db: Database, options: Options, intent: Intent) -> tuple[list[Subscriber], str]:
-    """The subscribers, and a line that says how they are known. The command line counts more than the file."""
+    """The subscribers, and a line that says how they are known. The command line takes precedence over the file."""
     if intent.subscribers and options.subscriptions is None and not options.subscriber:
         return subscribers.from_intent(db, intent.path, intent.subscribers)
     return subscribers.subscribers_of(db, options.subscriptions, options.subscriber)
@@ -117,7 +117,7 @@ def want_published(intent: Intent, tables: Sequence[Shares]) -> None:
 
 
 def taken(db: Database, intent: Intent, tables: Sequence[Shares]) -> list[Shares]:
-    """The tables that are judged, with what they leave out on purpose."""
+    """The tables to be judged, with the operations that are left out on purpose."""
     skipped = set(intent.listed(SKIP))
     found = [it for it in tables if not skipped & it.names]
     leave_out(db, found, intent.operations())
@@ -131,7 +131,7 @@ def skipped(intent: Intent) -> list[str]:
 
 def cite(
         intent: Intent, found: Sequence[Verdict], listed: Sequence[Subscriber], purposes: Mapping[str, str]) -> None:
-    """Adds to each verdict which intention it rests on, or which one would allow what it refuses."""
+    """Adds to each verdict the intention that it depends on, or the one that would allow what it refuses."""
     if not intent.path:
         return
     for verdict in found:

@@ -64,7 +64,7 @@ def add_regions(
 
 def judged_in_time(
         db: database.Database, table: Shares, purpose: str | None, session: Session, options: Options) -> Verdict:
-    """The verdict of a table, which is not decided where it takes too long."""
+    """The verdict on a table, which is not decided if it takes too long."""
     try:
         with time_limit(options.seconds):
             return verdicts.judged(db, table, purpose, session)
@@ -101,7 +101,7 @@ def purposes_of(options: Options, tables: Sequence[Shares]) -> dict[str, str]:
 
 
 def status_of(found: Sequence[Verdict], is_strict: bool) -> int:
-    """Nothing published is not sound, either."""
+    """The exit status. If nothing is published, that is not sound, either."""
     answers = {it.answer for it in found}
     if not found or answers & {verdicts.NOT_SOUND, verdicts.NOT_DECIDED, verdicts.REFUSED}:
         return NOT_SOUND

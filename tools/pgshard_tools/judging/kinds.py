@@ -1,4 +1,4 @@
-"""What the kinds of faults of a text say to an operator."""
+"""Sentences for the kinds of faults of a text."""
 
 from pgshard_tools.judging.limits import LIMITS
 

@@ -1,4 +1,4 @@
-"""Every database of a server, or one database again and again."""
+"""Judges every database of a server, or one database repeatedly."""
 
 import contextlib
 import datetime
@@ -41,11 +41,11 @@ class Answer:
 
     @property
     def is_judged(self) -> bool:
-        """Whether something is published there, or it is not known."""
+        """Whether something is published there, or that is not known."""
         return isinstance(self.found, Fault) or bool(self.found.verdicts) or bool(self.found.findings)
 
     def status(self, options: Options) -> int:
-        """The exit status of it alone."""
+        """The exit status for one database."""
         if isinstance(self.found, Fault):
             return self.found.status
         return monitoring.detailed(self.found, options.strict) if options.detailed_status else self.found.status
@@ -71,7 +71,7 @@ def judge(options: Options, judged: Judge) -> int:
 
 
 def want_alone(options: Options) -> None:
-    """Refuses options that are of one database, or of one time."""
+    """Refuses options for one database or one judgement only."""
     given: dict[str, object]
     if options.databases:
         given = {"--with": options.migration, "--catalog": options.catalog, "--copied": options.copied,
@@ -89,7 +89,7 @@ def want_alone(options: Options) -> None:
 
 
 def answers_of(options: Options, judged: Judge) -> list[Answer]:
-    """What is said now."""
+    """The present judgements."""
     if not options.databases:
         return [answer_of("", options, judged)]
     try:
@@ -102,7 +102,7 @@ def answers_of(options: Options, judged: Judge) -> list[Answer]:
 
 
 def answer_of(name: str, options: Options, judged: Judge) -> Answer:
-    """What is said about one database. A fault of one is none of the others."""
+    """The judgement of one database. A fault of one does not affect the others."""
     try:
         found = judged(options)
         return Answer(found.database.name, found)
@@ -113,7 +113,7 @@ def answer_of(name: str, options: Options, judged: Judge) -> Answer:
 
 
 def names_of(options: Options) -> list[str]:
-    """The databases of the server that can be connected to, but for templates."""
+    """The databases of the server that accept connections, except templates."""
     words = options.words if "-d" in options.words else [*options.words, "-d", "postgres"]
     try:
         found: list[str] = json.loads(run_psql([*words, "-q", "-A", "-t", "-c", NAMES]))
@@ -123,7 +123,7 @@ def names_of(options: Options) -> list[str]:
 
 
 def words_of(words: Sequence[str], name: str) -> list[str]:
-    """The words by which psql connects to another database of the server."""
+    """The arguments with which psql connects to another database of the server."""
     found = list(words)
     given = ""
     if "-d" in found:
@@ -154,7 +154,7 @@ def plugin_status(answer: Answer, options: Options) -> int:
 
 
 def say(answers: Sequence[Answer], options: Options) -> None:
-    """Says all."""
+    """Prints everything."""
     write_metrics(answers, options)
     if options.nagios:
         print(plugin_line(answers, options), flush=True)
@@ -186,7 +186,7 @@ def lines_of(answers: Sequence[Answer], options: Options) -> Iterator[str]:
 
 
 def plugin_line(answers: Sequence[Answer], options: Options) -> str:
-    """The line of a plugin of Nagios, of all databases in which something is published."""
+    """The line of a Nagios plugin for all databases in which something is published."""
     judged = [it for it in answers if it.is_judged]
     texts, data = [], dict[str, int]()
     for answer in judged:
@@ -215,7 +215,7 @@ def json_of(answer: Answer, options: Options) -> dict[str, Any]:
 
 
 def states_of(answers: Sequence[Answer], known: States, options: Options) -> States:
-    """What may change. If there is no judgement, what was known before stays."""
+    """What may change. If there is no judgement, the previous one remains."""
     states: States = {}
     for answer in answers:
         name = answer.name if options.databases else ""
@@ -229,7 +229,7 @@ def states_of(answers: Sequence[Answer], known: States, options: Options) -> Sta
 
 
 def say_changes(before: States, after: States, answers: Sequence[Answer], options: Options) -> None:
-    """Says what changes, with the time, and all that is said of a table whose answer changes."""
+    """Prints what changes, with the time, and everything about each table whose answer changes."""
     changed = [it for it in sorted({*before, *after}) if before.get(it) != after.get(it)]
     if not changed:
         return
@@ -246,7 +246,7 @@ def say_changes(before: States, after: States, answers: Sequence[Answer], option
 
 
 def change_words(what: str, before: str | None, after: str | None) -> str:
-    """One change: of a finding, of a table, or that there is no judgement."""
+    """One change: of a problem, of a table, or that there is no judgement."""
     if what == NO_JUDGEMENT:
         return "judged again" if after is None else f"{NO_JUDGEMENT}: {after}"
     if "" in (before, after):

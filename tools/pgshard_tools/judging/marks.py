@@ -1,5 +1,5 @@
-"""Where in a file a fault or a table is, as `file:line:column: sentence`, for a person at a terminal. An editor or a
-terminal opens the file there."""
+"""Prints the position of a fault or a table in a file at a terminal, as `file:line:column: sentence`, which editors and
+terminals can open."""
 
 import sys
 from collections.abc import Sequence
@@ -13,14 +13,14 @@ from pgshard_tools.pointing.source import Source
 
 
 def mark_fault(path: str, catalog: str, fault: Unreadable) -> None:
-    """A catalog that is not read."""
+    """Marks the fault of a catalog that cannot be read."""
     if fault.part == "catalog":
         source = source_of(path, catalog)
         mark(f"{source.at(fault.place)}: {KINDS.get(fault.kind, fault.kind)}: {source.there(fault.place)}")
 
 
 def mark_tables(path: str, catalog: str, found: Sequence[Verdict]) -> None:
-    """The tables that are not sound, each where it is made."""
+    """Marks the tables that are not sound, each where it is created."""
     source = source_of(path, catalog)
     places = {table.name: place for place, table in made_in(catalog)[0]}
     for verdict in found:
@@ -30,11 +30,11 @@ def mark_tables(path: str, catalog: str, found: Sequence[Verdict]) -> None:
 
 
 def source_of(path: str, catalog: str) -> Source:
-    """The file, for places in it."""
+    """The file, for positions in it."""
     return Source(path, catalog.encode("utf-8", "surrogateescape"))
 
 
 def mark(line: str) -> None:
-    """Nothing is said where nobody looks: the judgement itself is on standard output."""
+    """Prints nothing if standard error is not a terminal: the judgement itself is on standard output."""
     if sys.stderr.isatty():
         print(line.encode("utf-8", "replace").decode(), file=sys.stderr)

@@ -1,8 +1,6 @@
-"""What the server says of the functions and operators that filters and constraints call, and of constants.
-
-All of it is asked of the server that is judged: the trees of its expressions have OIDs, and pg_proc and pg_operator say
-what these are. Nothing is concluded from a name.
-"""
+"""What the server says about constants, and about the functions and operators that filters and constraints call. All of
+it comes from the judged server: the trees of its expressions have OIDs, and pg_proc and pg_operator say what these are.
+Nothing is concluded from a name."""
 
 import json
 from dataclasses import replace
@@ -68,7 +66,7 @@ class Asking(Protocol):
 
 
 class Meanings:
-    """What the server says, asked for once."""
+    """What the server says; each question is asked once."""
 
     def __init__(self, session: Asking, db: Database) -> None:
         self.session = session
@@ -99,7 +97,7 @@ class Meanings:
         return json.loads(answer)
 
     def top(self, relations: list[int], text: str) -> Tree | None:
-        """The server's tree of a text, None if it has none."""
+        """The server's tree of a text, or None if it has none."""
         found = [it for relation in relations for it in self.texts.get((relation, text), ())]
         return tree_of(found[0]) if found else None
 
@@ -124,17 +122,17 @@ class Meanings:
         return self.with_result(self.operators.get(tree.number("opno")), tree, "opresulttype")
 
     def with_result(self, found: Call | None, tree: Tree, name: str) -> Call | None:
-        """A call whose result has any type has that which the tree has."""
+        """A call whose declared result is any type has the type in the tree."""
         if found is None or not found.result.startswith("any") or not tree.word(name):
             return found
         return replace(found, result=self.types.get(tree.number(name), found.result))
 
     def is_of_bytes(self, tree: Tree) -> bool:
-        """Whether a call is of no texts, or of such that are told apart as their bytes are."""
+        """Whether a call has no texts, or only texts that differ exactly if their bytes do."""
         return tree.word("inputcollid") in ("", "0") or tree.word("inputcollid") in self.collations
 
     def constant(self, raw: Any, sql: str) -> str | None:
-        """The value of an expression without columns as the server writes it; Unread where it fails there."""
+        """The value of an expression without columns, as the server writes it; Unread if it fails."""
         if sql not in self.values:
             answer = self.session.ask(f"SELECT json_build_array(({sql})::text)")
             self.values[sql] = json.loads(answer) if answer else None
@@ -183,7 +181,7 @@ PLACES = {"location", "varattno", "varattnosyn", "varnosyn"}
 
 
 def without_places(part: Any) -> Any:
-    """A tree without where its parts are in the text, or its columns in the table."""
+    """A tree without the positions of its parts in the text, and of its columns in the table."""
     if isinstance(part, Tree):
         return part.kind, [(name, without_places(it)) for name, it in part.fields.items() if name not in PLACES]
     return [without_places(it) for it in part] if isinstance(part, list) else part

@@ -1,7 +1,5 @@
-"""Where the result of some steps is in some ranges, as a formula of the column that they begin with.
-
-Each formula here is NULL exactly where the column is, and each function says why what it answers is exact.
-"""
+"""Whether the result of some steps is in some ranges, as a formula of the column with which they begin. Each formula
+here is NULL exactly where the column is, and each function says why its result is exact."""
 
 import math
 from typing import Sequence
@@ -19,7 +17,7 @@ MOST_RANGES = 1000
 
 
 class TooWide(Exception):
-    """A set of numbers that ranges do not tell in a few words."""
+    """A set of numbers that would take too many ranges."""
 
 
 def member(subject: Subject, done: Sequence[Step], found: Ranges) -> Formula:
@@ -45,7 +43,7 @@ def member(subject: Subject, done: Sequence[Step], found: Ranges) -> Formula:
 
 
 def is_of_bits(subject: Subject, done: Sequence[Step]) -> bool:
-    """Whether it is a mask of the column, or of one that is shifted; a few last bits are a remainder."""
+    """Whether the steps mask the column, or a shifted column. A mask of a few last bits is a remainder."""
     *before, last = done
     if not isinstance(last, Mask) or last.mask == 0:
         return False
@@ -172,7 +170,7 @@ def representatives(plain: Ranges, modulus: int) -> Ranges:
 
 def residue_of_bounded(subject: Subject, done: Sequence[Step], low: int, high: int, modulus: int,
                        found: Ranges) -> Formula:
-    """A result that is between two numbers is gone through by its multiples of the modulus."""
+    """A result between two numbers is examined multiple by multiple of the modulus."""
     first, last = -(-low // modulus) if low < 0 else 0, high // modulus
     if (last - first + 1) * len(found) > MOST_RANGES:
         raise TooWide

@@ -22,7 +22,7 @@ OUTSIDE = {
 
 @dataclass(frozen=True)
 class Statement:
-    """A statement as the file has it, and where it begins, as file:line."""
+    """A statement as in the file, and its position, as file:line."""
 
     text: str
     place: str
@@ -60,12 +60,12 @@ def read_file(path: str) -> str:
 
 
 def place_of(path: str, text: str, at: int) -> str:
-    """The line of a character."""
+    """The line in which a character is."""
     return f"{path}:{text.count(chr(10), 0, at) + 1}"
 
 
 def refused(place: str, words: str) -> Fault:
-    """A migration that is not tried, or that fails."""
+    """The fault of a migration that is not tried, or that fails."""
     return Fault(NOT_READ, f"refused: {place}: {words}")
 
 

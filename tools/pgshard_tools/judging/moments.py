@@ -1,5 +1,5 @@
-"""Functions of dates and timestamps that keep their order: a comparison with a constant is one of the argument
-itself."""
+"""Functions of dates and timestamps that preserve the order: comparing the result with a constant is comparing the
+argument."""
 
 import math
 from dataclasses import replace
@@ -25,7 +25,7 @@ MONDAY = 2
 
 
 def subject_of(operand: Operand) -> Subject | None:
-    """The subject of what is a date or a timestamp."""
+    """The subject of a date or a timestamp."""
     match operand:
         case Ref(subject=subject, type=type) if type in TYPES:
             return subject
@@ -47,7 +47,7 @@ def compared(form: str, op: str, operand: Operand, point: Point) -> Formula:
 
 
 def never(form: str, operand: Operand) -> Formula:
-    """FALSE, but NULL where the argument is: nothing is below -infinity."""
+    """FALSE, or NULL where the argument is: nothing is below -infinity."""
     return compared(form, "<", operand, LEAST)
 
 
@@ -84,9 +84,8 @@ def derived(form: str, operand: Operand, ref: Ref, below: Callable[[Fraction], P
 
 
 def part(form: str, name: str, operand: Operand, ref: Ref) -> Operand:
-    """A part of a date, a timestamp or a time. Its column is NULL where the argument is. At infinity the parts that go
-    in
-    a circle are NULL; the others are infinity."""
+    """A part of a date, a timestamp or a time. Its column is NULL where the argument is. At infinity the parts that
+    repeat are NULL, and the others are infinite."""
     subject = subject_of(operand)
     if subject is None:
         found = BOUNDS_OF_TIME.get(name) if isinstance(operand, Ref) and operand.type == "time" else None
@@ -100,7 +99,7 @@ def part(form: str, name: str, operand: Operand, ref: Ref) -> Operand:
 
 
 def where_null(form: str, operand: Operand, null_of: comparing.NullOf) -> Formula:
-    """Where a part is NULL that goes in a circle: where the argument is NULL, and at infinity."""
+    """Where a part that repeats is NULL: where the argument is NULL, and at infinity."""
     subject = subject_of(operand)
     assert subject is not None
     return tested("TRUE", either(null_of(subject), is_infinite(form, operand)))
@@ -111,7 +110,7 @@ def bounded(ref: Ref, bounds: tuple[int, int]) -> Ref:
 
 
 def year(form: str, operand: Operand, ref: Ref) -> Derived:
-    """The year, which is -1 before it is 1."""
+    """The year; -1 is followed by 1."""
     unit = 1 if type_of(operand) == "date" else DAY
 
     def begin(number: int) -> Point:
@@ -141,7 +140,7 @@ def truncated(form: str, unit: str, operand: Operand, ref: Ref, failing: Failing
 
 
 def last_begin(unit: str, number: Fraction) -> int:
-    """When the unit began that a moment is in."""
+    """The beginning of the unit that contains a moment."""
     if unit in UNITS:
         return math.floor(number / UNITS[unit]) * UNITS[unit]
     days = math.floor(number / DAY)
@@ -153,7 +152,7 @@ def last_begin(unit: str, number: Fraction) -> int:
 
 
 def next_begin(unit: str, begin: int) -> int:
-    """When the next unit begins after one that begins then."""
+    """The beginning of the unit after the one that begins then."""
     if unit in UNITS:
         return begin + UNITS[unit]
     if unit == "week":
@@ -202,15 +201,14 @@ def after(operand: Operand, number: Fraction) -> Point:
 
 
 def days_since(form: str, operand: Operand, begin: Point, ref: Ref, failing: Failing) -> Operand:
-    """The days of a date since another, which fails where one of them is infinite."""
+    """The number of days from one date to another, which fails if one of them is infinite."""
     failing.note(form, is_infinite(form, operand), ref.subject.columns)
     return derived(form, operand, ref, lambda it: finite(it + begin.value), lambda it: after(operand, it + begin.value))
 
 
 def steps_of(text: str | None) -> tuple[int, ...] | None:
-    """The microseconds that an interval adds: first those of its days, if it has any, then those of its clock. None of
-    one
-    with months, since these are not always as long."""
+    """The microseconds that an interval adds: first those of its days, if it has any, then those of its clock. None for
+    an interval with months, whose length varies."""
     try:
         months, days, clock = wholes.parts(text or "")
     except ValueError:

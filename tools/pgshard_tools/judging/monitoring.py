@@ -1,4 +1,4 @@
-"""What is said to monitoring: one line for Nagios, a file for Prometheus, and exit statuses that tell answers apart."""
+"""Output for monitoring: one line for Nagios, a file for Prometheus, and exit statuses that distinguish answers."""
 
 import os
 import re
@@ -54,7 +54,7 @@ def plugin_whole(status: int, text: str, data: Mapping[str, int]) -> str:
 
 
 def plugin_text(report: Report) -> str:
-    """What the line says of a database."""
+    """What the line says about a database."""
     found = counts(report)
     tables = "1 table" if len(report.verdicts) == 1 else f"{len(report.verdicts)} tables"
     parts = [f"{tables}, {found[verdicts.SOUND]} sound"] if report.verdicts else ["no table is published"]
@@ -82,7 +82,7 @@ def plugin_words(status: int, text: str) -> str:
 
 
 def plugin_fault(fault: Fault) -> tuple[str, int]:
-    """The line where there is no judgement."""
+    """The line if there is no judgement."""
     return plugin_words(UNKNOWN, fault.words), UNKNOWN
 
 
@@ -97,7 +97,7 @@ def label(answer: str) -> str:
 
 
 def metrics(reports: Sequence[Report], status: int) -> str:
-    """The text for Prometheus. A table has 1 at its answer, and 0 at the others, so that each series goes on."""
+    """The text for Prometheus. A table has 1 for its answer, and 0 for the others, so that each series continues."""
     tables, failing, numbers, unpublished, findings = [], [], [], [], []
     for report in reports:
         database = {"database": report.database.name}
@@ -118,7 +118,7 @@ def metrics(reports: Sequence[Report], status: int) -> str:
 
 
 def run_metrics(status: int) -> str:
-    """What is said about each run, also of one without a judgement."""
+    """The metrics of each run, also of one without a judgement."""
     return "".join([
         family("pgshard_judge_status", "The exit status of the last run of judge.", [
             sample("pgshard_judge_status", {}, status)]),
@@ -143,7 +143,8 @@ def escaped(text: str) -> str:
 
 
 def write_metrics(path: str, text: str) -> None:
-    """Writes a file at once, so that nobody reads a part of it. All may read it, since another user collects it."""
+    """Writes a file atomically, so that nobody reads a part of it. Everyone may read it, since another user collects
+    it."""
     folder = os.path.dirname(os.path.abspath(path))
     try:
         with tempfile.NamedTemporaryFile(

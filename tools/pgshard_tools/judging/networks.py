@@ -1,4 +1,4 @@
-"""Networks: which addresses are in one that is constant, and of which family they are."""
+"""Networks: which addresses are in a constant network, and their family."""
 
 from fractions import Fraction
 
@@ -17,7 +17,7 @@ def subject_of(operand: Operand) -> Subject | None:
 
 
 def contains(name: str, one: Operand, other: Operand) -> Formula | None:
-    """Whether an address is in a constant network: those are together in the order of the server."""
+    """Whether an address is in a constant network: its addresses are consecutive in the server's order."""
     if name in TURNED:
         return contains(TURNED[name], other, one)
     subject = subject_of(one)
@@ -31,7 +31,7 @@ def contains(name: str, one: Operand, other: Operand) -> Formula | None:
 
 
 def never(subject: Subject) -> Formula:
-    """FALSE, but NULL where the address is: none is before the first one."""
+    """FALSE, or NULL where the address is: none is before the first one."""
     return Compare(subject, "<", finite(0))
 
 

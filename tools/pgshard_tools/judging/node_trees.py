@@ -32,7 +32,7 @@ class Tree:
         return value if isinstance(value, str) else ""
 
     def tree(self, name: str) -> "Tree | None":
-        """A field that is a node, None if it is null."""
+        """A field that is a node, or None if it is null."""
         value = self.fields.get(name)
         return value if isinstance(value, Tree) else None
 
@@ -52,7 +52,7 @@ def tree_of(text: str) -> Tree:
 
 
 def part_at(tokens: list[str], at: int) -> tuple[Part, int]:
-    """What begins at a token, and where it ends."""
+    """The part that begins at a token, and where it ends."""
     if tokens[at] == "{":
         return node_at(tokens, at)
     if tokens[at] == "(":
@@ -85,7 +85,7 @@ def node_at(tokens: list[str], at: int) -> tuple[Part, int]:
 
 
 def numbers_in(text: str, names: tuple[str, ...]) -> set[int]:
-    """The OIDs in a tree's text that fields of some names have; a field may have a list of them."""
+    """The OIDs in the fields of these names in a tree's text; a field may have a list of them."""
     found: set[int] = set()
     for name in names:
         for listed in re.findall(rf" :{name} (\d+|\(o[ \d]*\))", text):
@@ -107,7 +107,7 @@ def has_conflict(tree: Tree) -> bool:
 
 
 def has_conflict_of_rows(tree: Tree) -> bool:
-    """The same of the pairs of two rows that are compared."""
+    """The same for the pairs of two rows that are compared."""
     numbers = tree.fields.get("inputcollids")
     pairs = zip(numbers[1:] if isinstance(numbers, list) else (), tree.trees("largs"), tree.trees("rargs"))
     return any(number == "0" and (is_collated(one) or is_collated(other)) for number, one, other in pairs)
@@ -119,6 +119,6 @@ def is_collated(tree: Tree) -> bool:
 
 
 def parts_of(tree: Tree) -> list[Tree]:
-    """The nodes right below one."""
+    """The children of a node."""
     listed = [value if isinstance(value, list) else [value] for value in tree.fields.values()]
     return [it for values in listed for it in values if isinstance(it, Tree)]

@@ -24,7 +24,7 @@ class Array:
 
 @dataclass(frozen=True)
 class Ref:
-    """A column, or another subject, as a value of a type that it is cast to without a change."""
+    """A column, or another subject, as a value of a type to which it is cast unchanged."""
 
     subject: Subject
     type: str
@@ -62,7 +62,7 @@ class Derived:
 
 @dataclass(frozen=True)
 class Choice:
-    """One operand where a condition is TRUE, else the other."""
+    """One operand if a condition is TRUE, otherwise the other."""
 
     condition: Formula
     one: "Operand"
@@ -71,7 +71,7 @@ class Choice:
 
 @dataclass(frozen=True)
 class Extreme:
-    """The greatest or the least of some operands that are not NULL; NULL where all of them are."""
+    """The greatest or the least of the operands that are not NULL; NULL if all of them are."""
 
     is_greatest: bool
     parts: "tuple[Operand, ...]"

@@ -52,7 +52,7 @@ judgement"""
 
 @dataclass
 class Options:
-    """What the command line asks for. `words` are the arguments with which psql connects."""
+    """What the command line requests. `words` are the arguments with which psql connects."""
 
     explain: bool
     all: bool
@@ -99,7 +99,7 @@ def parser() -> Parser:
 
 
 def add_options(found: Parser) -> None:
-    """Judge's own."""
+    """Adds judge's own options."""
     own = found.add_argument_group("options")
     own.add_argument("--explain", action="store_true", help=(
         "for each sound table, show which rows go to which subscriber"))
@@ -150,7 +150,7 @@ def add_options(found: Parser) -> None:
 
 
 def add_connection(found: Parser) -> None:
-    """Psql's."""
+    """Adds psql's connection options."""
     psql = found.add_argument_group("connection options, which are psql's")
     psql.add_argument("-d", "--dbname", help="the database, or a connection string")
     psql.add_argument("-h", "--host", help="the server's host, or the directory of its socket")
@@ -161,7 +161,7 @@ def add_connection(found: Parser) -> None:
 
 
 def seconds(text: str) -> float:
-    """A time above zero."""
+    """A positive time."""
     value = float(text)
     if not 0 < value < 1e6:
         raise ValueError(text)
@@ -169,7 +169,7 @@ def seconds(text: str) -> float:
 
 
 def number_of_rows(text: str) -> int:
-    """How many rows of a table are listed."""
+    """The number of rows of a table that are listed."""
     value = int(text)
     if not 0 < value <= MOST_ROWS:
         raise ValueError(text)

@@ -41,7 +41,7 @@ class Page:
         self.colours = {it.name: COLOURS[place % len(COLOURS)] for place, it in enumerate(answer.subscribers)}
 
     def text(self) -> str:
-        """All of it."""
+        """The whole page."""
         with open(os.path.join(FOLDER, "page.css"), encoding="utf-8") as file:
             style = file.read()
         name = escape(self.answer.database.name)
@@ -53,7 +53,7 @@ class Page:
             ""])
 
     def head(self, name: str) -> Iterator[str]:
-        """What is judged, and what the colours mean."""
+        """The head of the page: what is judged, and what the colours mean."""
         now = datetime.datetime.now(datetime.timezone.utc)
         yield f"<header>\n<h1>What {name} publishes</h1>"
         yield f"<p>{escape(report.counts(self.answer, False))}</p>"
@@ -162,7 +162,7 @@ class Page:
         yield f'<ul class="numbers">{parts}</ul>'
 
     def repair(self, verdict: Verdict) -> Iterator[str]:
-        """The statements, if they were asked for."""
+        """The statements of the repair, if requested."""
         repair = self.repairs.get(verdict.table)
         if repair is not None:
             yield f'<h3>Repair</h3>\n<pre>{escape(chr(10).join(lines_of(repair)))}</pre>'

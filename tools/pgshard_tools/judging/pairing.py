@@ -1,8 +1,6 @@
-"""Each node of a filter's text beside the node of the server's own tree that it was written of.
-
-The text has the constants as people write them; the tree says which function and which operator is called, by OID.
-Where the two do not fit together, nothing is read.
-"""
+"""Matches each node of a filter's text with the node of the server's tree from which it was written. The text has the
+constants as people write them; the tree says which function and which operator is called, by OID. If the two do not
+match, nothing is read."""
 
 from typing import Any
 
@@ -22,7 +20,7 @@ BOOLEANS = {"and": "AND_EXPR", "or": "OR_EXPR", "not": "NOT_EXPR"}
 
 
 class Mismatch(Exception):
-    """A text and a tree that do not fit together."""
+    """The text and the tree do not match."""
 
 
 def paired(raw: Any, tree: Tree) -> dict[int, Tree]:
@@ -90,7 +88,7 @@ def pair_other(raw: Any, tree: Tree, found: dict[int, Tree]) -> None:
 
 
 def form_of_cast(tree: Tree) -> str | None:
-    """How a conversion is written, None if the tree is none."""
+    """How a conversion is written, or None if the tree is not a conversion."""
     if tree.kind in ONE_ARGUMENT:
         return tree.word(ONE_ARGUMENT[tree.kind])
     is_cast = tree.kind == "FUNCEXPR" and tree.word("funcformat") in (EXPLICIT_CAST, IMPLICIT_CAST)
@@ -98,7 +96,7 @@ def form_of_cast(tree: Tree) -> str | None:
 
 
 def pair_cast(raw: Any, tree: Tree, form: str, found: dict[int, Tree]) -> None:
-    """A conversion, which the text may leave out where nobody wrote it."""
+    """A conversion, which the text may omit if nobody wrote it."""
     inner = argument(tree)
     if is_shortened(raw, tree, inner):
         found |= {id(raw): tree, id(raw.arg): inner}
@@ -141,7 +139,7 @@ def pair_operator(raw: Any, tree: Tree, found: dict[int, Tree]) -> None:
 
 
 def pair_case(raw: Any, tree: Tree, found: dict[int, Tree]) -> None:
-    """`CASE x WHEN y` has the comparison of x and y in the tree, and y alone in the text."""
+    """`CASE x WHEN y` has the comparison of x and y in the tree, but only y in the text."""
     compared = tree.tree("arg")
     want((compared is None) == (raw.arg is None))
     if compared is not None:

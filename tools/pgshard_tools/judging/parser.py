@@ -22,7 +22,7 @@ MISSING = (
 
 
 def want_pglast() -> None:
-    """Ends the run where it is not there."""
+    """Ends the run if pglast is not installed."""
     if not has_pglast():
         raise Fault(NO_PROGRAM, MISSING)
 
@@ -50,13 +50,13 @@ def is_parsed(text: str) -> bool:
 
 
 def written(node: Any) -> str:
-    """An expression as SQL, its text constants without the cast that the server writes."""
+    """An expression as SQL, with text constants without the cast that the server writes."""
     from pglast.stream import RawStream  # type: ignore[import]
     return TEXT_CAST.sub(r"\1", RawStream()(node))
 
 
 def faithful(node: Any) -> str:
-    """An expression as SQL that is read as this very expression again, so that equal texts are equal expressions."""
+    """An expression as SQL that is read as the same expression again, so that equal texts are equal expressions."""
     from pglast.stream import RawStream
     text = BIT_CAST.sub(' AS "bit")', RawStream()(node))
     if tree_of(parsed(text)) != tree_of(node):
@@ -65,18 +65,18 @@ def faithful(node: Any) -> str:
 
 
 def side_text(node: Any) -> str:
-    """The same, with parentheses where an operator comes beside it."""
+    """The same, in parentheses if an operator is next to it."""
     text = faithful(node)
     return text if is_alone(node) else f"({text})"
 
 
 def is_alone(node: Any) -> bool:
-    """Whether an expression is none of an operator."""
+    """Whether an expression is not that of an operator."""
     return kind_of(node) in ("ColumnRef", "A_Const", "FuncCall", "TypeCast")
 
 
 def tree_of(node: Any) -> Any:
-    """A tree without places in the text, and without what says how a call was written."""
+    """A tree without positions in the text, and without the fields that say how a call was written."""
     if isinstance(node, tuple):
         return [tree_of(part) for part in node]
     if not (hasattr(node, "__slots__") and hasattr(node, "__iter__")):
@@ -85,7 +85,7 @@ def tree_of(node: Any) -> Any:
 
 
 def shown(text: str) -> str:
-    """SQL as an operator reads it, in one line but for what is quoted."""
+    """SQL for people to read, in one line except for quoted newlines."""
     one_line = BLANKS.sub(lambda it: it[1] or " ", text).strip()
     text = EXTRACT.sub(r"EXTRACT(\1 FROM ", one_line)
     # The name `position` is a keyword, so the server takes a list of arguments only behind its schema.

@@ -1,4 +1,4 @@
-"""A row of the server that may be in a region: a code for each column, and the values that have these codes."""
+"""Rows of the server that may be in a region: a code for each column, and the values with these codes."""
 
 import itertools
 import math
@@ -64,7 +64,7 @@ def numbers_in(found: Ranges, by_modulus: dict[int, Ranges]) -> Iterator[int]:
 
 
 def near_zero(found: Ranges, period: int) -> Iterator[int]:
-    """The numbers of each range by how near zero they are, a period of each."""
+    """One period of numbers of each range, those near zero first."""
     for low, high in sorted(found, key=lambda it: abs(nearest(it))):
         begin = nearest((low, high))
         yield from range(begin, min(high, begin + period) + 1)

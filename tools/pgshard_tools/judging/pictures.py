@@ -55,7 +55,7 @@ class Axis:
         return found
 
     def within(self, codes: Codes, part: Part) -> Codes:
-        """A region where the term is in a part."""
+        """The part of a region in which the term is in a part."""
         if part is None:
             return codes | {self.base: ((), True)}
         known = codes | {self.base: (codes[self.base][0], False)}
@@ -93,7 +93,7 @@ def start_of(division: Division) -> Codes | None:
 
 
 def axes_of(division: Division, start: Codes) -> list[Axis]:
-    """The terms by which pieces differ. A column of which only a remainder matters is no term of its own."""
+    """The terms by which pieces differ. A column of which only a remainder matters is not a term itself."""
     found = []
     for coded in start:
         known = [piece.codes[coded] for piece in division.pieces]
@@ -125,7 +125,7 @@ def parts_of(division: Division, coded: Coding) -> list[Part]:
 
 
 def term_of(axis: Axis) -> str:
-    """What is asked of a row."""
+    """What the filters test of a row."""
     subject = parser.shown(axis.coded.subject.sql)
     modulus = axis.coded.modulus
     return f"{subject} % {modulus}" if modulus else subject
@@ -150,7 +150,7 @@ def takers_at(division: Division, codes: Codes) -> list[str] | None:
 
 
 def overlap(one: Codes, other: Codes) -> Codes | None:
-    """What two regions have, or None."""
+    """The intersection of two regions, or None."""
     found: Codes = {}
     for coded, (its, null) in one.items():
         found[coded] = ranges.intersection(its, other[coded][0]), null and other[coded][1]
@@ -162,7 +162,7 @@ def overlap(one: Codes, other: Codes) -> Codes | None:
 
 
 def joined_line(found: Map, axes: Sequence[Axis], start: Codes) -> Map:
-    """Neighbours with the same subscribers as one."""
+    """Joins neighbours with the same subscribers."""
     axis = axes[0]
     kept: list[tuple[Part, list[str] | None]] = []
     for part, cell in zip(axis.parts, found.cells):
@@ -175,7 +175,7 @@ def joined_line(found: Map, axes: Sequence[Axis], start: Codes) -> Map:
 
 
 def listed(division: Division) -> Map:
-    """Each piece on a line: first those of nobody, then those of several."""
+    """Each piece on a line: first those that reach nobody, then those that reach several."""
     pieces = sorted(division.pieces, key=rank)
     cells = [Cell(it.condition, list(it.takers)) for it in pieces[:MOST_LINES]]
     return Map([], cells, len(pieces[MOST_LINES:]))

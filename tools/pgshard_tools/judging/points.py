@@ -19,7 +19,7 @@ TIME = re.compile(r"(\d\d):(\d\d):(\d\d)(?:\.(\d{1,6}))?")
 @functools.total_ordering
 @dataclass(frozen=True)
 class Point:
-    """A finite point, or one past them all: -infinity is below, infinity above, and NaN above infinity."""
+    """A finite point, or one beyond all of them: -infinity is below, infinity above, and NaN above infinity."""
 
     side: int
     value: Fraction = Fraction(0)

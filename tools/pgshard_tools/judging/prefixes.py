@@ -1,7 +1,5 @@
-"""Prefixes of texts. Texts that begin alike are together in the order of their bytes, which is that of the collation C.
-
-So each such condition is one of that order, whatever the collation of the column is.
-"""
+"""Prefixes of texts. Texts with the same prefix are consecutive in the order of their bytes, which is that of the
+collation C. So each such condition is a range of that order, whatever the collation of the column is."""
 
 from dataclasses import replace
 
@@ -30,12 +28,12 @@ def starts(subject: Subject, prefix: str) -> Formula:
 
 
 def never(subject: Subject) -> Formula:
-    """FALSE, but NULL where the text is: no text is before the empty one."""
+    """FALSE, or NULL where the text is: no text is before the empty one."""
     return Compare(subject, "<", "")
 
 
 def next_text(prefix: str) -> str | None:
-    """The first text that comes after all with a prefix, None if there is none."""
+    """The first text after all texts with a prefix, or None if there is none."""
     for end in range(len(prefix), 0, -1):
         letter = ord(prefix[end - 1])
         if letter < LAST:
@@ -79,7 +77,7 @@ def like(operand: Operand, pattern: str, is_utf8: bool) -> Formula | None:
 
 
 def beginning(operand: Operand, length: int, ref: Ref, is_utf8: bool) -> Operand:
-    """The first letters of a text, one of them at least."""
+    """The first letters of a text, at least one."""
     found = subject_of(operand)
     if found is None or length < 1:
         return ref

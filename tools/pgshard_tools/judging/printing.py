@@ -46,7 +46,7 @@ def in_parentheses(part: Formula) -> str:
 
 
 def within_text(coded: Coding, found: Ranges) -> str:
-    """Whether a column's code is in some ranges, by the fewest conditions; NULL where the column is."""
+    """Whether a column's code is in some ranges, with the fewest conditions; NULL where the column is."""
     if not found or found == coded.full:
         is_never = not found
         if coded.not_null:
@@ -113,7 +113,7 @@ def has_last(coded: Coding, found: Ranges) -> bool:
 
 
 def never_text(coded: Coding) -> str:
-    """FALSE, but NULL where the column is."""
+    """FALSE, or NULL where the column is."""
     if coded.not_null:
         return "FALSE"
     term = term_text(coded)

@@ -18,7 +18,7 @@ CERTIFICATE = r"[soen] \d+(?: [soen] \d+)*"
 
 @dataclass
 class Unreadable:
-    """A fault of the text, with its place in bytes."""
+    """A fault of the text, with its position in bytes."""
 
     part: str
     place: int
@@ -59,7 +59,7 @@ def run(subcommand: str, text: str) -> str | Unreadable:
 
 
 def answer_of(subcommand: str, data: bytes) -> tuple[int, bytes]:
-    """The status and the output of a run, whose time counts as that of the table. It ends with an exception."""
+    """The status and the output of a run, whose time counts for the table. An exception also ends the run."""
     try:
         process = subprocess.Popen([program(), subcommand], stdin=subprocess.PIPE, stdout=subprocess.PIPE)
     except OSError as fault:

@@ -1,4 +1,4 @@
-"""Which Python has pglast, PostgreSQL's own parser as a library."""
+"""Finds a Python that has pglast, PostgreSQL's parser as a library."""
 
 import importlib.util
 import os
@@ -15,6 +15,6 @@ def has_pglast() -> bool:
 
 
 def go_where_pglast_is(script: str, words: Sequence[str]) -> None:
-    """Runs the script once more by the system's Python, where this one has no pglast."""
+    """Runs the script again with the system's Python, if this one has no pglast."""
     if not has_pglast() and TRIED not in os.environ and os.access(SYSTEM_PYTHON, os.X_OK):
         os.execve(SYSTEM_PYTHON, [SYSTEM_PYTHON, script, *words], os.environ | {TRIED: "1"})

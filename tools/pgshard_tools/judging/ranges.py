@@ -34,7 +34,7 @@ def complement(ranges: Iterable[Range], low: int, high: int) -> Ranges:
 
 
 def intersection(one: Iterable[Range], other: Iterable[Range]) -> Ranges:
-    """What both have. In ascending order, one look at each range is enough."""
+    """The numbers in both. Since ranges ascend, each is looked at once."""
     first, second = normal(one), normal(other)
     found: list[Range] = []
     a = b = 0
@@ -71,5 +71,5 @@ def numbers_of(ranges: Iterable[Range]) -> list[int]:
 
 
 def remainder(number: int, modulus: int) -> int:
-    """The server's %, which goes toward zero: the sign is that of the number."""
+    """The server's %, which truncates toward zero: the sign is that of the number."""
     return number % modulus if number >= 0 else -(-number % modulus)

@@ -1,7 +1,5 @@
-"""Why the server refuses an operation on a table, or ends a subscriber's stream, though its filters divide the rows.
-
-docs/JUDGING.md has the rules, with the sections of PostgreSQL's documentation.
-"""
+"""Why the server refuses an operation on a table, or ends a subscriber's stream, although the filters divide the rows.
+docs/JUDGING.md has the rules, with the sections of PostgreSQL's documentation."""
 
 from collections.abc import Iterator
 from dataclasses import replace
@@ -35,7 +33,7 @@ def allowing(database: Database, shares: Shares) -> str | None:
 
 
 def operation_refusals(database: Database, shares: Shares) -> Iterator[str]:
-    """An operation that a subscriber is not sent, or by other filters than INSERT; the first one is told."""
+    """The first operation that a subscriber is not sent, or is sent by other filters than INSERT."""
     for subscriber, stream in shares.streams.items():
         operation = next(broken_operations(database, shares, stream), None) if stream else None
         if operation is None:
@@ -49,12 +47,13 @@ def operation_refusals(database: Database, shares: Shares) -> Iterator[str]:
 
 
 def missing_words(publication: str, operation: str) -> str:
-    """That a publication leaves out an operation."""
+    """The message that a publication leaves out an operation."""
     return f"publication {publication}, which has a subscriber, does not publish {operation}"
 
 
 def identity_refusals(database: Database, shares: Shares) -> Iterator[str]:
-    """Why the server refuses updates and deletes. It asks all publications of a table, also those that nobody takes."""
+    """Why the server refuses updates and deletes. It checks all publications of a table, including those that nobody
+    takes."""
     for leaf in shares.leaves:
         if leaf["kind"] == "p" or not leaf["is_publishable"]:
             continue

@@ -41,7 +41,7 @@ class Rehearsal(Session):
         self.is_begun = False
 
     def setup(self) -> str:
-        """The settings of psql alone: the statements are to find those of the role."""
+        """The settings of psql only: the statements must find those of the role."""
         if self.is_begun:
             # The transaction ended with its psql, and there is no other with the same tables.
             raise Fault(NO_ANSWER, LOST)
@@ -67,7 +67,7 @@ class Rehearsal(Session):
         """No question is left without its answer."""
 
     def close(self) -> None:
-        """Rolls back all. Without the answer to this the server does so once psql is gone."""
+        """Rolls back everything. If this is not answered, the server does so once psql has ended."""
         try:
             if self.process is not None:
                 self.ask(ROLLBACK)
@@ -100,7 +100,7 @@ class Rehearsal(Session):
             raise Fault(NO_ANSWER, "psql does not answer with the catalog, so nothing is judged") from fault
 
     def run_one(self, statement: Statement) -> None:
-        """Runs one statement; psql sends its text as it is."""
+        """Runs one statement; psql sends its text unchanged."""
         process = self.process
         assert process is not None and process.stdin is not None and process.stdout is not None
         end = f"end {uuid.uuid4()}"
@@ -120,7 +120,7 @@ class Rehearsal(Session):
 
 
 def words_of(state: str, message: str) -> str:
-    """What the server says of a statement, and what to do."""
+    """What the server says about a statement, and what to do."""
     if state == IN_TRANSACTION:
         return f"{message}; --with runs the file in one, which is rolled back, so try it without this statement"
     if state == LOCKED:
@@ -138,7 +138,7 @@ def escaped(text: str) -> str:
 
 @contextlib.contextmanager
 def alarm_held() -> Iterator[None]:
-    """A time that is up meanwhile is told at the end of the block."""
+    """If the time is up in the block, that is raised at its end."""
     before = signal.pthread_sigmask(signal.SIG_BLOCK, [signal.SIGALRM])
     try:
         yield

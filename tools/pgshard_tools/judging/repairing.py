@@ -26,7 +26,7 @@ KEEP_OUT = "a CHECK constraint that keeps such rows out, or filters that do not 
 
 @dataclass
 class Repair:
-    """What makes a table sound, or why nothing is printed of it."""
+    """The repair of a table, or why there is none."""
 
     table: str
     before: str
@@ -60,7 +60,7 @@ class Repairer:
         return found
 
     def want_repairable(self, verdict: Verdict) -> None:
-        """Ends it where other publications are no help."""
+        """Gives up if other publications would not help."""
         reasons = "; ".join(verdict.because)
         if verdict.answer != verdicts.NOT_SOUND:
             raise NoRepair(f"it is {verdict.answer}, and only what is NOT SOUND is repaired: {reasons}")
@@ -101,7 +101,7 @@ class Repairer:
         return [it for it in dict.fromkeys(self.options.keep) if it in table.takers]
 
     def why_refused(self, plan: Plan, before: Shares, now: Verdict) -> str:
-        """Why the table is not sound with a plan, '' where it is."""
+        """Why the table is not sound with a plan; '' if it is."""
         rehearsal = Rehearsal(self.options.words, self.options.seconds)
         listed = [*self.subscribers, *([Subscriber(plan.publication, [plan.publication])] if plan.publication else [])]
         try:
@@ -125,7 +125,7 @@ class Repairer:
 
 
 def advice(verdict: Verdict) -> str:
-    """What to do where the repaired table is not sound."""
+    """What to do if the repaired table is not sound."""
     reasons = " ".join(verdict.because)
     if "replica identity" in reasons:
         return "; ALTER TABLE .. REPLICA IDENTITY FULL, or a filter by the columns of the identity, comes first"

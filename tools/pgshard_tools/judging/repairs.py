@@ -55,7 +55,7 @@ class Owners:
         return [it for it in self.division.pieces if self.keeper(it) == name]
 
     def losers(self) -> dict[str, list[str]]:
-        """Each subscriber that is not to get some of its rows any more, with those who keep them."""
+        """Each subscriber that is to lose some of its rows, with those that keep them."""
         found: dict[str, dict[str, bool]] = {}
         for piece in self.division.pieces:
             keeper = self.keeper(piece)
@@ -83,7 +83,7 @@ def ranks_of(db: Database, shares: Shares, keep: Sequence[str]) -> list[str]:
 
 
 def want_own_publications(db: Database, shares: Shares, name: str) -> None:
-    """Ends it where the filters of a subscriber cannot be narrowed."""
+    """Gives up if the filters of a subscriber cannot be narrowed."""
     why = why_fixed(db, shares, name)
     if why is not None:
         raise NoRepair(f"{name} would have to lose rows, but {why}; use --keep {name} to leave them there")
@@ -106,7 +106,7 @@ def why_fixed(db: Database, shares: Shares, name: str) -> str | None:
 
 
 def is_short(owners: Owners) -> bool:
-    """Whether all filters can be said by a few regions."""
+    """Whether all filters can be written with a few regions."""
     listed = [owners.gaps(), *(owners.kept_by(it) for it in owners.losers())]
     return owners.division.is_whole and all(len(it) <= MOST_REGIONS for it in listed)
 
@@ -129,7 +129,7 @@ class Planner:
         return plan
 
     def add_publication(self, plan: Plan) -> None:
-        """One more publication, of what reaches nobody."""
+        """One more publication, for the rows that reach nobody."""
         plan.publication = free_publication(self.db, self.shares)
         gaps = self.owners.gaps()
         filters = dict.fromkeys(self.filter_of(it) for it in self.taken())
@@ -189,7 +189,7 @@ class Planner:
         return self.shares.filters[name] or "true"
 
     def options(self) -> str:
-        """What the other publications say of the table, so that all its rows are sent alike."""
+        """The options of the other publications of the table, so that all its rows are sent alike."""
         found = []
         operations = {tuple(self.publication(it)["operations"]) for it in self.taken()}
         if len(operations) == 1 and operations != {tuple(OPERATIONS)}:
@@ -241,5 +241,5 @@ def free_publication(db: Database, shares: Shares) -> str:
 
 
 def name_text(name: str) -> str:
-    """A name as SQL has it."""
+    """A name as in SQL."""
     return name if PLAIN_NAME.match(name) else '"' + name.replace('"', '""') + '"'

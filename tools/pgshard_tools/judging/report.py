@@ -1,4 +1,4 @@
-"""What is said about a judgement, as lines and as JSON."""
+"""The report of a judgement, as lines and as JSON."""
 
 import json
 from collections.abc import Iterator, Mapping, Sequence
@@ -34,7 +34,7 @@ class Judged(Protocol):
 
 @dataclass
 class Report:
-    """All that is said."""
+    """The whole report."""
 
     database: Judged
     subscribers: Sequence[Subscriber]
@@ -82,7 +82,7 @@ def counts(report: Report, with_all: bool) -> str:
 
 
 def lines_of(verdict: Verdict) -> list[str]:
-    """What is said about a table, the rows on which a filter fails, and how many rows there are."""
+    """The report on a table, the rows on which a filter fails, and how many rows there are."""
     return [*answer_lines(verdict), *(f"    but {it}" for it in verdict.failing), *count_lines(verdict)]
 
 
@@ -165,7 +165,7 @@ def row_text(row: dict[str, str]) -> str:
 
 
 def matters_text(row: dict[str, str], matters: Sequence[str]) -> str:
-    """The columns by which it is decided where a row goes."""
+    """The columns that decide where a row goes."""
     named = [f"{name} = {row[name]}" for name in matters if name in row]
     others = len(row) > len(named)
     if not named:
@@ -203,7 +203,7 @@ def fault_object(fault: Fault) -> dict[str, Any]:
 
 
 def optional_keys(report: Report) -> Iterator[tuple[str, Any]]:
-    """What only some reports say."""
+    """The keys that only some reports have."""
     if report.findings:
         yield "findings", report.findings
     if report.skipped:

@@ -1,4 +1,4 @@
-"""Says a report in the forms that the options want, and returns the exit status."""
+"""Prints a report in the forms that the options request, and returns the exit status."""
 
 from typing import Any
 

@@ -1,4 +1,5 @@
-"""A file with a schema, as pg_dump and migrations have it. A throw-away server loads it, and is judged."""
+"""Judges a file with a schema, as pg_dump writes it or migrations contain it: a temporary server loads it, and is
+judged."""
 
 import contextlib
 import os
@@ -77,7 +78,7 @@ def served(path: str, options: Options) -> Iterator[Options]:
 
 
 def want_no_connection(path: str, text: str) -> None:
-    """Refuses what would connect to another server or database."""
+    """Refuses statements that would connect to another server or database."""
     connect = CONNECT.search(text)
     if connect:
         line = text.count("\n", 0, connect.start()) + 1
@@ -115,7 +116,7 @@ def loaded(path: str, text: str, roles: Sequence[str], words: Sequence[str]) -> 
 
 
 def psql(words: Sequence[str], text: str) -> tuple[str, str] | None:
-    """Runs a text, up to what the server refuses."""
+    """Runs a text, up to the first statement that the server refuses."""
     try:
         answer = subprocess.run(
             ["psql", "-X", "-q", "-v", "ON_ERROR_STOP=1", *words, "-f", "-"], input=text, stdout=subprocess.DEVNULL,

@@ -1,4 +1,4 @@
-"""Questions to the server about values. They are asked in one psql, which can only read, and name no table."""
+"""Questions to the server about values, which name no table. They are asked in one read-only psql."""
 
 import json
 import subprocess
@@ -55,18 +55,18 @@ class Session:
         return self.known_meanings
 
     def ask(self, query: str) -> str:
-        """The answer of a query, '' where it fails."""
+        """The answer to a query; '' if it fails."""
         try:
             return self.answered(query)
         except BrokenPipeError as fault:
             raise Fault(NO_ANSWER, LOST) from fault
 
     def ask_for(self, seconds: int, query: str) -> str:
-        """The answer of a query that has a time of its own."""
+        """The answer to a query that has its own time limit."""
         return self.ask(f"BEGIN; SET LOCAL statement_timeout = '{seconds}s'; {query}; COMMIT")
 
     def answered(self, query: str) -> str:
-        """The same, in a psql that is started where there is none."""
+        """The same, in a psql that is started if there is none."""
         process = self.process or self.started()
         assert process.stdin is not None and process.stdout is not None
         end = f"end {uuid.uuid4()}"

@@ -1,7 +1,5 @@
-"""Which publications carry the rows of a table, and who takes which of them, as the server decides it.
-
-docs/JUDGING.md has the rules, with the sections of PostgreSQL's documentation.
-"""
+"""Which publications carry the rows of a table, and who takes which of them, by the server's rules. docs/JUDGING.md
+lists them, with the sections of PostgreSQL's documentation."""
 
 from collections.abc import Iterator, Mapping, Sequence
 from dataclasses import dataclass, field
@@ -51,7 +49,7 @@ def shares_of_all(database: Database, subscribers: Sequence[Subscriber]) -> list
 
 
 def shares_of_tree(database: Database, root: Table, subscribers: Sequence[Subscriber]) -> list[Shares | None]:
-    """A partitioned table as one, where all its rows are published by the root, and otherwise each partition."""
+    """A partitioned table as one table, if all its rows are published via the root; otherwise each partition."""
     leaves = [it for it in database.tables if root["oid"] in it["ancestors"] and it["kind"] != "p"]
     sent = [it for it in leaves if it["is_publishable"]]
     silent = [it for it in map(lambda leaf: silent_shares(database, leaf, subscribers), leaves) if it is not None]
