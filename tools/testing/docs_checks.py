@@ -25,6 +25,10 @@ WORD = re.compile(r"\w+")
 # Functions that a README says are in a crate's files: `one` and `other` of `crate` (`src/file.rt`, `beside.rt`).
 CITED = re.compile(r"((?:`\w+`(?:, | and )?)+) of `(\w+)`\s\(((?:`[\w/]+\.rt`(?:, | and )?)+)\)")
 
+# A function in a file of the README's own crate, as `one` (`src/file.rt`), or of another, as `one` of `crate/src/file.rt`;
+# or a crate in the place of the function, which has the file.
+CITED_HERE = re.compile(r"`(\w+)` (?:\((?:in )?`(src/[\w/]+\.rt)`|(?:of|in) `(\w+/src/[\w/]+\.rt)`)")
+
 # How long the first build takes: one figure in all documents.
 BUILD = re.compile(r"(?:first build|--build)[^.\n]{0,80}?\b(\d+)(?: to \d+)? (?:processor )?minutes")
 
@@ -70,6 +74,17 @@ def check_citations(tally: Tally) -> None:
             text = "".join(path.read_text(encoding="utf-8") for path in cited_files(crate, files) if path.exists())
             missing = [name for name in QUOTED.findall(names) if not re.search(rf"\bfn {name}\b", text)]
             tally.check(f"functions that {readme.parent.name} cites of {crate} and are not in {files}", missing, [])
+        for name, own, other in CITED_HERE.findall(readme.read_text(encoding="utf-8")):
+            tally.check(f"{name} of {own or other}, which {readme.parent.name} cites",
+                        has_cited(readme.parent, name, own, other), True)
+
+
+def has_cited(crate: pathlib.Path, name: str, own: str, other: str) -> bool:
+    """Whether the cited file exists and has the function; a crate is cited with one of its own files."""
+    if own and (CRATES / name).is_dir():
+        return (CRATES / name / own).exists()
+    path = crate / own if own else CRATES / other
+    return path.exists() and re.search(rf"\bfn {name}\b", path.read_text(encoding="utf-8")) is not None
 
 
 def cited_files(crate: str, files: str) -> list[pathlib.Path]:

@@ -6,7 +6,7 @@ from dataclasses import dataclass, replace
 from pgshard_tools.fronting.frames import position_text
 from pgshard_tools.fronting.tokens import Kind, Token, tokens_of
 
-# Later versions allow the publisher more, and ask nothing of it that it may not leave.
+# Later versions only permit the publisher more, and require nothing more of it.
 LATER_VERSIONS = {"2", "3"}
 # These allow it to send transactions before they are committed, values in binary form and messages that are no changes.
 PERMISSIONS = {"streaming", "binary", "two_phase", "messages"}

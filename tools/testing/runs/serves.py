@@ -28,7 +28,7 @@ SOME_REFUSED: list[list[Command]] = [
 REFUSED = frozenset({2, 3, 4})
 
 
-# Words that ask nothing.
+# Arguments that are a usage error.
 WRONG_WORDS: list[tuple[str, ...]] = [
     (),
     ("45432",),

@@ -97,7 +97,7 @@ def check_callers(tally: Tally) -> None:
 
 
 def check_words(tally: Tally, text: str) -> None:
-    """Words that ask nothing, and the help."""
+    """Usage errors, and the help."""
     for wrong in WRONG_WORDS:
         status, output = pgshard("publish", "--port", "0", *wrong, text=text, seconds=SECONDS)
         tally.check(f"publish {' '.join(wrong)}", (status, output.startswith("command line\n")), (2, True))

@@ -56,7 +56,7 @@ def check_timing(tally: Tally) -> None:
 
 
 def check_words(tally: Tally, text: str) -> None:
-    """Words that ask nothing, and a help that has the options."""
+    """Usage errors, and a help that has the options."""
     for wrong in WRONG_WORDS:
         status, output = pgshard("publish", "--port", "0", *wrong, text=text, seconds=SECONDS)
         tally.check(f"publish {' '.join(wrong)}", (status, output.startswith("command line\n")), (2, True))
