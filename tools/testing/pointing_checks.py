@@ -151,14 +151,18 @@ def check_explain(tally: Tally, folder: pathlib.Path) -> None:
     tally.check("an input that does not end", explain(program, "--help", stdin=reader, WRITES="help\n", ENDS="0"), (
         0, "help\n", ""))
     os.close(reader), os.close(writer)
+    usage = explain("--help", input="", WRITES="", ENDS="")
+    tally.check("the help of explain", (usage[0], "PROGRAM" in usage[1], usage[2]), (0, True, ""))
+    tally.check("a program that does not exist", explain("./missing", "make", input="", WRITES="", ENDS=""), (
+        2, "", "explain: there is no program ./missing\n"))
 
 
-def explain(program: pathlib.Path, *words: str, WRITES: str, ENDS: str, **given) -> tuple[int, str, str]:
+def explain(program: pathlib.Path | str, *words: str, WRITES: str, ENDS: str, **given) -> tuple[int, str, str]:
     """A run by tools/explain: its status, its output and what is told."""
     environment = os.environ | {"WRITES": WRITES, "ENDS": ENDS}
     answer = subprocess.run(
         [TOOLS / "explain", program, *words], stdout=subprocess.PIPE, stderr=subprocess.PIPE, env=environment,
-        encoding="utf-8", cwd=program.parent, timeout=300, **given)
+        encoding="utf-8", cwd=pathlib.Path(program).parent, timeout=300, **given)
     return answer.returncode, answer.stdout, answer.stderr
 
 

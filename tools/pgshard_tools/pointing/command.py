@@ -1,6 +1,7 @@
 """Runs pgshard, passes its output on as it comes, and then explains it on standard error."""
 
 import os
+import shutil
 import stat
 import subprocess
 import sys
@@ -59,8 +60,14 @@ class Input:
 
 def main() -> int:
     """Runs the command with the arguments of this process."""
+    if sys.argv[1:] in (["--help"], ["-h"]):
+        print(USAGE)
+        return 0
     if len(sys.argv) < 2:
         print(USAGE, file=sys.stderr)
+        return 2
+    if shutil.which(sys.argv[1]) is None:
+        print(f"explain: there is no program {sys.argv[1]}", file=sys.stderr)
         return 2
     return run(sys.argv[1], sys.argv[2:])
 
