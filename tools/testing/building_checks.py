@@ -1,5 +1,5 @@
-"""That first_build builds each library after those that it uses, gives the one that most waits for the most processes,
-and tells what is not proved."""
+"""That first_build builds each library after those that it uses, gives the most processes to the library for which the
+most work waits, and reports what is not proved."""
 
 import os
 import pathlib

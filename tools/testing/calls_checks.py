@@ -1,6 +1,6 @@
-"""Calls of the libraries, one by one, by the program `call_driver`, and what each has to answer.
+"""Calls of the libraries, one by one, through the program `call_driver`, with the expected answers.
 
-The answers come from the rules, from PostgreSQL's documentation or from a server, and never from the program.
+These come from the rules, from PostgreSQL's documentation or from a server, and never from the program.
 """
 
 import os

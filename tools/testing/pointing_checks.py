@@ -158,7 +158,7 @@ def check_explain(tally: Tally, folder: pathlib.Path) -> None:
 
 
 def explain(program: pathlib.Path | str, *words: str, WRITES: str, ENDS: str, **given) -> tuple[int, str, str]:
-    """A run by tools/explain: its status, its output and what is told."""
+    """A run by tools/explain: its status, its output and the sentences."""
     environment = os.environ | {"WRITES": WRITES, "ENDS": ENDS}
     answer = subprocess.run(
         [TOOLS / "explain", program, *words], stdout=subprocess.PIPE, stderr=subprocess.PIPE, env=environment,
@@ -222,7 +222,7 @@ def check_program(tally: Tally) -> None:
 
 
 def at_terminal(command: list, given: bytes, environment: dict[str, str]) -> tuple[int, str, str]:
-    """A run whose standard error is a terminal: its status, its output, and what is told there."""
+    """A run whose standard error is a terminal: its status, its output, and the sentences there."""
     leader, follower = os.openpty()
     try:
         answer = subprocess.run(

@@ -1,5 +1,8 @@
 """What the server enforces for each row of a table: validated CHECKs, and the bounds of a partition, or of one of
-several. Each is a condition in SQL, and refuses a row for which it is FALSE."""
+several.
+
+Each is a condition in SQL, and refuses a row for which it is FALSE.
+"""
 
 from collections.abc import Iterator, Sequence
 

@@ -96,9 +96,11 @@ class Database:
         return next((it for it in entries if it["oid"] == oid), None)
 
     def published_as(self, publication: Publication, table: Table) -> int | None:
-        """The OID of the table in whose name a publication sends the rows of a table that stores rows, or None. Rows of
-        a partition are sent as those of the topmost partitioned table above it that the publication contains, if it
-        publishes via the root."""
+        """The OID of the table in whose name a publication sends the rows of a table that stores rows, or None.
+
+        Rows of a partition are sent as those of the topmost partitioned table above it that the publication contains,
+        if it publishes via the root.
+        """
         ancestors = self.ancestors_in(publication, table)
         if ancestors and publication["via_root"]:
             return ancestors[-1]

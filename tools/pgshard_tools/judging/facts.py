@@ -1,5 +1,7 @@
-"""What holds for all rows, although no certificate can express it by itself: formulas that are never FALSE. They are
-given to pgshard as constraints. Each is a law of arithmetic or of NULL, so they exclude no row."""
+"""What holds for all rows, although no certificate can express it by itself: formulas that are never FALSE.
+
+They are given to pgshard as constraints. Each is a law of arithmetic or of NULL, so they exclude no row.
+"""
 
 from typing import Callable
 

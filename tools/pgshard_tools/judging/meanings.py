@@ -1,6 +1,8 @@
-"""What the server says about constants, and about the functions and operators that filters and constraints call. All of
-it comes from the judged server: the trees of its expressions have OIDs, and pg_proc and pg_operator say what these are.
-Nothing is concluded from a name."""
+"""What the server says about constants, and about the functions and operators that filters and constraints call.
+
+All of it comes from the judged server: the trees of its expressions have OIDs, and pg_proc and pg_operator say what
+these are. Nothing is concluded from a name.
+"""
 
 import json
 from dataclasses import replace

@@ -1,5 +1,7 @@
-"""Whether the result of some steps is in some ranges, as a formula of the column with which they begin. Each formula
-here is NULL exactly where the column is, and each function says why its result is exact."""
+"""Whether the result of some steps is in some ranges, as a formula of the column with which they begin.
+
+Each formula here is NULL exactly where the column is, and each function says why its result is exact.
+"""
 
 import math
 from typing import Sequence

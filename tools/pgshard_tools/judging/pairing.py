@@ -1,6 +1,8 @@
-"""Matches each node of a filter's text with the node of the server's tree from which it was written. The text has the
-constants as people write them; the tree says which function and which operator is called, by OID. If the two do not
-match, nothing is read."""
+"""Matches each node of a filter's text with the node of the server's tree from which it was written.
+
+The text has the constants as people write them; the tree says which function and which operator is called, by OID. If
+the two do not match, nothing is read.
+"""
 
 from typing import Any
 

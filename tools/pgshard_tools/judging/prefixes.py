@@ -1,5 +1,8 @@
 """Prefixes of texts. Texts with the same prefix are consecutive in the order of their bytes, which is that of the
-collation C. So each such condition is a range of that order, whatever the collation of the column is."""
+collation C.
+
+So each such condition is a range of that order, whatever the collation of the column is.
+"""
 
 from dataclasses import replace
 

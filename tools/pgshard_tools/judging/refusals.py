@@ -1,5 +1,7 @@
 """Why the server refuses an operation on a table, or ends a subscriber's stream, although the filters divide the rows.
-docs/JUDGING.md has the rules, with the sections of PostgreSQL's documentation."""
+
+docs/JUDGING.md has the rules, with the sections of PostgreSQL's documentation.
+"""
 
 from collections.abc import Iterator
 from dataclasses import replace

@@ -1,5 +1,7 @@
-"""Which publications carry the rows of a table, and who takes which of them, by the server's rules. docs/JUDGING.md
-lists them, with the sections of PostgreSQL's documentation."""
+"""Which publications carry the rows of a table, and who takes which of them, by the server's rules.
+
+docs/JUDGING.md lists them, with the sections of PostgreSQL's documentation.
+"""
 
 from collections.abc import Iterator, Mapping, Sequence
 from dataclasses import dataclass, field

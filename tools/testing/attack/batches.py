@@ -48,7 +48,7 @@ NO_VERDICT = Verdict("no judgement")
 
 @dataclass
 class Result:
-    """What came of a database."""
+    """The result of a database."""
 
     findings: list[Finding] = field(default_factory=list)
     counts: collections.Counter[str] = field(default_factory=collections.Counter)
@@ -58,7 +58,7 @@ class Result:
 
 @dataclass
 class Place:
-    """Where a database is made, and what judges it."""
+    """The server on which a database is made, and the program that judges it."""
 
     words: str
     program: str
@@ -71,7 +71,7 @@ class Place:
 
 
 def setup_of(chance: random.Random, name: str) -> tuple[list[str], list[str]]:
-    """Statements that make a database, and those that come first in it."""
+    """Statements that create a database, and those that come first in it."""
     locale = chance.choices(list(LOCALES), list(LOCALES.values()))[0]
     some = [it for it in SETTINGS if chance.random() < 0.12]
     making = [f"CREATE DATABASE {name} TEMPLATE template0 STRATEGY file_copy {locale}"]
@@ -80,7 +80,7 @@ def setup_of(chance: random.Random, name: str) -> tuple[list[str], list[str]]:
 
 
 def loop(place: Place, name: str) -> tuple[str, ...]:
-    """By this a foreign table is another one of the same database."""
+    """A server through which a foreign table is another table of the same database."""
     options = dict(it.split("=") for it in place.words.split()) | {"dbname": name}
     listed = ", ".join(f"{option} '{value}'" for option, value in options.items() if option != "user")
     user = options.get("user", "")
@@ -121,7 +121,7 @@ def attack(
 
 
 def made(database: Database, draw: Draw, count: int, result: Result, draws: int) -> Iterator[Design]:
-    """Designs that the server takes."""
+    """Designs that the server accepts."""
     for number in range(count):
         for _ in range(draws):
             design = draw(f"d{number}")
@@ -185,7 +185,7 @@ def filled(database: Database, chance: random.Random, design: Design, verdicts: 
 
 
 def has_few(table: Judged) -> bool:
-    """Whether a table that is sound, and whose rows are drawn, has fewer rows than are wanted."""
+    """Whether a sound table with random rows has fewer rows than it should have."""
     return table.verdict.answer == "sound" and not table.design.rows and len(table.rows) < WANTED
 
 
@@ -203,7 +203,7 @@ def set_rows(database: Database, design: Design, found: dict[str, Judged]) -> No
 
 
 def leaves_of(database: Database, table: str) -> list[str]:
-    """The tables that have a table's rows: its partitions, or itself."""
+    """The tables that store a table's rows: its partitions, or itself."""
     found = database.run(
         "SELECT relid::regclass::text FROM pg_partition_tree(%s) WHERE isleaf AND relid IN "
         "(SELECT oid FROM pg_class WHERE relkind = 'r') ORDER BY 1", [table])
@@ -211,7 +211,7 @@ def leaves_of(database: Database, table: str) -> list[str]:
 
 
 def insert_told(database: Database, table: Judged) -> tuple[int, str | None]:
-    """Inserts the row that judge tells, with a number of ours; answers that, and what the server says against it."""
+    """Inserts the row that judge reports, with a number. Returns the number, and why the server refuses the row."""
     number = database.next_number
     database.next_number += 1
     row = {**(table.verdict.row or {}), NUMBER: str(number)}
@@ -239,7 +239,7 @@ def target_of(table: Judged) -> str:
 
 
 def count_table(database: Database, table: Judged, result: Result) -> None:
-    """Counts the answers, and how many tables have a row that goes wrong."""
+    """Counts the answers, and the tables with a row that goes to the wrong subscribers."""
     result.counts[table.verdict.answer] += 1
     heard = database.heard
     is_bad = any(it in heard.failed or len(heard.takers.get(it, ())) != 1 for it in table.rows)

@@ -250,13 +250,13 @@ PLACES = dict.fromkeys(WRITTEN, "") | {
 
 
 def by_hand(kind: str) -> Iterator[Design]:
-    """All of a database, each in a schema of its own."""
+    """All designs of a database, each in a schema of its own."""
     for number, it in enumerate(WRITTEN[kind]):
         yield design_of(f"h{number}", it)
 
 
 def design_of(name: str, written: Written) -> Design:
-    """A design that is written."""
+    """A design that is written by hand."""
     table = f"{name}.rows"
 
     def said(text: str) -> str:

@@ -15,7 +15,7 @@ COUNTED = re.compile(r" *([\d,]+) (.*)")
 
 
 def check_attack(tally: Tally) -> None:
-    """Runs tools/attack. If something differs, all that it says is printed."""
+    """Runs tools/attack. If something differs, its whole output is printed."""
     seed = os.environ.get("SEED")
     words = ["--designs", DESIGNS, "--topologies", TOPOLOGIES, *(["--seed", seed] if seed else [])]
     answer = subprocess.run(

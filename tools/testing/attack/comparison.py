@@ -1,4 +1,4 @@
-"""What judge says of a table beside what the slots sent of its rows."""
+"""Compares what judge says about a table with what the slots sent of its rows."""
 
 import re
 from collections.abc import Iterator
@@ -45,7 +45,7 @@ class Judged:
 
     @property
     def source(self) -> str:
-        """Its rows, in FROM, UPDATE and DELETE."""
+        """The table, as in FROM, UPDATE and DELETE."""
         return self.name if self.is_partitioned else f"ONLY {self.name}"
 
     def finding(self, kind: str, words: str, row: str = "") -> Finding:
@@ -60,7 +60,7 @@ def row_text(database: Database, table: str, number: int) -> str:
 
 
 def differences(database: Database, table: Judged) -> Iterator[Finding]:
-    """All that is said of a table and is not so."""
+    """Everything that judge says about a table and that is false."""
     match table.verdict.answer:
         case "sound":
             yield from of_sound(database, table)
@@ -73,7 +73,7 @@ def differences(database: Database, table: Judged) -> Iterator[Finding]:
 
 
 def of_sound(database: Database, table: Judged) -> Iterator[Finding]:
-    """Each row is sent to one subscriber, and no slot fails at it. One row of each kind is told."""
+    """Each row is sent to one subscriber, and no slot fails at it. One row of each kind is reported."""
     told = set()
     for number in table.rows:
         failed = database.heard.failed.get(number, {})
@@ -172,7 +172,7 @@ def of_refused(database: Database, table: Judged) -> Iterator[Finding]:
 
 
 def of_not_sound(database: Database, table: Judged, number: int, refusal: str | None) -> Iterator[Finding]:
-    """The row of a table that is not sound goes where it is said; `refusal` is what the server said against it."""
+    """The row of a table that is not sound goes where judge says; `refusal` is why the server refused it."""
     may_be_refused = any("refuse" in it or "never be" in it or "OVERRIDING" in it or "domain" in it or "no value" in it
                          for it in table.verdict.remarks)
     if refusal is not None:

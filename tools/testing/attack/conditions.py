@@ -47,7 +47,7 @@ class Conditions:
         self.takes = takes
 
     def template(self, kind: Kind, among: tuple[str, ...]) -> str:
-        """One of some templates that the server takes."""
+        """One of several templates that the server accepts."""
         left = list(among)
         while left:
             found = self.chance.choice(left)
@@ -65,7 +65,7 @@ class Conditions:
         return found
 
     def filled(self, template: str, column: Column, columns: list[Column]) -> str:
-        """A template of a column with all that it wants."""
+        """A template for a column, with its parts filled in."""
         others = [it for it in columns if it is not column and family(it.kind) == family(column.kind)]
         choice = self.chance.choice
         other = choice(others).name if others and self.chance.random() < 0.8 else self.constant(column)
@@ -99,7 +99,7 @@ class Conditions:
         return f"({one}) {self.chance.choice(('AND', 'OR'))} ({other})"
 
     def measure(self, columns: list[Column]) -> str | None:
-        """An integer that is computed of a column, or None if no kind has one."""
+        """An integer that is computed from a column, or None if no kind has one."""
         measured = [it for it in columns if it.kind.measures]
         if not measured:
             return None

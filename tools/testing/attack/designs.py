@@ -24,7 +24,7 @@ NUMBER = "row_number"
 
 @dataclass
 class Publication:
-    """A publication, how it is made, and the number of the subscriber that takes it, None for nobody."""
+    """A publication, how it is created, and the number of the subscriber that takes it, or None."""
 
     name: str
     statement: str
@@ -55,7 +55,7 @@ class Design:
         return list(dict.fromkeys(it.filter for it in self.publications if it.filter is not None))
 
     def statements(self) -> list[str]:
-        """All that makes it."""
+        """The statements that create it."""
         return [f"CREATE SCHEMA {self.name}", *self.setup, *(it.statement for it in self.publications)]
 
 
@@ -78,11 +78,11 @@ class Designs:
         return [Column(name, kind, self.chance.random() < 0.4) for name, kind in zip(names, found)]
 
     def kind(self, among: list[Kind]) -> Kind:
-        """One of some kinds, those that people divide tables by more often than others."""
+        """A random kind; those by which people divide tables are more likely."""
         return self.chance.choices(among, [OFTEN.get(it.name, 1) for it in among])[0]
 
     def unfiltered(self) -> list[Column]:
-        """Now and then a column that filters cannot name."""
+        """Sometimes a column that filters cannot name."""
         if self.chance.random() < 0.9:
             return []
         return [Column("x4", self.chance.choice(UNFILTERED), self.chance.random() < 0.3)]
@@ -93,7 +93,7 @@ class Designs:
         return [self.check(columns) for _ in range(wanted)]
 
     def check(self, columns: list[Column]) -> str:
-        """One that many rows meet."""
+        """A condition that many rows meet."""
         column, kind = self.chance.choice(columns), self.chance.random()
         if column.kind.is_ordered and kind < 0.5:
             sign = self.chance.choice((">=", "<=", ">", "<", "<>"))
@@ -147,7 +147,7 @@ class Designs:
         return [it for it in design.columns if it.kind.is_filtered]
 
     def publication(self, design: Design, place: int, filter: str, taker: int | None) -> Publication:
-        """One publication, now and then with a column list or other operations."""
+        """One publication, sometimes with a column list or other operations."""
         name, listed, options = f"{design.name}_p{place}", "", ""
         if self.chance.random() < 0.06:
             some = [it.name for it in design.columns if self.chance.random() < 0.7]

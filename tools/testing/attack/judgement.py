@@ -1,4 +1,4 @@
-"""What judge says of a database, as JSON."""
+"""What judge says about a database, as JSON."""
 
 import json
 import os
@@ -29,7 +29,7 @@ class Verdict:
     failing: list[str] = field(default_factory=list)
 
     def words(self) -> str:
-        """All of it, for a person."""
+        """The whole verdict, for people."""
         parts = [self.answer]
         if self.row is not None:
             row = ", ".join(f"{name} = {value}" for name, value in self.row.items())
@@ -40,7 +40,7 @@ class Verdict:
         return "; ".join(parts)
 
     def says_that_it_fails(self) -> bool:
-        """Whether rows are told at which a filter fails."""
+        """Whether rows at which a filter fails are reported."""
         words = ("fail", "stop", "ends its replication")
         return bool(self.failing) or any(word in it for it in (*self.because, *self.remarks) for word in words)
 

@@ -1,4 +1,4 @@
-"""Which conditions the server takes as filters, of each kind of column."""
+"""Which conditions the server accepts as filters, for each kind of column."""
 
 import os
 
@@ -23,7 +23,8 @@ def prepare(words: str) -> None:
 
 
 class Known:
-    """Asks the server once of each condition, always with the same constants, so that a seed gives the same tables."""
+    """Asks the server about each condition once, always with the same constants, so that a seed gives the same
+    tables."""
 
     def __init__(self, words: str) -> None:
         self.database = Database(words, DATABASE)
@@ -34,7 +35,7 @@ class Known:
         self.database.run(f"CREATE PUBLICATION {self.schema}")
 
     def takes(self, kind: Kind, template: str) -> bool:
-        """Whether the server takes a filter, or a constraint, of this form."""
+        """Whether the server accepts a filter, or a constraint, of this form."""
         key = kind.name, template
         if key not in self.answers:
             self.answers[key] = any(self.tried(kind, template, place) for place in range(3))

@@ -43,7 +43,7 @@ def move(database: Database, chance: random.Random, table: Judged) -> None:
 
 
 def apply(changes: list[tuple[Subscriber, Change]], owned: dict[int, set[str]]) -> Iterator[tuple[int, str]]:
-    """Does what subscribers do; answers rows that a subscriber is told to change, and does not have."""
+    """Does what subscribers do. Returns rows that a subscriber is told to change, and does not have."""
     for subscriber, change in changes:
         if change.letter == "I" and change.new is not None:
             owned.setdefault(change.new, set()).add(subscriber.name)
@@ -58,7 +58,7 @@ def apply(changes: list[tuple[Subscriber, Change]], owned: dict[int, set[str]]) 
 def kept(
     database: Database, table: Judged, owned: dict[int, set[str]], faults: dict[int, str],
 ) -> Iterator[Finding]:
-    """Each row is with one subscriber, and a row that is gone with none."""
+    """Each row is at one subscriber, and a row that was deleted at none."""
     present = {number for number, in database.run(f"SELECT {NUMBER} FROM {table.source}")}
     for number in table.rows:
         takers, failed = owned.get(number, set()), database.heard.failed.get(number, {})
@@ -74,8 +74,8 @@ def kept(
 
 
 def truncated(database: Database, tables: list[Judged], owned: dict[int, set[str]]) -> Iterator[Finding]:
-    """Those who have rows are told that these are gone. A partition is truncated with its root, since TRUNCATE of a
-    partition alone is not sent where the root is published."""
+    """Those who have rows are sent the TRUNCATE. A partition is truncated with its root, since TRUNCATE of only a
+    partition is not sent if the root is published."""
     done = {design: database.fault([f"TRUNCATE {design}"]) is None for design in {it.design.table for it in tables}}
     database.batches.append(Batch([], database.position()))
     told = {(subscriber.name, subscriber.stream.names[change.table].partition(".")[0].removesuffix("_more"))

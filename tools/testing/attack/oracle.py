@@ -88,7 +88,7 @@ class Database:
         self.heard = Heard()
 
     def run(self, statement: str, values: Sequence[object] | None = None) -> list[tuple[Any, ...]]:
-        """What a statement answers."""
+        """The rows that a statement returns."""
         self.cursor.execute(statement, values)
         return self.cursor.fetchall() if self.cursor.description else []
 
@@ -104,7 +104,7 @@ class Database:
 
     @contextmanager
     def transaction(self) -> Iterator[None]:
-        """A transaction, which an exception undoes."""
+        """A transaction, which an exception rolls back."""
         self.run("BEGIN")
         try:
             yield
@@ -114,7 +114,7 @@ class Database:
         self.run("COMMIT")
 
     def fault(self, statements: Sequence[str]) -> str | None:
-        """Runs some statements as one transaction; what the server says against them, or None."""
+        """Runs some statements as one transaction. Returns why the server refuses them, or None."""
         try:
             with self.transaction():
                 for statement in statements:
@@ -125,7 +125,7 @@ class Database:
         return None
 
     def refusal(self, statement: str) -> str | None:
-        """What the server says against a statement, which is undone."""
+        """Why the server refuses a statement, which is rolled back."""
         self.run("BEGIN")
         try:
             self.run(statement)
@@ -149,7 +149,7 @@ class Database:
         self.connection.close()
 
     def slot(self, subscriber: Subscriber) -> str:
-        """Slots have names of the whole server."""
+        """The name of a slot, which is unique on the server."""
         return f"{self.name}_{subscriber.name}"
 
     def insert(self, design: Design, statements: Sequence[str]) -> list[int]:
@@ -184,7 +184,7 @@ class Database:
         return [number for number, in found]
 
     def reads_all(self, design: Design) -> bool:
-        """Whether the server computes all filters of all rows."""
+        """Whether the server can compute all filters for all rows."""
         self.run("SAVEPOINT computed")
         try:
             self.run(f"SELECT {listed(design)} FROM {design.table}")
@@ -194,7 +194,7 @@ class Database:
         return True
 
     def failing(self, design: Design, numbers: list[int]) -> list[int]:
-        """The rows of which the server does not compute all filters."""
+        """The rows for which the server cannot compute all filters."""
         query = f"SELECT {listed(design)} FROM {design.table} WHERE {NUMBER} = $1"
         found = self.run("SELECT * FROM public.attack_failing(%s, %s::bigint[])", [query, numbers])
         return [number for number, in found]

@@ -26,13 +26,13 @@ TURNED = {"=": "<>", "<>": "=", "<": ">=", ">=": "<", "<=": ">", ">": "<="}
 
 
 def halves(conditions: Conditions, columns: list[Column]) -> list[str]:
-    """A condition, and where it is not true."""
+    """The rows for which a condition is true, and the others."""
     one = conditions.formula(columns, 2)
     return [one, f"({one}) IS NOT TRUE"]
 
 
 def with_gap(conditions: Conditions, columns: list[Column]) -> list[str]:
-    """A condition and its NOT: what is NULL is in neither."""
+    """A condition and its NOT: rows for which it is NULL are in neither."""
     one = conditions.formula(columns, 1)
     return [one, f"NOT ({one})"]
 
@@ -77,7 +77,7 @@ def chosen(conditions: Conditions, columns: list[Column]) -> list[str]:
 
 
 def buckets(conditions: Conditions, columns: list[Column]) -> list[str]:
-    """A number that is computed of a row: its small values, and what is left."""
+    """A number that is computed from a row: its small values, and the others."""
     measure = conditions.measure(columns)
     if measure is None:
         return quarters(conditions, columns)
@@ -96,7 +96,7 @@ def buckets(conditions: Conditions, columns: list[Column]) -> list[str]:
 
 
 def listed(count: int) -> str:
-    """The numbers below one."""
+    """The numbers below a number."""
     return ", ".join(str(it) for it in range(count))
 
 
@@ -143,7 +143,7 @@ def filters_of(conditions: Conditions, columns: list[Column]) -> list[str]:
 
 
 def disguised(chance: random.Random, filters: list[str], columns: list[Column]) -> list[str]:
-    """One mention of a column is written otherwise."""
+    """The filters with one mention of a column written differently."""
     column, place = chance.choice(columns), chance.randrange(len(filters))
     places = [it.start() for it in re.finditer(re.escape(column.name), filters[place])]
     if not places:

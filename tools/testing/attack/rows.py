@@ -19,7 +19,7 @@ ALL_OF = 400
 
 
 def neighbours(column: Column, constant: str) -> Iterator[str]:
-    """What lies beside a constant."""
+    """The neighbours of a constant."""
     name = column.kind.name
     if name in INTEGERS and (found := INTEGER.fullmatch(constant)):
         yield from (str(int(found[1]) + it) for it in (-2, -1, 1, 2))
@@ -65,7 +65,7 @@ def random_value(chance: random.Random, column: Column) -> str:
 
 
 def values_of(chance: random.Random, column: Column) -> list[str]:
-    """What is tried of a column."""
+    """The values that are tried for a column."""
     edges = [*column.kind.values, *column.constants]
     edges += [it for constant in dict.fromkeys(column.constants) for it in neighbours(column, constant)]
     if column.kind.name in INTEGERS:
@@ -108,7 +108,7 @@ def rows_near(
 
 
 def edge_rows(chance: random.Random, listed: list[list[str]]) -> Iterator[tuple[str, ...]]:
-    """Each value of each column beside some value of the others."""
+    """Each value of each column, with some value of the others."""
     for place, values in enumerate(listed):
         for value in values:
             row = [chance.choice(it) for it in listed]

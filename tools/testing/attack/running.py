@@ -1,4 +1,4 @@
-"""An attack as long as it is wanted, by several processes beside one server."""
+"""Attacks as long as requested, with several processes and one server."""
 
 import argparse
 import collections
@@ -78,7 +78,7 @@ def drawer(takes: Takes, kind: str, kinds: list[Kind], chance: random.Random) ->
 
 
 def tasks(given: argparse.Namespace) -> Iterator[tuple[int, str, int]]:
-    """Databases by their numbers; without an end where minutes are given."""
+    """Databases by number; without end if minutes are given."""
     yield from ((-1 - place, kind, len(WRITTEN[kind])) for place, kind in enumerate(WRITTEN))
     kinds = ["designs"] * -(-given.designs // DESIGNS) + ["topologies"] * -(-given.topologies // TOPOLOGIES)
     random.Random(0).shuffle(kinds)
@@ -92,7 +92,7 @@ def tasks(given: argparse.Namespace) -> Iterator[tuple[int, str, int]]:
 
 
 def run(words: list[str], help: str) -> int:
-    """Runs the attack; returns the exit status: 1 where something differs."""
+    """Runs the attack, and returns the exit status: 1 if something differs."""
     given = arguments(words, help)
     seed = given.seed if given.seed is not None else random.SystemRandom().randrange(10**6)
     print(f"attack with seed {seed}", flush=True)
@@ -109,7 +109,7 @@ def run(words: list[str], help: str) -> int:
 def gather(
     given: argparse.Namespace, place: Place, seed: int,
 ) -> tuple[collections.Counter[str], int]:
-    """Makes all databases, and prints what differs as it comes."""
+    """Makes all databases, and prints each difference when it is found."""
     counts: collections.Counter[str] = collections.Counter()
     findings, end = 0, time.monotonic() + 60 * (given.minutes or 10**6)
     made = functools.partial(result_of, place, seed, given.kinds)

@@ -1,4 +1,4 @@
-"""Which rows a logical slot sends: pgoutput's messages, as far as they tell of a row's number.
+"""Which rows a logical slot sends: pgoutput's messages, as far as they contain a row's number.
 
 Section 55.9 of PostgreSQL's documentation has their layouts.
 """

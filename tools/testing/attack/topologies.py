@@ -78,7 +78,7 @@ class Topologies:
         return self.chance.choice(design.columns), self.chance.choice(("LIST", "RANGE", "RANGE", "HASH"))
 
     def collation(self, key: Column) -> str:
-        """Now and then another collation than the column's."""
+        """Sometimes a collation other than the column's."""
         if "text" not in key.kind.name or self.chance.random() < 0.7:
             return ""
         return f" COLLATE {self.chance.choice(COLLATIONS)}"
@@ -136,7 +136,7 @@ class Topologies:
         return [f"ALTER TABLE {node.name} REPLICA IDENTITY FULL"]
 
     def publications(self, design: Design, root: Node) -> list[Publication]:
-        """By the root, by the leaves, or anyhow."""
+        """Publications of the root, of the leaves, or of any parts."""
         kind = self.chance.random()
         filters = filters_of(self.conditions, design.columns)[:SUBSCRIBERS]
         leaves = [it for it in root.all() if not it.children]

@@ -6,7 +6,7 @@ from dataclasses import dataclass
 
 @dataclass
 class Written:
-    """A table's columns and constraints, its filters, each of a subscriber of its own, and rows."""
+    """A table's columns and constraints, its filters, each with its own subscriber, and rows."""
 
     columns: str
     filters: Sequence[str]
