@@ -76,14 +76,13 @@ pub fn ears_change_slots()
     ensures lose { LosingChangesSlots }
 {}
 
-/// A law about what an ear has heard of all bytes since its first, in whatever pieces they came. It holds what comes
-/// after the last whole frame. If a stream was started, the first frame is a Query that requests it, and it starts
-/// where the book started it that the frame was heard with: at the requested position, or at the slot's confirmed
-/// position if that is later; so one that starts after the confirmed position starts at the requested one
-/// (`requested`). What was started stays so, and is reported once. A fault is that of a length, of the first frame's
-/// start, or of a later frame; and an end is that of a frame of this kind. A start that is refused has the
-/// ErrorResponse of its refusal. The law holds for books of the checked catalog, each of which is that of some
-/// transactions.
+/// A law about what an ear has heard in all bytes since its first, in whatever pieces they came. The ear holds what
+/// comes after the last whole frame. If a stream was started, the first frame is a Query that requests it, and the book
+/// with which that frame was heard started it: at the requested position, or at the slot's confirmed position if that
+/// is later. So a stream that starts after the confirmed position starts at the requested one (`requested`). A start
+/// remains, and is reported once. A fault is that of a length, of the first frame's start, or of a later frame; and an
+/// end is that of a frame of this kind. A start that is refused has the ErrorResponse of its refusal. The law holds for
+/// books of the checked catalog, each of which is that of some transactions.
 ///
 /// PostgreSQL 15, 55.4. Streaming Replication Protocol, and 55.7. Message Formats.
 pub fn frames_are_heard()

@@ -26,7 +26,8 @@ use std::sync::{Arc, ledger};
 use table_changes::Command;
 use tables_log::{Book, CommitError, Lsn};
 
-/// Every so many commits a sender that is as many behind is woken, so that none waits twice as many behind.
+/// A sender that is this many commits behind is woken at each multiple of this number. So no sender that waits is twice
+/// as many behind.
 const TOGETHER: u32 = 32;
 
 /// The book, the ledger's total of its commits, the state of each slot's connection, whether there will be no further
@@ -309,15 +310,16 @@ impl<P: Publishing> Desk<P> {
         self.book.concerned(number)
     }
 
-    /// The slots whose sender has something to do since the commit of this number: those whose subscriber gets something
-    /// of it, and at each multiple of `TOGETHER`, those that are so many commits behind.
+    /// The slots whose sender has something to do since the commit of this number: those whose subscriber gets
+    /// something of it, and at each multiple of `TOGETHER`, those that are that many commits behind.
     pub(crate) fn waiting(&self, number: u32) -> OwnerSet {
         let mut slots = self.concerned(number);
         slots.join(self.behind(number, TOGETHER));
         slots
     }
 
-    /// At each multiple of `batch`, the slots whose sender is so many commits behind that of this number; none at another.
+    /// At each multiple of `batch`, the slots whose sender is that many commits behind the commit of this number; at
+    /// other numbers none.
     pub(crate) fn behind(&self, number: u32, batch: u32) -> OwnerSet {
         let mut slots = OwnerSet::none();
         if batch == 0 || number % batch != 0 {

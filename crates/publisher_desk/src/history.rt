@@ -1,4 +1,4 @@
-//! The history of a publisher: its log as receipts, for proofs, and how a seat's receipts and readings stand to it.
+//! The history of a publisher: its log as receipts, for proofs, and how a seat's receipts and readings agree with it.
 
 ghost use Rattle.std.specs.Prelude.{◌≡◌};
 
@@ -30,8 +30,8 @@ impl<P: Publishing> Model for Token<P> {
     ghost invariant = { λ t. (t.seat.table_id ≡ P.history) × (t.seat.me ≡ (holder (first_in t.seat.me.0.sights), [])) };
 }
 
-/// The log as receipts, for proofs, and the sights that were taken in. Only who has the lock has it. Contracts see what its
-/// own token knows.
+/// The log as receipts, for proofs, and the sights that were taken in. Only the holder of the lock has it. Contracts
+/// see what its own token knows.
 #[derive(Drop)]
 pub(crate) struct History<P: Publishing> {
     table: Table<Receipt, View, (), Keeps, Global>,
@@ -121,7 +121,7 @@ impl<P: Publishing> History<P> {
         table.shared.load::<Shows>(keeper, 0);
     }
 
-    /// Tells how the sights that were taken in stand to the log.
+    /// Establishes that the sights that were taken in agree with the log.
     pub(crate) fn check(&mut self)
         ensures same { self.new ≡ self.old }
         ensures told { IsTold self.old }

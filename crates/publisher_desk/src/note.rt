@@ -7,7 +7,7 @@ use crate::receipt::Receipt;
 use filter_tree::{Row, copy_row};
 use std::alloc::{AllocError, Global};
 
-/// What a session read: the row of a table that a key named after so many commits, if there was one.
+/// What a session read: the row that had this key in this table after this many commits, if there was one.
 #[derive(Debug, Drop)]
 pub struct Reading {
     pub number: u32,

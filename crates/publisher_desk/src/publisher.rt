@@ -69,8 +69,8 @@ impl<P: Publishing> Publisher<P> {
     ghost use Rattle.publisher_desk.specs.Seats.{AreUpTo, receipts};
     ghost use Rattle.publisher_desk.specs.declared.note.Note.TheVariants.{Committed, Looked};
 
-    /// A publisher without commits, whose log may have so many, and the seats of its sessions, 1,000. `opening` has the
-    /// ledger that counts the commits, and the history. The only error is out of memory.
+    /// A publisher without commits, whose log takes at most `limit` of them, and the 1,000 seats of its sessions.
+    /// `opening` has the ledger that counts the commits, and the history. The only error is out of memory.
     pub fn new(
         alloc: Global,
         opening: Opening,
@@ -106,17 +106,17 @@ impl<P: Publishing> Publisher<P> {
         Ok((publisher, Seats::new(alloc, share)))
     }
 
-    /// From now on small commits wake senders in batches: at every 1,024th commit, and when the publisher is finished. It
-    /// is for commits that are all there before the first one is made; others would wait for their batch.
+    /// From now on small commits wake senders in batches: at every 1,024th commit, and when the publisher is finished.
+    /// Only for a publisher whose commits are all known before the first is made: others would wait for their batch.
     pub fn wake_in_batches(&mut self)
         ensures { self.new ≡ self.old }
     {
         self.is_batched = true;
     }
 
-    /// Makes the commands one transaction, and logs it with this time, in microseconds since 2000-01-01. The answer is
-    /// its number, from 1, and the seat has a receipt of it. With an error nothing changes, and the list is dropped. It is
-    /// an error of a log that has all of the seat's commits.
+    /// Makes the commands one transaction, and logs it with this time, in microseconds since 2000-01-01. Returns its
+    /// number, from 1, and adds a receipt to the seat. If there is an error, nothing changes, and the list is dropped:
+    /// the list has this error after a log that has all of the seat's commits.
     ///
     /// # Errors
     ///
@@ -164,8 +164,8 @@ impl<P: Publishing> Publisher<P> {
         Ok(number)
     }
 
-    /// The row of the table that has this primary key, after so many commits as the log has, if there is one. The seat
-    /// keeps the answer. With an error nothing changes.
+    /// The row of the table that has this primary key after all commits that the log has, if there is one. The seat
+    /// keeps the answer. If there is an error, nothing changes.
     ///
     /// # Errors
     ///

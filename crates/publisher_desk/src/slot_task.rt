@@ -10,8 +10,8 @@ use crate::connection_state::ConnectionState;
 use tables_log::Book;
 
 /// Uses the book and the state of each slot's connection, under a publisher's lock. It may change the slots and nothing
-/// else of the book, and sets no sent position after the log's end. `did` says what a call did: what the task, the book
-/// and the connections were and are, and the answer.
+/// else of the book, and sets no sent position after the log's end. `did` relates the task, the
+/// book and the connections before a call to those after it, and to the answer.
 pub trait SlotTask {
     type Answer;
 

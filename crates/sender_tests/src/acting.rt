@@ -34,7 +34,7 @@ impl SlotTask for HasEnded {
     }
 }
 
-/// Waits until the connection of the slot has ended, and answers whether it has.
+/// Waits until the connection of the slot has ended, and returns whether it has.
 fn ends<P: Publishing, R: Wait + Clock>(
     rt: &R,
     publisher: &Publisher<P>,
@@ -53,7 +53,7 @@ fn ends<P: Publishing, R: Wait + Clock>(
     false
 }
 
-/// The row of the second subscriber in the commit after so many.
+/// The row of the second subscriber in the commit after this many.
 fn second(alloc: Global, count: usize) -> Result<Vec<Command>, AllocError> {
     let row = row_of(alloc, count.saturating_add(100))?;
     Ok(vec![in alloc; Command::Insert { table: 0, row }]?)
@@ -85,7 +85,7 @@ fn finish<P: Publishing, R: Wait + Clock>(rt: &R, publisher: &Publisher<P>) {
     thread::sleep(rt, Duration::from_millis(GRACE));
 }
 
-/// Does an act, and answers whether it came to an end.
+/// Does an act, and returns whether it was completed.
 fn does<P: Publishing, R: Wait + Clock>(
     rt: &R,
     publisher: &Publisher<P>,

@@ -10,7 +10,7 @@ use std::time::{Clock, Duration};
 /// How often a thread looks before it gives up.
 pub(crate) const TURNS: u32 = 1_000_000;
 
-/// How much a client has got whose writer failed: as much as anybody may wait for.
+/// The progress of a client whose writer failed: as much as anybody may wait for.
 pub(crate) const LOST: u64 = u64::MAX;
 
 /// What the threads of a test share: who writes what, who is held, and how far they are.
@@ -113,7 +113,7 @@ impl Board {
         Ok(board)
     }
 
-    /// Waits until the word is so great, and answers whether it came to that. Once something has failed nobody waits.
+    /// Waits until the word is at least this number, and returns whether it is. After a failure nobody waits.
     fn comes<C: Clock>(&self, clock: &C, word: &AtomicU64, least: u64) -> bool {
         for turn in 0..TURNS {
             if least <= word.load(Ordering::SeqCst) {
@@ -176,7 +176,7 @@ impl Board {
         }
     }
 
-    /// Waits until the client of the slot has got so much. It is a failure if that does not come.
+    /// Waits until the client of the slot has got this much. If it never does, that is a failure.
     pub(crate) fn await_got<C: Clock>(&self, clock: &C, slot: usize, least: u64) {
         if let Some(word) = self.got.get(slot) {
             if !self.comes(clock, word, least) {
@@ -242,7 +242,7 @@ impl Board {
         add(self.cues.as_slice(), slot, 1);
     }
 
-    /// Waits until the client of the slot may say so many lines, and answers whether it may.
+    /// Waits until the client of the slot may say this many lines, and returns whether it may.
     pub(crate) fn is_cued<C: Clock>(&self, clock: &C, slot: usize, count: u64) -> bool {
         self.comes_to(clock, self.cues.as_slice(), slot, count)
     }
@@ -257,7 +257,7 @@ impl Board {
         add(self.replies.as_slice(), slot, count);
     }
 
-    /// Waits until the client of the slot has heard so many keepalives, and answers whether it has.
+    /// Waits until the client of the slot has heard this many keepalives, and returns whether it has.
     pub(crate) fn has_heard<C: Clock>(&self, clock: &C, slot: usize, least: u64) -> bool {
         self.comes_to(clock, self.replies.as_slice(), slot, least)
     }
@@ -276,7 +276,7 @@ impl Board {
         word_of(self.gates.as_slice(), slot)
     }
 
-    /// Waits until the sender of the slot has come to its gate so often, and answers whether it has.
+    /// Waits until the sender of the slot has come to its gate this often, and returns whether it has.
     pub(crate) fn is_at_gate<C: Clock>(&self, clock: &C, slot: usize, least: u64) -> bool {
         self.comes_to(clock, self.gates.as_slice(), slot, least)
     }

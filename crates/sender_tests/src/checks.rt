@@ -3,12 +3,12 @@
 use std::fmt::Debug;
 use std::process::Abort;
 
-/// Fails the test, with both values, where these differ.
+/// Fails the test, with both values, if they differ.
 pub(crate) fn same<T: PartialEq + Debug + Drop>(rt: &impl Abort, found: T, wanted: T) {
     assert_eq!(rt; found, wanted);
 }
 
-/// Fails the test where this does not hold.
+/// Fails the test if this does not hold.
 pub(crate) fn holds(rt: &impl Abort, fact: bool) {
     assert!(rt; fact);
 }

@@ -70,7 +70,7 @@ fn got(subscriber: &Subscriber) -> u64 {
     subscriber.position() / 64
 }
 
-/// Feeds the bytes to the subscriber, if there is one. How much it has got then, where its stream has started.
+/// Feeds the bytes to the subscriber, if there is one. Returns its progress, if its stream has started.
 pub(crate) fn hears(subscriber: &mut Option<Subscriber>, bytes: &[u8]) -> Option<u64> {
     let subscriber = subscriber.as_mut()?;
     subscriber.feed(bytes).ok()?;
@@ -139,7 +139,7 @@ pub(crate) fn client<R: Clock + Net<Listener = TcpListener, Stream = TcpStream>>
     }
 }
 
-/// Whether the subscriber has this row by now. None where it has another one.
+/// Whether the subscriber has this row by now. None if it has another one.
 fn has_only(subscriber: &Subscriber, wanted: &Row) -> Option<bool> {
     let rows = subscriber.rows(16_384).ok()?;
     match rows.as_slice() {

@@ -10,8 +10,8 @@ use senders::{Failed, Sink, Source};
 use std::time::Clock;
 use test_subscriber::Subscriber;
 
-/// What a client writes: some bytes, and then it waits until it has got so much, and closes; but where its writer has
-/// failed it goes on with statuses. Or the first read of it fails.
+/// What a client writes: some bytes. Then it waits until it has got this much, and closes; but if its writer has
+/// failed, it continues with statuses. Or its first read fails.
 #[derive(Drop)]
 pub(crate) struct Asking<'a, C> {
     clock: &'a C,
@@ -107,9 +107,9 @@ impl<C: Clock> Source for Asking<'_, C> {
     }
 }
 
-/// What a client reads, kept in memory, and its subscriber. It has room for so many bytes and then fails, and takes at
-/// most so many at a time. It tells the board how much it has got after each push of which it takes all, and of each
-/// keepalive. It counts pushes, and keeps the length of the longest one.
+/// What a client reads, kept in memory, and its subscriber. It takes at most this many bytes at a time, and fails when
+/// its room is used up. It tells the board its progress after each push that it takes whole, and of each keepalive. It
+/// counts pushes, and keeps the length of the longest one.
 #[derive(Drop)]
 pub(crate) struct Kept<'a, C> {
     clock: &'a C,
@@ -171,7 +171,7 @@ impl<'a, C: Clock> Kept<'a, C> {
         Failed
     }
 
-    /// Hears these bytes, and tells how much was got where they are all of a push.
+    /// Hears these bytes, and reports the progress if they are a whole push.
     fn hear(&mut self, bytes: &[u8], are_all: bool)
         ensures { self.new.failed ≡ self.old.failed }
     {

@@ -66,7 +66,7 @@ fn served<P: Publishing + Sync, R: Threads + Wait + Clock + Sync>(
     (served, bytes)
 }
 
-/// That a writer with room for fewer bytes than the stream has gets the first ones, and all where it has more.
+/// That a writer with less room than the stream has bytes gets the first ones, and a writer with more gets all.
 fn expect_room<P: Publishing + Sync, R: Threads + Wait + Clock + Abort + Sync>(
     rt: &R,
     publisher: &Publisher<P>,

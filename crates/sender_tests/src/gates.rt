@@ -21,8 +21,8 @@ impl<C: Clock> Gate for FirstHeld<'_, C> {
     }
 }
 
-/// A gate that tells the board who comes to it. Where a client is to report too much, it holds the sender of the first
-/// slot before it writes the third commit, until it is opened.
+/// A gate that tells the board who comes to it. If a client is to report too much, the gate holds the sender of the
+/// first slot before it writes the third commit, until it is opened.
 #[derive(Drop)]
 pub(crate) struct Watched<'a, C> {
     pub(crate) clock: &'a C,

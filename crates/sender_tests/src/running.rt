@@ -63,7 +63,7 @@ fn has_all(served: &Served, work: Work) -> bool {
     served.taken.len() == work.commits()
 }
 
-/// That all commits were taken up from the log's start on, and the client or the publisher was the end of it.
+/// That all commits were taken from the log's start on, and the connection was ended by its client or the publisher.
 pub(crate) fn expect_all(rt: &impl Abort, served: &Served, work: Work) {
     same(rt, served.start, Some(0));
     holds(rt, has_all(served, work));

@@ -75,8 +75,8 @@ fn connections<P: Publishing, R: Wait>(
     Ok(list)
 }
 
-/// That a publisher of so many seats and commits is closed. Where the commits are odd in number, a seat without notes
-/// is held back.
+/// That a publisher of this many seats and commits is closed. If the number of commits is odd, a seat without notes is
+/// held back.
 pub(crate) fn expect_size<P: Publishing, R: Wait + Abort>(
     rt: &R,
     alloc: Global,

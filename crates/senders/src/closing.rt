@@ -121,9 +121,9 @@ fn counted_book<P: Publishing>(
 /// The book that is returned is the one on which the receipts were made again. Its slots are free, and confirmed as far
 /// as the publisher's.
 ///
-/// The time it takes is that of the commands, as in `Book::commit`, of the receipts and the readings, each times the
-/// logarithm of their number, of a look at the row of each reading, of the commits that were taken, and of the
-/// connections, times the logarithm of their number and times the number of slots.
+/// It takes time for the commands, as in `Book::commit`; for the receipts and the readings, each times the logarithm of
+/// their number; for a look at the row of each reading; for the commits that were taken; and for the connections, times
+/// the logarithm of their number and the number of slots.
 ///
 /// # Errors
 ///

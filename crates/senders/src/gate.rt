@@ -1,7 +1,7 @@
 //! Gates, which hold a sender.
 
-/// What a sender passes before it writes a commit that it has encoded, outside of any lock. A gate may hold the sender as
-/// long as it likes, with what it encoded before and has not written yet; nobody else waits for it.
+/// A sender passes its gate before it writes a commit that it has encoded, and holds no lock there. A gate may hold the
+/// sender as long as it likes, with everything that is encoded and not yet written. Nobody else waits for it.
 pub trait Gate {
     /// The sender of this slot, by the number of its subscription, is to write the commit of this number, from 1.
     fn pass(&self, slot: usize, number: u32);

@@ -41,8 +41,8 @@ fn end_of(stop: SenderEnd) -> End
     }
 }
 
-/// Whether the sender's cause of an end goes before the listener's: it came first, and the listener was not refused
-/// memory, since then something that its client confirmed may be lost.
+/// Whether the sender's cause of the end takes precedence over the listener's: it came first, and the listener was not
+/// refused memory, in which case something that its client confirmed may be lost.
 fn goes_first(is_first: bool, why: ListenerEnd) -> bool
     ensures { result ≡ spec.goes_first is_first why }
 {
@@ -209,11 +209,11 @@ fn serve_started<
 
 /// Serves one connection to its end, and returns its result. Its client requests the stream of a slot by a Query.
 /// Then one thread sends it each commit from there on, as it is made, and another hears what it confirms. The
-/// connection ends if what it is read from or written to fails, if its client ends it or sends what it may not, or
-/// when the publisher is finished and all commits are taken. Then it has released its slot.
+/// connection ends if its source or its sink fails, if its client ends it or sends something invalid, or when the
+/// publisher is finished and all commits are taken. When this function returns, the slot is released.
 ///
-/// If the sender has taken all commits, the connection is heard until it has no more bytes, and if the sender failed,
-/// until it has given one more piece. Until then it has its slot.
+/// If the sender has taken all commits, the connection is heard until its source has ended, and if the sender failed,
+/// until the source has given one more piece. Until then it keeps its slot.
 ///
 /// PostgreSQL 15, 55.4. Streaming Replication Protocol.
 pub fn serve<
