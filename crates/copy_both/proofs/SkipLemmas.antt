@@ -1,19 +1,27 @@
 -- A commit of which the subscriber gets nothing is taken as one that is skipped.
-use Rattle.std.proofs.Common.{◌≡◌, ℕ, ◌+◌, ◌++◌, Bool, List, [], map, sym, ap, ◌∙◌}
-use Rattle.std.specs.Prelude.{false}
+use Rattle.std.proofs.Common.{◌≡◌, ℕ, ◌+◌, ◌++◌, Bool, List, [], map, sym, ap, subst, ◌∙◌}
+use Rattle.std.specs.Prelude.{false, All, Ok, Option, Some}
 use Rattle.std.specs.List.{flat_map}
 use Rattle.std.proofs.lemmas.List.{append-nil}
-use Rattle.row_owners.specs.Owners.{concerns}
+use Rattle.std.proofs.lemmas.List.Elements.{All-nil}
+use Rattle.row_owners.specs.Owners.{OwnedWhere, concerns}
+use Rattle.row_owners.specs.declared.owner_set.OwnerSet.{OwnerSet}
 use Rattle.shard_checker.specs.CheckedView.{CheckedOf}
 use Rattle.tables_log.specs.Commits.{CommitOf}
+use Rattle.tables_log.specs.Logs.{entry_at}
 use Rattle.tables_log.specs.Lsn.{end_lsn_of}
+use Rattle.tables_log.specs.Routes.{gets_some}
+use Rattle.pgoutput_msgs.specs.Sent.{IsSent}
 use Rattle.pgoutput_msgs.specs.Silent.{IsSilent}
+use Rattle.pgoutput_msgs.specs.Telling.{messages_for}
 use Rattle.pgoutput_msgs.specs.declared.message.Msg.{Msg}
 use Rattle.pgoutput_msgs.proofs.SilentLemmas.{quiet_are_silent}
+use Rattle.copy_both.specs.Spared.{IsSpared}
 use Rattle.copy_both.specs.Streams.{StreamStateOf, Carries, head_of, state_after, spelled, take_bytes}
 use Rattle.copy_both.specs.Tellings.{telling_of}
 use Rattle.copy_both.specs.Voices as voices
-use Rattle.copy_both.specs.Voices.{Sends, StageOf, entry_bytes, entry_stage, state_past, voice_checked, voice_output, voice_stage}
+use Rattle.copy_both.specs.Voices.{EntryIsReadBack, IsQuietFor, Sends, StageOf, entry_answer, entry_bytes, entry_stage, state_past, taken_of, voice_checked, voice_output, voice_stage}
+use Rattle.copy_both.specs.declared.taken.Taken.TheVariants.{Skipped}
 use Rattle.copy_both.specs.declared.voice.Voice.{Voice}
 
 abbrev past_with : StreamStateOf → ℕ → List Bool → StreamStateOf
@@ -50,3 +58,50 @@ skips old new state commit clock runs quiet checked output stage = record {
       (says_nothing (voice_checked old) state commit quiet clock))
       ∙ ap (λ (s : StageOf). voice_output old ++ entry_bytes (voice_checked old) s commit clock) (sym runs);
 }
+
+-- ---- a commit whose set lacks the subscriber
+
+module _ (checked : CheckedOf) (commit : CommitOf) (owners : OwnerSet)
+    (found : OwnedWhere owners (concerns checked.plan commit.changes)) where
+  quiet_at : (stage : StageOf) → IsSpared owners stage → IsQuietFor checked stage commit
+  quiet_at voices.NotStarted spared = absurd spared
+  quiet_at (voices.Started state) spared = sym (found state.slot spared.0) ∙ spared.1
+  quiet_at voices.Closed spared = absurd spared
+
+  nothing_at : (state : StreamStateOf) → IsSpared owners (voices.Started state)
+      → messages_for checked state.slot state.relation_sent commit ≡ []
+  nothing_at state spared =
+      (quiet_are_silent checked state.slot state.relation_sent commit
+      (quiet_at (voices.Started state) spared)).messages
+
+  answer_at : (stage : StageOf) → IsSpared owners stage
+      → entry_answer checked stage commit ≡ Ok (Skipped commit.number)
+  answer_at voices.NotStarted spared = absurd spared
+  answer_at (voices.Started state) spared =
+      ap (λ (messages : List Msg). Ok (taken_of commit.number messages)) (nothing_at state spared)
+  answer_at voices.Closed spared = absurd spared
+
+  read_back_at : (stage : StageOf) → IsSpared owners stage → EntryIsReadBack checked stage commit
+  read_back_at voices.NotStarted spared = absurd spared
+  read_back_at (voices.Started state) spared = subst (All IsSent) (sym (nothing_at state spared)) (All-nil IsSent)
+  read_back_at voices.Closed spared = absurd spared
+
+-- by the set that a book of the same catalog keeps with the commit
+module _ (checked its : CheckedOf) (log : List CommitOf) (commit : CommitOf) (number : ℕ) (owners : OwnerSet)
+    (found : OwnedWhere owners (gets_some its.plan (entry_at log number))) (same : its ≡ checked)
+    (held : entry_at log commit.number ≡ Some commit) (is : number ≡ commit.number) (stage : StageOf)
+    (spared : IsSpared owners stage) where
+  found_there : OwnedWhere owners (concerns checked.plan commit.changes)
+  found_there =
+      subst (λ (c : CheckedOf). OwnedWhere owners (concerns c.plan commit.changes)) same
+      (subst (λ (entry : Option CommitOf). OwnedWhere owners (gets_some its.plan entry)) (ap (entry_at log) is ∙ held)
+      found)
+
+  pub spared_is_quiet : IsQuietFor checked stage commit
+  spared_is_quiet = quiet_at checked commit owners found_there stage spared
+
+  pub spared_answer : entry_answer checked stage commit ≡ Ok (Skipped commit.number)
+  spared_answer = answer_at checked commit owners found_there stage spared
+
+  pub spared_is_read_back : EntryIsReadBack checked stage commit
+  spared_is_read_back = read_back_at checked commit owners found_there stage spared

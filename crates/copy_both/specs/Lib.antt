@@ -15,6 +15,7 @@ pub mod Refusals
 pub mod SeenStreams
 pub mod Sessions
 pub mod ShortNames
+pub mod Spared
 pub mod StartAnswers
 pub mod StartOrder
 pub mod StreamLaws

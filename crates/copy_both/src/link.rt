@@ -1,11 +1,12 @@
 //! The publisher's end of a connection.
 
-ghost use Rattle.std.specs.Prelude.{◌≡◌, ◌+◌, slice_get, IfSome};
+ghost use Rattle.std.specs.Prelude.{◌≡◌, ◌+◌, slice_get, IfSome, Some};
 ghost use Rattle.std.specs.Option.{option_map};
 ghost use Rattle.copy_both.specs.Ears.{ear_phase, ear_started};
 ghost use Rattle.copy_both.specs.ConnectionStates.{heard_state, said_state};
 ghost use Rattle.copy_both.specs.Voices.{voice_stage};
 ghost use Rattle.tables_log.specs.BookView.{book_log};
+ghost use Rattle.tables_log.specs.Logs.{entry_at};
 
 use crate::ear::Ear;
 use crate::heard::Heard;
@@ -22,6 +23,7 @@ use tables_log::{Book, Commit};
 fn entry_after(book: &Book, done: u64) -> Option<&Commit>
     ensures shows { option_map (λ commit. commit.now) result ≡ slice_get (book_log book.now) done }
     ensures numbered { IfSome result (λ commit. commit.now.number ≡ done + 1) }
+    ensures held { IfSome result (λ commit. entry_at (book_log book.now) commit.now.number ≡ Some commit.now) }
 {
     if done >= u64::from(book.log_len()) {
         return None;
@@ -49,7 +51,7 @@ impl Link {
     ghost use Rattle.std.specs.Arc.{arc_value};
     ghost use Rattle.filter_tree.specs.Memory.{Answers, NeedsMemoryOnlyIf};
     ghost use Rattle.shard_checker.specs.CheckedView.{checked_view};
-    ghost use Rattle.tables_log.specs.BookView.{book_log};
+    ghost use Rattle.tables_log.specs.BookView.{book_checked, book_log};
     ghost use Rattle.copy_both.specs.Ears.{HearLeaves, IsAnsweredBy, ear_phase, ear_started, hear_answer};
     ghost use Rattle.copy_both.specs.Links as spec;
     ghost use Rattle.copy_both.specs.Links.{HasNext, HearSays, IsNewLink, LinkCloses, LinkLoses, LinkPasses, LinkSays, NextIsReadBack};
@@ -151,6 +153,48 @@ impl Link {
             self.ear.close();
         }
         taken
+    }
+
+    /// Takes the next commit of the log, as `take` does, by the sets that the book keeps with it: a commit from which the
+    /// subscriber gets nothing isn't looked at, nor is such a change of another commit. The book and the link have the
+    /// same catalog.
+    ///
+    /// The time it takes is that of the changes that are for the subscriber and their messages, and one test for each
+    /// change of a commit that has one.
+    ///
+    /// # Errors
+    ///
+    /// `Closed` if it was closed before; `OutOfMemory`, which closes it, only if there is a commit to take. Then
+    /// nothing of the commit is sent.
+    ///
+    /// PostgreSQL 15, 55.5. Logical Streaming Replication Protocol.
+    pub fn take_routed(&mut self, book: &Book, now: u64) -> Result<Taken, LinkFault>
+        requires { book_checked book.now ≡ link_checked self.old }
+        ensures answer { Answers (λ taken. taken) told_fault
+            (spec.next_answer (link_checked self.old) (link_stage self.old) (book_log book.now)) result }
+        ensures memory { NeedsMemoryOnlyIf OutOfMemory (HasNext (link_stage self.old) (book_log book.now)) result }
+        ensures ok { OnOk result (LinkSays self.old self.new
+            (spec.next_bytes (link_checked self.old) (link_stage self.old) (book_log book.now) now)
+            (spec.next_stage (link_checked self.old) (link_stage self.old) (book_log book.now) now)) }
+        ensures read_back { OnOk result
+            (NextIsReadBack (link_checked self.old) (link_stage self.old) (book_log book.now)) }
+        ensures err { OnErr result (LinkCloses self.old self.new) }
+    {
+        let next = match &self.voice.stage {
+            Stage::NotStarted => return Ok(Taken::NotStarted),
+            Stage::Closed => return Err(LinkFault::Closed),
+            Stage::Started(state) => entry_after(book, state.done),
+        };
+        match next {
+            None => Ok(Taken::Idle),
+            Some(commit) => {
+                let taken = self.voice.take_held(book, commit, now);
+                if taken.is_err() {
+                    self.ear.close();
+                }
+                taken
+            }
+        }
     }
 
     /// Sends a keepalive with the sent position and this clock, in microseconds since 2000-01-01, which may request a

@@ -9,7 +9,7 @@ use row_owners::OwnerSet;
 use shard_checker::Checked;
 use std::alloc::{AllocError, Global};
 use std::sync::Arc;
-use tables_log::{Commit, Routed};
+use tables_log::{Book, Commit, Routed};
 
 /// The state of a voice.
 #[derive(Drop)]
@@ -35,13 +35,16 @@ pub struct Voice {
 }
 
 impl Voice {
-    ghost use Rattle.std.specs.Prelude.{◌≡◌, ◌≤◌, ◌++◌, ℕ, [], length, IfSome, OnOk, OnErr};
+    ghost use Rattle.std.specs.Prelude.{◌≡◌, ◌≤◌, ◌++◌, ℕ, [], length, Some, IfSome, IsTrue, OnOk, OnErr};
     ghost use Rattle.std.specs.Arc.{arc_value};
     ghost use Rattle.filter_tree.specs.Memory.{Answers, NeedsMemoryOnlyIf};
     ghost use Rattle.row_owners.specs.Owners.{AreOwners};
     ghost use Rattle.shard_checker.specs.CheckedView.{checked_view};
+    ghost use Rattle.tables_log.specs.BookView.{book_checked, book_log};
+    ghost use Rattle.tables_log.specs.Logs.{entry_at};
     ghost use Rattle.tables_log.specs.Routes.{IsRouted, commit_in};
     ghost use Rattle.copy_frames.specs.Contents.{copy_both_response};
+    ghost use Rattle.copy_both.specs.Spared.{IsSpared};
     ghost use Rattle.copy_both.specs.Voices as spec;
     ghost use Rattle.copy_both.specs.Voices.{EntryIsReadBack, IsQuietFor, IsStarted, Sends, Closes, told_fault, voice_checked, voice_stage, voice_output, voice_room};
     ghost use Rattle.copy_both.specs.declared.link_fault.LinkFault.TheVariants.{OutOfMemory};
@@ -201,6 +204,44 @@ impl Voice {
     {
         if let Stage::Started(state) = &mut self.stage {
             state.skip(commit.number());
+        }
+    }
+
+    /// Takes the next commit, which is in the book's log, as `take_entry` does. By the sets that the book keeps with it,
+    /// a commit from which the subscriber gets nothing isn't looked at, nor is such a change of another commit. The book
+    /// and the voice have the same catalog.
+    pub(crate) fn take_held(&mut self, book: &Book, commit: &Commit, now: u64) -> Result<Taken, LinkFault>
+        requires next { IfSome (spec.next_of (voice_stage self.old)) (λ next. commit.now.number ≡ next) }
+        requires held { entry_at (book_log book.now) commit.now.number ≡ Some commit.now }
+        requires checked { book_checked book.now ≡ voice_checked self.old }
+        ensures answer { Answers (λ taken. taken) told_fault
+            (spec.entry_answer (voice_checked self.old) (voice_stage self.old) commit.now) result }
+        ensures memory { NeedsMemoryOnlyIf OutOfMemory (IsStarted (voice_stage self.old)) result }
+        ensures ok { OnOk result (Sends self.old self.new
+            (spec.entry_bytes (voice_checked self.old) (voice_stage self.old) commit.now now)
+            (spec.entry_stage (voice_checked self.old) (voice_stage self.old) commit.now)) }
+        ensures read_back { OnOk result
+            (EntryIsReadBack (voice_checked self.old) (voice_stage self.old) commit.now) }
+        ensures err { OnErr result (Closes self.old self.new) }
+    {
+        let number = commit.number();
+        if self.is_spared(book.concerned(number)) {
+            self.skip(commit);
+            return Ok(Taken::Skipped(number));
+        }
+        match book.routed(number) {
+            Ok(Some(entry)) => self.take_routed(&entry, now),
+            Ok(None) | Err(_) => self.take_entry(commit, now),
+        }
+    }
+
+    /// Whether the stream runs, and the set lacks the subscriber of its slot.
+    fn is_spared(&self, owners: OwnerSet) -> bool
+        ensures { IsTrue result → IsSpared owners (voice_stage self.now) }
+    {
+        match &self.stage {
+            Stage::Started(state) if state.slot < 32 => !owners.has(state.slot),
+            _ => false,
         }
     }
 

@@ -12,6 +12,7 @@ pub mod JoinedHearing
 pub mod JoinedLoss
 pub mod JoinedPieces
 pub mod JoinedSteps
+pub mod LinkedLemmas
 pub mod NeedsLemmas
 pub mod PrefixLemmas
 pub mod PublisherLemmas

@@ -2,6 +2,7 @@ pub mod CatchingUp
 pub mod Connections
 pub mod Joined
 pub mod FirstPeers
+pub mod Linked
 pub mod PeerCalls
 pub mod PeerSteps
 pub mod Pumping

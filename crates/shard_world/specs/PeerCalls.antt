@@ -2,13 +2,14 @@
 -- Subscription, and 55.4. Streaming Replication Protocol.
 use Rattle.std.specs.Prelude.{◌≡◌, ◌<◌, ◌⊎◌, ◌^◌, ℕ, Option, Some, None, Result, IfOk, OnErr}
 use Rattle.shard_checker.specs.CheckedView.{CheckedOf}
-use Rattle.tables_log.specs.BookView.{book_slots}
+use Rattle.tables_log.specs.BookView.{book_checked, book_slots}
 use Rattle.tables_log.specs.Committing.{IsKept}
 use Rattle.tables_log.specs.declared.book.Book.{Book}
 use Rattle.copy_both.specs.Links.{LinkLoses}
 use Rattle.copy_both.specs.declared.link.Link.{Link}
 use Rattle.test_subscriber.specs.Subscribers.{Loses}
 use Rattle.shard_world.specs.Joined.{PeerOf}
+use Rattle.shard_world.specs.Linked.{IsLinkedTo}
 use Rattle.shard_world.specs.PeerSteps.{Case, ChangesOwn, HasLog, IsCase, MatchesPeer, StepsPeerTo, stepped}
 use Rattle.shard_world.specs.Refusals.{BreaksOn, HaltsOn}
 use Rattle.shard_world.specs.World.{Answer, AsksMemory, Heard, Delivered, OutOfMemory, PeerEvent}
@@ -88,9 +89,12 @@ HasSmallCount answer = Unit {0}
 
 -- ---- a call that memory may be refused to
 
--- its step is made, with this answer, or the connection can't continue
+-- its step is made, with this answer, or the connection can't continue; either way the book and the connection keep the
+-- catalog
 pub record Tries (checked : CheckedOf) (now : ℕ) (event : PeerEvent) (before after : Book) (old : PeerOf)
     (result : Result Answer Halted) (new : PeerOf) : Type 0 where
   pub made : IfOk result (λ answer. MakesFromEach checked now event before after old new answer)
   pub counted : IfOk result HasSmallCount
   pub stops : OnErr result (StopsFromEach checked now event before after old new)
+  pub book : book_checked after ≡ book_checked before
+  pub linked : IsLinkedTo checked old → IsLinkedTo checked new

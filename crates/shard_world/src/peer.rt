@@ -56,10 +56,12 @@ pub(crate) struct Peer {
 }
 
 impl Peer {
-    ghost use Rattle.std.specs.Prelude.{ℕ, Ok};
+    ghost use Rattle.std.specs.Prelude.{◌≡◌, ℕ, Ok};
     ghost use Rattle.std.specs.Arc.{arc_value};
     ghost use Rattle.shard_checker.specs.CheckedView.{CheckedOf, checked_view};
+    ghost use Rattle.tables_log.specs.BookView.{book_checked};
     ghost use Rattle.tables_log.specs.declared.book.Book.{Book as BookType};
+    ghost use Rattle.shard_world.specs.Linked.{IsLinkedTo};
     ghost use Rattle.shard_world.specs.PeerCalls.{Drops, HasSmallCount, MovesFromEach, Tries};
     ghost use Rattle.shard_world.specs.World.{Open, Hear, Take, Keep, Deliver, Report, Lose};
 
@@ -96,12 +98,13 @@ impl Peer {
     /// The publisher takes the next commit.
     #[tactic(auto, using(crate::proofs::CallLemmas::is_not_open, crate::proofs::CallLemmas::takes_one, crate::proofs::StopLemmas::take_stops))]
     fn take(&mut self, book: &Book, now: u64) -> Result<Answer, Halted>
+        requires { IsLinkedTo (book_checked book.now) self.old }
         ensures { (checked : CheckedOf) → Tries checked now Take book.now book.now self.old result self.new }
     {
         let Some(link) = &mut self.link else {
             return Ok(Answer::NotOpen);
         };
-        let taken = link.take(book, now)?;
+        let taken = link.take_routed(book, now)?;
         Ok(answer_of(taken))
     }
 
@@ -180,6 +183,8 @@ impl Peer {
         now: u64,
         event: PeerEvent,
     ) -> Result<Answer, Halted>
+        requires book { book_checked book.old ≡ checked_view (arc_value checked.now) }
+        requires linked { IsLinkedTo (checked_view (arc_value checked.now)) self.old }
         ensures { Tries (checked_view (arc_value checked.now)) now event book.old book.new self.old result self.new }
     {
         match event {
@@ -203,6 +208,10 @@ impl Peer {
         now: u64,
         event: PeerEvent,
     ) -> Answer
+        requires book { book_checked book.old ≡ checked_view (arc_value checked.now) }
+        requires linked { IsLinkedTo (checked_view (arc_value checked.now)) self.old }
+        ensures book { book_checked book.new ≡ checked_view (arc_value checked.now) }
+        ensures linked { IsLinkedTo (checked_view (arc_value checked.now)) self.new }
         ensures moves { MovesFromEach (checked_view (arc_value checked.now)) now event book.old book.new
             self.old self.new result }
         ensures counted { HasSmallCount result }

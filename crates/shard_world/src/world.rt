@@ -1,5 +1,11 @@
 //! A publisher and its subscribers.
 
+ghost use Rattle.std.specs.Prelude.{◌≡◌};
+ghost use Rattle.std.specs.Arc.{arc_value};
+ghost use Rattle.shard_checker.specs.CheckedView.{checked_view};
+ghost use Rattle.tables_log.specs.BookView.{book_checked};
+ghost use Rattle.shard_world.specs.Linked.{AreLinkedTo};
+
 use crate::answer::Answer;
 use crate::event::{Event, PeerEvent};
 use crate::opening::first_peers;
@@ -32,6 +38,8 @@ pub struct World {
     checked: Arc<Checked, Global>,
     book: Book,
     peers: Vec<Peer>,
+    ghost published: { book_checked book ≡ checked_view (arc_value checked) },
+    ghost linked: { AreLinkedTo (checked_view (arc_value checked)) peers.items },
 }
 
 impl World {

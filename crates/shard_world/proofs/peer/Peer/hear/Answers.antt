@@ -1,10 +1,12 @@
 use Rattle.std.proofs.Common.{ap, ◌∙◌, arith, rules}
-use Rattle.std.specs.Prelude.{Some}
+use Rattle.std.specs.Prelude.{Err, Ok, Some}
+use Rattle.copy_both.specs.Links.{link_heard, link_sent}
 use Rattle.copy_both.proofs.RepliesLemmas.{on_err}
 use Rattle.shard_world.specs.Connections.{front_of}
 use Rattle.shard_world.specs.PeerCalls.{StopsFromEach}
 use Rattle.shard_world.specs.World.{Hear}
 use Rattle.shard_world.proofs.CallLemmas.{hears_piece}
+use Rattle.shard_world.proofs.LinkedLemmas.{hear_keeps_book, hear_keeps_link, keeps_link}
 use Rattle.shard_world.proofs.StopLemmas.{hear_stops}
 use Rattle.shard_world.proofs.peer.Peer.hear.Goals as goal
 
@@ -18,6 +20,13 @@ returns c checked = record {
       c.in_ok-hear.ensures.says c.passed.ensures;
   counted = omega arith;
   stops = tt;
+  book =
+      hear_keeps_book c.in-Some.link c.hear.new.self c.args.book.now c.hear.new.book c.front-piece.result.now
+      (link_sent c.in-Some.link) (Ok c.in_ok-hear.field-0) c.in_ok-hear.ensures.left;
+  linked =
+      keeps_link checked c.args.self.now c.in-Some.link c.hear.new.self c.passed.new.self c.in-Some.is
+      (hear_keeps_link c.in-Some.link c.hear.new.self
+      (link_heard c.in-Some.link c.args.book.now c.front-piece.result.now) c.args.now (Ok c.in_ok-hear.field-0) c.in_ok-hear.ensures.says);
 }
 
 pub returns-in_err-hear : goal.returns-in_err-hear
@@ -32,4 +41,11 @@ returns-in_err-hear c checked = record {
       c.hear.new.self c.args.bytes c.in_err-hear.field-0.0
       c.front-piece.result.now c.in-Some.is (c.front-piece.ensures ∙ ap (front_of c.args.bytes) c.output.ensures)
       c.in_err-hear.ensures.answer c.in_err-hear.ensures.left);
+  book =
+      hear_keeps_book c.in-Some.link c.hear.new.self c.args.book.now c.hear.new.book c.front-piece.result.now
+      (link_sent c.in-Some.link) (Err c.in_err-hear.field-0.0) c.in_err-hear.ensures.left;
+  linked =
+      keeps_link checked c.args.self.now c.in-Some.link c.hear.new.self c.args.self.now.subscriber c.in-Some.is
+      (hear_keeps_link c.in-Some.link c.hear.new.self
+      (link_heard c.in-Some.link c.args.book.now c.front-piece.result.now) c.args.now (Err c.in_err-hear.field-0.0) c.in_err-hear.ensures.says);
 }

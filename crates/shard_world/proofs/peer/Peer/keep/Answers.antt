@@ -1,9 +1,10 @@
-use Rattle.std.proofs.Common.{sym, subst}
+use Rattle.std.proofs.Common.{refl, sym, subst}
 use Rattle.std.specs.Prelude.{Some}
 use Rattle.shard_world.specs.Connections.{kept_or_not}
 use Rattle.shard_world.specs.PeerCalls.{MakesFrom}
 use Rattle.shard_world.specs.World.{Keep}
 use Rattle.shard_world.proofs.CallLemmas.{keeps_one}
+use Rattle.shard_world.proofs.LinkedLemmas.{keeps_link}
 use Rattle.shard_world.proofs.peer.Peer.keep.Goals as goal
 
 pub returns-then-branch : goal.returns-then-branch
@@ -16,6 +17,10 @@ returns-then-branch c checked book = record {
       c.in_ok-keepalive.ensures.ok case stands);
   counted = tt;
   stops = tt;
+  book = refl;
+  linked =
+      keeps_link checked c.args.self.now c.in-Some.link c.keepalive.new.self c.args.self.now.subscriber c.in-Some.is
+      c.in_ok-keepalive.ensures.ok.voice.checked;
 }
 
 pub returns-else-branch : goal.returns-else-branch
@@ -28,4 +33,8 @@ returns-else-branch c checked book = record {
       c.in_ok-keepalive.ensures.ok case stands);
   counted = tt;
   stops = tt;
+  book = refl;
+  linked =
+      keeps_link checked c.args.self.now c.in-Some.link c.keepalive.new.self c.args.self.now.subscriber c.in-Some.is
+      c.in_ok-keepalive.ensures.ok.voice.checked;
 }

@@ -1,4 +1,4 @@
-use Rattle.std.proofs.Common.{sym, ◌∙◌, rules}
+use Rattle.std.proofs.Common.{refl, sym, ◌∙◌, rules}
 use Rattle.std.specs.Arc.{arc_value}
 use Rattle.shard_checker.specs.CheckedView.{checked_view}
 use Rattle.copy_both.proofs.RepliesLemmas.{on_err}
@@ -19,4 +19,6 @@ returns-in_err-open c now book = record {
       (open_is_refused (checked_view (arc_value c.args.checked.now)) now book c.args.self.now
       c.open.new.self (none_is c.args.self.now.link (sym c.is_some.ensures ∙ c.if-is_some.false))
       c.in_err-open.ensures.lost);
+  book = refl;
+  linked = λ linked. linked;
 }

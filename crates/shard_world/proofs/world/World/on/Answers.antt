@@ -18,6 +18,8 @@ returns-in-Some-clause-steps c =
       book = c.step.new.book;
       peers =
           with_item code.peers c.args.subscriber c.step.new.self;
+      published = _;
+      linked = _;
     }) refl
     c.args.subscriber c.args.now c.args.event c.in-Some.peer.now c.step.new.self c.step.result c.ranges.now.fits at
     refl c.step.ensures.moves
