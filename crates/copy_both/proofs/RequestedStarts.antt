@@ -1,5 +1,5 @@
 -- A stream that starts after the position up to which its slot was confirmed starts at the requested position.
-use Rattle.std.proofs.Common.{◌≡◌, ℕ, ◌<◌, ◌==◌, max, Bool, true, false, if◌then◌else◌, List, [], ◌∷◌, ◌++◌, refl, sym, ap, subst, ◌∙◌, arith}
+use Rattle.std.proofs.Common.{◌≡◌, ℕ, ◌<◌, ◌==◌, max, false, if◌then◌else◌, List, [], ◌∷◌, ◌++◌, refl, sym, ap, subst, ◌∙◌, arith}
 use Rattle.std.specs.Prelude.{Option, Some, None}
 use Rattle.tables_log.specs.Slots.{confirmed_at, end_after, start_fault}
 use Rattle.tables_log.specs.declared.error.StartError.{StartError}

@@ -210,7 +210,12 @@ impl Voice {
     /// Takes the next commit, which is in the book's log, as `take_entry` does. By the sets that the book keeps with it,
     /// a commit from which the subscriber gets nothing isn't looked at, nor is such a change of another commit. The book
     /// and the voice have the same catalog.
-    pub(crate) fn take_held(&mut self, book: &Book, commit: &Commit, now: u64) -> Result<Taken, LinkFault>
+    pub(crate) fn take_held(
+        &mut self,
+        book: &Book,
+        commit: &Commit,
+        now: u64,
+    ) -> Result<Taken, LinkFault>
         requires next { IfSome (spec.next_of (voice_stage self.old)) (λ next. commit.now.number ≡ next) }
         requires held { entry_at (book_log book.now) commit.now.number ≡ Some commit.now }
         requires checked { book_checked book.now ≡ voice_checked self.old }
