@@ -1,22 +1,25 @@
 -- A commit of which the subscriber gets nothing is taken as one that is skipped.
-use Rattle.std.proofs.Common.{◌≡◌, ℕ, ◌+◌, ◌++◌, Bool, List, [], map, sym, ap, subst, ◌∙◌}
+use Rattle.std.proofs.Common.{◌≡◌, ℕ, ◌+◌, ◌++◌, ◌||◌, Bool, List, [], ◌∷◌, map, refl, sym, ap, subst, ◌∙◌}
 use Rattle.std.specs.Prelude.{false, All, Ok, Option, Some}
 use Rattle.std.specs.List.{flat_map}
 use Rattle.std.proofs.lemmas.List.{append-nil}
 use Rattle.std.proofs.lemmas.List.Elements.{All-nil}
-use Rattle.row_owners.specs.Owners.{OwnedWhere, concerns}
+use Rattle.replica_identity.specs.Plans.{PlanOf}
+use Rattle.row_owners.specs.Owners.{OwnedWhere, concerns, is_for}
 use Rattle.row_owners.specs.declared.owner_set.OwnerSet.{OwnerSet}
 use Rattle.shard_checker.specs.CheckedView.{CheckedOf}
 use Rattle.tables_log.specs.Commits.{CommitOf}
 use Rattle.tables_log.specs.Logs.{entry_at}
 use Rattle.tables_log.specs.Lsn.{end_lsn_of}
-use Rattle.tables_log.specs.Routes.{gets_some}
+use Rattle.table_changes.specs.Records.{ChangeOf}
+use Rattle.tables_log.specs.Routes.{IsRouted, commit_in, gets_some}
+use Rattle.tables_log.specs.declared.routed.Routed.{Routed}
 use Rattle.pgoutput_msgs.specs.Sent.{IsSent}
 use Rattle.pgoutput_msgs.specs.Silent.{IsSilent}
 use Rattle.pgoutput_msgs.specs.Telling.{messages_for}
 use Rattle.pgoutput_msgs.specs.declared.message.Msg.{Msg}
 use Rattle.pgoutput_msgs.proofs.SilentLemmas.{quiet_are_silent}
-use Rattle.copy_both.specs.Spared.{IsSpared}
+use Rattle.copy_both.specs.Spared.{IsSpared, RouteAlike}
 use Rattle.copy_both.specs.Streams.{StreamStateOf, Carries, head_of, state_after, spelled, take_bytes}
 use Rattle.copy_both.specs.Tellings.{telling_of}
 use Rattle.copy_both.specs.Voices as voices
@@ -86,16 +89,36 @@ module _ (checked : CheckedOf) (commit : CommitOf) (owners : OwnerSet)
   read_back_at (voices.Started state) spared = subst (All IsSent) (sym (nothing_at state spared)) (All-nil IsSent)
   read_back_at voices.Closed spared = absurd spared
 
--- by the set that a book of the same catalog keeps with the commit
+-- ---- by the sets of a plan by which the same subscribers get something from each change
+
+module _ (one other : PlanOf) (alike : RouteAlike one other) where
+  concerns_alike : (changes : List ChangeOf) (subscriber : ℕ)
+      → concerns one changes subscriber ≡ concerns other changes subscriber
+  concerns_alike [] subscriber = refl
+  concerns_alike (change ∷ changes) subscriber =
+      ap (λ (first : Bool). first || concerns one changes subscriber) (alike subscriber change)
+      ∙ ap (λ (rest : Bool). is_for other subscriber change || rest) (concerns_alike changes subscriber)
+
+  pub routed_alike : (entry : Routed) → IsRouted one entry → IsRouted other entry
+  routed_alike entry routed = record {
+    all = λ subscriber within.
+        routed.all subscriber within ∙ concerns_alike (commit_in entry).changes subscriber;
+    each = λ sets some. record {
+      each = λ place change set at there subscriber within.
+          (routed.each sets some).each place change set at there subscriber within ∙ alike subscriber change;
+    };
+  }
+
+-- by the set that a book keeps with the commit
 module _ (checked its : CheckedOf) (log : List CommitOf) (commit : CommitOf) (number : ℕ) (owners : OwnerSet)
-    (found : OwnedWhere owners (gets_some its.plan (entry_at log number))) (same : its ≡ checked)
+    (found : OwnedWhere owners (gets_some its.plan (entry_at log number))) (alike : RouteAlike its.plan checked.plan)
     (held : entry_at log commit.number ≡ Some commit) (is : number ≡ commit.number) (stage : StageOf)
     (spared : IsSpared owners stage) where
   found_there : OwnedWhere owners (concerns checked.plan commit.changes)
-  found_there =
-      subst (λ (c : CheckedOf). OwnedWhere owners (concerns c.plan commit.changes)) same
-      (subst (λ (entry : Option CommitOf). OwnedWhere owners (gets_some its.plan entry)) (ap (entry_at log) is ∙ held)
-      found)
+  found_there subscriber within =
+      found subscriber within
+      ∙ ap (λ (entry : Option CommitOf). gets_some its.plan entry subscriber) (ap (entry_at log) is ∙ held)
+      ∙ concerns_alike its.plan checked.plan alike commit.changes subscriber
 
   pub spared_is_quiet : IsQuietFor checked stage commit
   spared_is_quiet = quiet_at checked commit owners found_there stage spared

@@ -56,6 +56,7 @@ impl Link {
     ghost use Rattle.copy_both.specs.Links as spec;
     ghost use Rattle.copy_both.specs.Links.{HasNext, HearSays, IsNewLink, LinkCloses, LinkLoses, LinkPasses, LinkSays, NextIsReadBack};
     ghost use Rattle.copy_both.specs.Links.{link_checked, link_ear, link_heard, link_output, link_sent, link_stage};
+    ghost use Rattle.copy_both.specs.Spared.{RouteAlike};
     ghost use Rattle.copy_both.specs.Voices.{IsStarted, keep_answer, kept_bytes, sent_of, told_fault};
     ghost use Rattle.copy_both.specs.declared.link_fault.LinkFault.TheVariants.{OutOfMemory};
     ghost use Rattle.copy_both.specs.declared.phase.Phase.TheVariants.{Open};
@@ -156,8 +157,8 @@ impl Link {
     }
 
     /// Takes the next commit of the log, as `take` does, by the sets that the book keeps with it: a commit from which the
-    /// subscriber gets nothing isn't looked at, nor is such a change of another commit. The book and the link have the
-    /// same catalog.
+    /// subscriber gets nothing isn't looked at, nor is such a change of another commit. The book's catalog is that of the
+    /// link, or one by which the same subscribers get something from each change.
     ///
     /// The time it takes is that of the changes that are for the subscriber and their messages, and one test for each
     /// change of a commit that has one.
@@ -169,7 +170,7 @@ impl Link {
     ///
     /// PostgreSQL 15, 55.5. Logical Streaming Replication Protocol.
     pub fn take_routed(&mut self, book: &Book, now: u64) -> Result<Taken, LinkFault>
-        requires { book_checked book.now ≡ link_checked self.old }
+        requires { RouteAlike (book_checked book.now).plan (link_checked self.old).plan }
         ensures answer { Answers (λ taken. taken) told_fault
             (spec.next_answer (link_checked self.old) (link_stage self.old) (book_log book.now)) result }
         ensures memory { NeedsMemoryOnlyIf OutOfMemory (HasNext (link_stage self.old) (book_log book.now)) result }

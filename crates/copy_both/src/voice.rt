@@ -44,7 +44,7 @@ impl Voice {
     ghost use Rattle.tables_log.specs.Logs.{entry_at};
     ghost use Rattle.tables_log.specs.Routes.{IsRouted, commit_in};
     ghost use Rattle.copy_frames.specs.Contents.{copy_both_response};
-    ghost use Rattle.copy_both.specs.Spared.{IsSpared};
+    ghost use Rattle.copy_both.specs.Spared.{IsSpared, RouteAlike};
     ghost use Rattle.copy_both.specs.Voices as spec;
     ghost use Rattle.copy_both.specs.Voices.{EntryIsReadBack, IsQuietFor, IsStarted, Sends, Closes, told_fault, voice_checked, voice_stage, voice_output, voice_room};
     ghost use Rattle.copy_both.specs.declared.link_fault.LinkFault.TheVariants.{OutOfMemory};
@@ -208,8 +208,7 @@ impl Voice {
     }
 
     /// Takes the next commit, which is in the book's log, as `take_entry` does. By the sets that the book keeps with it,
-    /// a commit from which the subscriber gets nothing isn't looked at, nor is such a change of another commit. The book
-    /// and the voice have the same catalog.
+    /// a commit from which the subscriber gets nothing isn't looked at, nor is such a change of another commit.
     pub(crate) fn take_held(
         &mut self,
         book: &Book,
@@ -218,7 +217,7 @@ impl Voice {
     ) -> Result<Taken, LinkFault>
         requires next { IfSome (spec.next_of (voice_stage self.old)) (λ next. commit.now.number ≡ next) }
         requires held { entry_at (book_log book.now) commit.now.number ≡ Some commit.now }
-        requires checked { book_checked book.now ≡ voice_checked self.old }
+        requires alike { RouteAlike (book_checked book.now).plan (voice_checked self.old).plan }
         ensures answer { Answers (λ taken. taken) told_fault
             (spec.entry_answer (voice_checked self.old) (voice_stage self.old) commit.now) result }
         ensures memory { NeedsMemoryOnlyIf OutOfMemory (IsStarted (voice_stage self.old)) result }

@@ -1,7 +1,6 @@
 -- The catalog of connections stays.
-use Rattle.std.proofs.Common.{◌≡◌, ℕ, List, [], ◌∷◌, sym, subst, ◌∙◌}
+use Rattle.std.proofs.Common.{◌≡◌, ℕ, List, [], ◌∷◌, refl, sym, subst}
 use Rattle.std.specs.Prelude.{None, Option, Some, Result, Ok, Err, slice_set}
-use Rattle.std.specs.Option.{ForSome}
 use Rattle.std.proofs.lemmas.List.Elements.{All-nil, All-cons, All-set}
 use Rattle.filter_tree.specs.Expr.{Expr}
 use Rattle.pub_catalog.specs.Catalogs.{PublicationOf}
@@ -20,20 +19,41 @@ use Rattle.copy_both.proofs.SlotChanges.{hearing_changes_slots}
 use Rattle.test_subscriber.specs.declared.subscriber.Subscriber.{Subscriber}
 use Rattle.shard_world.specs.FirstPeers.{AreFirstPeers}
 use Rattle.shard_world.specs.Joined.{PeerOf}
-use Rattle.shard_world.specs.Linked.{AreLinkedTo, IsLinkedTo}
+use Rattle.shard_world.specs.Linked.{AreLinkedTo, IsLinkedTo, IsServedAlike}
 use Rattle.shard_world.specs.PeerCalls.{Drops, LosesIfThere}
 
 -- ---- one subscriber
 
+pub serves_alike : (checked one other : CheckedOf) → other ≡ one → IsServedAlike one checked
+    → IsServedAlike other checked
+serves_alike checked one other same alike =
+    subst (λ (its : CheckedOf). IsServedAlike its checked) (sym same) alike
+
+pub same_serves_alike : (one other : CheckedOf) → one ≡ other → IsServedAlike one other
+same_serves_alike one other same = serves_alike other other one same (λ subscriber change. refl)
+
 pub is_unlinked : (checked : CheckedOf) (code : PeerOf) → code.link ≡ None → IsLinkedTo checked code
-is_unlinked checked code none =
-    subst (λ (link : Option Link). ForSome link (λ (its : Link). link_checked its ≡ checked)) (sym none) tt
+is_unlinked checked code none link some = absurd cc
+
+-- with a link that is served alike
+linked_by : (checked : CheckedOf) (link : Link) (after : Subscriber) → IsServedAlike checked (link_checked link)
+    → IsLinkedTo checked (record { link = Some link; subscriber = after })
+linked_by checked link after alike other some =
+    let same : link ≡ other = cc in
+    subst (λ (its : Link). IsServedAlike checked (link_checked its)) same alike
+
+pub is_linked : (checked : CheckedOf) (link : Link) (after : Subscriber) → link_checked link ≡ checked
+    → IsLinkedTo checked (record { link = Some link; subscriber = after })
+is_linked checked link after same =
+    linked_by checked link after
+    (subst (λ (its : CheckedOf). IsServedAlike checked its) (sym same) (λ subscriber change. refl))
 
 pub keeps_link : (checked : CheckedOf) (old : PeerOf) (link new : Link) (after : Subscriber) → old.link ≡ Some link
     → link_checked new ≡ link_checked link → IsLinkedTo checked old
     → IsLinkedTo checked (record { link = Some new; subscriber = after })
 keeps_link checked old link new after some same linked =
-    same ∙ subst (λ (its : Option Link). ForSome its (λ (one : Link). link_checked one ≡ checked)) some linked
+    linked_by checked new after
+    (subst (λ (its : CheckedOf). IsServedAlike checked its) (sym same) (linked link some))
 
 -- whatever was heard
 pub hear_keeps_link : (old new : Link) (h : HearingOf) (clock : ℕ) (result : Result Heard LinkFault)

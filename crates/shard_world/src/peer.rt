@@ -56,17 +56,17 @@ pub(crate) struct Peer {
 }
 
 impl Peer {
-    ghost use Rattle.std.specs.Prelude.{◌≡◌, ℕ, Ok};
+    ghost use Rattle.std.specs.Prelude.{ℕ, Ok};
     ghost use Rattle.std.specs.Arc.{arc_value};
     ghost use Rattle.shard_checker.specs.CheckedView.{CheckedOf, checked_view};
     ghost use Rattle.tables_log.specs.BookView.{book_checked};
     ghost use Rattle.tables_log.specs.declared.book.Book.{Book as BookType};
-    ghost use Rattle.shard_world.specs.Linked.{IsLinkedTo};
+    ghost use Rattle.shard_world.specs.Linked.{IsLinkedTo, IsServedAlike};
     ghost use Rattle.shard_world.specs.PeerCalls.{Drops, HasSmallCount, MovesFromEach, Tries};
     ghost use Rattle.shard_world.specs.World.{Open, Hear, Take, Keep, Deliver, Report, Lose};
 
     /// The subscriber connects, and requests the stream from its position on.
-    #[tactic(auto, using(crate::proofs::CallLemmas::is_already_open, crate::proofs::CallLemmas::opens_one, crate::proofs::StopLemmas::open_stays_shut, crate::proofs::StopLemmas::open_is_refused))]
+    #[tactic(auto, using(crate::proofs::CallLemmas::is_already_open, crate::proofs::CallLemmas::opens_one, crate::proofs::StopLemmas::open_stays_shut, crate::proofs::StopLemmas::open_is_refused, crate::proofs::LinkedLemmas::is_linked))]
     fn open(&mut self, alloc: Global, checked: &Arc<Checked, Global>) -> Result<Answer, Halted>
         ensures { (now : ℕ) (book : BookType) → Tries (checked_view (arc_value checked.now)) now Open book book
             self.old result self.new }
@@ -183,7 +183,7 @@ impl Peer {
         now: u64,
         event: PeerEvent,
     ) -> Result<Answer, Halted>
-        requires book { book_checked book.old ≡ checked_view (arc_value checked.now) }
+        requires book { IsServedAlike (book_checked book.old) (checked_view (arc_value checked.now)) }
         requires linked { IsLinkedTo (checked_view (arc_value checked.now)) self.old }
         ensures { Tries (checked_view (arc_value checked.now)) now event book.old book.new self.old result self.new }
     {
@@ -208,9 +208,9 @@ impl Peer {
         now: u64,
         event: PeerEvent,
     ) -> Answer
-        requires book { book_checked book.old ≡ checked_view (arc_value checked.now) }
+        requires book { IsServedAlike (book_checked book.old) (checked_view (arc_value checked.now)) }
         requires linked { IsLinkedTo (checked_view (arc_value checked.now)) self.old }
-        ensures book { book_checked book.new ≡ checked_view (arc_value checked.now) }
+        ensures book { IsServedAlike (book_checked book.new) (checked_view (arc_value checked.now)) }
         ensures linked { IsLinkedTo (checked_view (arc_value checked.now)) self.new }
         ensures moves { MovesFromEach (checked_view (arc_value checked.now)) now event book.old book.new
             self.old self.new result }

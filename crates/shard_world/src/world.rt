@@ -1,10 +1,9 @@
 //! A publisher and its subscribers.
 
-ghost use Rattle.std.specs.Prelude.{◌≡◌};
 ghost use Rattle.std.specs.Arc.{arc_value};
 ghost use Rattle.shard_checker.specs.CheckedView.{checked_view};
 ghost use Rattle.tables_log.specs.BookView.{book_checked};
-ghost use Rattle.shard_world.specs.Linked.{AreLinkedTo};
+ghost use Rattle.shard_world.specs.Linked.{AreLinkedTo, IsServedAlike};
 
 use crate::answer::Answer;
 use crate::event::{Event, PeerEvent};
@@ -38,7 +37,7 @@ pub struct World {
     checked: Arc<Checked, Global>,
     book: Book,
     peers: Vec<Peer>,
-    ghost published: { book_checked book ≡ checked_view (arc_value checked) },
+    ghost published: { IsServedAlike (book_checked book) (checked_view (arc_value checked)) },
     ghost linked: { AreLinkedTo (checked_view (arc_value checked)) peers.items },
 }
 
@@ -56,7 +55,7 @@ impl World {
 
     /// A publisher without rows, whose log may have at most `limit` commits, and subscribers without rows, at position
     /// 0 and without connections. The only error is out of memory.
-    #[tactic(auto, using(crate::proofs::FirstPeerLemmas::first_is))]
+    #[tactic(auto, using(crate::proofs::FirstPeerLemmas::first_is, crate::proofs::LinkedLemmas::same_serves_alike, crate::proofs::LinkedLemmas::first_are_linked))]
     pub fn new(
         alloc: Global,
         checked: Arc<Checked, Global>,
@@ -78,7 +77,7 @@ impl World {
     }
 
     /// Commands are committed as one transaction, or refused.
-    #[tactic(auto, using(crate::proofs::WorldMoves::commits_one, crate::proofs::WorldMoves::refuses_one))]
+    #[tactic(auto, using(crate::proofs::WorldMoves::commits_one, crate::proofs::WorldMoves::refuses_one, crate::proofs::LinkedLemmas::serves_alike))]
     fn commit(&mut self, commands: &[Command], time: u64) -> Answer
         ensures { (now : ℕ) → now < 2 ^ 64
             → StepsFromEach self.old self.new now (w.Commit (map command_view commands.now) time) result }
@@ -90,7 +89,7 @@ impl World {
     }
 
     /// Something happens on the connection of a subscriber.
-    #[tactic(auto, using(crate::proofs::WorldMoves::moves_one, crate::proofs::WorldMoves::none_there))]
+    #[tactic(auto, using(crate::proofs::WorldMoves::moves_one, crate::proofs::WorldMoves::none_there, crate::proofs::LinkedLemmas::one_is_linked, crate::proofs::LinkedLemmas::serves_alike))]
     fn on(&mut self, now: u64, subscriber: usize, event: PeerEvent) -> Answer
         ensures steps { StepsFromEach self.old self.new now (w.On subscriber event) result }
         ensures counted { HasSmallCount result }

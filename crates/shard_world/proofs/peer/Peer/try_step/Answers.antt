@@ -1,8 +1,7 @@
-use Rattle.std.proofs.Common.{subst, sym}
+use Rattle.std.proofs.Common.{subst, sym, ◌∙◌}
 use Rattle.std.specs.Prelude.{Ok}
 use Rattle.std.specs.Arc.{arc_value}
 use Rattle.shard_checker.specs.CheckedView.{checked_view}
-use Rattle.shard_world.specs.Linked.{IsLinkedTo}
 use Rattle.shard_world.specs.PeerCalls.{Tries}
 use Rattle.shard_world.proofs.peer.Peer.try_step.Goals as goal
 
@@ -49,4 +48,5 @@ returns-in-Lose c =
     (c.lose.ensures (checked_view (arc_value c.args.checked.now)) c.args.now)
 
 pub take-requires : goal.take-requires
-take-requires c = subst (λ its. IsLinkedTo its c.args.self.now) (sym c.requires.book) c.requires.linked
+take-requires c = λ link some subscriber change.
+    c.requires.book subscriber change ∙ c.requires.linked link some subscriber change
