@@ -12,8 +12,7 @@ pub enum End {
     ReadFault,
     /// What it is written to failed.
     WriteFault,
-    /// Its client sent what no client may send there, its start was refused, or memory or a thread for it was
-    /// refused.
+    /// Its client sent something invalid, its start was refused, or memory or a thread for it was refused.
     Link(LinkFault),
     /// Its client ended it, or there was nothing more to read.
     Client,

@@ -36,7 +36,7 @@ WRONG_WORDS = [
 
 TAKEN = "port {} of 127.0.0.1 cannot be used: Address already in use (os error 98)"
 
-TOOK_NOTHING = "the connection was lost, or the client took nothing for too long"
+TOOK_NOTHING = "the connection was lost, or the client read nothing for too long"
 
 # The name of a slot in which JSON needs escapes, and as SQL has it.
 STRANGE = 'a"b\\c'
@@ -120,7 +120,7 @@ def check_silence(tally: Tally, text: str) -> None:
         tally.check("how soon it is given up", SILENCE - 0.1 < given_up < SECONDS, True)
         other.send(messages.status(0, wants_reply=True))
         tally.check("the reply to one that is not silent", next_frame(other), messages.keepalive(64))
-        said = "london: sent from 0/0 to 0/0: the connection was lost, or the client was waited for too long\n"
+        said = "london: sent from 0/0 to 0/0: the connection was lost, or the client sent nothing for too long\n"
         tally.check("what is said of the silent client", program.log, [said])
         other.finish()
         tally.check("the end after a silent client", program.finish(), (0, ["closed 0 2\n"]))

@@ -14,12 +14,12 @@ use std::time::Clock;
 /// Why a connection ended, in words.
 fn reason(end: End) -> &'static str {
     match end {
-        End::ReadFault => "the connection was lost, or the client was waited for too long",
-        End::WriteFault => "the connection was lost, or the client took nothing for too long",
+        End::ReadFault => "the connection was lost, or the client sent nothing for too long",
+        End::WriteFault => "the connection was lost, or the client read nothing for too long",
         End::Client => "the client closed the connection",
         End::Finished => "all commits were sent",
         End::Link(LinkFault::OutOfMemory) => "out of memory",
-        End::Link(_) => "the client sent what no client may send there",
+        End::Link(_) => "the client sent something that is not valid at this point",
     }
 }
 
