@@ -10,7 +10,7 @@ CRATES = pathlib.Path(__file__).resolve().parent.parent.parent / "crates"
 # Where each kind of edit is.
 FOLDERS = ("must-fail", "wrong")
 # How many the gate tries, and in how many crates: each edit costs a check, and a crate's first one a proof.
-MOST_EDITS, MOST_CRATES = 75, 9
+MOST_EDITS, MOST_CRATES = 62, 9
 
 
 def fault_of(crate: pathlib.Path, edit: pathlib.Path) -> str | None:
