@@ -55,7 +55,7 @@ impl World {
 
     /// A publisher without rows, whose log may have at most `limit` commits, and subscribers without rows, at position
     /// 0 and without connections. The only error is out of memory.
-    #[tactic(auto, using(crate::proofs::FirstPeerLemmas::first_is, crate::proofs::LinkedLemmas::same_serves_alike, crate::proofs::LinkedLemmas::first_are_linked))]
+    #[tactic(auto, using(crate::proofs::FirstPeerLemmas::first_is))]
     pub fn new(
         alloc: Global,
         checked: Arc<Checked, Global>,
@@ -89,7 +89,7 @@ impl World {
     }
 
     /// Something happens on the connection of a subscriber.
-    #[tactic(auto, using(crate::proofs::WorldMoves::moves_one, crate::proofs::WorldMoves::none_there, crate::proofs::LinkedLemmas::one_is_linked, crate::proofs::LinkedLemmas::serves_alike))]
+    #[tactic(auto, using(crate::proofs::WorldMoves::moves_one, crate::proofs::WorldMoves::none_there))]
     fn on(&mut self, now: u64, subscriber: usize, event: PeerEvent) -> Answer
         ensures steps { StepsFromEach self.old self.new now (w.On subscriber event) result }
         ensures counted { HasSmallCount result }

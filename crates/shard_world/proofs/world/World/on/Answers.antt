@@ -2,7 +2,8 @@ use Rattle.std.proofs.Common.{◌≡◌, refl}
 use Rattle.std.specs.Prelude.{Some, slice_get}
 use Rattle.std.specs.Vec.{with_item}
 use Rattle.std.proofs.lemmas.Option.{slice_get_read}
-use Rattle.shard_world.specs.WorldCalls.{world_peers}
+use Rattle.shard_world.specs.WorldCalls.{world_checked, world_peers}
+use Rattle.shard_world.proofs.LinkedLemmas.{one_is_linked}
 use Rattle.shard_world.proofs.WorldMoves.{moves_one}
 use Rattle.shard_world.proofs.world.World.on.Goals as goal
 
@@ -23,3 +24,12 @@ returns-in-Some-clause-steps c =
     }) refl
     c.args.subscriber c.args.now c.args.event c.in-Some.peer.now c.step.new.self c.step.result c.ranges.now.fits at
     refl c.step.ensures.moves
+
+pub invariant_of-self : goal.invariant_of-self
+invariant_of-self c =
+    record {
+      published = c.step.ensures.book;
+      linked =
+          one_is_linked (world_checked c.args.self.now) (world_peers c.args.self.now) c.args.subscriber
+          c.step.new.self c.args.self.now.linked c.step.ensures.linked;
+    }
