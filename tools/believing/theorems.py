@@ -99,6 +99,9 @@ HEADLINE = Theorem("headline", [
     "IsWorld": "which world of the definition a `World` matches: `new` ensures it for the first one, each call "
                "preserves it, and `view` requires it",
     "world_checked": "the catalog of a `World`, which is the one that `new` was given",
+    "IsServedAlike": "that the book of a `World` has its catalog, so that `step` takes commits by the book's sets",
+    "AreLinkedTo": "that the connections of a `World` have its catalog, so that `step` takes commits by the book's sets",
+    "book_checked": "the catalog of a `Book`, which is the one that `new` was given",
     "machine_now": "how the definition keeps a subscriber's rows; what is shown is defined without it",
     "Machine": "how the definition keeps a subscriber's rows; what is shown is defined without it",
     "first_machine": "how the definition keeps a subscriber's rows; what is shown is defined without it",
