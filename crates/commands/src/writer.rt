@@ -1,6 +1,6 @@
 //! The output of the program.
 
-ghost use Rattle.std.specs.Prelude.{◌≡◌, false, MatchResult};
+ghost use Rattle.std.specs.Prelude.{◌≡◌, false, true, MatchResult};
 ghost use Rattle.std.specs.Io.KnownBytes.{Appends};
 ghost use Rattle.commands.specs.Output.{WritesFirst};
 
@@ -10,16 +10,18 @@ use std::io::{ErrorKind, Write};
 #[derive(Clone, Copy, Debug, Drop, PartialEq, Eq)]
 pub struct WriteFault;
 
-/// An output. `contents` are the bytes that it holds, if they are known, and `has_failed` says whether a write or a
-/// flush has failed.
+/// An output. `contents` are the bytes that it holds, if they are known, `has_failed` says whether a write or a flush
+/// has failed, and `is_flushed` whether nothing was written since the last flush that succeeded.
 pub trait Writer {
-    ghost use Rattle.std.specs.Prelude.{◌≡◌, ℕ, Bool, true, List, Option, None, MatchResult};
+    ghost use Rattle.std.specs.Prelude.{◌≡◌, ℕ, Bool, false, true, List, Option, None, MatchResult, OnOk};
     ghost use Rattle.std.specs.Io.KnownBytes.{Appends, Keeps};
     ghost use Rattle.commands.specs.Output.{WritesFirst};
 
     ghost contents: { Self → Option (List ℕ) } = { λ _. None };
 
     ghost has_failed: { Self → Bool };
+
+    ghost is_flushed: { Self → Bool };
 
     /// Writes a text.
     ///
@@ -30,32 +32,37 @@ pub trait Writer {
         ensures bytes { MatchResult result (λ _. Appends (contents self.old) (contents self.new) text.now)
             (λ _. WritesFirst text.now (contents self.old) (contents self.new)) }
         ensures failed { MatchResult result (λ _. has_failed self.new ≡ has_failed self.old)
-            (λ _. has_failed self.new ≡ true) };
+            (λ _. has_failed self.new ≡ true) }
+        ensures unflushed { is_flushed self.new ≡ false };
 
     /// Flushes what was written.
     fn flush(&mut self) -> Result<(), WriteFault>
         ensures bytes { Keeps (contents self.old) (contents self.new) }
         ensures failed { MatchResult result (λ _. has_failed self.new ≡ has_failed self.old)
-            (λ _. has_failed self.new ≡ true) };
+            (λ _. has_failed self.new ≡ true) }
+        ensures flushed { OnOk result (is_flushed self.new ≡ true) };
 }
 
-/// A writer, and whether a write or a flush of it has failed. A write that takes no byte is a failure; an interrupted
-/// one is repeated.
+/// A writer, whether a write or a flush of it has failed, and whether nothing was written since the last flush that
+/// succeeded. A write that takes no byte is a failure; an interrupted one is repeated.
 #[derive(Debug, Drop)]
 pub struct Printer<W> {
     writer: W,
     failed: bool,
+    flushed: bool,
 }
 
 impl<W: Write> Printer<W> {
-    /// A writer that has not failed.
+    /// A writer that has not failed, and to which nothing was written.
     pub fn new(writer: W) -> Printer<W>
         ensures writer { result.writer ≡ writer }
         ensures failed { result.failed ≡ false }
+        ensures flushed { result.flushed ≡ true }
     {
         Printer {
             writer,
             failed: false,
+            flushed: true,
         }
     }
 }
@@ -85,7 +92,10 @@ impl<W: Write> Writer for Printer<W> {
 
     ghost has_failed = { λ printer. printer.failed };
 
+    ghost is_flushed = { λ printer. printer.flushed };
+
     fn write_text(&mut self, text: &str) -> Result<(), WriteFault> {
+        self.flushed = false;
         let written = try_write(text, &mut self.writer);
         if written.is_err() {
             self.failed = true;
@@ -95,7 +105,10 @@ impl<W: Write> Writer for Printer<W> {
 
     fn flush(&mut self) -> Result<(), WriteFault> {
         match self.writer.flush() {
-            Ok(()) => Ok(()),
+            Ok(()) => {
+                self.flushed = true;
+                Ok(())
+            }
             Err(_) => {
                 self.failed = true;
                 Err(WriteFault)
