@@ -1,6 +1,6 @@
 //! The listening socket.
 
-ghost use Rattle.std.specs.Prelude.{IfErr, OnOk};
+ghost use Rattle.std.specs.Prelude.{◌≡◌, true, IfErr, OnOk};
 ghost use Rattle.std.specs.Io.KnownBytes.{Appends};
 ghost use Rattle.commands.specs.Output.{StopsText, ended};
 ghost use Rattle.cli.specs.Telling.{listening_line};
@@ -9,7 +9,7 @@ use commands::{Failure, Writer, write_line};
 use std::alloc::Global;
 use std::net::{Ipv4Addr, Net, TcpListener, TcpStream};
 
-/// Writes the line with the port.
+/// Writes the line with the port, for which a client may wait.
 pub fn say_listening<'a, W: Writer>(
     alloc: Global,
     port: u16,
@@ -18,6 +18,7 @@ pub fn say_listening<'a, W: Writer>(
     ensures told { OnOk result (Appends (W.contents writer.old) (W.contents writer.new) (ended (listening_line port))) }
     ensures stopped { IfErr result (StopsText (ended (listening_line port)) (W.contents writer.old)
         (W.contents writer.new)) }
+    ensures flushed { OnOk result (W.is_flushed writer.new ≡ true) }
 {
     let mut line = format!(in alloc; "listening {port}")?;
     write_line(&mut line, writer)?;
@@ -41,6 +42,7 @@ pub fn listen<'a, W: Writer, R: Net<Listener = TcpListener, Stream = TcpStream>>
     ensures told { OnOk result (Appends (W.contents writer.old) (W.contents writer.new) (ended (listening_line port))) }
     ensures stopped { IfErr result (StopsText (ended (listening_line port)) (W.contents writer.old)
         (W.contents writer.new)) }
+    ensures flushed { OnOk result (W.is_flushed writer.new ≡ true) }
 {
     let Ok(listener) = TcpListener::bind(rt, (Ipv4Addr::LOCALHOST, port)) else {
         return Err(Failure::Output);

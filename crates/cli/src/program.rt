@@ -1,6 +1,6 @@
 //! The program, over any reader and writer.
 
-ghost use Rattle.std.specs.Prelude.{◌≡◌, ◌⊎◌, Bool, true, false, map, IfErr, IfOk, OnOk};
+ghost use Rattle.std.specs.Prelude.{◌≡◌, ◌≢◌, ◌⊎◌, Bool, true, false, map, IfErr, IfOk, OnOk};
 ghost use Rattle.std.specs.Io.KnownBytes.{Appends};
 ghost use Rattle.std.specs.String.{string_bytes};
 ghost use Rattle.commands.specs.Output.{EndsByFault, StopsText, ended};
@@ -130,10 +130,11 @@ fn outcome<'a, W: Writer>(
     }
 }
 
-/// Reports a failure, flushes, and returns the exit status.
+/// Reports a failure, flushes what was written, and returns the exit status.
 fn finish<'a, W: Writer>(alloc: Global, ending: Result<Status, Failure<'a>>, writer: &mut W) -> u8
     ensures finishes { Finishes ending.entry (W.contents writer.old) (W.contents writer.new) result }
     ensures failed { FinishesFault ending.entry (W.has_failed writer.old) (W.has_failed writer.new) result }
+    ensures flushed { result ≢ 4 → W.is_flushed writer.new ≡ true }
 {
     let status = outcome(alloc, ending, writer);
     if status == Status::Output {
@@ -164,6 +165,8 @@ fn unserved<'a>(alloc: Global) -> Failure<'a>
 /// - 3: the input cannot be read; a line says why, and nothing else is written
 /// - 4: the writer failed; what is written is a prefix of what would have been written
 /// - 5: out of memory; the first lines of the answer may be written before the line `out of memory`
+///
+/// With a status other than 4, everything that was written is flushed.
 pub fn run<S: AsStr, I: Reader + Drop, W: Writer>(
     alloc: Global,
     words: &[S],
@@ -173,6 +176,7 @@ pub fn run<S: AsStr, I: Reader + Drop, W: Writer>(
     ensures run { IsRun false (map S.text words.now) I.may_fail (I.remaining input) (W.contents writer.old)
         (W.contents writer.new) result }
     ensures failed { NumberSaysFault (W.has_failed writer.old) (W.has_failed writer.new) result }
+    ensures flushed { result ≢ 4 → W.is_flushed writer.new ≡ true }
 {
     match answer_words(alloc, words, input, writer) {
         Course::Ended(ending) => finish(alloc, ending, writer),
@@ -249,6 +253,7 @@ pub fn run_serving<
         (W.contents writer.new) result }
     ensures failed { AsksSockets (map S.text words.now) ⊎ NumberSaysFault (W.has_failed writer.old)
         (W.has_failed writer.new) result }
+    ensures flushed { result ≢ 4 → W.is_flushed writer.new ≡ true }
 {
     match answer_words(rt.alloc(), words, input, writer) {
         Course::Ended(ending) => finish(rt.alloc(), ending, writer),

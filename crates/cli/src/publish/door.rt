@@ -1,6 +1,6 @@
 //! The ports for clients, and for callers.
 
-ghost use Rattle.std.specs.Prelude.{◌≡◌, IfErr, IfOk, OnOk};
+ghost use Rattle.std.specs.Prelude.{◌≡◌, true, IfErr, IfOk, OnOk};
 ghost use Rattle.std.specs.Io.KnownBytes.{Appends};
 ghost use Rattle.std.specs.Option.{option_map};
 ghost use Rattle.std.specs.String.{string_bytes};
@@ -154,6 +154,7 @@ fn say_ports<'a, W: Writer>(
         (text_of (first_lines port callers))) }
     ensures stopped { IfErr result (StopsText (text_of (first_lines port callers)) (W.contents writer.old)
         (W.contents writer.new)) }
+    ensures flushed { OnOk result (W.is_flushed writer.new ≡ true) }
 {
     let text = ports_text(alloc, port, callers)?;
     tell(text.as_str(), writer)
@@ -173,6 +174,7 @@ pub(crate) fn open_doors<
     ensures opens { IfOk result (λ doors. Opens feed.entry doors.clients.port (callers_at doors.callers)
         (W.contents writer.old) (W.contents writer.new)) }
     ensures stopped { IfErr result (StopsTelling feed.entry (W.contents writer.old) (W.contents writer.new)) }
+    ensures flushed { OnOk result (W.is_flushed writer.new ≡ true) }
 {
     let doors = find_doors(rt, alloc, feed)?;
     let callers = callers_port(&doors);

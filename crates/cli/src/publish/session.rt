@@ -11,6 +11,7 @@ ghost use Rattle.commands.specs.Output.{text_of};
 ghost use Rattle.cli.specs.Incoming.{coming};
 ghost use Rattle.cli.specs.Talks as spec;
 ghost use Rattle.cli.specs.Talks.{Answers, HasAnswered, HasGone, HasQuit, IsCutOff, Replies, StopsNext, Tells};
+ghost use Rattle.cli.specs.declared.publish.session.Turn.TheVariants as turns;
 
 use crate::publish::incoming::LineReader;
 use crate::publish::telling::tell;
@@ -168,7 +169,7 @@ pub(crate) enum Turn {
     Over,
 }
 
-/// Reads the next line, and answers it unless it is `QUIT;`. A reader that fails has no further line.
+/// Reads the next line, and answers it at once unless it is `QUIT;`. A reader that fails has no further line.
 #[tactic(auto, using(crate::proofs::Talking::over_at_end, crate::proofs::Talking::over_failed))]
 fn answer_next<'a, P: Publishing, I: Reader, W: Writer, R: Wait + Clock>(
     rt: &R,
@@ -183,6 +184,7 @@ fn answer_next<'a, P: Publishing, I: Reader, W: Writer, R: Wait + Clock>(
         (coming I.remaining lines.new) (W.contents writer.old) (W.contents writer.new) seat.old seat.new) }
     ensures err { IfErr result (StopsNext P.checked P.limit (coming I.remaining lines.old)
         (coming I.remaining lines.new) (W.contents writer.old) (W.contents writer.new) seat.old seat.new) }
+    ensures flushed { IfOk result (λ turn. turn ≡ turns.Line → W.is_flushed writer.new ≡ true) }
 {
     match lines.next_line(rt, line) {
         Ok(true) => {}

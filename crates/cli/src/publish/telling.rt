@@ -1,6 +1,6 @@
 //! How a text is written for which somebody waits.
 
-ghost use Rattle.std.specs.Prelude.{IfErr, OnOk};
+ghost use Rattle.std.specs.Prelude.{◌≡◌, true, IfErr, OnOk};
 ghost use Rattle.std.specs.Io.KnownBytes.{Appends};
 ghost use Rattle.commands.specs.Output.{StopsText};
 
@@ -14,6 +14,7 @@ use commands::{Failure, Writer, write_text};
 pub(crate) fn tell<'a, W: Writer>(text: &str, writer: &mut W) -> Result<(), Failure<'a>>
     ensures written { OnOk result (Appends (W.contents writer.old) (W.contents writer.new) text.now) }
     ensures stopped { IfErr result (StopsText text.now (W.contents writer.old) (W.contents writer.new)) }
+    ensures flushed { OnOk result (W.is_flushed writer.new ≡ true) }
 {
     write_text(text, writer)?;
     match writer.flush() {
