@@ -1,6 +1,7 @@
 """Times of whole programs, the machine that they are taken on, and tables of them."""
 
 import contextlib
+import itertools
 import os
 import pathlib
 import resource
@@ -82,10 +83,57 @@ def shown(number):
     return f"{number:,.0f}" if abs(number) >= 100 else f"{number:.3g}" if abs(number) >= 0.001 else f"{number:.3f}"
 
 
+# The tables that an earlier run printed, in their order, as far as they are not yet compared.
+EARLIER = []
+# A figure has moved if it differs by more than this part of what it was.
+MOVED = 0.05
+
+
+def cells_in(line):
+    """The cells of a line of a table."""
+    return [it.strip() for it in line.strip().strip("|").split("|")]
+
+
+def read_earlier(path):
+    """Reads the tables that an earlier run printed, with which those of this run are compared."""
+    lines = path.read_text().splitlines()
+    for at, line in enumerate(lines):
+        if line.startswith("|---"):
+            rows = itertools.takewhile(lambda it: it.startswith("|"), lines[at + 1 :])
+            EARLIER.append((cells_in(lines[at - 1]), [cells_in(it) for it in rows]))
+
+
+def earlier_rows(heads):
+    """The rows of the next earlier table with these heads, which is then compared; none if there is no such table."""
+    found = next((it for it in EARLIER if it[0] == heads), None)
+    if found is None:
+        return []
+    EARLIER.remove(found)
+    return found[1]
+
+
+def number_in(cell):
+    """The number that a cell shows; None if it shows something else."""
+    try:
+        return float(cell.replace(",", ""))
+    except ValueError:
+        return None
+
+
+def marked(cell, before):
+    """The cell, with what it was before if that is a number from which it has moved."""
+    now, was = number_in(cell), number_in(before)
+    if now is None or was is None or abs(now - was) <= MOVED * abs(was):
+        return cell
+    return f"**{cell}**, was {before}"
+
+
 def print_table(heads, rows):
-    """Prints a table, each row as soon as it is known."""
+    """Prints a table, each row as soon as it is known, and marks figures that have moved since an earlier run."""
+    before = iter(earlier_rows(list(heads)))
     print("| " + " | ".join(heads) + " |")
     print("|" + "---|" * len(heads), flush=True)
     for row in rows:
-        print("| " + " | ".join(str(it) for it in row) + " |", flush=True)
+        pairs = itertools.zip_longest([str(it) for it in row], next(before, []), fillvalue="")
+        print("| " + " | ".join(marked(*it) for it in pairs) + " |", flush=True)
     print()
