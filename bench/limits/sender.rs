@@ -1,7 +1,7 @@
 //! The frames of the messages that tell a slot of commits.
 
 use crate::book::Change;
-use crate::tables::{Filter, Table, Value};
+use crate::tables::{Filter, Row, Table, Value, number};
 
 fn put_digits(number: i64, out: &mut Vec<u8>) {
     let mut digits = [0; 20];
@@ -93,25 +93,12 @@ fn frame(position: u64, out: &mut Vec<u8>, put: impl FnOnce(&mut Vec<u8>)) {
 pub struct Slot {
     pub filter: Filter,
     pub relation_sent: bool,
+    pub is_begun: bool,
     pub out: Vec<u8>,
 }
 
 impl Slot {
-    /// The frame of a change, if one of its rows passes.
-    fn tell(&mut self, table: &Table, position: u64, change: &Change) {
-        let old = change.old.as_deref().filter(|row| self.filter.passes(row));
-        let new = change.new.as_deref().filter(|row| self.filter.passes(row));
-        match (old, new) {
-            (None, None) => {}
-            (None, Some(new)) => frame(position, &mut self.out, |out| put_insert(new, out)),
-            (Some(old), Some(new)) => frame(position, &mut self.out, |out| put_update(table, old, new, out)),
-            (Some(old), None) => frame(position, &mut self.out, |out| put_delete(table, old, out)),
-        }
-    }
-
-    /// Says a commit, or nothing where it has no change for this slot.
-    pub fn take(&mut self, table: &Table, number: u64, changes: &[Change]) {
-        let (start, position) = (self.out.len(), 64 * number);
+    fn begin(&mut self, table: &Table, position: u64) {
         frame(position, &mut self.out, |out| {
             out.push(b'B');
             out.extend_from_slice(&position.to_be_bytes());
@@ -120,13 +107,22 @@ impl Slot {
         if !self.relation_sent {
             frame(position, &mut self.out, |out| put_relation(table, out));
         }
-        let begun = self.out.len();
-        changes.iter().for_each(|it| self.tell(table, position, it));
-        if self.out.len() == begun {
-            self.out.truncate(start);
+        self.relation_sent = true;
+        self.is_begun = true;
+    }
+
+    /// The frame of a change, after those that begin its commit.
+    fn tell(&mut self, table: &Table, position: u64, put: impl FnOnce(&mut Vec<u8>)) {
+        if !self.is_begun {
+            self.begin(table, position);
+        }
+        frame(position, &mut self.out, put);
+    }
+
+    fn end(&mut self, position: u64) {
+        if !std::mem::take(&mut self.is_begun) {
             return;
         }
-        self.relation_sent = true;
         frame(position, &mut self.out, |out| {
             out.extend_from_slice(b"C\0");
             out.extend_from_slice(&position.to_be_bytes());
@@ -134,4 +130,54 @@ impl Slot {
             out.extend_from_slice(&[0; 8]);
         });
     }
+}
+
+/// The slots by a column: those whose filters are true from one constant of all filters to the next.
+pub struct Routes {
+    column: usize,
+    bounds: Vec<i64>,
+    owners: Vec<Option<usize>>,
+}
+
+impl Routes {
+    /// Of slots whose filters name no other column.
+    pub fn new(slots: &[Slot], column: usize) -> Routes {
+        let mut bounds: Vec<i64> = slots.iter().flat_map(|it| it.filter.bounds()).collect();
+        bounds.sort_unstable();
+        bounds.dedup();
+        let owner = |number: i64| {
+            let row = vec![Value::Int(number); column + 1];
+            slots.iter().position(|it| it.filter.passes(&row))
+        };
+        let owners = std::iter::once(i64::MIN).chain(bounds.iter().copied()).map(owner).collect();
+        Routes { column, bounds, owners }
+    }
+
+    /// The slot that gets a row, and the row.
+    fn owner<'a>(&self, row: &'a Option<Row>) -> Option<(usize, &'a [Value])> {
+        let row = row.as_deref()?;
+        let value = number(&row[self.column])?;
+        Some((self.owners[self.bounds.partition_point(|it| *it <= value)]?, row))
+    }
+}
+
+/// Tells a commit to the slots that get something of it. Each row is looked up once for all slots.
+pub fn take(slots: &mut [Slot], routes: &Routes, table: &Table, number: u64, changes: &[Change]) {
+    let position = 64 * number;
+    for change in changes {
+        match (routes.owner(&change.old), routes.owner(&change.new)) {
+            (Some((from, old)), Some((to, new))) if from == to => {
+                slots[to].tell(table, position, |out| put_update(table, old, new, out));
+            }
+            (old, new) => {
+                if let Some((from, old)) = old {
+                    slots[from].tell(table, position, |out| put_delete(table, old, out));
+                }
+                if let Some((to, new)) = new {
+                    slots[to].tell(table, position, |out| put_insert(new, out));
+                }
+            }
+        }
+    }
+    slots.iter_mut().for_each(|it| it.end(position));
 }

@@ -12,7 +12,7 @@ mod subscriber;
 mod tables;
 
 use book::{Book, Command};
-use sender::{Slot, put_insert};
+use sender::{Routes, Slot, put_insert, take};
 use std::collections::BTreeMap;
 use subscriber::{Reader, Shape, Subscriber, read_tuple};
 use tables::{Column, Filter, Key, Table, Value};
@@ -65,7 +65,7 @@ impl Load {
         if at + 1 < self.slots {
             parts.push(Filter::Below(0, bound(at + 1)));
         }
-        Slot { filter: Filter::And(parts), relation_sent: false, out: Vec::new() }
+        Slot { filter: Filter::And(parts), relation_sent: false, is_begun: false, out: Vec::new() }
     }
 
     fn reaches(&self, phase: &str) -> bool {
@@ -76,11 +76,12 @@ impl Load {
 
 /// Takes the commits of the log from this one on, and delivers what is said, as far as the phase goes.
 fn pass_on(book: &Book, first: usize, slots: &mut [Slot], subscribers: &mut [Subscriber], delivers: bool) {
-    for (slot, subscriber) in slots.iter_mut().zip(subscribers) {
-        for (at, changes) in book.log.iter().enumerate().skip(first) {
-            slot.take(&book.table, at as u64 + 1, changes);
-        }
-        if delivers {
+    let routes = Routes::new(slots, 0);
+    for (at, changes) in book.log.iter().enumerate().skip(first) {
+        take(slots, &routes, &book.table, at as u64 + 1, changes);
+    }
+    if delivers {
+        for (slot, subscriber) in slots.iter_mut().zip(subscribers) {
             subscriber.feed(&slot.out).expect("a stream that is read");
             slot.out = Vec::new();
         }

@@ -71,6 +71,14 @@ impl Filter {
         }
     }
 
+    /// The constants that it names.
+    pub fn bounds(&self) -> Vec<i64> {
+        match self {
+            Filter::AtLeast(_, bound) | Filter::Below(_, bound) => vec![*bound],
+            Filter::And(parts) => parts.iter().flat_map(Filter::bounds).collect(),
+        }
+    }
+
     pub fn passes(&self, row: &[Value]) -> bool {
         self.says(row) == Some(true)
     }
