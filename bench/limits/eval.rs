@@ -13,7 +13,7 @@ const KEYS: i64 = 1_000_000;
 enum Cell<'a> {
     Null,
     Int(i64),
-    Text(Cow<'a, str>),
+    Text(Cow<'a, [u8]>),
 }
 
 enum Filter {
@@ -54,7 +54,7 @@ impl Filter {
             Filter::Below(column, bound) => int(&row[*column], |it| it < *bound),
             Filter::Remainder(column, divisor, rest) => int(&row[*column], |it| it % divisor == *rest),
             Filter::Is(column, text) => match &row[*column] {
-                Cell::Text(it) => Some(it == text),
+                Cell::Text(it) => Some(**it == *text.as_bytes()),
                 _ => None,
             },
             Filter::IsNull(column) => Some(matches!(row[*column], Cell::Null)),
@@ -104,56 +104,93 @@ fn columns(count: i64) -> Vec<Filter> {
 
 // ---- rows
 
-fn spaces(text: &str) -> &str {
-    text.trim_start_matches(' ')
+/// What is left of a line.
+struct Reader<'a> {
+    left: &'a [u8],
 }
 
-/// The text up to its closing quote, with each pair of quotes as one, and what comes after.
-fn read_text(text: &str) -> Option<(Cow<'_, str>, &str)> {
-    let (plain, left) = text.split_at(text.find('\'')?);
-    if !left.starts_with("''") {
-        return Some((plain.into(), &left[1..]));
+impl<'a> Reader<'a> {
+    /// Whether this byte comes next, which is then read.
+    fn reads(&mut self, byte: u8) -> bool {
+        let found = self.left.first() == Some(&byte);
+        if found {
+            self.left = &self.left[1..];
+        }
+        found
     }
-    let (more, left) = read_text(&left[2..])?;
-    Some((format!("{plain}'{more}").into(), left))
+
+    fn spaces(&mut self) {
+        while self.reads(b' ') {}
+    }
+
+    /// The text up to its closing quote, with each pair of quotes as one.
+    fn text(&mut self) -> Option<Cow<'a, [u8]>> {
+        let end = self.left.iter().position(|it| *it == b'\'')?;
+        let plain = &self.left[..end];
+        self.left = &self.left[end + 1..];
+        if !self.reads(b'\'') {
+            return Some(plain.into());
+        }
+        Some([plain, b"'", &self.text()?[..]].concat().into())
+    }
+
+    fn number(&mut self) -> Option<i64> {
+        let is_negative = self.reads(b'-');
+        let (mut number, before) = (0i64, self.left.len());
+        while let [digit @ b'0'..=b'9', left @ ..] = self.left {
+            number = number.checked_mul(10)?.checked_add(i64::from(digit - b'0'))?;
+            self.left = left;
+        }
+        (self.left.len() < before).then_some(if is_negative { -number } else { number })
+    }
+
+    fn cell(&mut self) -> Option<Cell<'a>> {
+        if self.reads(b'\'') {
+            return Some(Cell::Text(self.text()?));
+        }
+        if let Some(left) = self.left.strip_prefix(b"NULL") {
+            self.left = left;
+            return Some(Cell::Null);
+        }
+        Some(Cell::Int(self.number()?))
+    }
 }
 
-fn read_cell(text: &str) -> Option<(Cell<'_>, &str)> {
-    if let Some(left) = text.strip_prefix('\'') {
-        let (found, left) = read_text(left)?;
-        return Some((Cell::Text(found), left));
-    }
-    if let Some(left) = text.strip_prefix("NULL") {
-        return Some((Cell::Null, left));
-    }
-    let end = text.bytes().position(|it| it != b'-' && !it.is_ascii_digit()).unwrap_or(text.len());
-    Some((Cell::Int(text[..end].parse().ok()?), &text[end..]))
-}
-
-fn read_row<'a>(line: &'a str, row: &mut Vec<Cell<'a>>) -> Option<()> {
+fn read_row<'a>(line: &'a [u8], row: &mut Vec<Cell<'a>>) -> Option<()> {
     row.clear();
-    let mut left = spaces(line).strip_prefix('(')?;
+    let mut reader = Reader { left: line };
+    reader.spaces();
+    if !reader.reads(b'(') {
+        return None;
+    }
     loop {
-        let (cell, after) = read_cell(spaces(left))?;
-        row.push(cell);
-        left = spaces(after);
-        match left.strip_prefix(',') {
-            Some(more) => left = more,
-            None => return (left == ")").then_some(()),
+        reader.spaces();
+        row.push(reader.cell()?);
+        reader.spaces();
+        if !reader.reads(b',') {
+            return (reader.left == b")").then_some(());
         }
     }
 }
 
-fn put_answers(filters: &[(String, Filter)], row: &[Cell], out: &mut Vec<u8>) {
-    for (name, filter) in filters {
-        let said: &[u8] = match filter.says(row) {
-            Some(true) => b"true ",
-            Some(false) => b"false ",
-            None => b"null ",
-        };
-        out.extend_from_slice(name.as_bytes());
-        out.extend_from_slice(said);
+/// A filter, and what is written where it is false, true or null.
+struct Publication {
+    filter: Filter,
+    answers: [Vec<u8>; 3],
+}
+
+impl Publication {
+    fn new(at: usize, filter: Filter) -> Publication {
+        Publication { filter, answers: ["false", "true", "null"].map(|it| format!("p{at}={it} ").into_bytes()) }
     }
+
+    fn put_answer(&self, row: &[Cell], out: &mut Vec<u8>) {
+        out.extend_from_slice(&self.answers[self.filter.says(row).map_or(2, usize::from)]);
+    }
+}
+
+fn put_answers(publications: &[Publication], row: &[Cell], out: &mut Vec<u8>) {
+    publications.iter().for_each(|it| it.put_answer(row, out));
     out.pop();
     out.push(b'\n');
 }
@@ -167,14 +204,15 @@ fn main() {
         "columns" => columns(count),
         _ => regions(count),
     };
-    let filters: Vec<_> = filters.into_iter().enumerate().map(|(at, it)| (format!("p{at}="), it)).collect();
+    let publications: Vec<_> = filters.into_iter().enumerate().map(|(at, it)| Publication::new(at, it)).collect();
     let (mut text, mut out) = (String::new(), Vec::new());
     std::io::stdin().read_to_string(&mut text).expect("an input");
     let (_, lines) = text.split_once("\n%%\n").expect("rows");
+    let lines = lines.strip_suffix('\n').unwrap_or(lines);
     let mut row = Vec::new();
-    for line in lines.lines() {
+    for line in lines.as_bytes().split(|it| *it == b'\n') {
         match read_row(line, &mut row) {
-            Some(()) => put_answers(&filters, &row, &mut out),
+            Some(()) => put_answers(&publications, &row, &mut out),
             None => out.extend_from_slice(b"unreadable\n"),
         }
     }
