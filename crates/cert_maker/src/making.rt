@@ -11,7 +11,7 @@ ghost use Rattle.cert_maker.specs.declared.made.Made.TheVariants.{Unknown};
 
 use crate::made::Made;
 use bumpalo::Bump;
-use cert_search::{Found, MAX_STEPS, look, owners_of};
+use cert_search::{Found, MAX_STEPS, find_cert, owners_of};
 use filter_tree::{Row, Table, valid};
 use pub_catalog::Catalog;
 use replica_identity::{Plan, Share};
@@ -73,7 +73,7 @@ fn tested<'b>(
 ) -> Result<Made<'b>, AllocError>
     ensures { IfOk result (IsRight table.now (shares_view shares.now)) }
 {
-    match look(alloc, arena, &*table, &*shares, steps)? {
+    match find_cert(alloc, arena, &*table, &*shares, steps)? {
         Found::Cert(cert) => Ok(tested_cert(alloc, table, shares, cert)),
         Found::Row(row) => tested_row(alloc, table, shares, row),
         Found::Unknown => Ok(Made::Unknown),

@@ -22,4 +22,4 @@ mod stop;
 mod texts;
 
 pub use owners::owners_of;
-pub use search::{Found, MAX_STEPS, look};
+pub use search::{Found, MAX_STEPS, find_cert};

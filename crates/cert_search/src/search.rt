@@ -250,7 +250,7 @@ fn ended<'b>(mut search: Search<'_, '_>, arena: &'b Bump) -> Result<Found<'b>, A
 
 /// Looks for a certificate of the table with these shares, and for a row that shows that there is none, in at most
 /// about `most_steps` steps.
-pub fn look<'a, 'b>(
+pub fn find_cert<'a, 'b>(
     alloc: Global,
     arena: &'b Bump,
     table: &'a Table,
