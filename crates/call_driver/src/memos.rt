@@ -33,14 +33,14 @@ fn begin(desk: &mut Desk) -> Result<String> {
     Ok(String::from_str(desk.alloc, "ok")?)
 }
 
-fn look(memo: &mut Memo, row: &Row) -> Said {
-    memo.look(row)
+fn locate(memo: &mut Memo, row: &Row) -> Said {
+    memo.locate(row)
 }
 
 /// Looks at a row. What the atoms say of it gets the next number, from 0.
 fn seen(desk: &mut Desk, given: &str) -> Result<String> {
     let row = row(desk.alloc, given)?;
-    let said = look(desk.memo.as_mut().context("there is no memo")?, &row);
+    let said = locate(desk.memo.as_mut().context("there is no memo")?, &row);
     let number = desk.said.len();
     desk.said.push(said)?;
     Ok(format!(in desk.alloc; "{number}")?)
@@ -114,7 +114,7 @@ fn kept(desk: &mut Desk, given: &str) -> Result<String> {
 pub fn answer(desk: &mut Desk, call: &str, rest: &str) -> Result<Option<String>> {
     Ok(Some(match call {
         "new" => begin(desk)?,
-        "look" => seen(desk, rest)?,
+        "locate" => seen(desk, rest)?,
         "answer" => filtered(desk, rest)?,
         "text" => text(desk, rest)?,
         "keep" => kept(desk, rest)?,

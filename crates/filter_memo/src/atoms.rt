@@ -12,7 +12,7 @@ use crate::breakpoints::Breakpoints;
 use crate::parts::parts_of;
 use crate::plan::{Plan, plan_of};
 use crate::said::Said;
-use crate::telling::{Cells, look_all};
+use crate::telling::{Cells, locate_all};
 use filter_tree::{Filter, Row, Tri};
 use std::alloc::{AllocError, Global};
 
@@ -76,7 +76,7 @@ impl Atoms {
         })
     }
 
-    /// Whether the atoms are used. If not, `look` says nothing of a row.
+    /// Whether the atoms are used. If not, `locate` says nothing of a row.
     pub fn are_used(&self) -> bool
         ensures { result ≡ self.now.is_used }
     {
@@ -84,14 +84,14 @@ impl Atoms {
     }
 
     /// Evaluates the atoms for a row. It allocates no memory. The values of other rows stay as they were.
-    pub fn look(&mut self, row: &Row) -> Said
+    pub fn locate(&mut self, row: &Row) -> Said
         ensures atoms { (filters : List (Option Expr))
             → spec.IsAtomsOf filters self.old → spec.IsAtomsOf filters self.new }
         ensures located { (filters : List (Option Expr))
             → spec.IsAtomsOf filters self.old → spec.Locates self.new row.now result }
         ensures same { spec.LocateAlike self.old self.new }
     {
-        look_all(&mut self.cells, &self.parts, &self.all_breakpoints, row)
+        locate_all(&mut self.cells, &self.parts, &self.all_breakpoints, row)
     }
 
     /// The value of a filter, given by its number, for the rows whose atoms have these values. If it is `None`, the

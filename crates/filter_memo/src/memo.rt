@@ -74,13 +74,13 @@ impl Memo {
     }
 
     /// Evaluates the atoms of the filters for a row. It allocates no memory.
-    pub fn look(&mut self, row: &Row) -> Said
+    pub fn locate(&mut self, row: &Row) -> Said
         ensures memo { (filters : List (Option Expr)) (text_of : List Datum → List ℕ)
             → spec.IsMemoOf filters text_of self.old → spec.IsMemoOf filters text_of self.new }
         ensures located { (filters : List (Option Expr)) (text_of : List Datum → List ℕ)
             → spec.IsMemoOf filters text_of self.old → spec.IsLocated self.new row.now result }
     {
-        self.atoms.look(row)
+        self.atoms.locate(row)
     }
 
     /// The value of a filter, given by its number, for the rows whose atoms have these values. If it is `None`, the

@@ -161,7 +161,7 @@ fn interval_of(
 }
 
 /// The values of the filters of a term, for a row in which it is a number.
-fn look_number(
+fn locate_number(
     cells: &mut Cells,
     parts: &[Filter],
     all_breakpoints: &[Breakpoints],
@@ -191,7 +191,7 @@ fn look_number(
 }
 
 /// The values of the filters of a term, for any row.
-fn look_bucket(
+fn locate_bucket(
     cells: &mut Cells,
     parts: &[Filter],
     all_breakpoints: &[Breakpoints],
@@ -220,7 +220,7 @@ fn look_bucket(
 }
 
 /// The values of the filters of the term with this number.
-fn look(
+fn locate(
     cells: &mut Cells,
     parts: &[Filter],
     all_breakpoints: &[Breakpoints],
@@ -234,7 +234,7 @@ fn look(
         return Said::nothing();
     };
     match number_in(breakpoints, row) {
-        Some(value) => look_number(
+        Some(value) => locate_number(
             cells,
             parts,
             all_breakpoints,
@@ -243,12 +243,12 @@ fn look(
             value,
             row,
         ),
-        None => look_bucket(cells, parts, all_breakpoints, breakpoints, number, row),
+        None => locate_bucket(cells, parts, all_breakpoints, breakpoints, number, row),
     }
 }
 
 /// The values of the filters of all terms.
-pub fn look_all(
+pub fn locate_all(
     cells: &mut Cells,
     parts: &[Filter],
     all_breakpoints: &[Breakpoints],
@@ -259,7 +259,7 @@ pub fn look_all(
 {
     let mut said = Said::nothing();
     for number in 0..all_breakpoints.len() {
-        said = said.join(look(cells, parts, all_breakpoints, number, row));
+        said = said.join(locate(cells, parts, all_breakpoints, number, row));
     }
     said
 }

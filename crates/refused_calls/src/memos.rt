@@ -44,7 +44,7 @@ fn filters(alloc: Global, catalog: &Catalog) -> Result<Vec<Option<&Filter>>> {
 
 /// Whether the text that is found is the row's. Where none is found, the row's is kept.
 fn is_told(memo: &mut Memo, row: &Row, text: &str) -> Result<bool, AllocError> {
-    let said = memo.look(row);
+    let said = memo.locate(row);
     if let Some(found) = memo.text(said) {
         return Ok(found == text);
     }
@@ -65,7 +65,7 @@ fn are_told(memo: &mut Memo, rows: &[(Row, &str)]) -> Result<bool, AllocError> {
 /// That the text of each row is found.
 fn check_found(memo: &mut Memo, rows: &[(Row, &str)]) -> Result<()> {
     for (row, text) in rows {
-        let said = memo.look(row);
+        let said = memo.locate(row);
         ensure!(
             memo.text(said) == Some(*text),
             "the text {text:?} is not found"

@@ -169,7 +169,7 @@ impl TableRouter {
         if !self.atoms.are_used() {
             return takers(plan, table, row);
         }
-        let said = self.atoms.look(row);
+        let said = self.atoms.locate(row);
         let slot = slot_of(said);
         if let Some(owners) = kept_at(&self.slots, slot, said) {
             return owners;

@@ -51,7 +51,7 @@ def calls() -> Iterator[Call]:
     yield Call(f"catalog.read {catalog()}", "ok")
     yield Call("memo.new", "ok")
     for number, (first, last, said) in enumerate(CASES):
-        yield Call(f"memo.look {row(first, last)}", str(number))
+        yield Call(f"memo.locate {row(first, last)}", str(number))
         for at in (0, FILTERS - 1):
             yield Call(f"memo.answer {number} {at}", joined(said))
     for kept, (_, _, said) in enumerate(CASES):

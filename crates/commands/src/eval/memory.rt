@@ -77,7 +77,7 @@ fn push_known(
     ensures line { OnOk result (string_bytes line.new ≡ spec.kept_of wanted (map carrier_view carriers.now) row.now) }
     ensures memo { OnOk result (spec.IsLineMemo wanted (map carrier_view carriers.now) (Some memo.new)) }
 {
-    let said = memo.look(row);
+    let said = memo.locate(row);
     if let Some(text) = memo.text(said) {
         line.push_str(text)?;
         return Ok(());

@@ -7,7 +7,7 @@ use Rattle.filter_memo.specs.Telling.{Told, IsInterval}
 use Rattle.filter_memo.specs.declared.interval.Interval.{Interval}
 use Rattle.filter_memo.specs.declared.said.Said.{Said}
 use Rattle.filter_memo.proofs.Judging.{interval_before, new_interval, kept_now}
-use Rattle.filter_memo.proofs.telling.look_number.Goals as goal
+use Rattle.filter_memo.proofs.telling.locate_number.Goals as goal
 
 pub returns-in-Some : goal.returns-in-Some
 returns-in-Some c = λ are.

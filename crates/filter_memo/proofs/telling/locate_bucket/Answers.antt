@@ -2,7 +2,7 @@ use Rattle.std.proofs.Common.{ℕ, List, subst}
 use Rattle.std.proofs.lemmas.List.Elements.{All-set}
 use Rattle.filter_memo.specs.Telling.{Told, IsCell}
 use Rattle.filter_memo.proofs.Judging.{new_cell, kept_now}
-use Rattle.filter_memo.proofs.telling.look_bucket.Goals as goal
+use Rattle.filter_memo.proofs.telling.locate_bucket.Goals as goal
 
 pub returns-then-index-len : goal.returns-then-index-len
 returns-then-index-len c = λ are.

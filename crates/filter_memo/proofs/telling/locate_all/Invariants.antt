@@ -1,6 +1,6 @@
 use Rattle.std.proofs.Common.{take}
 use Rattle.filter_memo.specs.Telling.{AreCells, Judges, numbers_in}
-use Rattle.filter_memo.proofs.telling.look_all.Given as goal
+use Rattle.filter_memo.proofs.telling.locate_all.Given as goal
 
 -- the values of the filters of the terms so far
 abbrev pub invariant-loop-number : goal.invariant-loop-number
