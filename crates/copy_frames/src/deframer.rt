@@ -6,7 +6,7 @@ ghost use Rattle.copy_frames.specs.Scans.{Reaches, Scans};
 
 use crate::fault::FrameFault;
 use crate::frame::Frame;
-use crate::front::{Front, look};
+use crate::front::{Front, peek};
 use bytes::BytesMut;
 use std::alloc::{AllocError, Global};
 use std::marker::Model;
@@ -41,7 +41,7 @@ fn scan(limit: u32, bytes: &[u8], start: usize) -> (usize, Option<FrameFault>)
 {
     let mut at = start;
     'frames: loop {
-        match look(limit, bytes.split_at(at).1) {
+        match peek(limit, bytes.split_at(at).1) {
             Front::Part => return (at, None),
             Front::Faulty(fault) => return (at, Some(fault)),
             Front::Whole(size) => at += size,
@@ -116,7 +116,7 @@ impl Deframer {
         ensures given { IfOk result (λ found. Gives self.old found self.new) }
         ensures err { OnErr result (self.new ≡ self.old) }
     {
-        let Front::Whole(size) = look(self.limit, self.bytes.as_slice()) else {
+        let Front::Whole(size) = peek(self.limit, self.bytes.as_slice()) else {
             self.rest();
             return Ok(None);
         };

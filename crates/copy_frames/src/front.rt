@@ -19,7 +19,7 @@ pub enum Front {
 }
 
 /// What is at the front of the bytes, if the length of a frame is at most `limit`.
-pub fn look(limit: u32, bytes: &[u8]) -> Front
+pub fn peek(limit: u32, bytes: &[u8]) -> Front
     ensures front { result ≡ front limit bytes.now }
     ensures tells { Tells limit bytes.now result }
 {

@@ -1,6 +1,6 @@
 use Rattle.std.proofs.Common.{arith}
 use Rattle.copy_frames.proofs.CutLemmas.{front_tells}
-use Rattle.copy_frames.proofs.front.look.Goals as goal
+use Rattle.copy_frames.proofs.front.peek.Goals as goal
 
 pub returns-clause-tells : goal.returns-clause-tells
 returns-clause-tells c =
