@@ -2,8 +2,8 @@
 
 use crate::checks::{holds, same};
 use sql_reader::{
-    ErrorKind, Item, Keyword, Omitted, ReadError, Reader, is_name_ahead, left_out_clause,
-    read_name, same_word,
+    ErrorKind, Item, Keyword, Omitted, ReadError, Reader, is_name_ahead, read_name, same_word,
+    unsupported_clause,
 };
 use std::alloc::Global;
 use std::process::Abort;
@@ -72,7 +72,7 @@ fn sees_no_token(rt: &impl Abort, r: &Reader) -> Result<(), Fail> {
     holds(rt, is_more_ahead(r).is_err());
     let refusal = r.refusal("a name");
     same(rt, (refusal.kind.name(), refusal.place), ("BadToken", 12));
-    let clause = left_out_clause(r);
+    let clause = unsupported_clause(r);
     same(rt, clause.place, 12);
     holds(
         rt,

@@ -8,7 +8,7 @@ use Rattle.pub_reader.specs.Grammar.w
 use Rattle.pub_reader.specs.Grammar.{Item, PlacedName, Rule, Verdict, fault, ◌>>=◌, ◌>>◌, pure, check, look, expect, is_ahead, item_ahead, name}
 use Rattle.sql_reader.specs.declared.error.Omitted.TheVariants.{Constraint}
 use Rattle.sql_reader.specs.declared.error.Limit.TheVariants.{Tables}
-use Rattle.sql_reader.specs.Columns.{left_out}
+use Rattle.sql_reader.specs.Columns.{unsupported}
 use Rattle.pub_reader.specs.declared.table_name.NewName.{NewName}
 use Rattle.pub_reader.specs.Drafts.{DraftOf, public_schema, find_table, find_relation}
 use Rattle.pub_reader.specs.Schemas.{fresh, known, known_schema}
@@ -63,7 +63,7 @@ new_named schemas is_if called = look >> (λ ts. new_by is_if (item_ahead ts) sc
 
 -- PARTITION after the name of a new table begins a clause that is not supported
 abbrev pub head_by : Option Item → Rule (Unit {0})
-head_by (Some (i.Keyword k.Partition)) = left_out
+head_by (Some (i.Keyword k.Partition)) = unsupported
 head_by _ = pure tt
 
 unfoldable pub table_head : Rule (Unit {0})

@@ -6,7 +6,7 @@ use Rattle.pub_reader.specs.Grammar.k
 use Rattle.pub_reader.specs.Grammar.i
 use Rattle.pub_reader.specs.Grammar.w
 use Rattle.pub_reader.specs.Grammar.{Item, PlacedName, Rule, Verdict, fault, ◌>>=◌, ◌>>◌, pure, check, expect, item_ahead}
-use Rattle.sql_reader.specs.Columns.{Parts, elements, has_key, left_out}
+use Rattle.sql_reader.specs.Columns.{Parts, elements, has_key, unsupported}
 use Rattle.pub_reader.specs.declared.table_name.NewName.{NewName}
 use Rattle.pub_reader.specs.Drafts.{DraftOf}
 use Rattle.pub_reader.specs.TableNames.{new_name}
@@ -29,8 +29,8 @@ new_table called parts =
 
 -- the words after the elements that begin a clause that is not supported
 abbrev pub tail_by : Option Item → Rule (Unit {0})
-tail_by (Some (i.Keyword k.Inherits)) = left_out
-tail_by (Some (i.Keyword k.Partition)) = left_out
+tail_by (Some (i.Keyword k.Inherits)) = unsupported
+tail_by (Some (i.Keyword k.Partition)) = unsupported
 tail_by _ = pure tt
 
 unfoldable pub table_tail : Rule (Unit {0})

@@ -10,8 +10,8 @@ use crate::draft::Draft;
 use crate::table_name::{NewName, new_name};
 use filter_tree::{Identity, Items, Table};
 use sql_reader::{
-    ErrorKind, Item, Keyword, PlacedName, ReadError, Reader, TableParts, left_out_clause,
-    read_elements,
+    ErrorKind, Item, Keyword, PlacedName, ReadError, Reader, TableParts, read_elements,
+    unsupported_clause,
 };
 use std::alloc::Global;
 
@@ -35,8 +35,8 @@ fn table_tail(r: &Reader<'_>) -> Result<(), ReadError>
     ensures { Reads (λ u. u) (spec.table_tail (to_read r.now)) result (to_read r.now) }
 {
     match r.item() {
-        Some(Item::Keyword(Keyword::Inherits)) => Err(left_out_clause(r)),
-        Some(Item::Keyword(Keyword::Partition)) => Err(left_out_clause(r)),
+        Some(Item::Keyword(Keyword::Inherits)) => Err(unsupported_clause(r)),
+        Some(Item::Keyword(Keyword::Partition)) => Err(unsupported_clause(r)),
         _ => Ok(()),
     }
 }

@@ -8,7 +8,7 @@ ghost use Rattle.sql_reader.specs.ParsingContracts.{Takes, TakesSome, to_read, R
 use crate::draft::{Draft, PUBLIC};
 use filter_tree::Text;
 use sql_reader::{
-    ErrorKind, Item, Keyword, Omitted, PlacedName, ReadError, Reader, left_out_clause, read_name,
+    ErrorKind, Item, Keyword, Omitted, PlacedName, ReadError, Reader, read_name, unsupported_clause,
 };
 use std::alloc::Global;
 
@@ -127,7 +127,7 @@ fn table_head(r: &Reader<'_>) -> Result<(), ReadError>
     ensures { Reads (λ u. u) (spec.table_head (to_read r.now)) result (to_read r.now) }
 {
     match r.item() {
-        Some(Item::Keyword(Keyword::Partition)) => Err(left_out_clause(r)),
+        Some(Item::Keyword(Keyword::Partition)) => Err(unsupported_clause(r)),
         _ => Ok(()),
     }
 }

@@ -34,11 +34,11 @@ abbrev pub parts_view : TableParts → Parts
 parts_view parts = record { columns = parts.columns.items; key = parts.key.items }
 
 -- a clause that is not supported, at the token ahead
-abbrev pub left_out_at : Items → Fault
-left_out_at ts = fault (place_ahead ts) (w.LeftOut Constraint)
+abbrev pub unsupported_at : Items → Fault
+unsupported_at ts = fault (place_ahead ts) (w.LeftOut Constraint)
 
-abbrev pub left_out : {A : Type 0} → Rule A
-left_out = λ ts. Err (left_out_at ts)
+abbrev pub unsupported : {A : Type 0} → Rule A
+unsupported = λ ts. Err (unsupported_at ts)
 
 -- ---- types
 
@@ -101,7 +101,7 @@ constraint_by has_key given (Some (i.Keyword k.Not)) = if given.not_null then
     refuse else given_by k.Null (record given { not_null = true })
 constraint_by has_key given (Some (i.Keyword k.Primary)) = if has_key || given.key then
     refuse else given_by k.Key (record given { key = true })
-constraint_by has_key given _ = left_out
+constraint_by has_key given _ = unsupported
 
 -- one more constraint of a table that already has a key or not
 unfoldable pub constraint : Bool → Constraints → Rule Constraints
@@ -182,10 +182,10 @@ key_element parts = if has_key parts then refuse else first_key parts
 
 abbrev pub element_by : Option Item → Parts → Rule Parts
 element_by (Some (i.Keyword k.Primary)) parts = key_element parts
-element_by (Some (i.Keyword k.Check)) parts = left_out
-element_by (Some (i.Keyword k.Unique)) parts = left_out
-element_by (Some (i.Keyword k.Foreign)) parts = left_out
-element_by (Some (i.Keyword k.Constraint)) parts = left_out
+element_by (Some (i.Keyword k.Check)) parts = unsupported
+element_by (Some (i.Keyword k.Unique)) parts = unsupported
+element_by (Some (i.Keyword k.Foreign)) parts = unsupported
+element_by (Some (i.Keyword k.Constraint)) parts = unsupported
 element_by _ parts = column_element parts
 
 unfoldable pub element : Parts → Rule Parts

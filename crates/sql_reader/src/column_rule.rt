@@ -2,7 +2,7 @@
 
 ghost use Rattle.std.specs.Prelude.{◌≡◌, IsSome};
 ghost use Rattle.sql_reader.specs.Columns as spec;
-ghost use Rattle.sql_reader.specs.Columns.{left_out_at};
+ghost use Rattle.sql_reader.specs.Columns.{unsupported_at};
 ghost use Rattle.sql_reader.specs.ParsingContracts.{Takes, TakesSome, to_read, Answers, ReportsFault, item_ahead, written_ahead};
 
 use crate::error::{ErrorKind, Omitted, ReadError};
@@ -139,7 +139,7 @@ fn constraint(
                 given_by(r, Keyword::Key, "KEY", given)
             }
         }
-        _ => Err(left_out_clause(r)),
+        _ => Err(unsupported_clause(r)),
     }
 }
 
@@ -159,8 +159,8 @@ pub fn column_constraints(r: &mut Reader<'_>, has_key: bool) -> Result<Constrain
 }
 
 /// The error for a token ahead that begins a clause of CREATE TABLE that is not supported.
-pub fn left_out_clause(r: &Reader<'_>) -> ReadError
-    ensures { ReportsFault result (left_out_at (to_read r.now)) }
+pub fn unsupported_clause(r: &Reader<'_>) -> ReadError
+    ensures { ReportsFault result (unsupported_at (to_read r.now)) }
 {
     r.refused(ErrorKind::LeftOut(Omitted::Constraint))
 }

@@ -6,7 +6,7 @@ ghost use Rattle.sql_reader.specs.Columns.{parts_view};
 ghost use Rattle.sql_reader.specs.ParsingContracts.{TakesSome, Answers};
 
 use crate::column::{FoundColumn, find_column, known_column};
-use crate::column_rule::{Constraints, column_constraints, column_type, left_out_clause};
+use crate::column_rule::{Constraints, column_constraints, column_type, unsupported_clause};
 use crate::error::{ErrorKind, Limit, ReadError};
 use crate::item::Item;
 use crate::name::{PlacedName, read_name};
@@ -175,10 +175,10 @@ fn element(r: &mut Reader<'_>, alloc: Global, parts: &mut TableParts) -> Result<
 {
     match r.item() {
         Some(Item::Keyword(Keyword::Primary)) => key_element(r, alloc, parts),
-        Some(Item::Keyword(Keyword::Check)) => Err(left_out_clause(r)),
-        Some(Item::Keyword(Keyword::Unique)) => Err(left_out_clause(r)),
-        Some(Item::Keyword(Keyword::Foreign)) => Err(left_out_clause(r)),
-        Some(Item::Keyword(Keyword::Constraint)) => Err(left_out_clause(r)),
+        Some(Item::Keyword(Keyword::Check)) => Err(unsupported_clause(r)),
+        Some(Item::Keyword(Keyword::Unique)) => Err(unsupported_clause(r)),
+        Some(Item::Keyword(Keyword::Foreign)) => Err(unsupported_clause(r)),
+        Some(Item::Keyword(Keyword::Constraint)) => Err(unsupported_clause(r)),
         _ => column_element(r, alloc, parts),
     }
 }

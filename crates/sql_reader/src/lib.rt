@@ -30,7 +30,7 @@ mod word;
 mod written_row;
 
 pub use column::{FoundColumn, known_column};
-pub use column_rule::left_out_clause;
+pub use column_rule::unsupported_clause;
 pub use element::{TableParts, read_elements};
 pub use error::{ErrorKind, Limit, Omitted, ReadError};
 pub use expression::read_filter;
