@@ -25,7 +25,7 @@ pub mod ShortNames
 pub mod SkipLemmas
 pub mod SlotChanges
 pub mod StartLemmas
-pub mod StartsTold
+pub mod StartsReported
 pub mod StreamLemmas
 pub mod TokenLoops
 pub mod Utf8Texts

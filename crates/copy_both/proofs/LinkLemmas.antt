@@ -14,7 +14,7 @@ use Rattle.copy_frames.specs.declared.status.Status.{Status}
 use Rattle.copy_both.specs.Ears.{ear_phase, ear_started, ear_heard, answer_in, HearLeaves, EarCloses}
 use Rattle.copy_both.specs.Events.{event_of}
 use Rattle.copy_both.specs.ConnectionStates.{Waits, Streams, IsOver, streams_by, heard_state, said_state}
-use Rattle.copy_both.specs.Hearing.{HeardOf, HearingOf, heard_told, ServedFrom, is_over, unless_over, with_fault, confirmed_by, event_heard, next_heard, frame_heard, frames_heard, then_fault, link_fault}
+use Rattle.copy_both.specs.Hearing.{HeardOf, HearingOf, reported_heard, ServedFrom, is_over, unless_over, with_fault, confirmed_by, event_heard, next_heard, frame_heard, frames_heard, then_fault, link_fault}
 use Rattle.copy_both.specs.Links.{begun_stage, ended_stage, stage_by}
 use Rattle.copy_both.specs.Listening.{silence, held_frames, fed, piece_heard, part_heard, Leaves}
 use Rattle.copy_both.specs.Phases.{phase_by, phase_closed}
@@ -141,8 +141,8 @@ closed_by (Some kind) = refl
 
 together_in : (p : Phase) (checked : CheckedOf) (old new : Ear) (before after : Book) (piece : List ℕ) (sent : ℕ)
     (heard : HeardOf) (stage last : StageOf)
-    → answer_in p (ear_heard old before piece sent) ≡ Ok (heard_told heard)
-    → HearLeaves p old new before after piece sent (Ok (heard_told heard))
+    → answer_in p (ear_heard old before piece sent) ≡ Ok (reported_heard heard)
+    → HearLeaves p old new before after piece sent (Ok (reported_heard heard))
     → heard_state p (ear_started old) ≡ said_state stage → last ≡ stage_by checked stage (ear_started new) heard
     → heard_state (ear_phase new) (ear_started new) ≡ said_state last
 together_in phase.Open checked old new before after piece sent heard stage last answer left together is =
@@ -156,8 +156,8 @@ together_in phase.Lost checked old new before after piece sent heard stage last 
 -- after what was heard was answered
 pub together_after : (checked : CheckedOf) (old new : Ear) (before after : Book) (piece : List ℕ) (sent : ℕ)
     (heard : HeardOf) (stage last : StageOf)
-    → answer_in (ear_phase old) (ear_heard old before piece sent) ≡ Ok (heard_told heard)
-    → HearLeaves (ear_phase old) old new before after piece sent (Ok (heard_told heard))
+    → answer_in (ear_phase old) (ear_heard old before piece sent) ≡ Ok (reported_heard heard)
+    → HearLeaves (ear_phase old) old new before after piece sent (Ok (reported_heard heard))
     → heard_state (ear_phase old) (ear_started old) ≡ said_state stage
     → last ≡ stage_by checked stage (ear_started new) heard
     → heard_state (ear_phase new) (ear_started new) ≡ said_state last
@@ -177,8 +177,8 @@ started_in phase.Lost old new before after piece sent heard answer left = absurd
 module _ (P : Option (ℕ × ℕ) → HeardOf → Type 0) (old new : Ear) (before after : Book) (piece : List ℕ)
     (heard : HeardOf) (started : Option (ℕ × ℕ)) where
   pub of_all_heard : (sent its : ℕ) → sent ≡ its
-      → answer_in (ear_phase old) (ear_heard old before piece sent) ≡ Ok (heard_told heard)
-      → HearLeaves (ear_phase old) old new before after piece sent (Ok (heard_told heard))
+      → answer_in (ear_phase old) (ear_heard old before piece sent) ≡ Ok (reported_heard heard)
+      → HearLeaves (ear_phase old) old new before after piece sent (Ok (reported_heard heard))
       → heard ≡ (ear_heard old before piece sent).heard → started ≡ ear_started new
       → P started heard → P (ear_heard old before piece its).started (ear_heard old before piece its).heard
   of_all_heard sent its same answer left exact is so =
@@ -186,7 +186,7 @@ module _ (P : Option (ℕ × ℕ) → HeardOf → Type 0) (old new : Ear) (befor
       subst At same
       (subst (λ (k : HeardOf). P (ear_heard old before piece sent).started k) exact
       (subst (λ (s : Option (ℕ × ℕ)). P s heard)
-      (is ∙ started_in (ear_phase old) old new before after piece sent (heard_told heard) answer left) so))
+      (is ∙ started_in (ear_phase old) old new before after piece sent (reported_heard heard) answer left) so))
 
 -- an ear that has ended hears nothing
 pub ended_answers : (p : Phase) (h : HearingOf) → (p ≡ phase.Closed) ⊎ (p ≡ phase.Lost)

@@ -13,12 +13,12 @@ use Rattle.copy_frames.specs.declared.fault.FrameFault.TheVariants as frame
 use Rattle.copy_frames.specs.declared.frame.Frame.{Frame}
 use Rattle.copy_frames.proofs.PieceLemmas.{cut_more, more_after, rest_after}
 use Rattle.copy_both.specs.Ears.{ear_checked, ear_refusal, ear_started, ear_heard, answer_in, HearLeaves, HearsPiece, Holds}
-use Rattle.copy_both.specs.HeardFrames.{TellsStart, start_told, frames_in, IsAnswered, IsBookFor, AsksIfStarted, IsStartedBy, HasHeard, HasEnd, HasBadFrame, HasLinkFault, sent_then, reach_of, GoesOnOrEnds, Explains, HasHeardOn, LateStartsAreRequested, NothingIsHeard, PiecesAreHeard, Requests}
-use Rattle.copy_both.specs.Hearing.{HearingOf, ServedFrom, answer_by, answer_of, frames_heard, heard_told, is_over, is_over_by, link_fault, then_fault, unless_over, with_fault}
+use Rattle.copy_both.specs.HeardFrames.{TellsStart, reported_start, frames_in, IsAnswered, IsBookFor, AsksIfStarted, IsStartedBy, HasHeard, HasEnd, HasBadFrame, HasLinkFault, sent_then, reach_of, GoesOnOrEnds, Explains, HasHeardOn, LateStartsAreRequested, NothingIsHeard, PiecesAreHeard, Requests}
+use Rattle.copy_both.specs.Hearing.{HearingOf, ServedFrom, answer_by, answer_of, frames_heard, reported_heard, is_over, is_over_by, link_fault, then_fault, unless_over, with_fault}
 use Rattle.copy_both.specs.Listening.{silence, Leaves, fed, resting, part_heard}
 use Rattle.copy_both.specs.Phases.{IsReady, phase_after, phase_by}
 use Rattle.copy_both.specs.Sessions.{served_by, hearing_view}
-use Rattle.copy_both.specs.Voices.{told_fault}
+use Rattle.copy_both.specs.Voices.{reported_fault}
 use Rattle.copy_both.specs.declared.ear.Ear.{Ear}
 use Rattle.copy_both.specs.declared.heard.Heard.{Heard}
 use Rattle.copy_both.specs.declared.link_fault.LinkFault.{LinkFault}
@@ -27,7 +27,7 @@ use Rattle.copy_both.specs.declared.phase.Phase.TheVariants as phase
 use Rattle.copy_both.proofs.FrameRuns.{fault_over, end_over, event_fault, IsEventFault, asks_if_more, Comes, Comes_on, Comes_bad, Comes_refused, Comes_ahead, Comes_ended, Ran, runs_on}
 use Rattle.copy_both.proofs.LinkLemmas.{fault_started, frames_started}
 use Rattle.copy_both.proofs.RequestedStarts.{late_requests, requests_more}
-use Rattle.copy_both.proofs.StartsTold.{all_told}
+use Rattle.copy_both.proofs.StartsReported.{all_reported}
 
 -- ---- more bytes
 
@@ -41,9 +41,9 @@ fault_after (first ∷ frames) last = fault_after frames last
 
 -- ---- the answer
 
-ok_faultless : (f : Option LinkFault) (heard told : Heard) → answer_by f heard ≡ Ok told → (f ≡ None) × (heard ≡ told)
-ok_faultless None heard told is = (refl, cc)
-ok_faultless (Some f) heard told is = absurd cc
+ok_faultless : (f : Option LinkFault) (heard reported : Heard) → answer_by f heard ≡ Ok reported → (f ≡ None) × (heard ≡ reported)
+ok_faultless None heard reported is = (refl, cc)
+ok_faultless (Some f) heard reported is = absurd cc
 
 err_faulty : (f : Option LinkFault) (heard : Heard) (g : LinkFault) → answer_by f heard ≡ Err g → f ≡ Some g
 err_faulty None heard g is = absurd cc
@@ -80,31 +80,31 @@ some_is : (f : Option LinkFault) (g : LinkFault) → f ≡ Some g → f ≡ None
 some_is f g some none = let clash : Some g ≡ None = sym some ∙ none in cc
 
 module _ (checked : CheckedOf) (frames : List Frame) (reach : ℕ) (last : HearingOf) where
-  ok_on : (f : Option FrameFault) (told : Heard) → is_over last ≡ false → IsStartedBy checked frames last.started
-      → answer_of (then_fault f last) ≡ Ok told
-      → Answered checked frames f last told.ended
-  ok_on None told going started is =
-      let same = (ok_faultless last.fault (heard_told last.heard) told is).1 in
+  ok_on : (f : Option FrameFault) (reported : Heard) → is_over last ≡ false → IsStartedBy checked frames last.started
+      → answer_of (then_fault f last) ≡ Ok reported
+      → Answered checked frames f last reported.ended
+  ok_on None reported going started is =
+      let same = (ok_faultless last.fault (reported_heard last.heard) reported is).1 in
       Answered_on refl started (sym (ap (λ (x : Heard). x.ended) same) ∙ end_over last.fault last.heard.ended going)
-  ok_on (Some f) told going started is =
+  ok_on (Some f) reported going started is =
       absurd (some_is (then_fault (Some f) last).fault (link_fault f) (length_fault f last going)
-      (ok_faultless (then_fault (Some f) last).fault (heard_told (then_fault (Some f) last).heard) told is).0)
+      (ok_faultless (then_fault (Some f) last).fault (reported_heard (then_fault (Some f) last).heard) reported is).0)
 
-  wrong : (f : Option FrameFault) (told : Heard) (g : LinkFault) → last.fault ≡ Some g
-      → answer_of (then_fault f last) ≡ Ok told → ⊥
-  wrong f told g some is =
+  wrong : (f : Option FrameFault) (reported : Heard) (g : LinkFault) → last.fault ≡ Some g
+      → answer_of (then_fault f last) ≡ Ok reported → ⊥
+  wrong f reported g some is =
       some_is (then_fault f last).fault g (fault_stays f last g some)
-      (ok_faultless (then_fault f last).fault (heard_told (then_fault f last).heard) told is).0
+      (ok_faultless (then_fault f last).fault (reported_heard (then_fault f last).heard) reported is).0
 
-  ok_comes : (f : Option FrameFault) (told : Heard) → Comes checked frames reach last
-      → answer_of (then_fault f last) ≡ Ok told → Answered checked frames f last told.ended
-  ok_comes f told (Comes_on going started) is = ok_on f told going started is
-  ok_comes f told (Comes_bad g bad some) is = absurd (wrong f told g some is)
-  ok_comes f told (Comes_refused state answered some) is = absurd (wrong f told (fault.BadStart state) some is)
-  ok_comes f told (Comes_ahead says some) is = absurd (wrong f told fault.StatusAhead some is)
-  ok_comes f told (Comes_ended kind ends none some) is =
+  ok_comes : (f : Option FrameFault) (reported : Heard) → Comes checked frames reach last
+      → answer_of (then_fault f last) ≡ Ok reported → Answered checked frames f last reported.ended
+  ok_comes f reported (Comes_on going started) is = ok_on f reported going started is
+  ok_comes f reported (Comes_bad g bad some) is = absurd (wrong f reported g some is)
+  ok_comes f reported (Comes_refused state answered some) is = absurd (wrong f reported (fault.BadStart state) some is)
+  ok_comes f reported (Comes_ahead says some) is = absurd (wrong f reported fault.StatusAhead some is)
+  ok_comes f reported (Comes_ended kind ends none some) is =
       let stays : then_fault f last ≡ last = end_stays f last kind none some in
-      let same = (ok_faultless last.fault (heard_told last.heard) told (sym (ap answer_of stays) ∙ is)).1 in
+      let same = (ok_faultless last.fault (reported_heard last.heard) reported (sym (ap answer_of stays) ∙ is)).1 in
       Answered_end kind ends (sym (ap (λ (x : Heard). x.ended) same) ∙ some)
 
 module _ (checked : CheckedOf) (bytes : List ℕ) (reach : ℕ) (last : HearingOf) where
@@ -287,11 +287,11 @@ module _ (bytes piece : List ℕ) (old new : Ear) (before after : Book) (sent : 
 
   -- the start that is reported
   ok_tells : (heard : Heard) → ear_started new ≡ last.started → answer_of (ear_heard old before piece sent) ≡ Ok heard
-      → heard.started ≡ start_told (ear_started old) (ear_started new)
+      → heard.started ≡ reported_start (ear_started old) (ear_started new)
   ok_tells heard is answer =
       let total : HearingOf = ear_heard old before piece sent in
-      sym (ap (λ (x : Heard). x.started) (ok_faultless total.fault (heard_told total.heard) heard answer).1)
-      ∙ all_told served (frames_of whole) start (cut_fault whole) refl refl ∙ sym (ap (start_told (ear_started old)) is)
+      sym (ap (λ (x : Heard). x.started) (ok_faultless total.fault (reported_heard total.heard) heard answer).1)
+      ∙ all_reported served (frames_of whole) start (cut_fault whole) refl refl ∙ sym (ap (reported_start (ear_started old)) is)
 
   reach_is : ear_started new ≡ last.started → reached last.started ≡ reach_of old new before sent
   reach_is is = ap reached (sym is)
@@ -302,7 +302,7 @@ module _ (bytes piece : List ℕ) (old new : Ear) (before after : Book) (sent : 
   err_whole g leaves is =
       let same : ear_started new ≡ last.started = leaves.started ∙ total_started in
       let some : (then_fault (cut_fault whole) last).fault ≡ Some g =
-      err_faulty (then_fault (cut_fault whole) last).fault (heard_told (then_fault (cut_fault whole) last).heard) g is
+      err_faulty (then_fault (cut_fault whole) last).fault (reported_heard (then_fault (cut_fault whole) last).heard) g is
       in
       by_whole same (Err g) tt
       (subst (λ (n : ℕ). HasLinkFault (ear_checked old) all n g) (reach_is same)
@@ -337,7 +337,7 @@ module _ (bytes piece : List ℕ) (old new : Ear) (before after : Book) (sent : 
       }
 
   by_result : (result : Result Heard LinkFault)
-      → Answers (λ heard. heard) told_fault (answer_of (ear_heard old before piece sent)) result
+      → Answers (λ heard. heard) reported_fault (answer_of (ear_heard old before piece sent)) result
       → HearsPiece old new before after piece sent result → HasHeardOn (ear_checked old) all old new before sent result
   by_result (Ok heard) is left =
       by_whole (left.leaves.started ∙ total_started) (Ok heard)
@@ -426,7 +426,7 @@ pieces_are_heard checked bytes piece old new before after sent result has is_for
     → HasHeardOn k (bytes ++ piece) old new before sent result in
     let own : Goal (ear_checked old) = λ known lent.
     by_result bytes piece old new before after sent known lent result
-    (subst (λ p. Answers (λ heard. heard) told_fault (answer_in p (ear_heard old before piece sent)) result)
+    (subst (λ p. Answers (λ heard. heard) reported_fault (answer_in p (ear_heard old before piece sent)) result)
     known.phase_is answer)
     (subst (λ p. HearLeaves p old new before after piece sent result) known.phase_is left) in
     subst Goal has.checked_is own has is_for

@@ -9,10 +9,10 @@ use Rattle.table_changes.specs.Tables.{Tables, no_rows}
 use Rattle.shard_checker.specs.CheckedView.{CheckedOf, setting_in}
 use Rattle.tables_log.specs.Commits.{CommitOf, commit_of}
 use Rattle.tables_log.specs.StandsFor.{Transaction, left_by, after, IsAccepted, AreAccepted, entries_from}
-use Rattle.pgoutput_msgs.specs.Telling.{told_after}
+use Rattle.pgoutput_msgs.specs.Telling.{relation_sent_after}
 use Rattle.pgoutput_msgs.specs.Transactions.{AreNamed, TellsTransaction}
 use Rattle.pgoutput_msgs.proofs.TransactionLemmas.{commits_tell_transactions}
-use Rattle.copy_both.specs.SeenStreams.{Reached, reached_at, seen_next, next_told, reached_next, move_told, moves_told, StreamsTellTransactions}
+use Rattle.copy_both.specs.SeenStreams.{Reached, reached_at, seen_next, next_sent, reached_next, sent_by_move, sent_by_moves, StreamsTellTransactions}
 use Rattle.copy_both.specs.Streams.{StreamItem, Response, Carries, spelled, StreamStateOf, Move, Take, Keep, head_of, take_items, taken_state, all_items}
 use Rattle.copy_both.specs.Tellings.{telling_of}
 
@@ -98,12 +98,12 @@ module _ (checked : CheckedOf) (covered : Covered (setting_in checked)) (transac
   -- the flags after the next transaction
   sent_next : List Bool → Reached → Option Transaction → List Bool
   sent_next sent at None = sent
-  sent_next sent at (Some transaction) = told_after checked subscriber sent (entry at.done transaction)
+  sent_next sent at (Some transaction) = relation_sent_after checked subscriber sent (entry at.done transaction)
 
   items_next : (at : Reached) (sent : List Bool) (found : Option Transaction) (clock : ℕ)
       → AreNamed checked.catalog.tables sent at.named → slice_get transactions at.done ≡ found
       → take_items (telling_of checked) (state_by at sent) (option_map (entry at.done) found) clock
-      ≡ next_told checked transactions subscriber at found clock
+      ≡ next_sent checked transactions subscriber at found clock
   unfolding entry_of
   items_next at sent None clock named there = refl
   items_next at sent (Some transaction) clock named there =
@@ -126,7 +126,7 @@ module _ (checked : CheckedOf) (covered : Covered (setting_in checked)) (transac
 
   moves_as : (at : Reached) (sent : List Bool) → AreNamed checked.catalog.tables sent at.named → (moves : List Move)
       → all_items (telling_of checked) log (state_by at sent) moves
-      ≡ moves_told checked transactions subscriber at moves
+      ≡ sent_by_moves checked transactions subscriber at moves
   moves_as at sent named [] = refl
   moves_as at sent named (Take clock ∷ moves) =
       let found = slice_get transactions at.done in
@@ -141,10 +141,10 @@ module _ (checked : CheckedOf) (covered : Covered (setting_in checked)) (transac
       ∙ ap (λ (items : List StreamItem). items
       ++ all_items (telling_of checked) log (state_by next (sent_next sent at found)) moves)
       (items_next at sent found clock named refl)
-      ∙ ap (λ (items : List StreamItem). next_told checked transactions subscriber at found clock ++ items)
+      ∙ ap (λ (items : List StreamItem). next_sent checked transactions subscriber at found clock ++ items)
       (moves_as next (sent_next sent at found) (named_next at sent found named refl) moves)
   moves_as at sent named (Keep clock want ∷ moves) =
-      ap (λ (items : List StreamItem). move_told checked transactions subscriber at (Keep clock want) ++ items)
+      ap (λ (items : List StreamItem). sent_by_move checked transactions subscriber at (Keep clock want) ++ items)
       (moves_as at sent named moves)
 
 -- ---- the law

@@ -69,9 +69,9 @@ voice_starts old new slot position waits silent says = record {
 }
 
 pub voice_takes : VoiceTakes
-voice_takes old new told commit clock telling number says =
+voice_takes old new run commit clock telling number says =
     let state : StreamStateOf = telling.state in
-    let telling_is : Telling CommitOf = telling_of told.checked in
+    let telling_is : Telling CommitOf = telling_of run.checked in
     let stage_is : voice_stage new ≡ voices.Started (state_after telling_is state commit) =
     says.stage_is ∙ ap (λ (s : StageOf). entry_stage (voice_checked old) s commit) telling.stage_is
     ∙ ap (λ (k : CheckedOf). voices.Started (state_after (telling_of k) state commit)) telling.checked_is in
@@ -84,20 +84,20 @@ voice_takes old new told commit clock telling number says =
       state = state_after telling_is state commit;
       stage_is = stage_is;
       slot = telling.slot;
-      done = omega (arith, telling.done, length-push told.taken commit);
-      follow = follow_on (start_count told) told.taken commit telling.follow number;
-      takes = takes_more told.moves clock ∙ ap suc telling.takes ∙ sym (length-push told.taken commit);
+      done = omega (arith, telling.done, length-push run.taken commit);
+      follow = follow_on (start_count run) run.taken commit telling.follow number;
+      takes = takes_more run.moves clock ∙ ap suc telling.takes ∙ sym (length-push run.taken commit);
       speaks = λ log are.
           let found : slice_get log state.done ≡ Some commit = ap (slice_get log) telling.done
-          ∙ last_one log (start_count told) told.taken commit are in
-          subst (λ (o : List ℕ). HasSent telling_is log told.start (told.moves ++ Take clock ∷ []) told.passed o
+          ∙ last_one log (start_count run) run.taken commit are in
+          subst (λ (o : List ℕ). HasSent telling_is log run.start (run.moves ++ Take clock ∷ []) run.passed o
           (state_after telling_is state commit)) (sym output_is)
-          (takes telling_is log told.start told.moves told.passed (voice_output old) state commit clock
-          (telling.speaks log (first_ones log (start_count told) told.taken commit are)) found);
+          (takes telling_is log run.start run.moves run.passed (voice_output old) state commit clock
+          (telling.speaks log (first_ones log (start_count run) run.taken commit are)) found);
     }
 
 pub voice_keeps : VoiceKeeps
-voice_keeps old new told clock want telling says =
+voice_keeps old new run clock want telling says =
     let state : StreamStateOf = telling.state in
     let output_is : voice_output new ≡ voice_output old ++ keep_bytes state clock want =
     says.output ∙ ap (λ (s : StageOf). voice_output old ++ kept_bytes s clock want) telling.stage_is in
@@ -108,16 +108,16 @@ voice_keeps old new told clock want telling says =
       slot = telling.slot;
       done = telling.done;
       follow = telling.follow;
-      takes = takes_kept told.moves clock want ∙ telling.takes;
+      takes = takes_kept run.moves clock want ∙ telling.takes;
       speaks = λ log are.
-          subst (λ (o : List ℕ). HasSent (telling_of told.checked) log told.start (told.moves ++ Keep clock want ∷ [])
-          told.passed o state) (sym output_is)
-          (keeps (telling_of told.checked) log told.start told.moves told.passed (voice_output old) state clock want
+          subst (λ (o : List ℕ). HasSent (telling_of run.checked) log run.start (run.moves ++ Keep clock want ∷ [])
+          run.passed o state) (sym output_is)
+          (keeps (telling_of run.checked) log run.start run.moves run.passed (voice_output old) state clock want
           (telling.speaks log are));
     }
 
 pub voice_passes_on : VoicePassesOn
-voice_passes_on old new told count telling passed = record {
+voice_passes_on old new run count telling passed = record {
   checked_is = passed.checked ∙ telling.checked_is;
   state = telling.state;
   stage_is = passed.stage_is ∙ telling.stage_is;
@@ -126,45 +126,45 @@ voice_passes_on old new told count telling passed = record {
   follow = telling.follow;
   takes = telling.takes;
   speaks = λ log are.
-      subst (λ (o : List ℕ). HasSent (telling_of told.checked) log told.start told.moves
-      (told.passed ++ take count (voice_output old)) o telling.state)
+      subst (λ (o : List ℕ). HasSent (telling_of run.checked) log run.start run.moves
+      (run.passed ++ take count (voice_output old)) o telling.state)
       (sym passed.output)
-      (passes (telling_of told.checked) log told.start told.moves told.passed (voice_output old) telling.state count
+      (passes (telling_of run.checked) log run.start run.moves run.passed (voice_output old) telling.state count
       (telling.speaks log are));
 }
 
 -- ---- the end
 
 pub voice_is_done : VoiceIsDone
-voice_is_done old new told telling says = record {
+voice_is_done old new run telling says = record {
   stage_is = says.stage_is;
   follow = telling.follow;
   takes = telling.takes;
   bytes = λ log are.
       let last : List ℕ = done_bytes (voice_stage old) in
-      ap (λ (x : List ℕ). told.passed ++ x) says.output ∙ sym (append_assoc told.passed (voice_output old) last)
+      ap (λ (x : List ℕ). run.passed ++ x) says.output ∙ sym (append_assoc run.passed (voice_output old) last)
       ∙ ap (λ (x : List ℕ). x ++ last) (telling.speaks log are).bytes;
 }
 
 pub voice_stops : VoiceStops
-voice_stops old new told telling closes = record {
+voice_stops old new run telling closes = record {
   stage_is = closes.stage_is;
   follow = telling.follow;
   takes = telling.takes;
   bytes = λ log are.
-      ap (λ (x : List ℕ). told.passed ++ x) closes.output ∙ (telling.speaks log are).bytes
-      ∙ sym (append-nil (stream (telling_of told.checked) log told.start.slot told.start.tables told.start.position
-      told.moves));
+      ap (λ (x : List ℕ). run.passed ++ x) closes.output ∙ (telling.speaks log are).bytes
+      ∙ sym (append-nil (stream (telling_of run.checked) log run.start.slot run.start.tables run.start.position
+      run.moves));
 }
 
 pub rest_passes_on : RestPassesOn
-rest_passes_on old new told last count over passed = record {
+rest_passes_on old new run last count over passed = record {
   stage_is = passed.stage_is ∙ over.stage_is;
   follow = over.follow;
   takes = over.takes;
   bytes = λ log are.
-      append_assoc told.passed (take count (voice_output old)) (voice_output new)
-      ∙ ap (λ (x : List ℕ). told.passed ++ (take count (voice_output old) ++ x)) passed.output
-      ∙ ap (λ (x : List ℕ). told.passed ++ x) (take-append-drop count (voice_output old))
+      append_assoc run.passed (take count (voice_output old)) (voice_output new)
+      ∙ ap (λ (x : List ℕ). run.passed ++ (take count (voice_output old) ++ x)) passed.output
+      ∙ ap (λ (x : List ℕ). run.passed ++ x) (take-append-drop count (voice_output old))
       ∙ over.bytes log are;
 }

@@ -20,7 +20,7 @@ use Rattle.copy_both.specs.Refusals.{RefusalOf, state_of, error_response}
 use Rattle.copy_both.specs.StartAnswers.{Stream, asked_of}
 use Rattle.copy_both.specs.StartOrder.{OfferOf}
 use Rattle.copy_both.specs.Streams.{first_sent}
-use Rattle.copy_both.specs.Voices.{told_fault}
+use Rattle.copy_both.specs.Voices.{reported_fault}
 use Rattle.copy_both.specs.declared.ear.Ear.{Ear}
 use Rattle.copy_both.specs.declared.heard.Heard.{Heard}
 use Rattle.copy_both.specs.declared.link_fault.LinkFault.{LinkFault}
@@ -178,13 +178,13 @@ Explains checked bytes ear reach (Ok heard) = GoesOnOrEnds checked bytes ear hea
 Explains checked bytes ear reach (Err f) = HasLinkFault checked bytes reach f
 
 -- the start that is reported for a piece: that of the stream that it started
-abbrev pub start_told : Option (ℕ × ℕ) → Option (ℕ × ℕ) → Option ℕ
-start_told (Some started) now = None
-start_told None None = None
-start_told None (Some started) = Some started.1
+abbrev pub reported_start : Option (ℕ × ℕ) → Option (ℕ × ℕ) → Option ℕ
+reported_start (Some started) now = None
+reported_start None None = None
+reported_start None (Some started) = Some started.1
 
 abbrev pub TellsStart : Option (ℕ × ℕ) → Option (ℕ × ℕ) → Result Heard LinkFault → Type 0
-TellsStart was now (Ok heard) = heard.started ≡ start_told was now
+TellsStart was now (Ok heard) = heard.started ≡ reported_start was now
 TellsStart was now (Err f) = Unit {0}
 
 -- with the piece the ear has heard these bytes: a stream that started stays so, one is started as its command requests
@@ -207,7 +207,7 @@ abbrev pub PiecesAreHeard : Type 0
 PiecesAreHeard = (checked : CheckedOf) (bytes piece : List ℕ) (old new : Ear) (before after : Book) (sent : ℕ)
     (result : Result Heard LinkFault)
     → HasHeard checked bytes old → IsBookFor checked before
-    → Answers (λ heard. heard) told_fault (hear_answer old before piece sent) result
+    → Answers (λ heard. heard) reported_fault (hear_answer old before piece sent) result
     → HearLeaves (ear_phase old) old new before after piece sent result
     → HasHeardOn checked (bytes ++ piece) old new before sent result
 

@@ -161,12 +161,12 @@ bytes_heard served limit bytes h =
 -- ---- what is answered
 
 -- as it is reported to a caller: a count of 32 bits is at most 4,294,967,295
-abbrev pub heard_told : HeardOf → Heard
-heard_told heard = record { started = heard.started; replies = min heard.replies (2 ^ 32 - 1); ended = heard.ended }
+abbrev pub reported_heard : HeardOf → Heard
+reported_heard heard = record { started = heard.started; replies = min heard.replies (2 ^ 32 - 1); ended = heard.ended }
 
 abbrev pub answer_by : Option LinkFault → Heard → Result Heard LinkFault
 answer_by None heard = Ok heard
 answer_by (Some fault) heard = Err fault
 
 abbrev pub answer_of : HearingOf → Result Heard LinkFault
-answer_of h = answer_by h.fault (heard_told h.heard)
+answer_of h = answer_by h.fault (reported_heard h.heard)

@@ -10,7 +10,7 @@ use Rattle.table_changes.specs.Tables.{no_rows}
 use Rattle.shard_checker.specs.CheckedView.{CheckedOf, setting_in}
 use Rattle.tables_log.specs.Lsn.{end_lsn_of, commits_before}
 use Rattle.tables_log.specs.StandsFor.{Transaction, after, AreAccepted, entries_from}
-use Rattle.pgoutput_msgs.specs.Transactions.{tables_of, transaction_told}
+use Rattle.pgoutput_msgs.specs.Transactions.{tables_of, transaction_messages}
 use Rattle.copy_both.specs.Streams.{StreamItem, Response, Carries, Alive, spelled, Move, Take, Keep, first_sent, head_of, stream}
 use Rattle.copy_both.specs.Tellings.{telling_of}
 
@@ -32,11 +32,11 @@ seen_next checked transactions subscriber done transaction =
 -- ---- moves
 
 -- the next transaction is taken, if there is one
-abbrev pub next_told : CheckedOf → List Transaction → ℕ → Reached → Option Transaction → ℕ → List StreamItem
-next_told checked transactions subscriber at None clock = []
-next_told checked transactions subscriber at (Some transaction) clock =
+abbrev pub next_sent : CheckedOf → List Transaction → ℕ → Reached → Option Transaction → ℕ → List StreamItem
+next_sent checked transactions subscriber at None clock = []
+next_sent checked transactions subscriber at (Some transaction) clock =
     map (Carries (head_of (at.done + 1) clock))
-    (transaction_told checked at.named (at.done + 1) transaction.time
+    (transaction_messages checked at.named (at.done + 1) transaction.time
     (seen_next checked transactions subscriber at.done transaction))
 
 abbrev pub reached_next : CheckedOf → List Transaction → ℕ → Reached → Option Transaction → Reached
@@ -48,10 +48,10 @@ reached_next checked transactions subscriber at (Some transaction) = record {
 }
 
 -- a keepalive carries the sent position
-abbrev pub move_told : CheckedOf → List Transaction → ℕ → Reached → Move → List StreamItem
-move_told checked transactions subscriber at (Take clock) =
-    next_told checked transactions subscriber at (slice_get transactions at.done) clock
-move_told checked transactions subscriber at (Keep clock want) =
+abbrev pub sent_by_move : CheckedOf → List Transaction → ℕ → Reached → Move → List StreamItem
+sent_by_move checked transactions subscriber at (Take clock) =
+    next_sent checked transactions subscriber at (slice_get transactions at.done) clock
+sent_by_move checked transactions subscriber at (Keep clock want) =
     Alive (record { position = at.sent; clock = clock; wants_reply = want }) ∷ []
 
 abbrev pub reached_by : CheckedOf → List Transaction → ℕ → Reached → Move → Reached
@@ -59,16 +59,16 @@ reached_by checked transactions subscriber at (Take clock) =
     reached_next checked transactions subscriber at (slice_get transactions at.done)
 reached_by checked transactions subscriber at (Keep clock want) = at
 
-abbrev pub moves_told : CheckedOf → List Transaction → ℕ → Reached → List Move → List StreamItem
-moves_told checked transactions subscriber at [] = []
-moves_told checked transactions subscriber at (move ∷ moves) =
-    move_told checked transactions subscriber at move
-    ++ moves_told checked transactions subscriber (reached_by checked transactions subscriber at move) moves
+abbrev pub sent_by_moves : CheckedOf → List Transaction → ℕ → Reached → List Move → List StreamItem
+sent_by_moves checked transactions subscriber at [] = []
+sent_by_moves checked transactions subscriber at (move ∷ moves) =
+    sent_by_move checked transactions subscriber at move
+    ++ sent_by_moves checked transactions subscriber (reached_by checked transactions subscriber at move) moves
 
 -- the bytes of a connection of the subscriber of this number that starts at this position and makes these moves
-abbrev pub stream_told : CheckedOf → List Transaction → ℕ → ℕ → List Move → List ℕ
-stream_told checked transactions subscriber position moves =
-    flat_map spelled (Response ∷ moves_told checked transactions subscriber (reached_at position) moves)
+abbrev pub stream_seen : CheckedOf → List Transaction → ℕ → ℕ → List Move → List ℕ
+stream_seen checked transactions subscriber position moves =
+    flat_map spelled (Response ∷ sent_by_moves checked transactions subscriber (reached_at position) moves)
 
 -- ---- the law
 
@@ -79,4 +79,4 @@ StreamsTellTransactions = (checked : CheckedOf) → Covered (setting_in checked)
     → (subscriber position : ℕ) (moves : List Move)
     → stream (telling_of checked) (entries_from (setting_in checked) no_rows 1 transactions) subscriber
     (length checked.catalog.tables) position moves
-    ≡ stream_told checked transactions subscriber position moves
+    ≡ stream_seen checked transactions subscriber position moves

@@ -10,7 +10,7 @@ use Rattle.tables_log.specs.declared.error.StartError.{StartError}
 use Rattle.tables_log.specs.declared.slots.Slot.{Slot}
 use Rattle.copy_frames.specs.declared.frame.Frame.{Frame}
 use Rattle.copy_both.specs.Hearing as h
-use Rattle.copy_both.specs.Hearing.{ServedFrom, HeardOf, HearingOf, heard_told, with_fault, BeginOf, begin_of, offer_in}
+use Rattle.copy_both.specs.Hearing.{ServedFrom, HeardOf, HearingOf, reported_heard, with_fault, BeginOf, begin_of, offer_in}
 use Rattle.copy_both.specs.Refusals.{RefusalOf, state_of, error_response}
 use Rattle.copy_both.specs.StartAnswers.{StartAnswerOf, asked_of}
 use Rattle.copy_both.specs.StartOrder.{slot_name, book_refusal}
@@ -30,12 +30,12 @@ abbrev pub heard_view : Hearing → HeardOf
 heard_view hearing = record { started = hearing.started; replies = hearing.replies; ended = hearing.ended }
 
 -- as it is reported to a caller
-abbrev pub told_hearing : Hearing → Heard
-told_hearing hearing = heard_told (heard_view hearing)
+abbrev pub reported_hearing : Hearing → Heard
+reported_hearing hearing = reported_heard (heard_view hearing)
 
-abbrev pub told_result : Result Hearing LinkFault → Result Heard LinkFault
-told_result (Ok hearing) = Ok (told_hearing hearing)
-told_result (Err fault) = Err fault
+abbrev pub reported_result : Result Hearing LinkFault → Result Heard LinkFault
+reported_result (Ok hearing) = Ok (reported_hearing hearing)
+reported_result (Err fault) = Err fault
 
 abbrev pub hearing_view : Session → Hearing → Book → HearingOf
 hearing_view session hearing book = record {

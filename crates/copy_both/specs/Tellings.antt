@@ -8,5 +8,5 @@ abbrev pub telling_of : CheckedOf → Telling CommitOf
 telling_of checked = record {
   number = λ commit. commit.number;
   messages = msgs.messages_for checked;
-  relation_sent_after = msgs.told_after checked;
+  relation_sent_after = msgs.relation_sent_after checked;
 }

@@ -34,36 +34,36 @@ takes_in (Keep clock want ∷ moves) = takes_in moves
 -- ---- a voice
 
 -- the commits that a voice took since its start, the moves that it made, and what was passed on of what it sent
-pub record Told : Type 0 where
+pub record VoiceRun : Type 0 where
   pub checked : CheckedOf
   pub start : Start
   pub taken : List CommitOf
   pub moves : List Move
   pub passed : List ℕ
 
-abbrev pub start_count : Told → ℕ
-start_count told = commits_before told.start.position
+abbrev pub start_count : VoiceRun → ℕ
+start_count run = commits_before run.start.position
 
 -- it streams, and what it sent is the stream of the moves
-pub record IsTelling (voice : Voice) (told : Told) : Type 0 where
-  pub checked_is : voice_checked voice ≡ told.checked
+pub record IsTelling (voice : Voice) (run : VoiceRun) : Type 0 where
+  pub checked_is : voice_checked voice ≡ run.checked
   pub state : StreamStateOf
   pub stage_is : voice_stage voice ≡ voices.Started state
-  pub slot : state.slot ≡ told.start.slot
-  pub done : state.done ≡ start_count told + length told.taken
-  pub follow : Follow (start_count told) told.taken
-  pub takes : takes_in told.moves ≡ length told.taken
-  pub speaks : (log : List CommitOf) → AreAt log (start_count told) told.taken
-      → HasSent (telling_of told.checked) log told.start told.moves told.passed (voice_output voice) state
+  pub slot : state.slot ≡ run.start.slot
+  pub done : state.done ≡ start_count run + length run.taken
+  pub follow : Follow (start_count run) run.taken
+  pub takes : takes_in run.moves ≡ length run.taken
+  pub speaks : (log : List CommitOf) → AreAt log (start_count run) run.taken
+      → HasSent (telling_of run.checked) log run.start run.moves run.passed (voice_output voice) state
 
 -- it is closed, and these bytes came after the stream
-pub record HasTold (voice : Voice) (told : Told) (last : List ℕ) : Type 0 where
+pub record HasStopped (voice : Voice) (run : VoiceRun) (last : List ℕ) : Type 0 where
   pub stage_is : voice_stage voice ≡ voices.Closed
-  pub follow : Follow (start_count told) told.taken
-  pub takes : takes_in told.moves ≡ length told.taken
-  pub bytes : (log : List CommitOf) → AreAt log (start_count told) told.taken
-      → told.passed ++ voice_output voice
-      ≡ stream (telling_of told.checked) log told.start.slot told.start.tables told.start.position told.moves
+  pub follow : Follow (start_count run) run.taken
+  pub takes : takes_in run.moves ≡ length run.taken
+  pub bytes : (log : List CommitOf) → AreAt log (start_count run) run.taken
+      → run.passed ++ voice_output voice
+      ≡ stream (telling_of run.checked) log run.start.slot run.start.tables run.start.position run.moves
       ++ last
 
 -- ---- laws: what each call does
@@ -81,33 +81,33 @@ VoiceStarts = (old new : Voice) (slot position : ℕ) → voice_stage old ≡ vo
     })
 
 abbrev pub VoiceTakes : Type 0
-VoiceTakes = (old new : Voice) (told : Told) (commit : CommitOf) (clock : ℕ) → IsTelling old told
-    → commit.number ≡ suc (start_count told + length told.taken)
+VoiceTakes = (old new : Voice) (run : VoiceRun) (commit : CommitOf) (clock : ℕ) → IsTelling old run
+    → commit.number ≡ suc (start_count run + length run.taken)
     → Sends old new (entry_bytes (voice_checked old) (voice_stage old) commit clock)
     (entry_stage (voice_checked old) (voice_stage old) commit)
-    → IsTelling new (record told { taken = told.taken ++ commit ∷ []; moves = told.moves ++ Take clock ∷ [] })
+    → IsTelling new (record run { taken = run.taken ++ commit ∷ []; moves = run.moves ++ Take clock ∷ [] })
 
 abbrev pub VoiceKeeps : Type 0
-VoiceKeeps = (old new : Voice) (told : Told) (clock : ℕ) (want : Bool) → IsTelling old told
+VoiceKeeps = (old new : Voice) (run : VoiceRun) (clock : ℕ) (want : Bool) → IsTelling old run
     → Sends old new (kept_bytes (voice_stage old) clock want) (voice_stage old)
-    → IsTelling new (record told { moves = told.moves ++ Keep clock want ∷ [] })
+    → IsTelling new (record run { moves = run.moves ++ Keep clock want ∷ [] })
 
 abbrev pub VoicePassesOn : Type 0
-VoicePassesOn = (old new : Voice) (told : Told) (count : ℕ) → IsTelling old told → Passes old new count
-    → IsTelling new (record told { passed = told.passed ++ take count (voice_output old) })
+VoicePassesOn = (old new : Voice) (run : VoiceRun) (count : ℕ) → IsTelling old run → Passes old new count
+    → IsTelling new (record run { passed = run.passed ++ take count (voice_output old) })
 
 -- CopyDone follows the stream
 abbrev pub VoiceIsDone : Type 0
-VoiceIsDone = (old new : Voice) (told : Told) → IsTelling old told
+VoiceIsDone = (old new : Voice) (run : VoiceRun) → IsTelling old run
     → Sends old new (done_bytes (voice_stage old)) voices.Closed
-    → HasTold new told (done_bytes (voice_stage old))
+    → HasStopped new run (done_bytes (voice_stage old))
 
 -- a call that closes it sends nothing
 abbrev pub VoiceStops : Type 0
-VoiceStops = (old new : Voice) (told : Told) → IsTelling old told → Closes old new → HasTold new told []
+VoiceStops = (old new : Voice) (run : VoiceRun) → IsTelling old run → Closes old new → HasStopped new run []
 
 -- after the end the rest of what waits may be passed on
 abbrev pub RestPassesOn : Type 0
-RestPassesOn = (old new : Voice) (told : Told) (last : List ℕ) (count : ℕ) → HasTold old told last
+RestPassesOn = (old new : Voice) (run : VoiceRun) (last : List ℕ) (count : ℕ) → HasStopped old run last
     → Passes old new count
-    → HasTold new (record told { passed = told.passed ++ take count (voice_output old) }) last
+    → HasStopped new (record run { passed = run.passed ++ take count (voice_output old) }) last

@@ -83,9 +83,9 @@ pub record Passes (old new : Voice) (count : ℕ) : Type 0 where
   pub output : voice_output new ≡ drop count (voice_output old)
 
 -- if memory is refused, no fault is reported
-abbrev pub told_fault : LinkFault → Option LinkFault
-told_fault fault.OutOfMemory = None
-told_fault other = Some other
+abbrev pub reported_fault : LinkFault → Option LinkFault
+reported_fault fault.OutOfMemory = None
+reported_fault other = Some other
 
 -- ---- start: a voice starts once
 

@@ -41,8 +41,8 @@ impl Ear {
     ghost use Rattle.shard_checker.specs.CheckedView.{checked_view};
     ghost use Rattle.copy_both.specs.Ears as spec;
     ghost use Rattle.copy_both.specs.Ears.{EarCloses, HearLeaves, IsAnsweredBy, Loses, ear_checked, ear_heard, ear_held, ear_phase, ear_refusal, ear_started};
-    ghost use Rattle.copy_both.specs.Sessions.{heard_view, told_result};
-    ghost use Rattle.copy_both.specs.Voices.{told_fault};
+    ghost use Rattle.copy_both.specs.Sessions.{heard_view, reported_result};
+    ghost use Rattle.copy_both.specs.Voices.{reported_fault};
     ghost use Rattle.copy_both.specs.declared.link_fault.LinkFault.TheVariants.{OutOfMemory};
     ghost use Rattle.copy_both.specs.declared.phase.Phase.TheVariants as phase;
 
@@ -82,14 +82,14 @@ impl Ear {
     ///
     /// PostgreSQL 15, 55.4. Streaming Replication Protocol, and 55.7. Message Formats.
     pub fn hear(&mut self, piece: &[u8], book: &mut Book, sent: u64) -> Result<Heard, LinkFault>
-        ensures answer { Answers (λ heard. heard) told_fault
+        ensures answer { Answers (λ heard. heard) reported_fault
             (spec.hear_answer self.old book.old piece.now sent) result }
         ensures memory { NeedsMemoryOnlyIf OutOfMemory (ear_phase self.old ≡ phase.Open) result }
         ensures refused { IfErr result (λ fault. IsAnsweredBy fault [] (ear_refusal self.new)) }
         ensures left { HearLeaves (ear_phase self.old) self.old self.new book.old book.new piece.now sent result }
     {
         match self.listen(piece, book, sent) {
-            Ok(hearing) => Ok(hearing.told()),
+            Ok(hearing) => Ok(hearing.reported()),
             Err(fault) => Err(fault),
         }
     }
@@ -101,14 +101,14 @@ impl Ear {
         book: &mut Book,
         sent: u64,
     ) -> Result<Hearing, LinkFault>
-        ensures answer { Answers (λ heard. heard) told_fault
-            (spec.hear_answer self.old book.old piece.now sent) (told_result result) }
+        ensures answer { Answers (λ heard. heard) reported_fault
+            (spec.hear_answer self.old book.old piece.now sent) (reported_result result) }
         ensures exact { IfOk result (λ hearing.
             heard_view hearing ≡ (ear_heard self.old book.old piece.now sent).heard) }
         ensures memory { NeedsMemoryOnlyIf OutOfMemory (ear_phase self.old ≡ phase.Open) result }
         ensures refused { IfErr result (λ fault. IsAnsweredBy fault [] (ear_refusal self.new)) }
         ensures left { HearLeaves (ear_phase self.old) self.old self.new book.old book.new piece.now sent
-            (told_result result) }
+            (reported_result result) }
     {
         match self.phase {
             Phase::Open => {}

@@ -4,7 +4,7 @@ ghost use Rattle.std.specs.Prelude.{◌≡◌, ◌++◌, All, IfOk, OnOk, OnErr}
 ghost use Rattle.row_owners.specs.Owners.{AreOwners};
 ghost use Rattle.shard_checker.specs.CheckedView.{checked_view};
 ghost use Rattle.pgoutput_msgs.specs.Ranges.{HasTexts};
-ghost use Rattle.pgoutput_msgs.specs.Telling.{messages_for, told_after};
+ghost use Rattle.pgoutput_msgs.specs.Telling.{messages_for, relation_sent_after};
 ghost use Rattle.copy_both.specs.Framing.{frames_with};
 
 use crate::frames::Frames;
@@ -33,7 +33,7 @@ pub(crate) fn commit_frames(
     ensures frames { IfOk result (λ frames. frames.items
         ≡ frames_with head (messages_for (checked_view checked.now) slot relation_sent.old commit.now)) }
     ensures relation_sent { OnOk result
-        (relation_sent.new ≡ told_after (checked_view checked.now) slot relation_sent.old commit.now) }
+        (relation_sent.new ≡ relation_sent_after (checked_view checked.now) slot relation_sent.old commit.now) }
     ensures texts { OnOk result
         (All HasTexts (messages_for (checked_view checked.now) slot relation_sent.old commit.now)) }
 {

@@ -13,11 +13,11 @@ pub(crate) struct Hearing {
 
 impl Hearing {
     ghost use Rattle.std.specs.Prelude.{◌≡◌};
-    ghost use Rattle.copy_both.specs.Sessions.{told_hearing};
+    ghost use Rattle.copy_both.specs.Sessions.{reported_hearing};
 
     /// What is reported of it to a caller.
-    pub(crate) fn told(&self) -> Heard
-        ensures { result ≡ told_hearing self.now }
+    pub(crate) fn reported(&self) -> Heard
+        ensures { result ≡ reported_hearing self.now }
     {
         Heard {
             started: self.started,

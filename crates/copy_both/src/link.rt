@@ -57,7 +57,7 @@ impl Link {
     ghost use Rattle.copy_both.specs.Links.{HasNext, HearSays, IsNewLink, LinkCloses, LinkLoses, LinkPasses, LinkSays, NextIsReadBack};
     ghost use Rattle.copy_both.specs.Links.{link_checked, link_ear, link_heard, link_output, link_sent, link_stage};
     ghost use Rattle.copy_both.specs.Spared.{RouteAlike};
-    ghost use Rattle.copy_both.specs.Voices.{IsStarted, keep_answer, kept_bytes, sent_of, told_fault};
+    ghost use Rattle.copy_both.specs.Voices.{IsStarted, keep_answer, kept_bytes, sent_of, reported_fault};
     ghost use Rattle.copy_both.specs.declared.link_fault.LinkFault.TheVariants.{OutOfMemory};
     ghost use Rattle.copy_both.specs.declared.phase.Phase.TheVariants.{Open};
 
@@ -88,7 +88,7 @@ impl Link {
     ///
     /// PostgreSQL 15, 55.4. Streaming Replication Protocol, and 55.7. Message Formats.
     pub fn hear(&mut self, piece: &[u8], book: &mut Book, now: u64) -> Result<Heard, LinkFault>
-        ensures answer { Answers (λ heard. heard) told_fault
+        ensures answer { Answers (λ heard. heard) reported_fault
             (hear_answer (link_ear self.old) book.old piece.now (link_sent self.old)) result }
         ensures memory { NeedsMemoryOnlyIf OutOfMemory (ear_phase (link_ear self.old) ≡ Open) result }
         ensures left { HearLeaves (ear_phase (link_ear self.old)) (link_ear self.old) (link_ear self.new)
@@ -109,7 +109,7 @@ impl Link {
             }
         };
         match answer_heard(&mut self.voice, self.ear.started(), &heard, now) {
-            Ok(()) => Ok(heard.told()),
+            Ok(()) => Ok(heard.reported()),
             Err(fault) => {
                 self.ear.close();
                 Err(fault)
@@ -131,7 +131,7 @@ impl Link {
     ///
     /// PostgreSQL 15, 55.5. Logical Streaming Replication Protocol.
     pub fn take(&mut self, book: &Book, now: u64) -> Result<Taken, LinkFault>
-        ensures answer { Answers (λ taken. taken) told_fault
+        ensures answer { Answers (λ taken. taken) reported_fault
             (spec.next_answer (link_checked self.old) (link_stage self.old) (book_log book.now)) result }
         ensures memory { NeedsMemoryOnlyIf OutOfMemory (HasNext (link_stage self.old) (book_log book.now)) result }
         ensures ok { OnOk result (LinkSays self.old self.new
@@ -171,7 +171,7 @@ impl Link {
     /// PostgreSQL 15, 55.5. Logical Streaming Replication Protocol.
     pub fn take_routed(&mut self, book: &Book, now: u64) -> Result<Taken, LinkFault>
         requires { RouteAlike (book_checked book.now).plan (link_checked self.old).plan }
-        ensures answer { Answers (λ taken. taken) told_fault
+        ensures answer { Answers (λ taken. taken) reported_fault
             (spec.next_answer (link_checked self.old) (link_stage self.old) (book_log book.now)) result }
         ensures memory { NeedsMemoryOnlyIf OutOfMemory (HasNext (link_stage self.old) (book_log book.now)) result }
         ensures ok { OnOk result (LinkSays self.old self.new
@@ -207,7 +207,7 @@ impl Link {
     ///
     /// PostgreSQL 15, 55.4. Streaming Replication Protocol (Primary keepalive message).
     pub fn keepalive(&mut self, now: u64, want: bool) -> Result<bool, LinkFault>
-        ensures answer { Answers (λ said. said) told_fault (keep_answer (link_stage self.old)) result }
+        ensures answer { Answers (λ said. said) reported_fault (keep_answer (link_stage self.old)) result }
         ensures memory { NeedsMemoryOnlyIf OutOfMemory (IsStarted (link_stage self.old)) result }
         ensures ok { OnOk result (LinkSays self.old self.new (kept_bytes (link_stage self.old) now want)
             (link_stage self.old)) }

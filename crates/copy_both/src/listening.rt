@@ -5,8 +5,8 @@ ghost use Rattle.filter_tree.specs.Memory.{Answers};
 ghost use Rattle.copy_both.specs.Ears.{IsAnsweredBy};
 ghost use Rattle.copy_both.specs.Hearing.{answer_of};
 ghost use Rattle.copy_both.specs.Listening.{silence, held_frames, resting, fed, piece_heard, FramesHeard, PieceLeaves};
-ghost use Rattle.copy_both.specs.Sessions.{served_by, heard_view, hearing_view, told_result, KeepsRest};
-ghost use Rattle.copy_both.specs.Voices.{told_fault};
+ghost use Rattle.copy_both.specs.Sessions.{served_by, heard_view, hearing_view, reported_result, KeepsRest};
+ghost use Rattle.copy_both.specs.Voices.{reported_fault};
 
 use crate::hearing::Hearing;
 use crate::link_fault::LinkFault;
@@ -46,11 +46,11 @@ pub(crate) fn hear_piece(
     sent: u64,
 ) -> Result<Hearing, LinkFault>
     requires { frames.old.fault ≡ None }
-    ensures answer { Answers (λ heard. heard) told_fault
-        (answer_of (piece_heard session.old book.old frames.old piece.now sent)) (told_result result) }
+    ensures answer { Answers (λ heard. heard) reported_fault
+        (answer_of (piece_heard session.old book.old frames.old piece.now sent)) (reported_result result) }
     ensures exact { IfOk result (λ hearing.
         heard_view hearing ≡ (piece_heard session.old book.old frames.old piece.now sent).heard) }
-    ensures left { PieceLeaves (told_result result) frames.old piece.now sent
+    ensures left { PieceLeaves (reported_result result) frames.old piece.now sent
         session.old session.new book.old book.new }
     ensures refused { IfErr result (λ fault.
         IsAnsweredBy fault session.old.response.items session.new.response.items) }

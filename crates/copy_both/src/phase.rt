@@ -2,7 +2,7 @@
 
 ghost use Rattle.std.specs.Prelude.{◌≡◌};
 ghost use Rattle.copy_both.specs.Phases as spec;
-ghost use Rattle.copy_both.specs.Sessions.{told_result};
+ghost use Rattle.copy_both.specs.Sessions.{reported_result};
 
 use crate::hearing::Hearing;
 use crate::link_fault::LinkFault;
@@ -17,7 +17,7 @@ pub(crate) enum Phase {
 
 /// The state of an ear that heard this.
 pub(crate) fn phase_after(heard: &Result<Hearing, LinkFault>) -> Phase
-    ensures { result ≡ spec.phase_after (told_result heard.now) }
+    ensures { result ≡ spec.phase_after (reported_result heard.now) }
 {
     match heard {
         Ok(Hearing { ended: None, .. }) => Phase::Open,

@@ -46,7 +46,7 @@ impl Voice {
     ghost use Rattle.copy_frames.specs.Contents.{copy_both_response};
     ghost use Rattle.copy_both.specs.Spared.{IsSpared, RouteAlike};
     ghost use Rattle.copy_both.specs.Voices as spec;
-    ghost use Rattle.copy_both.specs.Voices.{EntryIsReadBack, IsQuietFor, IsStarted, Sends, Closes, told_fault, voice_checked, voice_stage, voice_output, voice_room};
+    ghost use Rattle.copy_both.specs.Voices.{EntryIsReadBack, IsQuietFor, IsStarted, Sends, Closes, reported_fault, voice_checked, voice_stage, voice_output, voice_room};
     ghost use Rattle.copy_both.specs.declared.link_fault.LinkFault.TheVariants.{OutOfMemory};
 
     /// A voice that has not started and has nothing to send.
@@ -70,7 +70,7 @@ impl Voice {
     ///
     /// `Closed` if it was started before; `OutOfMemory` only if it was not. Each closes it.
     pub fn start(&mut self, slot: usize, position: u64) -> Result<(), LinkFault>
-        ensures answer { Answers (λ done. done) told_fault (spec.start_answer (voice_stage self.old)) result }
+        ensures answer { Answers (λ done. done) reported_fault (spec.start_answer (voice_stage self.old)) result }
         ensures memory { NeedsMemoryOnlyIf OutOfMemory (voice_stage self.old ≡ spec.NotStarted) result }
         ensures ok { OnOk result (Sends self.old self.new copy_both_response
             (spec.first_stage (voice_checked self.old) slot position)) }
@@ -84,7 +84,7 @@ impl Voice {
     }
 
     fn begin(&mut self, slot: usize, position: u64) -> Result<(), LinkFault>
-        ensures answer { Answers (λ done. done) told_fault (spec.start_answer (voice_stage self.old)) result }
+        ensures answer { Answers (λ done. done) reported_fault (spec.start_answer (voice_stage self.old)) result }
         ensures memory { NeedsMemoryOnlyIf OutOfMemory (voice_stage self.old ≡ spec.NotStarted) result }
         ensures ok { OnOk result (Sends self.old self.new copy_both_response
             (spec.first_stage (voice_checked self.old) slot position)) }
@@ -115,7 +115,7 @@ impl Voice {
     /// the commit is sent.
     pub fn take_entry(&mut self, commit: &Commit, now: u64) -> Result<Taken, LinkFault>
         requires { IfSome (spec.next_of (voice_stage self.old)) (λ next. commit.now.number ≡ next) }
-        ensures answer { Answers (λ taken. taken) told_fault
+        ensures answer { Answers (λ taken. taken) reported_fault
             (spec.entry_answer (voice_checked self.old) (voice_stage self.old) commit.now) result }
         ensures memory { NeedsMemoryOnlyIf OutOfMemory (IsStarted (voice_stage self.old)) result }
         ensures ok { OnOk result (Sends self.old self.new
@@ -145,7 +145,7 @@ impl Voice {
     pub fn take_routed(&mut self, routed: &Routed, now: u64) -> Result<Taken, LinkFault>
         requires next { IfSome (spec.next_of (voice_stage self.old)) (λ next. (commit_in routed.now).number ≡ next) }
         requires routed { IsRouted (voice_checked self.old).plan routed.now }
-        ensures answer { Answers (λ taken. taken) told_fault
+        ensures answer { Answers (λ taken. taken) reported_fault
             (spec.entry_answer (voice_checked self.old) (voice_stage self.old) (commit_in routed.now)) result }
         ensures memory { NeedsMemoryOnlyIf OutOfMemory (IsStarted (voice_stage self.old)) result }
         ensures ok { OnOk result (Sends self.old self.new
@@ -165,7 +165,7 @@ impl Voice {
     fn take(&mut self, commit: &Commit, owners: &[OwnerSet], now: u64) -> Result<Taken, LinkFault>
         requires next { IfSome (spec.next_of (voice_stage self.old)) (λ next. commit.now.number ≡ next) }
         requires owners { AreOwners (voice_checked self.old).plan commit.now.changes owners.now }
-        ensures answer { Answers (λ taken. taken) told_fault
+        ensures answer { Answers (λ taken. taken) reported_fault
             (spec.entry_answer (voice_checked self.old) (voice_stage self.old) commit.now) result }
         ensures memory { NeedsMemoryOnlyIf OutOfMemory (IsStarted (voice_stage self.old)) result }
         ensures ok { OnOk result (Sends self.old self.new
@@ -218,7 +218,7 @@ impl Voice {
         requires next { IfSome (spec.next_of (voice_stage self.old)) (λ next. commit.now.number ≡ next) }
         requires held { entry_at (book_log book.now) commit.now.number ≡ Some commit.now }
         requires alike { RouteAlike (book_checked book.now).plan (voice_checked self.old).plan }
-        ensures answer { Answers (λ taken. taken) told_fault
+        ensures answer { Answers (λ taken. taken) reported_fault
             (spec.entry_answer (voice_checked self.old) (voice_stage self.old) commit.now) result }
         ensures memory { NeedsMemoryOnlyIf OutOfMemory (IsStarted (voice_stage self.old)) result }
         ensures ok { OnOk result (Sends self.old self.new
@@ -256,7 +256,7 @@ impl Voice {
     ///
     /// `Closed` if it was closed before; `OutOfMemory`, which closes it, only while the stream runs.
     pub fn keepalive(&mut self, now: u64, want: bool) -> Result<bool, LinkFault>
-        ensures answer { Answers (λ said. said) told_fault (spec.keep_answer (voice_stage self.old)) result }
+        ensures answer { Answers (λ said. said) reported_fault (spec.keep_answer (voice_stage self.old)) result }
         ensures memory { NeedsMemoryOnlyIf OutOfMemory (IsStarted (voice_stage self.old)) result }
         ensures ok { OnOk result (Sends self.old self.new (spec.kept_bytes (voice_stage self.old) now want)
             (voice_stage self.old)) }
@@ -270,7 +270,7 @@ impl Voice {
     }
 
     fn keep(&mut self, now: u64, want: bool) -> Result<bool, LinkFault>
-        ensures answer { Answers (λ said. said) told_fault (spec.keep_answer (voice_stage self.old)) result }
+        ensures answer { Answers (λ said. said) reported_fault (spec.keep_answer (voice_stage self.old)) result }
         ensures memory { NeedsMemoryOnlyIf OutOfMemory (IsStarted (voice_stage self.old)) result }
         ensures ok { OnOk result (Sends self.old self.new (spec.kept_bytes (voice_stage self.old) now want)
             (voice_stage self.old)) }
@@ -297,7 +297,7 @@ impl Voice {
     ///
     /// `Closed` if it was closed before; `OutOfMemory` only while the stream runs.
     pub fn done(&mut self) -> Result<(), LinkFault>
-        ensures answer { Answers (λ done. done) told_fault (spec.done_answer (voice_stage self.old)) result }
+        ensures answer { Answers (λ done. done) reported_fault (spec.done_answer (voice_stage self.old)) result }
         ensures memory { NeedsMemoryOnlyIf OutOfMemory (IsStarted (voice_stage self.old)) result }
         ensures ok { OnOk result (Sends self.old self.new (spec.done_bytes (voice_stage self.old)) spec.Closed) }
         ensures err { OnErr result (Closes self.old self.new) }
@@ -308,7 +308,7 @@ impl Voice {
     }
 
     fn end(&mut self) -> Result<(), LinkFault>
-        ensures answer { Answers (λ done. done) told_fault (spec.done_answer (voice_stage self.old)) result }
+        ensures answer { Answers (λ done. done) reported_fault (spec.done_answer (voice_stage self.old)) result }
         ensures memory { NeedsMemoryOnlyIf OutOfMemory (IsStarted (voice_stage self.old)) result }
         ensures checked { voice_checked self.new ≡ voice_checked self.old }
         ensures ok { OnOk result (voice_output self.new

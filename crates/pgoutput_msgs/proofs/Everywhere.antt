@@ -13,7 +13,7 @@ use Rattle.table_changes.specs.Outs.{got}
 use Rattle.table_changes.specs.Records as r
 use Rattle.tables_log.specs.Commits.{CommitOf}
 use Rattle.tables_log.specs.Sendable.{IsSendableRow, IsSendablePart, IsTableNumber, IsSendableChange, IsSendable}
-use Rattle.pgoutput_msgs.specs.Telling.{relation_of, a_relation, introduced, relation_once, relations_of, told_one, message_of, named_in, said, told_by, said_each, enclosed, begin_msg, commit_msg, messages_for}
+use Rattle.pgoutput_msgs.specs.Telling.{relation_of, a_relation, introduced, relation_once, relations_of, mark_one, message_of, named_in, said, mark_by, said_each, enclosed, begin_msg, commit_msg, messages_for}
 use Rattle.pgoutput_msgs.specs.declared.message.Msg.{Msg}
 use Rattle.pgoutput_msgs.specs.declared.message.Msg.TheVariants as m
 
@@ -120,9 +120,9 @@ module _ (P : Msg → Type 0) where
   all_relations tables holds sent [] = All-nil P
   all_relations tables holds sent (number ∷ numbers) =
       All-append P (introduced tables (slice_index_or sent number false) number)
-      (relations_of tables (told_one sent number) numbers)
+      (relations_of tables (mark_one sent number) numbers)
       (once tables holds (slice_index_or sent number false) number)
-      (all_relations tables holds (told_one sent number) numbers)
+      (all_relations tables holds (mark_one sent number) numbers)
 
   one_said : (tables : List Table) → Everywhere P tables → (sent : List Bool) (change : Option r.ChangeOf)
       → IfSendable change → All P (said tables sent change)
@@ -139,10 +139,10 @@ module _ (P : Msg → Type 0) where
   all_said checked subscriber holds sent [] all = All-nil P
   all_said checked subscriber holds sent (change ∷ changes) all =
       let mine = got (setting_in checked) subscriber change in
-      All-append P (said checked.catalog.tables sent mine) (said_each checked subscriber (told_by sent mine) changes)
+      All-append P (said checked.catalog.tables sent mine) (said_each checked subscriber (mark_by sent mine) changes)
       (one_said checked.catalog.tables holds sent mine
       (got_sendable checked subscriber change (all 0 change (omega arith))))
-      (all_said checked subscriber holds (told_by sent mine) changes (λ k d h. all (suc k) d (omega (arith, h))))
+      (all_said checked subscriber holds (mark_by sent mine) changes (λ k d h. all (suc k) d (omega (arith, h))))
 
   all_enclosed : (commit : CommitOf) (messages : List Msg) → P (begin_msg commit) → P (commit_msg commit)
       → All P messages → All P (enclosed commit messages)

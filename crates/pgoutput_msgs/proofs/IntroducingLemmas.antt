@@ -12,8 +12,8 @@ use Rattle.table_changes.specs.Outs as o
 use Rattle.table_changes.specs.Outs.{got}
 use Rattle.table_changes.specs.Records as r
 use Rattle.tables_log.specs.Commits.{CommitOf}
-use Rattle.pgoutput_msgs.specs.Introducing.{IsIntroduced, known_after, AreIntroduced, AreTold, IsChangeOf, IsOf, messages_in_turn, told_in_turn, Introduces, CommitsIntroduce, CommitsInTurnIntroduce}
-use Rattle.pgoutput_msgs.specs.Telling.{oid_of, a_relation, introduced, relation_once, relation_of, relations_of, told_one, told_all, named_in, message_of, said, told_by, said_each, told_each, begin_msg, commit_msg, enclosed, messages_for, told_after}
+use Rattle.pgoutput_msgs.specs.Introducing.{IsIntroduced, known_after, AreIntroduced, AreTold, IsChangeOf, IsOf, messages_in_turn, relation_sent_in_turn, Introduces, CommitsIntroduce, CommitsInTurnIntroduce}
+use Rattle.pgoutput_msgs.specs.Telling.{oid_of, a_relation, introduced, relation_once, relation_of, relations_of, mark_one, mark_all, named_in, message_of, said, mark_by, said_each, mark_each, begin_msg, commit_msg, enclosed, messages_for, relation_sent_after}
 use Rattle.pgoutput_msgs.specs.declared.message.Msg.{Msg}
 use Rattle.pgoutput_msgs.specs.declared.message.Msg.TheVariants as m
 
@@ -52,7 +52,7 @@ first_or_later : (oid other : ℕ) (known : List ℕ) (P : Type 0) → (oid ≡ 
 first_or_later oid other known P first later (zero, within, is) = first is
 first_or_later oid other known P first later (suc k, within, is) = later (k, omega (arith, within), is)
 
-told_itself : (sent : List Bool) (number : ℕ) → number < length sent → is_told (told_one sent number) number ≡ true
+told_itself : (sent : List Bool) (number : ℕ) → number < length sent → is_told (mark_one sent number) number ≡ true
 told_itself sent number within = get_or-set_same sent number true false within
 
 is_same : (n number : ℕ) (P : Type 0) → (n ≡ number → P) → (n ≢ number → P) → P
@@ -63,35 +63,35 @@ is_same (suc n) (suc number) P same other =
     is_same n number P (λ e. same (ap suc e)) (λ differs. other (λ e. differs (omega (arith, e))))
 
 still_told : (sent : List Bool) (number n : ℕ) → number < length sent → is_told sent n ≡ true
-    → is_told (told_one sent number) n ≡ true
+    → is_told (mark_one sent number) n ≡ true
 still_told sent number n within h =
-    is_same n number (is_told (told_one sent number) n ≡ true)
-    (λ e. subst (λ k. is_told (told_one sent number) k ≡ true) (sym e) (told_itself sent number within))
+    is_same n number (is_told (mark_one sent number) n ≡ true)
+    (λ e. subst (λ k. is_told (mark_one sent number) k ≡ true) (sym e) (told_itself sent number within))
     (λ differs. get_or-set_other sent number n true false differs ∙ h)
 
-told_before : (sent : List Bool) (number n : ℕ) → n ≢ number → is_told (told_one sent number) n ≡ true
+told_before : (sent : List Bool) (number n : ℕ) → n ≢ number → is_told (mark_one sent number) n ≡ true
     → is_told sent n ≡ true
 told_before sent number n differs h = sym (get_or-set_other sent number n true false differs) ∙ h
 
 -- the Relation of a table that exists and was not announced
 new_relation : (sent : List Bool) (number : ℕ) (table : Table) → number < length sent → is_told sent number ≡ false
-    → Introduces sent (told_one sent number) (m.Relation (relation_of number table) ∷ [])
+    → Introduces sent (mark_one sent number) (m.Relation (relation_of number table) ∷ [])
 new_relation sent number table within is_new = record {
   introduced = λ known is. (λ found. absurd (let known_too = is.only number found in cc), tt);
   known = λ known is. record {
     each = λ n h. is_same n number (Contains (oid_of number ∷ known) (oid_of n))
         (λ e. subst (λ k. Contains (oid_of number ∷ known) (oid_of k)) (sym e) (first_known (oid_of number) known))
         (λ differs. still_known (oid_of number) (oid_of n) known (is.each n (told_before sent number n differs h)));
-    only = λ n. first_or_later (oid_of number) (oid_of n) known (is_told (told_one sent number) n ≡ true)
+    only = λ n. first_or_later (oid_of number) (oid_of n) known (is_told (mark_one sent number) n ≡ true)
         (λ e. let same : number ≡ n = omega (arith, e) in
-        subst (λ k. is_told (told_one sent number) k ≡ true) same (told_itself sent number within))
+        subst (λ k. is_told (mark_one sent number) k ≡ true) same (told_itself sent number within))
         (λ found. still_told sent number n within (is.only n found));
   };
 }
 
 one_by : (tables : List Table) (sent : List Bool) (number : ℕ) (found : Option Table)
     → slice_get tables number ≡ found → number < length tables → number < length sent → is_told sent number ≡ false
-    → Introduces sent (told_one sent number) (a_relation number found)
+    → Introduces sent (mark_one sent number) (a_relation number found)
 one_by tables sent number None e there within is_new = absurd (missing tables number there e)
   where
     missing : (xs : List Table) (i : ℕ) → i < length xs → slice_get xs i ≡ None → ⊥
@@ -102,9 +102,9 @@ one_by tables sent number (Some table) e there within is_new = new_relation sent
 
 once_by : (tables : List Table) (sent : List Bool) (number : ℕ) (b : Bool) → is_told sent number ≡ b
     → number < length tables → number < length sent
-    → Introduces sent (told_one sent number) (introduced tables b number)
+    → Introduces sent (mark_one sent number) (introduced tables b number)
 once_by tables sent number true e there within =
-    let same : told_one sent number ≡ sent = ap (set sent number) (sym e) ∙ set-get_or sent number false in
+    let same : mark_one sent number ≡ sent = ap (set sent number) (sym e) ∙ set-get_or sent number false in
     subst (λ after. Introduces sent after []) (sym same) (nothing sent)
 once_by tables sent number false e there within =
     one_by tables sent number (slice_get tables number) refl there within e
@@ -114,47 +114,47 @@ AreOf tables numbers = All (λ table. table < length tables) numbers
 
 all_relations : (tables : List Table) (sent : List Bool) (numbers : List ℕ) → length tables ≤ length sent
     → AreOf tables numbers
-    → Introduces sent (told_all sent numbers) (relations_of tables sent numbers)
-unfolding relations_of told_all relation_once
+    → Introduces sent (mark_all sent numbers) (relations_of tables sent numbers)
+unfolding relations_of mark_all relation_once
 all_relations tables sent [] long of = nothing sent
 all_relations tables sent (number ∷ numbers) long of =
     let there = All-head (λ table. table < length tables) number numbers of in
-    let longer : length tables ≤ length (told_one sent number) = omega (arith, long, length-set sent number true) in
-    both sent (told_one sent number) (told_all (told_one sent number) numbers) (relation_once tables sent number)
-    (relations_of tables (told_one sent number) numbers)
+    let longer : length tables ≤ length (mark_one sent number) = omega (arith, long, length-set sent number true) in
+    both sent (mark_one sent number) (mark_all (mark_one sent number) numbers) (relation_once tables sent number)
+    (relations_of tables (mark_one sent number) numbers)
     (once_by tables sent number (is_told sent number) refl there (omega (arith, there, long)))
-    (all_relations tables (told_one sent number) numbers longer
+    (all_relations tables (mark_one sent number) numbers longer
     (All-tail (λ table. table < length tables) number numbers of))
 
-length-told_all : (sent : List Bool) (numbers : List ℕ) → length (told_all sent numbers) ≡ length sent
-unfolding told_all
-length-told_all sent [] = refl
-length-told_all sent (number ∷ numbers) = length-told_all (told_one sent number) numbers ∙ length-set sent number true
+length-mark_all : (sent : List Bool) (numbers : List ℕ) → length (mark_all sent numbers) ≡ length sent
+unfolding mark_all
+length-mark_all sent [] = refl
+length-mark_all sent (number ∷ numbers) = length-mark_all (mark_one sent number) numbers ∙ length-set sent number true
 
 -- ---- changes
 
 stays_told : (sent : List Bool) (numbers : List ℕ) (most : ℕ) → most ≤ length sent
-    → All (λ table. table < most) numbers → (n : ℕ) → is_told sent n ≡ true → is_told (told_all sent numbers) n ≡ true
-unfolding told_all
+    → All (λ table. table < most) numbers → (n : ℕ) → is_told sent n ≡ true → is_told (mark_all sent numbers) n ≡ true
+unfolding mark_all
 stays_told sent [] most long of n h = h
 stays_told sent (number ∷ numbers) most long of n h =
     let there = All-head (λ table. table < most) number numbers of in
-    stays_told (told_one sent number) numbers most (omega (arith, long, length-set sent number true))
+    stays_told (mark_one sent number) numbers most (omega (arith, long, length-set sent number true))
     (All-tail (λ table. table < most) number numbers of) n
     (still_told sent number n (omega (arith, there, long)) h)
 
 each_told : (sent : List Bool) (numbers : List ℕ) (most : ℕ) → most ≤ length sent
-    → All (λ table. table < most) numbers → All (λ n. is_told (told_all sent numbers) n ≡ true) numbers
-unfolding told_all
+    → All (λ table. table < most) numbers → All (λ n. is_told (mark_all sent numbers) n ≡ true) numbers
+unfolding mark_all
 each_told sent [] most long of = All-nil (λ n. is_told sent n ≡ true)
 each_told sent (number ∷ numbers) most long of =
     let there = All-head (λ table. table < most) number numbers of in
     let later = All-tail (λ table. table < most) number numbers of in
-    let longer : most ≤ length (told_one sent number) = omega (arith, long, length-set sent number true) in
-    All-cons (λ n. is_told (told_all (told_one sent number) numbers) n ≡ true) number numbers
-    (stays_told (told_one sent number) numbers most longer later number
+    let longer : most ≤ length (mark_one sent number) = omega (arith, long, length-set sent number true) in
+    All-cons (λ n. is_told (mark_all (mark_one sent number) numbers) n ≡ true) number numbers
+    (stays_told (mark_one sent number) numbers most longer later number
     (told_itself sent number (omega (arith, there, long))))
-    (each_told (told_one sent number) numbers most longer later)
+    (each_told (mark_one sent number) numbers most longer later)
 
 all_known : (sent : List Bool) (known : List ℕ) → AreTold sent known → (numbers : List ℕ)
     → All (λ n. is_told sent n ≡ true) numbers → All (Contains known) (map oid_of numbers)
@@ -256,42 +256,42 @@ got_of checked subscriber (r.Truncate numbers) h =
 
 one_said : (tables : List Table) (sent : List Bool) (change : Option r.ChangeOf) → length tables ≤ length sent
     → IfOf tables change
-    → Introduces sent (told_by sent change) (said tables sent change)
-unfolding said told_by IfOf
+    → Introduces sent (mark_by sent change) (said tables sent change)
+unfolding said mark_by IfOf
 one_said tables sent None long h = nothing sent
 one_said tables sent (Some change) long h =
-    both sent (told_all sent (named_in change)) (told_all sent (named_in change))
+    both sent (mark_all sent (named_in change)) (mark_all sent (named_in change))
     (relations_of tables sent (named_in change)) (message_of change)
     (all_relations tables sent (named_in change) long h)
-    (change_message (told_all sent (named_in change)) change (each_told sent (named_in change) (length tables) long h))
+    (change_message (mark_all sent (named_in change)) change (each_told sent (named_in change) (length tables) long h))
 
-length-told_by : (sent : List Bool) (change : Option r.ChangeOf) → length (told_by sent change) ≡ length sent
-unfolding told_by
-length-told_by sent None = refl
-length-told_by sent (Some change) = length-told_all sent (named_in change)
+length-mark_by : (sent : List Bool) (change : Option r.ChangeOf) → length (mark_by sent change) ≡ length sent
+unfolding mark_by
+length-mark_by sent None = refl
+length-mark_by sent (Some change) = length-mark_all sent (named_in change)
 
 all_said : (checked : CheckedOf) (subscriber : ℕ) (sent : List Bool) (changes : List r.ChangeOf)
     → length checked.catalog.tables ≤ length sent
     → All (IsChangeOf checked.catalog.tables) changes
-    → Introduces sent (told_each checked subscriber sent changes) (said_each checked subscriber sent changes)
-unfolding said_each told_each
+    → Introduces sent (mark_each checked subscriber sent changes) (said_each checked subscriber sent changes)
+unfolding said_each mark_each
 all_said checked subscriber sent [] long of = nothing sent
 all_said checked subscriber sent (change ∷ changes) long of =
     let tables = checked.catalog.tables in
     let mine = got (setting_in checked) subscriber change in
-    let longer : length tables ≤ length (told_by sent mine) = omega (arith, long, length-told_by sent mine) in
-    both sent (told_by sent mine) (told_each checked subscriber (told_by sent mine) changes) (said tables sent mine)
-    (said_each checked subscriber (told_by sent mine) changes)
+    let longer : length tables ≤ length (mark_by sent mine) = omega (arith, long, length-mark_by sent mine) in
+    both sent (mark_by sent mine) (mark_each checked subscriber (mark_by sent mine) changes) (said tables sent mine)
+    (said_each checked subscriber (mark_by sent mine) changes)
     (one_said tables sent mine long (got_of checked subscriber change (All-head (IsChangeOf tables) change changes of)))
-    (all_said checked subscriber (told_by sent mine) changes longer (All-tail (IsChangeOf tables) change changes of))
+    (all_said checked subscriber (mark_by sent mine) changes longer (All-tail (IsChangeOf tables) change changes of))
 
-length-told_each : (checked : CheckedOf) (subscriber : ℕ) (sent : List Bool) (changes : List r.ChangeOf)
-    → length (told_each checked subscriber sent changes) ≡ length sent
-unfolding told_each
-length-told_each checked subscriber sent [] = refl
-length-told_each checked subscriber sent (change ∷ changes) =
+length-mark_each : (checked : CheckedOf) (subscriber : ℕ) (sent : List Bool) (changes : List r.ChangeOf)
+    → length (mark_each checked subscriber sent changes) ≡ length sent
+unfolding mark_each
+length-mark_each checked subscriber sent [] = refl
+length-mark_each checked subscriber sent (change ∷ changes) =
     let mine = got (setting_in checked) subscriber change in
-    length-told_each checked subscriber (told_by sent mine) changes ∙ length-told_by sent mine
+    length-mark_each checked subscriber (mark_by sent mine) changes ∙ length-mark_by sent mine
 
 -- ---- commits
 
@@ -306,7 +306,7 @@ between sent after commit (first ∷ others) h =
 
 pub commits_introduce : CommitsIntroduce
 commits_introduce checked subscriber sent commit long of =
-    between sent (told_each checked subscriber sent commit.changes) commit
+    between sent (mark_each checked subscriber sent commit.changes) commit
     (said_each checked subscriber sent commit.changes)
     (all_said checked subscriber sent commit.changes long of)
 
@@ -314,10 +314,10 @@ pub in_turn_introduce : CommitsInTurnIntroduce
 in_turn_introduce checked subscriber sent [] long of = nothing sent
 in_turn_introduce checked subscriber sent (commit ∷ commits) long of =
     let tables = checked.catalog.tables in
-    let after = told_after checked subscriber sent commit in
+    let after = relation_sent_after checked subscriber sent commit in
     let longer : length tables ≤ length after =
-    omega (arith, long, length-told_each checked subscriber sent commit.changes) in
-    both sent after (told_in_turn checked subscriber after commits) (messages_for checked subscriber sent commit)
+    omega (arith, long, length-mark_each checked subscriber sent commit.changes) in
+    both sent after (relation_sent_in_turn checked subscriber after commits) (messages_for checked subscriber sent commit)
     (messages_in_turn checked subscriber after commits)
     (commits_introduce checked subscriber sent commit long (All-head (IsOf tables) commit commits of))
     (in_turn_introduce checked subscriber after commits longer (All-tail (IsOf tables) commit commits of))

@@ -18,7 +18,7 @@ use Rattle.table_changes.specs.Standing.{Covered}
 use Rattle.table_changes.proofs.ShowingLemmas.{record_shows_all}
 use Rattle.tables_log.specs.Commits.{CommitOf}
 use Rattle.pgoutput_msgs.specs.SeenMessages.{is_change, gone_message, seen_message, MessagesTellWhatIsSeen}
-use Rattle.pgoutput_msgs.specs.Telling.{a_relation, introduced, relation_once, relations_of, told_one, named_in, message_of, said, told_by, said_each, commit_msg, enclosed, messages_for}
+use Rattle.pgoutput_msgs.specs.Telling.{a_relation, introduced, relation_once, relations_of, mark_one, named_in, message_of, said, mark_by, said_each, commit_msg, enclosed, messages_for}
 use Rattle.pgoutput_msgs.specs.declared.message.Msg.{Msg}
 
 -- ---- the changes among the messages of a commit
@@ -37,10 +37,10 @@ unfolding relations_of relation_once
 none_in_relations tables sent [] = refl
 none_in_relations tables sent (number ∷ numbers) =
     filter-append is_change (introduced tables (slice_index_or sent number false) number)
-    (relations_of tables (told_one sent number) numbers)
-    ∙ ap (λ (x : List Msg). x ++ filter is_change (relations_of tables (told_one sent number) numbers))
+    (relations_of tables (mark_one sent number) numbers)
+    ∙ ap (λ (x : List Msg). x ++ filter is_change (relations_of tables (mark_one sent number) numbers))
     (none_once tables number (slice_index_or sent number false))
-    ∙ none_in_relations tables (told_one sent number) numbers
+    ∙ none_in_relations tables (mark_one sent number) numbers
 
 is_its_own : (change : r.ChangeOf) → filter is_change (message_of change) ≡ message_of change
 is_its_own (r.Insert table new) = refl
@@ -72,10 +72,10 @@ all_said checked subscriber sent [] = refl
 all_said checked subscriber sent (change ∷ changes) =
     let mine = got (setting_in checked) subscriber change in
     let tables = checked.catalog.tables in
-    let later = said_each checked subscriber (told_by sent mine) changes in
+    let later = said_each checked subscriber (mark_by sent mine) changes in
     filter-append is_change (said tables sent mine) later
     ∙ ap (λ (x : List Msg). filter is_change (said tables sent mine) ++ x)
-    (all_said checked subscriber (told_by sent mine) changes)
+    (all_said checked subscriber (mark_by sent mine) changes)
     ∙ one_said tables sent mine (filter_map (got (setting_in checked) subscriber) changes)
 
 within_begin : (commit : CommitOf) (messages : List Msg)
@@ -94,8 +94,8 @@ none_after : (checked : CheckedOf) (subscriber : ℕ) (sent : List Bool) (mine :
     (got_later : List r.ChangeOf) (changes : List r.ChangeOf)
     → ((later : List Bool) → got_later ≡ [] → said_each checked subscriber later changes ≡ [])
     → cons_option mine got_later ≡ []
-    → said checked.catalog.tables sent mine ++ said_each checked subscriber (told_by sent mine) changes ≡ []
-unfolding said told_by
+    → said checked.catalog.tables sent mine ++ said_each checked subscriber (mark_by sent mine) changes ≡ []
+unfolding said mark_by
 none_after checked subscriber sent None got_later changes again h = again sent h
 none_after checked subscriber sent (Some one) got_later changes again h = absurd cc
 

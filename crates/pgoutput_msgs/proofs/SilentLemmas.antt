@@ -7,7 +7,7 @@ use Rattle.shard_checker.specs.CheckedView.{CheckedOf, setting_in}
 use Rattle.table_changes.specs.Outs.{OutOf, got}
 use Rattle.table_changes.specs.Records.{ChangeOf}
 use Rattle.pgoutput_msgs.specs.Silent.{QuietAreSilent}
-use Rattle.pgoutput_msgs.specs.Telling.{said, told_by, said_each, told_each, enclosed}
+use Rattle.pgoutput_msgs.specs.Telling.{said, mark_by, said_each, mark_each, enclosed}
 use Rattle.pgoutput_msgs.proofs.TellingLemmas.{got_none}
 
 first_false : (a b : Bool) → (a || b) ≡ false → a ≡ false
@@ -31,7 +31,7 @@ gets_none checked subscriber change none =
 
 none_said : (checked : CheckedOf) (subscriber : ℕ) (sent : List Bool) (changes : List ChangeOf)
     → concerns checked.plan changes subscriber ≡ false → said_each checked subscriber sent changes ≡ []
-unfolding said_each said told_by
+unfolding said_each said mark_by
 none_said checked subscriber sent [] none = refl
 none_said checked subscriber sent (change ∷ changes) none =
     rw (gets_none checked subscriber change (first_false (is_for checked.plan subscriber change)
@@ -40,8 +40,8 @@ none_said checked subscriber sent (change ∷ changes) none =
     (concerns checked.plan changes subscriber) none))
 
 none_told : (checked : CheckedOf) (subscriber : ℕ) (sent : List Bool) (changes : List ChangeOf)
-    → concerns checked.plan changes subscriber ≡ false → told_each checked subscriber sent changes ≡ sent
-unfolding told_each told_by
+    → concerns checked.plan changes subscriber ≡ false → mark_each checked subscriber sent changes ≡ sent
+unfolding mark_each mark_by
 none_told checked subscriber sent [] none = refl
 none_told checked subscriber sent (change ∷ changes) none =
     rw (gets_none checked subscriber change (first_false (is_for checked.plan subscriber change)

@@ -8,7 +8,7 @@ use Rattle.shard_checker.specs.CheckedView.{CheckedOf, setting_in}
 use Rattle.table_changes.specs.Outs.{got}
 use Rattle.table_changes.specs.Records as r
 use Rattle.pgoutput_msgs.specs.Sinks.{TakesEach}
-use Rattle.pgoutput_msgs.specs.Telling.{introduced, a_relation, relation_once, relations_of, told_one, told_all, message_of, named_in, said, told_by, said_each, told_each}
+use Rattle.pgoutput_msgs.specs.Telling.{introduced, a_relation, relation_once, relations_of, mark_one, mark_all, message_of, named_in, said, mark_by, said_each, mark_each}
 use Rattle.pgoutput_msgs.proofs.TellingLemmas.{Introduces, introduces_on, all_introduced, all_marked, Says, says_on, all_said, all_told}
 use Rattle.pgoutput_msgs.specs.declared.message.Msg.{Msg}
 
@@ -74,7 +74,7 @@ module _ {S : Type 0} (takes_one : S → S → Msg → Type 0) where
 
   pub more_introduced : (old now new : S) (tables : List Table) (sent told_now later : List Bool) (all : List ℕ)
       (i n : ℕ) → n ≡ get_or all i 0 → i < length all
-      → TakesEach takes_one now new (relation_once tables told_now n) → later ≡ told_one told_now n
+      → TakesEach takes_one now new (relation_once tables told_now n) → later ≡ mark_one told_now n
       → Introduced takes_one tables sent told_now old now all (drop i all)
       → Introduced takes_one tables sent later old new all (drop (i + 1) all)
   more_introduced old now new tables sent told_now later all i n is within took marked before =
@@ -96,7 +96,7 @@ module _ {S : Type 0} (takes_one : S → S → Msg → Type 0) where
 
   pub all_flags : (old now : S) (tables : List Table) (sent told_now : List Bool) (all : List ℕ) (i : ℕ)
       → length all ≤ i
-      → Introduced takes_one tables sent told_now old now all (drop i all) → told_now ≡ told_all sent all
+      → Introduced takes_one tables sent told_now old now all (drop i all) → told_now ≡ mark_all sent all
   all_flags old now tables sent told_now all i over so =
       all_marked tables sent told_now [] so.messages all i over so.so_far
 
@@ -111,7 +111,7 @@ module _ {S : Type 0} (takes_one : S → S → Msg → Type 0) where
       (all : List Change) (i : ℕ) (c : Change) → c ≡ get_or all i c → i < length all
       → TakesEach takes_one now new
       (said checked.catalog.tables told_now (got (setting_in checked) subscriber (change_view c)))
-      → later ≡ told_by told_now (got (setting_in checked) subscriber (change_view c))
+      → later ≡ mark_by told_now (got (setting_in checked) subscriber (change_view c))
       → Said takes_one checked subscriber sent told_now old now all (drop i all)
       → Said takes_one checked subscriber sent later old new all (drop (i + 1) all)
   more_said old now new checked subscriber sent told_now later all i c is within took marked before =
@@ -135,7 +135,7 @@ module _ {S : Type 0} (takes_one : S → S → Msg → Type 0) where
   pub all_changes_told : (old now : S) (checked : CheckedOf) (subscriber : ℕ) (sent told_now : List Bool)
       (all : List Change) (i : ℕ) → length all ≤ i
       → Said takes_one checked subscriber sent told_now old now all (drop i all)
-      → told_now ≡ told_each checked subscriber sent (map change_view all)
+      → told_now ≡ mark_each checked subscriber sent (map change_view all)
   all_changes_told old now checked subscriber sent told_now all i over so =
       all_told checked subscriber sent told_now [] so.messages all i over so.so_far
 
@@ -171,13 +171,13 @@ module _ {S : Type 0} (takes_one : S → S → Msg → Type 0) where
       message
 
 pub told_named : (sent later : List Bool) (table : ℕ) (change : r.ChangeOf) → named_in change ≡ table ∷ []
-    → later ≡ told_all sent (table ∷ []) → later ≡ told_by sent (Some change)
-unfolding told_by
-told_named sent later table change named is = is ∙ ap (told_all sent) (sym named)
+    → later ≡ mark_all sent (table ∷ []) → later ≡ mark_by sent (Some change)
+unfolding mark_by
+told_named sent later table change named is = is ∙ ap (mark_all sent) (sym named)
 
 pub nothing_told_deleted : (sent : List Bool) (table : ℕ) (part : Option r.PartOf) → part ≡ None
-    → sent ≡ told_by sent (Some (r.Delete table part))
-unfolding told_by told_all
+    → sent ≡ mark_by sent (Some (r.Delete table part))
+unfolding mark_by mark_all
 nothing_told_deleted sent table None is = refl
 nothing_told_deleted sent table (Some part) is = absurd cc
 

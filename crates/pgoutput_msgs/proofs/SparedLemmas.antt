@@ -11,7 +11,7 @@ use Rattle.row_owners.specs.declared.owner_set.OwnerSet.{OwnerSet}
 use Rattle.shard_checker.specs.CheckedView.{CheckedOf, setting_in}
 use Rattle.table_changes.specs.Outs.{got}
 use Rattle.table_changes.specs.Records.{ChangeOf}
-use Rattle.pgoutput_msgs.specs.Telling.{told_by}
+use Rattle.pgoutput_msgs.specs.Telling.{mark_by}
 use Rattle.pgoutput_msgs.specs.declared.message.Msg.{Msg}
 use Rattle.pgoutput_msgs.proofs.SilentLemmas.{gets_none}
 use Rattle.pgoutput_msgs.proofs.SinkLemmas.{Said, more_said, nothing_taken, said_of}
@@ -41,7 +41,7 @@ module _ {S : Type 0} (takes_one : S → S → Msg → Type 0) where
       (said_of takes_one now now checked.catalog.tables checked.catalog.tables told_now None
       (got (setting_in checked) subscriber (change_view c)) refl none
       (nothing_taken takes_one now checked.catalog.tables told_now))
-      (nothing_told told_now ∙ ap (told_by told_now) (sym none)) before
+      (nothing_told told_now ∙ ap (mark_by told_now) (sym none)) before
 
   -- one change that is for others by its set, or a place after the last change
   one_passed : (old now : S) (checked : CheckedOf) (subscriber : ℕ) (sent told_now : List Bool) (all : List Change)

@@ -17,25 +17,25 @@ use Rattle.replica_identity.specs.Plans.{PlanOf}
 use Rattle.replica_identity.specs.Transforms.{takes_row, takes_any, out_for}
 use Rattle.std.specs.Prelude.{All, filter, option_map, if◌then◌else◌}
 use Rattle.std.specs.List.{list_any}
-use Rattle.pgoutput_msgs.specs.Telling.{relation_once, relations_of, told_one, told_all, said, told_by, said_each, told_each, begin_msg, commit_msg, enclosed}
+use Rattle.pgoutput_msgs.specs.Telling.{relation_once, relations_of, mark_one, mark_all, said, mark_by, said_each, mark_each, begin_msg, commit_msg, enclosed}
 use Rattle.pgoutput_msgs.specs.declared.message.Msg.{Msg}
 
 -- the Relations so far and those of the remaining tables are those of all
 pub record Introduces (tables : List Table) (sent told_now : List Bool) (before now : List Msg) (all left : List ℕ) :
     Type 0 where
   pub text : now ++ relations_of tables told_now left ≡ before ++ relations_of tables sent all
-  pub flags : told_all told_now left ≡ told_all sent all
+  pub flags : mark_all told_now left ≡ mark_all sent all
 
 relations_of-cons : (tables : List Table) (sent : List Bool) (n : ℕ) (numbers : List ℕ)
     → relations_of tables sent (n ∷ numbers) ≡ relation_once tables sent n
-    ++ relations_of tables (told_one sent n) numbers
+    ++ relations_of tables (mark_one sent n) numbers
 unfolding relations_of
 relations_of-cons tables sent n numbers = refl
 
-told_all-cons : (sent : List Bool) (n : ℕ) (numbers : List ℕ)
-    → told_all sent (n ∷ numbers) ≡ told_all (told_one sent n) numbers
-unfolding told_all
-told_all-cons sent n numbers = refl
+mark_all-cons : (sent : List Bool) (n : ℕ) (numbers : List ℕ)
+    → mark_all sent (n ∷ numbers) ≡ mark_all (mark_one sent n) numbers
+unfolding mark_all
+mark_all-cons sent n numbers = refl
 
 next_left : (all : List ℕ) (i n : ℕ) → n ≡ get_or all i n → i < length all → drop i all ≡ n ∷ drop (i + 1) all
 next_left all i n is within = at_drop_more (λ (x : List ℕ). x) all i n within
@@ -43,7 +43,7 @@ next_left all i n is within = at_drop_more (λ (x : List ℕ). x) all i n within
 
 pub introduces_on : (tables : List Table) (sent told_now later : List Bool) (before now after : List Msg)
     (all : List ℕ) (i n : ℕ) → n ≡ get_or all i 0 → i < length all
-    → after ≡ now ++ relation_once tables told_now n → later ≡ told_one told_now n
+    → after ≡ now ++ relation_once tables told_now n → later ≡ mark_one told_now n
     → Introduces tables sent told_now before now all (drop i all)
     → Introduces tables sent later before after all (drop (i + 1) all)
 introduces_on tables sent told_now later before now after all i n is within wrote marked so_far =
@@ -53,12 +53,12 @@ introduces_on tables sent told_now later before now after all i n is within wrot
           ∙ ap (λ (x : List Bool). (now ++ relation_once tables told_now n)
           ++ relations_of tables x (drop (i + 1) all)) marked
           ∙ append_assoc now (relation_once tables told_now n)
-          (relations_of tables (told_one told_now n) (drop (i + 1) all))
+          (relations_of tables (mark_one told_now n) (drop (i + 1) all))
           ∙ ap (λ (x : List Msg). now ++ x) (sym (relations_of-cons tables told_now n (drop (i + 1) all)))
           ∙ ap (λ (x : List ℕ). now ++ relations_of tables told_now x) (sym left) ∙ so_far.text;
-      flags = ap (λ (x : List Bool). told_all x (drop (i + 1) all)) marked
-          ∙ sym (told_all-cons told_now n (drop (i + 1) all))
-          ∙ ap (told_all told_now) (sym left) ∙ so_far.flags;
+      flags = ap (λ (x : List Bool). mark_all x (drop (i + 1) all)) marked
+          ∙ sym (mark_all-cons told_now n (drop (i + 1) all))
+          ∙ ap (mark_all told_now) (sym left) ∙ so_far.flags;
     }
 
 pub all_introduced : (tables : List Table) (sent told_now : List Bool) (before now : List Msg) (all : List ℕ) (i : ℕ)
@@ -71,9 +71,9 @@ all_introduced tables sent told_now before now all i over so_far =
 
 pub all_marked : (tables : List Table) (sent told_now : List Bool) (before now : List Msg) (all : List ℕ) (i : ℕ)
     → length all ≤ i → Introduces tables sent told_now before now all (drop i all)
-    → told_now ≡ told_all sent all
-unfolding told_all
-all_marked tables sent told_now before now all i over so_far = sym (at_drop_all (told_all told_now) all i over)
+    → told_now ≡ mark_all sent all
+unfolding mark_all
+all_marked tables sent told_now before now all i over so_far = sym (at_drop_all (mark_all told_now) all i over)
     ∙ so_far.flags
 
 -- ---- changes
@@ -83,21 +83,21 @@ pub record Says (checked : CheckedOf) (subscriber : ℕ) (sent told_now : List B
     (all left : List Change) : Type 0 where
   pub text : now ++ said_each checked subscriber told_now (map change_view left) ≡ before
       ++ said_each checked subscriber sent (map change_view all)
-  pub flags : told_each checked subscriber told_now (map change_view left)
-      ≡ told_each checked subscriber sent (map change_view all)
+  pub flags : mark_each checked subscriber told_now (map change_view left)
+      ≡ mark_each checked subscriber sent (map change_view all)
 
 said_each-cons : (checked : CheckedOf) (subscriber : ℕ) (sent : List Bool) (c : ChangeOf) (changes : List ChangeOf)
     → said_each checked subscriber sent (c ∷ changes)
     ≡ said checked.catalog.tables sent (got (setting_in checked) subscriber c)
-    ++ said_each checked subscriber (told_by sent (got (setting_in checked) subscriber c)) changes
+    ++ said_each checked subscriber (mark_by sent (got (setting_in checked) subscriber c)) changes
 unfolding said_each
 said_each-cons checked subscriber sent c changes = refl
 
-told_each-cons : (checked : CheckedOf) (subscriber : ℕ) (sent : List Bool) (c : ChangeOf) (changes : List ChangeOf)
-    → told_each checked subscriber sent (c ∷ changes)
-    ≡ told_each checked subscriber (told_by sent (got (setting_in checked) subscriber c)) changes
-unfolding told_each
-told_each-cons checked subscriber sent c changes = refl
+mark_each-cons : (checked : CheckedOf) (subscriber : ℕ) (sent : List Bool) (c : ChangeOf) (changes : List ChangeOf)
+    → mark_each checked subscriber sent (c ∷ changes)
+    ≡ mark_each checked subscriber (mark_by sent (got (setting_in checked) subscriber c)) changes
+unfolding mark_each
+mark_each-cons checked subscriber sent c changes = refl
 
 next_change : (all : List Change) (i : ℕ) (c : Change) → c ≡ get_or all i c → i < length all
     → map change_view (drop i all) ≡ change_view c ∷ map change_view (drop (i + 1) all)
@@ -107,13 +107,13 @@ next_change all i c is within = at_drop_more (map change_view) all i c within
 pub says_on : (checked : CheckedOf) (subscriber : ℕ) (sent told_now later : List Bool) (before now after : List Msg)
     (all : List Change) (i : ℕ) (c : Change) → c ≡ get_or all i c → i < length all
     → after ≡ now ++ said checked.catalog.tables told_now (got (setting_in checked) subscriber (change_view c))
-    → later ≡ told_by told_now (got (setting_in checked) subscriber (change_view c))
+    → later ≡ mark_by told_now (got (setting_in checked) subscriber (change_view c))
     → Says checked subscriber sent told_now before now all (drop i all)
     → Says checked subscriber sent later before after all (drop (i + 1) all)
 says_on checked subscriber sent told_now later before now after all i c is within wrote marked so_far =
     let left = next_change all i c is within in
     let one = said checked.catalog.tables told_now (got (setting_in checked) subscriber (change_view c)) in
-    let next = told_by told_now (got (setting_in checked) subscriber (change_view c)) in
+    let next = mark_by told_now (got (setting_in checked) subscriber (change_view c)) in
     let rest = map change_view (drop (i + 1) all) in
     record {
       text = ap (λ (x : List Msg). x ++ said_each checked subscriber later rest) wrote
@@ -121,9 +121,9 @@ says_on checked subscriber sent told_now later before now after all i c is withi
           ∙ append_assoc now one (said_each checked subscriber next rest)
           ∙ ap (λ (x : List Msg). now ++ x) (sym (said_each-cons checked subscriber told_now (change_view c) rest))
           ∙ ap (λ (x : List ChangeOf). now ++ said_each checked subscriber told_now x) (sym left) ∙ so_far.text;
-      flags = ap (λ (x : List Bool). told_each checked subscriber x rest) marked
-          ∙ sym (told_each-cons checked subscriber told_now (change_view c) rest)
-          ∙ ap (told_each checked subscriber told_now) (sym left) ∙ so_far.flags;
+      flags = ap (λ (x : List Bool). mark_each checked subscriber x rest) marked
+          ∙ sym (mark_each-cons checked subscriber told_now (change_view c) rest)
+          ∙ ap (mark_each checked subscriber told_now) (sym left) ∙ so_far.flags;
     }
 
 pub all_said : (checked : CheckedOf) (subscriber : ℕ) (sent told_now : List Bool) (before now : List Msg)
@@ -137,10 +137,10 @@ all_said checked subscriber sent told_now before now all i over so_far =
 
 pub all_told : (checked : CheckedOf) (subscriber : ℕ) (sent told_now : List Bool) (before now : List Msg)
     (all : List Change) (i : ℕ) → length all ≤ i → Says checked subscriber sent told_now before now all (drop i all)
-    → told_now ≡ told_each checked subscriber sent (map change_view all)
-unfolding told_each
+    → told_now ≡ mark_each checked subscriber sent (map change_view all)
+unfolding mark_each
 all_told checked subscriber sent told_now before now all i over so_far =
-    sym (at_drop_all (λ (left : List Change). told_each checked subscriber told_now (map change_view left)) all i
+    sym (at_drop_all (λ (left : List Change). mark_each checked subscriber told_now (map change_view left)) all i
     over) ∙ so_far.flags
 
 -- a change among those that can be sent can be sent
@@ -285,8 +285,8 @@ all_kept test all kept i over so_far =
 
 -- ---- if nothing is sent
 
-pub nothing_told : (sent : List Bool) → sent ≡ told_by sent None
-unfolding told_by
+pub nothing_told : (sent : List Bool) → sent ≡ mark_by sent None
+unfolding mark_by
 nothing_told sent = refl
 
 pub enclosed_some : (commit : CommitOf) (messages : List Msg) → (length messages ≡ 0 → ⊥)

@@ -21,8 +21,8 @@ use Rattle.table_changes.proofs.ShowingLemmas.{record_shows_all}
 use Rattle.tables_log.specs.Commits.{CommitOf}
 use Rattle.pgoutput_msgs.specs.SeenMessages.{seen_message}
 use Rattle.pgoutput_msgs.proofs.SeenMessageLemmas.{one_seen, as_message}
-use Rattle.pgoutput_msgs.specs.Telling.{a_relation, introduced, relation_once, relations_of, told_one, told_all, named_in, message_of, said, told_by, said_each, told_each, begin_msg, commit_msg, enclosed}
-use Rattle.pgoutput_msgs.specs.Transactions.{tables_of, is_among, first_relation, first_relations, change_told, changes_told, transaction_told, AreNamed, CommitsTellTransactions}
+use Rattle.pgoutput_msgs.specs.Telling.{a_relation, introduced, relation_once, relations_of, mark_one, mark_all, named_in, message_of, said, mark_by, said_each, mark_each, begin_msg, commit_msg, enclosed}
+use Rattle.pgoutput_msgs.specs.Transactions.{tables_of, is_among, first_relation, first_relations, change_messages, changes_messages, transaction_messages, AreNamed, CommitsTellTransactions}
 use Rattle.pgoutput_msgs.specs.declared.message.Msg.{Msg}
 use Rattle.filter_tree.proofs.Tests.{or_true, or_false}
 
@@ -68,11 +68,11 @@ among_others n number named differs =
 
 module _ (tables : List Table) where
   named_one : (sent : List Bool) (named : List ℕ) (number : ℕ) → AreNamed tables sent named
-      → AreNamed tables (told_one sent number) (named ++ number ∷ [])
+      → AreNamed tables (mark_one sent number) (named ++ number ∷ [])
   named_one sent named number is = record {
     long = length-set sent number true ∙ is.long;
     each = λ n within. elim (same_or_other n number) [
-      | inl e ↦ subst (λ k. is_told (told_one sent number) k ≡ is_among k (named ++ number ∷ [])) (sym e)
+      | inl e ↦ subst (λ k. is_told (mark_one sent number) k ≡ is_among k (named ++ number ∷ [])) (sym e)
           (get_or-set_same sent number true false (let long = is.long in omega arith) ∙ sym (among_itself number named))
       | inr differs ↦ get_or-set_other sent number n true false differs ∙ is.each n within
           ∙ sym (among_others n number named differs)
@@ -80,12 +80,12 @@ module _ (tables : List Table) where
   }
 
   named_all : (sent : List Bool) (named numbers : List ℕ) → AreNamed tables sent named
-      → AreNamed tables (told_all sent numbers) (named ++ numbers)
-  unfolding told_all
+      → AreNamed tables (mark_all sent numbers) (named ++ numbers)
+  unfolding mark_all
   named_all sent named [] is = subst (AreNamed tables sent) (search rules) is
   named_all sent named (number ∷ numbers) is =
-      subst (AreNamed tables (told_all (told_one sent number) numbers)) (append_assoc named (number ∷ []) numbers)
-      (named_all (told_one sent number) (named ++ number ∷ []) numbers (named_one sent named number is))
+      subst (AreNamed tables (mark_all (mark_one sent number) numbers)) (append_assoc named (number ∷ []) numbers)
+      (named_all (mark_one sent number) (named ++ number ∷ []) numbers (named_one sent named number is))
 
   introduced_by : (b : Bool) (number : ℕ)
       → introduced tables b number ≡ (if b then [] else a_relation number (slice_get tables number))
@@ -115,9 +115,9 @@ module _ (tables : List Table) where
   unfolding relations_of
   relations_first sent named [] is = refl
   relations_first sent named (number ∷ numbers) is =
-      ap (λ (x : List Msg). x ++ relations_of tables (told_one sent number) numbers) (once_first sent named number is)
+      ap (λ (x : List Msg). x ++ relations_of tables (mark_one sent number) numbers) (once_first sent named number is)
       ∙ ap (λ (x : List Msg). first_relation tables named number ++ x)
-      (relations_first (told_one sent number) (named ++ number ∷ []) numbers (named_one sent named number is))
+      (relations_first (mark_one sent number) (named ++ number ∷ []) numbers (named_one sent named number is))
 
 -- ---- changes that a subscriber gets
 
@@ -125,11 +125,11 @@ module _ (tables : List Table) where
 all_said : List Table → List Bool → List r.ChangeOf → List Msg
 all_said tables sent [] = []
 all_said tables sent (change ∷ changes) =
-    said tables sent (Some change) ++ all_said tables (told_by sent (Some change)) changes
+    said tables sent (Some change) ++ all_said tables (mark_by sent (Some change)) changes
 
 all_told : List Bool → List r.ChangeOf → List Bool
 all_told sent [] = sent
-all_told sent (change ∷ changes) = all_told (told_by sent (Some change)) changes
+all_told sent (change ∷ changes) = all_told (mark_by sent (Some change)) changes
 
 module _ (checked : CheckedOf) (subscriber : ℕ) where
   abbrev tables : List Table
@@ -139,15 +139,15 @@ module _ (checked : CheckedOf) (subscriber : ℕ) where
   mine = got (setting_in checked) subscriber
 
   said_one : (sent : List Bool) (one : Option r.ChangeOf) (others : List r.ChangeOf)
-      → said tables sent one ++ all_said tables (told_by sent one) others
+      → said tables sent one ++ all_said tables (mark_by sent one) others
       ≡ all_said tables sent (cons_option one others)
-  unfolding said told_by all_said
+  unfolding said mark_by all_said
   said_one sent None others = refl
   said_one sent (Some change) others = refl
 
   told_first : (sent : List Bool) (one : Option r.ChangeOf) (others : List r.ChangeOf)
-      → all_told (told_by sent one) others ≡ all_told sent (cons_option one others)
-  unfolding told_by all_told
+      → all_told (mark_by sent one) others ≡ all_told sent (cons_option one others)
+  unfolding mark_by all_told
   told_first sent None others = refl
   told_first sent (Some change) others = refl
 
@@ -156,14 +156,14 @@ module _ (checked : CheckedOf) (subscriber : ℕ) where
   unfolding said_each all_said
   said_mine sent [] = refl
   said_mine sent (change ∷ changes) =
-      ap (λ (x : List Msg). said tables sent (mine change) ++ x) (said_mine (told_by sent (mine change)) changes)
+      ap (λ (x : List Msg). said tables sent (mine change) ++ x) (said_mine (mark_by sent (mine change)) changes)
       ∙ said_one sent (mine change) (filter_map mine changes)
 
   told_mine : (sent : List Bool) (changes : List r.ChangeOf)
-      → told_each checked subscriber sent changes ≡ all_told sent (filter_map mine changes)
-  unfolding told_each all_told
+      → mark_each checked subscriber sent changes ≡ all_told sent (filter_map mine changes)
+  unfolding mark_each all_told
   told_mine sent [] = refl
-  told_mine sent (change ∷ changes) = told_mine (told_by sent (mine change)) changes
+  told_mine sent (change ∷ changes) = told_mine (mark_by sent (mine change)) changes
       ∙ told_first sent (mine change) (filter_map mine changes)
 
 -- ---- what is seen, as it is recorded
@@ -203,7 +203,7 @@ module _ (checked : CheckedOf) (covered : Covered (setting_in checked)) where
   recorded = as_recorded (setting_in checked)
 
   said_as : (sent : List Bool) (named : List ℕ) (one : Seen) → AreNamed all_tables sent named
-      → said all_tables sent (Some (recorded one)) ≡ change_told checked named one
+      → said all_tables sent (Some (recorded one)) ≡ change_messages checked named one
   unfolding said
   said_as sent named one is =
       ap (λ (numbers : List ℕ). relations_of all_tables sent numbers ++ message_of (recorded one))
@@ -214,37 +214,37 @@ module _ (checked : CheckedOf) (covered : Covered (setting_in checked)) where
       (relations_first all_tables sent named (tables_of one) is)
 
   told_one_more : (sent : List Bool) (named : List ℕ) (one : Seen) → AreNamed all_tables sent named
-      → AreNamed all_tables (told_by sent (Some (recorded one))) (named ++ tables_of one)
-  unfolding told_by
+      → AreNamed all_tables (mark_by sent (Some (recorded one))) (named ++ tables_of one)
+  unfolding mark_by
   told_one_more sent named one is =
-      subst (λ numbers. AreNamed all_tables (told_all sent numbers) (named ++ tables_of one))
+      subst (λ numbers. AreNamed all_tables (mark_all sent numbers) (named ++ tables_of one))
       (sym (names_as (setting_in checked) covered one))
       (named_all all_tables sent named (tables_of one) is)
 
   changes_as : (sent : List Bool) (named : List ℕ) (all : List Seen) → AreNamed all_tables sent named
-      → all_said all_tables sent (map recorded all) ≡ changes_told checked named all
+      → all_said all_tables sent (map recorded all) ≡ changes_messages checked named all
   unfolding all_said
   changes_as sent named [] is = refl
   changes_as sent named (one ∷ all) is =
       ap (λ (messages : List Msg). messages
-      ++ all_said all_tables (told_by sent (Some (recorded one))) (map recorded all)) (said_as sent named one is)
-      ∙ ap (λ (messages : List Msg). change_told checked named one ++ messages)
-      (changes_as (told_by sent (Some (recorded one))) (named ++ tables_of one) all (told_one_more sent named one is))
+      ++ all_said all_tables (mark_by sent (Some (recorded one))) (map recorded all)) (said_as sent named one is)
+      ∙ ap (λ (messages : List Msg). change_messages checked named one ++ messages)
+      (changes_as (mark_by sent (Some (recorded one))) (named ++ tables_of one) all (told_one_more sent named one is))
 
   told_as : (sent : List Bool) (named : List ℕ) (all : List Seen) → AreNamed all_tables sent named
       → AreNamed all_tables (all_told sent (map recorded all)) (named ++ flat_map tables_of all)
   unfolding all_told
   told_as sent named [] is = subst (AreNamed all_tables sent) (search rules) is
   told_as sent named (one ∷ all) is =
-      subst (AreNamed all_tables (all_told (told_by sent (Some (recorded one))) (map recorded all)))
+      subst (AreNamed all_tables (all_told (mark_by sent (Some (recorded one))) (map recorded all)))
       (append_assoc named (tables_of one) (flat_map tables_of all)
       ∙ ap (λ (numbers : List ℕ). named ++ numbers) (sym (flat_map-cons tables_of one all)))
-      (told_as (told_by sent (Some (recorded one))) (named ++ tables_of one) all (told_one_more sent named one is))
+      (told_as (mark_by sent (Some (recorded one))) (named ++ tables_of one) all (told_one_more sent named one is))
 
   -- each change has a message
-  something_told : (named : List ℕ) (one : Seen) (all : List Seen) → changes_told checked named (one ∷ all) ≢ []
+  something_told : (named : List ℕ) (one : Seen) (all : List Seen) → changes_messages checked named (one ∷ all) ≢ []
   something_told named one all none =
-      longer (change_told checked named one) (changes_told checked (named ++ tables_of one) all)
+      longer (change_messages checked named one) (changes_messages checked (named ++ tables_of one) all)
       (let one_message = one_seen (setting_in checked) covered one in
       simp length-append (omega (arith, one_message)))
       (ap length none)
@@ -256,10 +256,10 @@ within commit (first ∷ others) some = refl
 
 told_within : (checked : CheckedOf) → Covered (setting_in checked)
     → (named : List ℕ) (commit : CommitOf) (all : List Seen)
-    → enclosed commit (changes_told checked named all) ≡ transaction_told checked named commit.number commit.time all
+    → enclosed commit (changes_messages checked named all) ≡ transaction_messages checked named commit.number commit.time all
 told_within checked covered named commit [] = refl
 told_within checked covered named commit (one ∷ all) =
-    within commit (changes_told checked named (one ∷ all)) (something_told checked covered named one all)
+    within commit (changes_messages checked named (one ∷ all)) (something_told checked covered named one all)
 
 -- ---- the law
 

@@ -11,7 +11,7 @@ use Rattle.tables_log.specs.BookView.{book_checked, book_log}
 use Rattle.tables_log.specs.Commits.{CommitOf}
 use Rattle.tables_log.specs.StandsFor.{Transaction, StandsFor}
 use Rattle.tables_log.specs.declared.book.Book.{Book}
-use Rattle.pgoutput_msgs.specs.Telling.{oid_of, messages_for, told_after}
+use Rattle.pgoutput_msgs.specs.Telling.{oid_of, messages_for, relation_sent_after}
 use Rattle.pgoutput_msgs.specs.declared.message.Msg.{Msg}
 use Rattle.pgoutput_msgs.specs.declared.message.Msg.TheVariants as m
 
@@ -64,10 +64,10 @@ abbrev pub messages_in_turn : CheckedOf → ℕ → List Bool → List CommitOf 
 messages_in_turn checked subscriber sent [] = []
 messages_in_turn checked subscriber sent (commit ∷ commits) =
     messages_for checked subscriber sent commit
-    ++ messages_in_turn checked subscriber (told_after checked subscriber sent commit) commits
+    ++ messages_in_turn checked subscriber (relation_sent_after checked subscriber sent commit) commits
 
-abbrev pub told_in_turn : CheckedOf → ℕ → List Bool → List CommitOf → List Bool
-told_in_turn checked subscriber sent commits = fold (told_after checked subscriber) sent commits
+abbrev pub relation_sent_in_turn : CheckedOf → ℕ → List Bool → List CommitOf → List Bool
+relation_sent_in_turn checked subscriber sent commits = fold (relation_sent_after checked subscriber) sent commits
 
 -- ---- laws
 
@@ -92,10 +92,10 @@ pub record Introduces (sent after : List Bool) (messages : List Msg) : Type 0 wh
 abbrev pub CommitsIntroduce : Type 0
 CommitsIntroduce = (checked : CheckedOf) (subscriber : ℕ) (sent : List Bool) (commit : CommitOf)
     → length checked.catalog.tables ≤ length sent → IsOf checked.catalog.tables commit
-    → Introduces sent (told_after checked subscriber sent commit) (messages_for checked subscriber sent commit)
+    → Introduces sent (relation_sent_after checked subscriber sent commit) (messages_for checked subscriber sent commit)
 
 -- and for those of commits, one after the other.
 abbrev pub CommitsInTurnIntroduce : Type 0
 CommitsInTurnIntroduce = (checked : CheckedOf) (subscriber : ℕ) (sent : List Bool) (commits : List CommitOf)
     → length checked.catalog.tables ≤ length sent → All (IsOf checked.catalog.tables) commits
-    → Introduces sent (told_in_turn checked subscriber sent commits) (messages_in_turn checked subscriber sent commits)
+    → Introduces sent (relation_sent_in_turn checked subscriber sent commits) (messages_in_turn checked subscriber sent commits)

@@ -113,18 +113,18 @@ introduced tables false number = a_relation number (slice_get tables number)
 unfoldable pub relation_once : List Table → List Bool → ℕ → List Msg
 relation_once tables sent number = introduced tables (slice_index_or sent number false) number
 
-abbrev pub told_one : List Bool → ℕ → List Bool
-told_one sent number = slice_set sent number true
+abbrev pub mark_one : List Bool → ℕ → List Bool
+mark_one sent number = slice_set sent number true
 
 -- the Relations of tables that were not sent, in this order
 unfoldable pub relations_of : List Table → List Bool → List ℕ → List Msg
 relations_of tables sent [] = []
 relations_of tables sent (number ∷ numbers) =
-    relation_once tables sent number ++ relations_of tables (told_one sent number) numbers
+    relation_once tables sent number ++ relations_of tables (mark_one sent number) numbers
 
-unfoldable pub told_all : List Bool → List ℕ → List Bool
-told_all sent [] = sent
-told_all sent (number ∷ numbers) = told_all (told_one sent number) numbers
+unfoldable pub mark_all : List Bool → List ℕ → List Bool
+mark_all sent [] = sent
+mark_all sent (number ∷ numbers) = mark_all (mark_one sent number) numbers
 
 -- ---- commits
 
@@ -133,21 +133,21 @@ unfoldable pub said : List Table → List Bool → Option r.ChangeOf → List Ms
 said tables sent None = []
 said tables sent (Some change) = relations_of tables sent (named_in change) ++ message_of change
 
-unfoldable pub told_by : List Bool → Option r.ChangeOf → List Bool
-told_by sent None = sent
-told_by sent (Some change) = told_all sent (named_in change)
+unfoldable pub mark_by : List Bool → Option r.ChangeOf → List Bool
+mark_by sent None = sent
+mark_by sent (Some change) = mark_all sent (named_in change)
 
 -- what is sent for changes, one after the other
 unfoldable pub said_each : CheckedOf → ℕ → List Bool → List r.ChangeOf → List Msg
 said_each checked subscriber sent [] = []
 said_each checked subscriber sent (change ∷ changes) =
     said checked.catalog.tables sent (got (setting_in checked) subscriber change)
-    ++ said_each checked subscriber (told_by sent (got (setting_in checked) subscriber change)) changes
+    ++ said_each checked subscriber (mark_by sent (got (setting_in checked) subscriber change)) changes
 
-unfoldable pub told_each : CheckedOf → ℕ → List Bool → List r.ChangeOf → List Bool
-told_each checked subscriber sent [] = sent
-told_each checked subscriber sent (change ∷ changes) =
-    told_each checked subscriber (told_by sent (got (setting_in checked) subscriber change)) changes
+unfoldable pub mark_each : CheckedOf → ℕ → List Bool → List r.ChangeOf → List Bool
+mark_each checked subscriber sent [] = sent
+mark_each checked subscriber sent (change ∷ changes) =
+    mark_each checked subscriber (mark_by sent (got (setting_in checked) subscriber change)) changes
 
 abbrev pub begin_msg : CommitOf → Msg
 begin_msg commit = m.Begin (lsn_of commit.number) commit.time (xid_of commit.number)
@@ -165,5 +165,5 @@ abbrev pub messages_for : CheckedOf → ℕ → List Bool → CommitOf → List 
 messages_for checked subscriber sent commit = enclosed commit (said_each checked subscriber sent commit.changes)
 
 -- the Relations that were sent after it
-abbrev pub told_after : CheckedOf → ℕ → List Bool → CommitOf → List Bool
-told_after checked subscriber sent commit = told_each checked subscriber sent commit.changes
+abbrev pub relation_sent_after : CheckedOf → ℕ → List Bool → CommitOf → List Bool
+relation_sent_after checked subscriber sent commit = mark_each checked subscriber sent commit.changes

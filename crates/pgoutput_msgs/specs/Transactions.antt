@@ -14,7 +14,7 @@ use Rattle.table_changes.specs.Tables.{Tables}
 use Rattle.tables_log.specs.Commits.{CommitOf}
 use Rattle.tables_log.specs.Lsn.{lsn_of, end_lsn_of, xid_of}
 use Rattle.pgoutput_msgs.specs.SeenMessages.{seen_message}
-use Rattle.pgoutput_msgs.specs.Telling.{a_relation, messages_for, told_after}
+use Rattle.pgoutput_msgs.specs.Telling.{a_relation, messages_for, relation_sent_after}
 use Rattle.pgoutput_msgs.specs.declared.message.Msg.{Msg}
 use Rattle.pgoutput_msgs.specs.declared.message.Msg.TheVariants as m
 
@@ -43,22 +43,22 @@ first_relations tables named (number ∷ numbers) =
 -- ---- transactions
 
 -- a change, directly after the Relations of the tables that it is the first to name
-abbrev pub change_told : CheckedOf → List ℕ → Seen → List Msg
-change_told checked named change =
+abbrev pub change_messages : CheckedOf → List ℕ → Seen → List Msg
+change_messages checked named change =
     first_relations checked.catalog.tables named (tables_of change) ++ seen_message (setting_in checked) change
 
 -- changes, each after the tables that those before it named
-abbrev pub changes_told : CheckedOf → List ℕ → List Seen → List Msg
-changes_told checked named [] = []
-changes_told checked named (change ∷ changes) =
-    change_told checked named change ++ changes_told checked (named ++ tables_of change) changes
+abbrev pub changes_messages : CheckedOf → List ℕ → List Seen → List Msg
+changes_messages checked named [] = []
+changes_messages checked named (change ∷ changes) =
+    change_messages checked named change ++ changes_messages checked (named ++ tables_of change) changes
 
 -- Begin and Commit with the number and the time of the transaction, and the changes between them; nothing if nothing is
 -- seen
-abbrev pub transaction_told : CheckedOf → List ℕ → ℕ → ℕ → List Seen → List Msg
-transaction_told checked named number time [] = []
-transaction_told checked named number time (first ∷ others) =
-    m.Begin (lsn_of number) time (xid_of number) ∷ changes_told checked named (first ∷ others)
+abbrev pub transaction_messages : CheckedOf → List ℕ → ℕ → ℕ → List Seen → List Msg
+transaction_messages checked named number time [] = []
+transaction_messages checked named number time (first ∷ others) =
+    m.Begin (lsn_of number) time (xid_of number) ∷ changes_messages checked named (first ∷ others)
     ++ m.Commit (lsn_of number) (end_lsn_of number) time ∷ []
 
 -- ---- the law
@@ -72,8 +72,8 @@ pub record AreNamed (tables : List Table) (sent : List Bool) (named : List ℕ) 
 pub record TellsTransaction (checked : CheckedOf) (subscriber : ℕ) (sent : List Bool) (named : List ℕ)
     (commit : CommitOf) (all : List Seen) : Type 0 where
   pub messages : messages_for checked subscriber sent commit
-      ≡ transaction_told checked named commit.number commit.time all
-  pub named_after : AreNamed checked.catalog.tables (told_after checked subscriber sent commit)
+      ≡ transaction_messages checked named commit.number commit.time all
+  pub named_after : AreNamed checked.catalog.tables (relation_sent_after checked subscriber sent commit)
       (named ++ flat_map tables_of all)
 
 -- This holds for each commit whose changes are what its commands record on the tables before it.

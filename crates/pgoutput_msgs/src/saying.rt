@@ -23,7 +23,7 @@ fn is_told(relation_sent: &[bool], number: usize) -> bool
 
 #[tactic(auto, using(std::proofs::lemmas::List::set_past))]
 fn mark(relation_sent: &mut [bool], number: usize)
-    ensures { relation_sent.new ≡ spec.told_one relation_sent.old number }
+    ensures { relation_sent.new ≡ spec.mark_one relation_sent.old number }
 {
     if number < relation_sent.len() {
         relation_sent[number] = true;
@@ -86,7 +86,7 @@ pub(crate) fn say_relations<S: MessageSink>(
     requires limited { All IsLimitedTable tables.now }
     ensures said { OnOk result (TakesEach S.takes_one sink.old sink.new
         (spec.relations_of tables.now relation_sent.old numbers.now)) }
-    ensures relation_sent { OnOk result (relation_sent.new ≡ spec.told_all relation_sent.old numbers.now) }
+    ensures relation_sent { OnOk result (relation_sent.new ≡ spec.mark_all relation_sent.old numbers.now) }
 {
     for number in numbers {
         say_relation(tables, *number, relation_sent, sink)?;
@@ -95,7 +95,7 @@ pub(crate) fn say_relations<S: MessageSink>(
     Ok(())
 }
 
-#[tactic(auto, unfolding(crate::specs::Telling::told_by))]
+#[tactic(auto, unfolding(crate::specs::Telling::mark_by))]
 pub(crate) fn say_insert<S: MessageSink>(
     tables: &[Table],
     table: usize,
@@ -108,14 +108,14 @@ pub(crate) fn say_insert<S: MessageSink>(
     ensures said { OnOk result (TakesEach S.takes_one sink.old sink.new
         (spec.said tables.now relation_sent.old (Some (r.Insert table new.now)))) }
     ensures relation_sent { OnOk result
-        (relation_sent.new ≡ spec.told_by relation_sent.old (Some (r.Insert table new.now))) }
+        (relation_sent.new ≡ spec.mark_by relation_sent.old (Some (r.Insert table new.now))) }
 {
     say_relations(tables, &[table], relation_sent, sink)?;
     sink.insert(table, new)?;
     Ok(())
 }
 
-#[tactic(auto, unfolding(crate::specs::Telling::told_by))]
+#[tactic(auto, unfolding(crate::specs::Telling::mark_by))]
 pub(crate) fn say_update<S: MessageSink>(
     tables: &[Table],
     table: usize,
@@ -129,7 +129,7 @@ pub(crate) fn say_update<S: MessageSink>(
     ensures said { OnOk result (TakesEach S.takes_one sink.old sink.new
         (spec.said tables.now relation_sent.old (Some (r.Update table (part_view old.now) new.now)))) }
     ensures relation_sent { OnOk result
-        (relation_sent.new ≡ spec.told_by relation_sent.old (Some (r.Update table (part_view old.now) new.now))) }
+        (relation_sent.new ≡ spec.mark_by relation_sent.old (Some (r.Update table (part_view old.now) new.now))) }
 {
     say_relations(tables, &[table], relation_sent, sink)?;
     sink.update(table, old, new)?;
@@ -149,7 +149,7 @@ fn say_gone<S: MessageSink>(
     ensures said { OnOk result (TakesEach S.takes_one sink.old sink.new
         (spec.said tables.now relation_sent.old (Some (r.Delete table (part_view old.now))))) }
     ensures relation_sent { OnOk result
-        (relation_sent.new ≡ spec.told_by relation_sent.old (Some (r.Delete table (part_view old.now)))) }
+        (relation_sent.new ≡ spec.mark_by relation_sent.old (Some (r.Delete table (part_view old.now)))) }
 {
     say_relations(tables, &[table], relation_sent, sink)?;
     sink.delete(table, old)?;
@@ -169,7 +169,7 @@ pub(crate) fn say_delete<S: MessageSink>(
     ensures said { OnOk result (TakesEach S.takes_one sink.old sink.new
         (spec.said tables.now relation_sent.old (Some (r.Delete table (part_view old.now))))) }
     ensures relation_sent { OnOk result
-        (relation_sent.new ≡ spec.told_by relation_sent.old (Some (r.Delete table (part_view old.now)))) }
+        (relation_sent.new ≡ spec.mark_by relation_sent.old (Some (r.Delete table (part_view old.now)))) }
 {
     match old {
         OldPart::None => Ok(()),
@@ -183,7 +183,7 @@ pub(crate) fn say_delete<S: MessageSink>(
     }
 }
 
-#[tactic(auto, unfolding(crate::specs::Telling::told_by))]
+#[tactic(auto, unfolding(crate::specs::Telling::mark_by))]
 pub(crate) fn say_truncate<S: MessageSink>(
     tables: &[Table],
     numbers: &[usize],
@@ -195,7 +195,7 @@ pub(crate) fn say_truncate<S: MessageSink>(
     ensures said { OnOk result (TakesEach S.takes_one sink.old sink.new
         (spec.said tables.now relation_sent.old (Some (r.Truncate numbers.now)))) }
     ensures relation_sent { OnOk result
-        (relation_sent.new ≡ spec.told_by relation_sent.old (Some (r.Truncate numbers.now))) }
+        (relation_sent.new ≡ spec.mark_by relation_sent.old (Some (r.Truncate numbers.now))) }
 {
     say_relations(tables, numbers, relation_sent, sink)?;
     sink.truncate(numbers)?;

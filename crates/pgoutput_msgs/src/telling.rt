@@ -46,7 +46,7 @@ pub fn messages_of(
     ensures exact { IfOk result (λ messages. messages.items
         ≡ spec.messages_for (checked_view checked.now) subscriber relation_sent.old commit.now) }
     ensures relation_sent { OnOk result
-        (relation_sent.new ≡ spec.told_after (checked_view checked.now) subscriber relation_sent.old commit.now) }
+        (relation_sent.new ≡ spec.relation_sent_after (checked_view checked.now) subscriber relation_sent.old commit.now) }
     ensures err { OnErr result (relation_sent.new ≡ relation_sent.old) }
     ensures room { IfOk result (λ messages. All IsWithinRange messages.items) }
     ensures sent { IfOk result (λ messages. All IsSent messages.items) }
@@ -111,7 +111,7 @@ pub fn tell_changes<S: MessageSink>(
     ensures said { OnOk result (TakesEach S.takes_one sink.old sink.new
         (spec.said_each (checked_view checked.now) subscriber relation_sent.old commit.now.changes)) }
     ensures relation_sent { OnOk result
-        (relation_sent.new ≡ spec.told_after (checked_view checked.now) subscriber relation_sent.old commit.now) }
+        (relation_sent.new ≡ spec.relation_sent_after (checked_view checked.now) subscriber relation_sent.old commit.now) }
 {
     tell_each(
         alloc,
@@ -140,7 +140,7 @@ fn tell_each<S: MessageSink>(
     ensures said { OnOk result (TakesEach S.takes_one sink.old sink.new
         (spec.said_each (checked_view checked.now) subscriber relation_sent.old (map change_view changes.now))) }
     ensures relation_sent { OnOk result (relation_sent.new
-        ≡ spec.told_each (checked_view checked.now) subscriber relation_sent.old (map change_view changes.now)) }
+        ≡ spec.mark_each (checked_view checked.now) subscriber relation_sent.old (map change_view changes.now)) }
 {
     let mut place = next_of(owners, 0, subscriber);
     while place < changes.len() {
@@ -171,7 +171,7 @@ fn tell_change<S: MessageSink>(
     ensures said { OnOk result (TakesEach S.takes_one sink.old sink.new (spec.said (checked_view checked.now).catalog.tables
         relation_sent.old (got (setting_in (checked_view checked.now)) subscriber (change_view change.now)))) }
     ensures relation_sent { OnOk result (relation_sent.new
-        ≡ spec.told_by relation_sent.old
+        ≡ spec.mark_by relation_sent.old
         (got (setting_in (checked_view checked.now)) subscriber (change_view change.now))) }
 {
     let plan = checked.plan();

@@ -4,7 +4,7 @@ use Rattle.std.specs.Prelude.{Bool, Option}
 use Rattle.std.specs.Io.KnownBytes.{Appends}
 use Rattle.std.proofs.KnownBytes.{Appends-nil, Appends-trans}
 use lib.Seq.{take-append_seam, drop-append_seam}
-use Rattle.copy_both.specs.VoiceLaws.{Told, IsTelling}
+use Rattle.copy_both.specs.VoiceLaws.{VoiceRun, IsTelling}
 use Rattle.copy_both.specs.Voices.{Passes, voice_output}
 use Rattle.copy_both.specs.declared.voice.Voice.{Voice}
 use Rattle.copy_both.proofs.VoiceStreams.{voice_passes_on}
@@ -48,7 +48,7 @@ pub flush_front : (before after : Option (List ℕ)) (old new : Voice) (flushes 
 flush_front before after old new flushes = ap (take (length flushes.bytes)) flushes.whole
     ∙ take-append_seam flushes.bytes (voice_output new)
 
-pub tells_flushed : (before after : Option (List ℕ)) (old new : Voice) (told : Told)
+pub tells_flushed : (before after : Option (List ℕ)) (old new : Voice) (told : VoiceRun)
     (flushes : Flushes before after old new) → IsTelling old told
     → IsTelling new (record told { passed = told.passed ++ flushes.bytes })
 tells_flushed before after old new told flushes tells =

@@ -8,7 +8,7 @@ use Rattle.std.proofs.KnownBytes.{Appends-nil, Appends-trans}
 use Rattle.tables_log.specs.Commits.{CommitOf}
 use Rattle.copy_both.specs.Streams.{Take, Keep, stream}
 use Rattle.copy_both.specs.Tellings.{telling_of}
-use Rattle.copy_both.specs.VoiceLaws.{Told, IsTelling, start_count}
+use Rattle.copy_both.specs.VoiceLaws.{VoiceRun, IsTelling, start_count}
 use Rattle.copy_both.specs.Voices.{Closes, Sends, entry_bytes, entry_stage, kept_bytes, next_of, voice_checked, voice_output, voice_stage}
 use Rattle.copy_both.specs.declared.voice.Voice.{Voice}
 use Rattle.copy_both.proofs.VoiceStreams.{voice_keeps, voice_stops, voice_takes}
@@ -21,7 +21,7 @@ use Rattle.senders.proofs.FlushingLemmas.{tells_flushed}
 
 -- ---- a voice that tells spells its stream
 
-pub spells : (voice : Voice) (told : Told) → IsTelling voice told → Spells told (voice_output voice) []
+pub spells : (voice : Voice) (told : VoiceRun) → IsTelling voice told → Spells told (voice_output voice) []
 spells voice told tells = record {
   follow = tells.follow;
   takes = tells.takes;
@@ -31,7 +31,7 @@ spells voice told tells = record {
       told.start.position told.moves));
 }
 
-module _ (before after : Option (List ℕ)) (told : Told) where
+module _ (before after : Option (List ℕ)) (told : VoiceRun) where
   pub tells_first : (voice : Voice) → All IsClocked told.moves → IsQuiet voice told
       → TellsOn before before [] voice told
   tells_first voice clocks quiet = record {
@@ -124,7 +124,7 @@ module _ (before after : Option (List ℕ)) (told : Told) where
 
   -- ---- what waits is written, or a part of it
 
-  follows_flushed : (taken : List CommitOf) (now : Told) (bytes more : List ℕ) → Follows told now taken bytes
+  follows_flushed : (taken : List CommitOf) (now : VoiceRun) (bytes more : List ℕ) → Follows told now taken bytes
       → Follows told (record now { passed = now.passed ++ more }) taken (bytes ++ more)
   follows_flushed taken now bytes more follows = record {
     checked_is = follows.checked_is;
@@ -164,7 +164,7 @@ module _ (before after : Option (List ℕ)) (told : Told) where
 
 -- ---- a sender stops, and what waits is written
 
-goes_on : (before after : Option (List ℕ)) (told : Told) (taken : List CommitOf) (voice : Voice)
+goes_on : (before after : Option (List ℕ)) (told : VoiceRun) (taken : List CommitOf) (voice : Voice)
     → TellsOn before after taken voice told → voice_output voice ≡ [] → GoesOn before after taken voice told
 goes_on before after told taken voice on none = record {
   now = on.now;
@@ -181,7 +181,7 @@ not_fault s (inl told) fault = cc
 not_fault s (inr (inl finished)) fault = cc
 not_fault s (inr (inr starved)) fault = cc
 
-module _ (before after last : Option (List ℕ)) (told : Told) (taken : List CommitOf) (old new : Voice)
+module _ (before after last : Option (List ℕ)) (told : VoiceRun) (taken : List CommitOf) (old new : Voice)
     (flushes : Flushes after last old new) where
   pub writes_all : (s : SenderEnd) → (s ≡ sender_end.WriteFault → ⊥) → TellsAs s before after taken old told
       → voice_output new ≡ [] → StopsAs s before last taken new told
@@ -221,7 +221,7 @@ if_err (Ok value) test P Q is bad says = absurd (let no_value : false ≡ true =
 if_err (Err error) test P Q is bad says = says
 
 -- some of what waited is written, and then it goes on or stops
-module _ {X : Type 0} (view : X → CommitOf) (before middle after : Option (List ℕ)) (told : Told)
+module _ {X : Type 0} (view : X → CommitOf) (before middle after : Option (List ℕ)) (told : VoiceRun)
     (first kept : List X) (old between : Voice) (on : TellsOn before middle (map view first) old told)
     (flushes : Flushes middle after old between) (same : kept ≡ first) where
   pub tells_kept : TellsOn before after (map view kept) between told

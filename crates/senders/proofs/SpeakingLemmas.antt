@@ -4,7 +4,7 @@ use Rattle.std.specs.Prelude.{Bool, false, true, Option, Some, Result, Ok, Err, 
 use Rattle.std.proofs.KnownBytes.{Appends-nil}
 use Rattle.tables_log.specs.Commits.{CommitOf}
 use Rattle.copy_frames.specs.Contents.{copy_done}
-use Rattle.copy_both.specs.VoiceLaws.{Told}
+use Rattle.copy_both.specs.VoiceLaws.{VoiceRun}
 use Rattle.copy_both.specs.Voices as voices
 use Rattle.copy_both.specs.Voices.{Sends, done_bytes, voice_output, voice_stage}
 use Rattle.copy_both.specs.declared.voice.Voice.{Voice}
@@ -92,7 +92,7 @@ says_done s why before after was_failed failed old done new result quiet at is s
     })
 
 -- a sender that did not fail has written all, and its stream goes on
-pub rests : (s : SenderEnd) (before after : Option (List ℕ)) (taken : List CommitOf) (voice : Voice) (told : Told)
+pub rests : (s : SenderEnd) (before after : Option (List ℕ)) (taken : List CommitOf) (voice : Voice) (told : VoiceRun)
     → StopsAs s before after taken voice told → IsQuietAt s voice
 rests sender_end.ConnectionEnded before after taken voice told goes =
     record { none = goes.quiet.none; state = goes.quiet.tells.state; stage_is = goes.quiet.tells.stage_is }

@@ -11,7 +11,7 @@ use Rattle.copy_both.specs.LinkLaws.{started_at}
 use Rattle.copy_both.specs.Streams.{Move, count_before, stream}
 use Rattle.copy_both.specs.StreamLaws.{Start}
 use Rattle.copy_both.specs.Tellings.{telling_of}
-use Rattle.copy_both.specs.VoiceLaws.{AreAt, Follow, Told, start_count, takes_in}
+use Rattle.copy_both.specs.VoiceLaws.{AreAt, Follow, VoiceRun, start_count, takes_in}
 use Rattle.copy_both.specs.Voices.{voice_output}
 use Rattle.copy_both.specs.declared.link_fault.LinkFault.TheVariants as fault
 use Rattle.copy_both.specs.declared.voice.Voice.{Voice}
@@ -54,7 +54,7 @@ whole_last written rest last bytes none =
     sym (append-nil written) ∙ ap (λ (x : List ℕ). written ++ x) (sym none) ∙ bytes
 
 module _ (checked : CheckedOf) (slot start : ℕ) where
-  wrote : (taken : List CommitOf) (now : Told) (bytes output : List ℕ) → All IsClocked now.moves
+  wrote : (taken : List CommitOf) (now : VoiceRun) (bytes output : List ℕ) → All IsClocked now.moves
       → Follows (started_telling checked slot start copy_both_response) now taken bytes → Spells now output []
       → Wrote checked slot start taken (copy_both_response ++ bytes) output
   wrote taken now bytes output clocks follows spelled =

@@ -8,7 +8,7 @@ use Rattle.tables_log.specs.Slots.{confirmed_at, end_after}
 use Rattle.tables_log.specs.declared.book.Book.{Book}
 use Rattle.copy_both.specs.Ears.{HearLeaves, ear_phase, ear_refusal, ear_started, hear_answer}
 use Rattle.copy_both.specs.HeardFrames.{frames_in, AsksIfStarted, HasEnd, HasHeard, Requests}
-use Rattle.copy_both.specs.Voices.{told_fault}
+use Rattle.copy_both.specs.Voices.{reported_fault}
 use Rattle.copy_both.specs.declared.heard.Heard.{Heard}
 use Rattle.copy_both.specs.declared.link_fault.LinkFault.{LinkFault}
 use Rattle.copy_both.specs.declared.link_fault.LinkFault.TheVariants.{StatusAhead}
@@ -52,7 +52,7 @@ piece_of listener = take listener.filled listener.piece.items
 -- the start of the stream.
 pub record HeardPiece (before after : Listener) (old new : Book) (connections : List ConnectionState)
     (heard : Result Heard LinkFault) : Type 0 where
-  pub answer : Answers (λ heard. heard) told_fault
+  pub answer : Answers (λ heard. heard) reported_fault
       (hear_answer before.ear old (piece_of before) (sent_by (ear_started before.ear) connections)) heard
   pub left : HearLeaves (ear_phase before.ear) before.ear after.ear old new (piece_of before)
       (sent_by (ear_started before.ear) connections) heard

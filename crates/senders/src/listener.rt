@@ -5,7 +5,7 @@ ghost use Rattle.filter_tree.specs.Memory.{Answers};
 ghost use Rattle.tables_log.specs.BookView.{book_log, book_slots};
 ghost use Rattle.tables_log.specs.Slots.{confirmed_at, end_after};
 ghost use Rattle.copy_both.specs.Ears.{HearLeaves, ear_phase, ear_started, hear_answer};
-ghost use Rattle.copy_both.specs.Voices.{told_fault};
+ghost use Rattle.copy_both.specs.Voices.{reported_fault};
 ghost use Rattle.copy_both.specs.declared.link_fault.LinkFault.TheVariants.{StatusAhead};
 ghost use Rattle.senders.specs.Hearing.{IsSentFrom, sent_by};
 
@@ -88,7 +88,7 @@ fn has_start(started: Option<(usize, u64)>, log_end: u64) -> bool
 
 /// Hears a piece. A status that is ahead is after the start of the stream, since the log has that start.
 fn hear_piece(ear: &mut Ear, piece: &[u8], book: &mut Book, sent: u64) -> Result<Heard, LinkFault>
-    ensures answer { Answers (λ heard. heard) told_fault (hear_answer ear.old book.old piece.now sent) result }
+    ensures answer { Answers (λ heard. heard) reported_fault (hear_answer ear.old book.old piece.now sent) result }
     ensures left { HearLeaves (ear_phase ear.old) ear.old ear.new book.old book.new piece.now sent result }
     ensures reaches { result ≡ Err StatusAhead
         → IsSentFrom (ear_started ear.new) (end_after (length (book_log book.old))) }

@@ -9,7 +9,7 @@ use Rattle.table_changes.specs.Records as r
 use Rattle.shard_checker.specs.CheckedView.{CheckedOf, setting_in}
 use Rattle.tables_log.specs.Commits.{CommitOf}
 use Rattle.tables_log.specs.Lsn.{commits_before, end_lsn_of}
-use Rattle.pgoutput_msgs.specs.Telling.{a_relation, introduced, relation_once, relations_of, told_one, told_by, named_in, message_of, said, said_each, begin_msg, commit_msg, enclosed, messages_for}
+use Rattle.pgoutput_msgs.specs.Telling.{a_relation, introduced, relation_once, relations_of, mark_one, mark_by, named_in, message_of, said, said_each, begin_msg, commit_msg, enclosed, messages_for}
 use Rattle.pgoutput_msgs.specs.declared.message.Msg.{Msg}
 use Rattle.pgoutput_msgs.specs.declared.message.Msg.TheVariants as m
 use Rattle.copy_both.specs.Streams as s
@@ -110,8 +110,8 @@ module _ (P : ℕ → Type 0) where
   relations_by tables sent [] = All-nil (TellsBy P)
   relations_by tables sent (number ∷ numbers) =
       All-append (TellsBy P) (introduced tables (slice_index_or sent number false) number)
-      (relations_of tables (told_one sent number) numbers)
-      (once_by tables (slice_index_or sent number false) number) (relations_by tables (told_one sent number) numbers)
+      (relations_of tables (mark_one sent number) numbers)
+      (once_by tables (slice_index_or sent number false) number) (relations_by tables (mark_one sent number) numbers)
 
   own_by : (change : r.ChangeOf) → All (TellsBy P) (message_of change)
   own_by (r.Insert table new) = All-cons (TellsBy P) (m.Insert _ _) [] tt (All-nil (TellsBy P))
@@ -134,9 +134,9 @@ module _ (P : ℕ → Type 0) where
   said_by checked subscriber sent [] = All-nil (TellsBy P)
   said_by checked subscriber sent (change ∷ changes) =
       All-append (TellsBy P) (said checked.catalog.tables sent (got (setting_in checked) subscriber change))
-      (said_each checked subscriber (told_by sent (got (setting_in checked) subscriber change)) changes)
+      (said_each checked subscriber (mark_by sent (got (setting_in checked) subscriber change)) changes)
       (change_by checked.catalog.tables sent (got (setting_in checked) subscriber change))
-      (said_by checked subscriber (told_by sent (got (setting_in checked) subscriber change)) changes)
+      (said_by checked subscriber (mark_by sent (got (setting_in checked) subscriber change)) changes)
 
   enclosed_by : (commit : CommitOf) → P (end_lsn_of commit.number) → (messages : List Msg) → All (TellsBy P) messages
       → All (TellsBy P) (enclosed commit messages)

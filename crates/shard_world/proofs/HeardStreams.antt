@@ -11,7 +11,7 @@ use Rattle.tables_log.specs.Commits.{CommitOf}
 use Rattle.tables_log.specs.Slots.{end_after}
 use Rattle.tables_log.specs.declared.slots.Slot.{Slot}
 use Rattle.copy_frames.specs.declared.status.Status.{Status}
-use Rattle.copy_both.specs.Hearing.{HearingOf, answer_by, answer_of, heard_told, is_over, is_over_by}
+use Rattle.copy_both.specs.Hearing.{HearingOf, answer_by, answer_of, reported_heard, is_over, is_over_by}
 use Rattle.copy_both.specs.LinkLaws.{IsStreaming, Goes_on, Starts, with_moves, first_run, started_at}
 use Rattle.copy_both.specs.Links.{HearSays, closing, ended_stage, link_checked, link_output, link_stage, frames_said, stage_said, frames_by, stage_by}
 use Rattle.copy_both.specs.StreamLaws.{first_state}
@@ -108,11 +108,11 @@ module _ (case : Case) (is : IsCase case) (c : Connection) (some : (peer_of case
 
 -- ---- what is heard
 
-pub not_over : (h : HearingOf) → is_over h ≡ false → answer_of h ≡ Ok (heard_told h.heard)
+pub not_over : (h : HearingOf) → is_over h ≡ false → answer_of h ≡ Ok (reported_heard h.heard)
 not_over h goes_on = by_both h.fault h.heard.ended goes_on
   where
     by_both : (fault : Option LinkFault) (ended : Option ℕ) → is_over_by fault ended ≡ false
-        → answer_by fault (heard_told h.heard) ≡ Ok (heard_told h.heard)
+        → answer_by fault (reported_heard h.heard) ≡ Ok (reported_heard h.heard)
     by_both None None e = refl
     by_both None (Some kind) e = absurd cc
     by_both (Some fault) ended e = absurd cc

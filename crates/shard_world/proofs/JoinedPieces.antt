@@ -9,7 +9,7 @@ use Rattle.copy_frames.specs.Frames.{Rest, cut, after_frames, cut_fault, frames_
 use Rattle.copy_frames.specs.Inboxes.{Inbox}
 use Rattle.copy_frames.proofs.PieceLemmas.{frames_before, no_fault_after, rest_after}
 use Rattle.copy_both.specs.Ears.{HearLeaves, HearsPiece, Holds, ear_phase, hear_answer, answer_in}
-use Rattle.copy_both.specs.Hearing.{HearingOf, answer_of, heard_told, bytes_heard, frames_heard, then_fault}
+use Rattle.copy_both.specs.Hearing.{HearingOf, answer_of, reported_heard, bytes_heard, frames_heard, then_fault}
 use Rattle.copy_both.specs.LinkLaws.{IsStreaming}
 use Rattle.copy_both.specs.Links.{HearSays, link_ear, link_heard, link_sent}
 use Rattle.copy_both.specs.Listening.{Leaves, fed, resting, silence}
@@ -240,8 +240,8 @@ module _ (case : Case) (is : IsCase case) (before after : Book) (old : PeerOf) (
     goes_on : heard_all.heard.ended ≡ None
     goes_on = end_over heard_all.fault heard_all.heard.ended known.hears.goes_on
 
-    same_heard : heard ≡ heard_told heard_all.heard
-    same_heard = ok_of heard (heard_told heard_all.heard)
+    same_heard : heard ≡ reported_heard heard_all.heard
+    same_heard = ok_of heard (reported_heard heard_all.heard)
         (answer ∙ ap (λ phase. answer_in phase (link_heard link before piece)) linked.hears.phase_is
         ∙ ap answer_of heard_is ∙ not_over heard_all known.hears.goes_on)
 

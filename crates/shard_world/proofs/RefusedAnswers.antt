@@ -7,11 +7,11 @@ use Rattle.tables_log.specs.Commits.{CommitOf}
 use Rattle.tables_log.specs.declared.slots.Slot.{Slot}
 use Rattle.copy_frames.specs.Frames.{cut}
 use Rattle.copy_both.specs.Ears.{answer_in}
-use Rattle.copy_both.specs.Hearing.{answer_of, heard_told}
+use Rattle.copy_both.specs.Hearing.{answer_of, reported_heard}
 use Rattle.copy_both.specs.Links.{found_answer, link_heard, link_stage, next_answer}
 use Rattle.copy_both.specs.Streams.{StreamStateOf}
 use Rattle.pgoutput_msgs.specs.Telling.{messages_for}
-use Rattle.copy_both.specs.Voices.{keep_answer, taken_of, told_fault}
+use Rattle.copy_both.specs.Voices.{keep_answer, taken_of, reported_fault}
 use Rattle.copy_both.specs.declared.link.Link.{Link}
 use Rattle.copy_both.specs.declared.link_fault.LinkFault.{LinkFault}
 use Rattle.copy_both.specs.declared.link_fault.LinkFault.TheVariants as fault
@@ -119,7 +119,7 @@ hears_are_answered case is book old link count log stands some =
     (heard_before case is book book old link count log stands some)
     (more case is book book old link count log stands some) in
     record {
-      value = heard_told all.heard;
+      value = reported_heard all.heard;
       is = ap (λ phase. answer_in phase
           (link_heard link book (piece case is book book old link count log stands some))) at.linked.hears.phase_is
           ∙ ap answer_of (heard_is case is book book old link count log stands some) ∙ not_over all known.hears.goes_on;
@@ -127,7 +127,7 @@ hears_are_answered case is book old link count log stands some =
 
 -- an error means that memory was refused
 pub only_memory : {A : Type 0} (error : LinkFault) (answer : Result A LinkFault)
-    → TellsFault (told_fault error) answer → IsAnswered answer → error ≡ fault.OutOfMemory
+    → TellsFault (reported_fault error) answer → IsAnswered answer → error ≡ fault.OutOfMemory
 only_memory fault.OutOfMemory answer tells good = refl
 only_memory fault.FrameTooLong answer tells good = absurd (let e = sym tells ∙ good.is in cc)
 only_memory fault.BadLength answer tells good = absurd (let e = sym tells ∙ good.is in cc)

@@ -10,7 +10,7 @@ use Rattle.tables_log.specs.declared.book.Book.{Book}
 use Rattle.tables_log.specs.declared.slots.Slot.{Slot}
 use Rattle.copy_both.specs.Ears.{HearLeaves, ear_phase, hear_answer}
 use Rattle.copy_both.specs.Links.{HasNext, LinkCloses, link_checked, link_ear, link_output, link_sent, link_stage, next_answer}
-use Rattle.copy_both.specs.Voices.{IsStarted, keep_answer, told_fault}
+use Rattle.copy_both.specs.Voices.{IsStarted, keep_answer, reported_fault}
 use Rattle.copy_both.specs.declared.link.Link.{Link}
 use Rattle.copy_both.specs.declared.link_fault.LinkFault.{LinkFault}
 use Rattle.copy_both.specs.declared.link_fault.LinkFault.TheVariants as fault
@@ -63,7 +63,7 @@ halts_so case event book new halts = record { halts = halts; own = kept_own case
 
 pub take_stops : (checked : CheckedOf) (now : ℕ) (book : Book) (old : PeerOf) (link new : Link) (error : LinkFault)
     → old.link ≡ Some link → LinkCloses link new
-    → TellsFault (told_fault error) (next_answer (link_checked link) (link_stage link) (book_log book))
+    → TellsFault (reported_fault error) (next_answer (link_checked link) (link_stage link) (book_log book))
     → (error ≡ fault.OutOfMemory → HasNext (link_stage link) (book_log book))
     → StopsFromEach checked now Take book book old (record { link = Some new; subscriber = old.subscriber })
 take_stops checked now book old link new error some closes told memory case stands = record {
@@ -71,7 +71,7 @@ take_stops checked now book old link new error some closes told memory case stan
       let answered = takes_are_answered case stands.is (book_slots book) old link stands.peer some in
       let wanted = memory (only_memory error
       (next_answer (link_checked link) (link_stage link) (log_in (source_of case)))
-      (subst (λ log. TellsFault (told_fault error) (next_answer (link_checked link) (link_stage link) log))
+      (subst (λ log. TellsFault (reported_fault error) (next_answer (link_checked link) (link_stage link) log))
       stands.log.log_is told) answered) in
       take_needs case (book_slots book) old link stands.peer some
       (subst (HasNext (link_stage link)) stands.log.log_is wanted);
@@ -81,7 +81,7 @@ take_stops checked now book old link new error some closes told memory case stan
 
 pub keep_stops : (checked : CheckedOf) (now : ℕ) (book : Book) (old : PeerOf) (link new : Link) (want : Bool)
     (error : LinkFault) → old.link ≡ Some link → LinkCloses link new
-    → TellsFault (told_fault error) (keep_answer (link_stage link))
+    → TellsFault (reported_fault error) (keep_answer (link_stage link))
     → (error ≡ fault.OutOfMemory → IsStarted (link_stage link))
     → StopsFromEach checked now (Keep want) book book old (record { link = Some new; subscriber = old.subscriber })
 keep_stops checked now book old link new want error some closes told memory case stands = record {
@@ -105,14 +105,14 @@ report_stops checked now book old link after want some loses case stands = recor
 pub hear_stops : (checked : CheckedOf) (now : ℕ) (before after : Book) (old : PeerOf) (link new : Link) (count : ℕ)
     (error : LinkFault) (piece : List ℕ) → old.link ≡ Some link
     → piece ≡ front_of count (sub_output old.subscriber)
-    → TellsFault (told_fault error) (hear_answer (link_ear link) before piece (link_sent link))
+    → TellsFault (reported_fault error) (hear_answer (link_ear link) before piece (link_sent link))
     → HearLeaves (ear_phase (link_ear link)) (link_ear link) (link_ear new) before after piece (link_sent link)
     (Err error)
     → StopsFromEach checked now (Hear count) before after old (record { link = Some new; subscriber = old.subscriber })
 hear_stops checked now before after old link new count error piece some is told leaves case stands = record {
   needed = hear_needs case (book_slots before) old link count stands.peer some;
   stopped = hear_halts case stands.is before after old link count stands.log stands.peer some new error
-      (subst (λ p. TellsFault (told_fault error) (hear_answer (link_ear link) before p (link_sent link))) is told)
+      (subst (λ p. TellsFault (reported_fault error) (hear_answer (link_ear link) before p (link_sent link))) is told)
       (subst (λ p. HearLeaves (ear_phase (link_ear link)) (link_ear link) (link_ear new) before after p
       (link_sent link) (Err error)) is leaves);
 }

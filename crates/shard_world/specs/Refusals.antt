@@ -7,7 +7,7 @@ use Rattle.tables_log.specs.declared.book.Book.{Book}
 use Rattle.tables_log.specs.declared.slots.Slot.{Slot}
 use Rattle.copy_both.specs.Ears.{HearLeaves, ear_phase, hear_answer}
 use Rattle.copy_both.specs.Links.{LinkCloses, LinkLoses, link_checked, link_ear, link_output, link_sent, link_stage, next_answer}
-use Rattle.copy_both.specs.Voices.{keep_answer, told_fault}
+use Rattle.copy_both.specs.Voices.{keep_answer, reported_fault}
 use Rattle.copy_both.specs.declared.link.Link.{Link}
 use Rattle.copy_both.specs.declared.link_fault.LinkFault.{LinkFault}
 use Rattle.test_subscriber.specs.StartQuery.{start_query}
@@ -83,7 +83,7 @@ abbrev pub HearHalts : Type 0
 HearHalts = (case : Case) → IsCase case → (before after : Book) (old : PeerOf) (link : Link) (count : ℕ)
     → HasLog case before → MatchesPeer case (book_slots before) old → old.link ≡ Some link
     → (new : Link) (error : LinkFault)
-    → TellsFault (told_fault error)
+    → TellsFault (reported_fault error)
     (hear_answer (link_ear link) before (front_of count (sub_output old.subscriber)) (link_sent link))
     → HearLeaves (ear_phase (link_ear link)) (link_ear link) (link_ear new) before after
     (front_of count (sub_output old.subscriber)) (link_sent link) (Err error)

@@ -24,7 +24,7 @@ use Rattle.replica_identity.proofs.PartLemmas.{records_parts}
 use Rattle.shard_checker.specs.CheckedView.{CheckedOf, setting_in}
 use Rattle.tables_log.specs.StandsFor.{Transaction}
 use Rattle.pgoutput_msgs.specs.ReadBack.{old_cells}
-use Rattle.pgoutput_msgs.specs.Telling.{oid_of, old_of, maybe_old_of, relations_of, told_one, told_all, said, told_by}
+use Rattle.pgoutput_msgs.specs.Telling.{oid_of, old_of, maybe_old_of, relations_of, mark_one, mark_all, said, mark_by}
 use Rattle.pgoutput_msgs.specs.ValueText.{cells_of}
 use Rattle.pgoutput_msgs.specs.declared.message.Msg.{Msg}
 use Rattle.pgoutput_msgs.specs.declared.message.Msg.TheVariants as m
@@ -213,23 +213,23 @@ module _ (checked : CheckedOf) (transactions : List Transaction) (subscriber beg
   -- the message of a change, if its table was announced
   ends_with : (sent : List Bool) (machine : Machine) (message : Msg) (change : RowsChange) (found : Found)
       → length sent ≡ length checked.catalog.tables
-      → Inside checked subscriber begin outer (told_one sent number) before machine
+      → Inside checked subscriber begin outer (mark_one sent number) before machine
       → hear_in machine.phase message machine ≡ change_in (oid_of number) change machine
       → change (shape_for number table) (machine.work (oid_of number)) ≡ Ok found
       → FindsRows (own_key checked number) found (in_shard (setting_in checked) subscriber after number)
       → raised_by_message position message ≡ position
       → Safe (Follows checked transactions subscriber) position (message ∷ []) machine
-      (λ at next. (at ≡ position) × Inside checked subscriber begin outer (told_one sent number) after next)
+      (λ at next. (at ≡ position) × Inside checked subscriber begin outer (mark_one sent number) after next)
   ends_with sent machine message change found long inside is made finds stays =
       let flag = told_same sent number (flag_there sent long) in
       safe_heard (Follows checked transactions subscriber)
-      (λ at next. (at ≡ position) × Inside checked subscriber begin outer (told_one sent number) after next)
+      (λ at next. (at ≡ position) × Inside checked subscriber begin outer (mark_one sent number) after next)
       position message [] machine (record machine { work = with_found machine.work (oid_of number) found })
-      (good checked transactions subscriber begin position outer follows before (told_one sent number) machine inside)
+      (good checked transactions subscriber begin position outer follows before (mark_one sent number) machine inside)
       (is ∙ change_heard machine (oid_of number) change (shape_for number table) found
       (inside.knows.known number ∙ flag) (inside.knows.kept number table there flag) made) (
         stays,
-        staged_inside checked subscriber begin outer (told_one sent number) before after machine number found inside
+        staged_inside checked subscriber begin outer (mark_one sent number) before after machine number found inside
             finds
             (λ other differ. (steps (λ t. machine.work (oid_of t)) inside.work).beside other differ),
       )
@@ -237,17 +237,17 @@ module _ (checked : CheckedOf) (transactions : List Transaction) (subscriber beg
   -- its table's Relation, if it has to be sent, and then its message
   with_relation : (sent : List Bool) (machine : Machine) (message : Msg)
       → Inside checked subscriber begin outer sent before machine
-      → ((next : Machine) → Inside checked subscriber begin outer (told_one sent number) before next
+      → ((next : Machine) → Inside checked subscriber begin outer (mark_one sent number) before next
       → Safe (Follows checked transactions subscriber) position (message ∷ []) next
-      (λ at last. (at ≡ position) × Inside checked subscriber begin outer (told_one sent number) after last))
+      (λ at last. (at ≡ position) × Inside checked subscriber begin outer (mark_one sent number) after last))
       → Safe (Follows checked transactions subscriber) position
       (relations_of checked.catalog.tables sent (number ∷ []) ++ message ∷ []) machine
-      (λ at last. (at ≡ position) × Inside checked subscriber begin outer (told_one sent number) after last)
-  unfolding told_all
+      (λ at last. (at ≡ position) × Inside checked subscriber begin outer (mark_one sent number) after last)
+  unfolding mark_all
   with_relation sent machine message inside on =
       safe_both (Follows checked transactions subscriber)
-      (λ at last. (at ≡ position) × Inside checked subscriber begin outer (told_one sent number) after last)
-      (Inside checked subscriber begin outer (told_one sent number) before) position
+      (λ at last. (at ≡ position) × Inside checked subscriber begin outer (mark_one sent number) after last)
+      (Inside checked subscriber begin outer (mark_one sent number) before) position
       (relations_of checked.catalog.tables sent (number ∷ [])) (message ∷ []) machine
       (relations_safe checked transactions subscriber begin position outer follows before (number ∷ []) sent machine
       one_table inside) on
@@ -260,8 +260,8 @@ module _ (checked : CheckedOf) (transactions : List Transaction) (subscriber beg
       (option_map (as_recorded (setting_in checked)) (seen_rows number away coming))) machine
       (λ at next. (at ≡ position)
       × Inside checked subscriber begin outer
-      (told_by sent (option_map (as_recorded (setting_in checked)) (seen_rows number away coming))) after next)
-  unfolding said told_by told_all
+      (mark_by sent (option_map (as_recorded (setting_in checked)) (seen_rows number away coming))) after next)
+  unfolding said mark_by mark_all
   by_seen None None e f sent machine inside = (
     refl,
     stays_inside checked subscriber begin outer sent before after machine inside
@@ -275,7 +275,7 @@ module _ (checked : CheckedOf) (transactions : List Transaction) (subscriber beg
       let is = passing_some ((setting_in checked).passes subscriber number) new coming f in
       with_relation sent machine (m.Insert (oid_of number) (cells_of coming)) inside
       (λ next reached.
-      let finished = done None (Some coming) e f (told_one sent number) next reached in
+      let finished = done None (Some coming) e f (mark_one sent number) next reached in
       ends_with sent next (m.Insert (oid_of number) (cells_of coming))
       (λ shape found. inserted shape found (cells_of coming))
       (put (next.work (oid_of number)) (own_key checked number coming) (Some coming)) inside.knows.flags reached
@@ -288,11 +288,11 @@ module _ (checked : CheckedOf) (transactions : List Transaction) (subscriber beg
       subst (λ part. Safe (Follows checked transactions subscriber) position
       (said checked.catalog.tables sent (Some (r.Delete number part))) machine
       (λ at next. (at ≡ position)
-      × Inside checked subscriber begin outer (told_by sent (Some (r.Delete number part))) after next))
+      × Inside checked subscriber begin outer (mark_by sent (Some (r.Delete number part))) after next))
       (sym recorded.is)
       (with_relation sent machine (m.Delete (oid_of number) (old_of recorded.part)) inside
       (λ next reached.
-      let finished = done (Some away) None e f (told_one sent number) next reached in
+      let finished = done (Some away) None e f (mark_one sent number) next reached in
       ends_with sent next (m.Delete (oid_of number) (old_of recorded.part))
       (λ shape found. deleted shape found (old_of recorded.part))
       (put (next.work (oid_of number)) (own_key checked number away) None) inside.knows.flags reached
@@ -307,7 +307,7 @@ module _ (checked : CheckedOf) (transactions : List Transaction) (subscriber beg
       (m.Update (oid_of number) (maybe_old_of (part_of (setting_in checked) number away (Some coming)))
       (cells_of coming)) inside
       (λ next reached.
-      let finished = done (Some away) (Some coming) e f (told_one sent number) next reached in
+      let finished = done (Some away) (Some coming) e f (mark_one sent number) next reached in
       ends_with sent next (m.Update (oid_of number)
       (maybe_old_of (part_of (setting_in checked) number away (Some coming))) (cells_of coming))
       (λ shape found. updated shape found (maybe_old_of (part_of (setting_in checked) number away (Some coming)))
@@ -338,7 +338,7 @@ module _ (checked : CheckedOf) (transactions : List Transaction) (subscriber beg
       (seen_rows number (passing ((setting_in checked).passes subscriber number) old)
       (passing ((setting_in checked).passes subscriber number) new)))) machine
       (λ at next. (at ≡ position)
-      × Inside checked subscriber begin outer (told_by sent (option_map (as_recorded (setting_in checked))
+      × Inside checked subscriber begin outer (mark_by sent (option_map (as_recorded (setting_in checked))
       (seen_rows number (passing ((setting_in checked).passes subscriber number) old)
       (passing ((setting_in checked).passes subscriber number) new)))) after next)
   row_change_safe sent machine inside =

@@ -17,7 +17,7 @@ use Rattle.replica_identity.proofs.SettingLemmas.{has_primary_keys}
 use Rattle.shard_checker.specs.CheckedView.{CheckedOf, setting_in}
 use Rattle.tables_log.specs.StandsFor.{Transaction}
 use Rattle.pgoutput_msgs.specs.Introducing.{IsChangeOf}
-use Rattle.pgoutput_msgs.specs.Telling.{said, told_by, said_each, told_each}
+use Rattle.pgoutput_msgs.specs.Telling.{said, mark_by, said_each, mark_each}
 use Rattle.pgoutput_msgs.proofs.RecordedLemmas.{records_of_tables}
 use Rattle.test_subscriber.specs.Machine.{Machine}
 use Rattle.stream_laws.specs.Following.{own_key, Follows}
@@ -65,7 +65,7 @@ module _ (checked : CheckedOf) (transactions : List Transaction) (subscriber beg
   abbrev Tells : Option r.ChangeOf → Tables → List Bool → Machine → Type 0
   Tells mine after sent machine =
       Safe (Follows checked transactions subscriber) position (said checked.catalog.tables sent mine) machine
-      (λ at next. (at ≡ position) × Inside checked subscriber begin outer (told_by sent mine) after next)
+      (λ at next. (at ≡ position) × Inside checked subscriber begin outer (mark_by sent mine) after next)
 
   by_seen : (tables : Tables) (command : Command) → IsRight (setting_in checked) tables
       → fault_of (setting_in checked) tables command ≡ None
@@ -155,9 +155,9 @@ module _ (checked : CheckedOf) (transactions : List Transaction) (subscriber beg
       (said_each checked subscriber sent (record_of (setting_in checked) tables commands)) machine
       (λ at next. (at ≡ position)
       × Inside checked subscriber begin outer
-      (told_each checked subscriber sent (record_of (setting_in checked) tables commands))
+      (mark_each checked subscriber sent (record_of (setting_in checked) tables commands))
       (all_applied (setting_in checked) tables commands) next)
-  unfolding said_each told_each
+  unfolding said_each mark_each
   commands_safe [] tables number right h sent machine inside = (refl, inside)
   commands_safe (command ∷ commands) tables number right h sent machine inside =
       let setting = setting_in checked in
@@ -167,10 +167,10 @@ module _ (checked : CheckedOf) (transactions : List Transaction) (subscriber beg
       let later = record_of setting (applied setting tables command) commands in
       safe_both (Follows checked transactions subscriber)
       (λ at next. (at ≡ position)
-      × Inside checked subscriber begin outer (told_each checked subscriber (told_by sent mine) later)
+      × Inside checked subscriber begin outer (mark_each checked subscriber (mark_by sent mine) later)
       (all_applied setting (applied setting tables command) commands) next)
-      (Inside checked subscriber begin outer (told_by sent mine) (applied setting tables command))
-      position (said checked.catalog.tables sent mine) (said_each checked subscriber (told_by sent mine) later) machine
+      (Inside checked subscriber begin outer (mark_by sent mine) (applied setting tables command))
+      position (said checked.catalog.tables sent mine) (said_each checked subscriber (mark_by sent mine) later) machine
       (command_safe tables command right none.0 sent machine inside)
       (λ next reached. commands_safe commands (applied setting tables command) (number + 1)
-      (right_after checked keeps tables command none.0 right) none.1 (told_by sent mine) next reached)
+      (right_after checked keeps tables command none.0 right) none.1 (mark_by sent mine) next reached)

@@ -10,7 +10,7 @@ use Rattle.table_changes.specs.Tables.{Tables}
 use Rattle.shard_checker.specs.CheckedView.{CheckedOf, setting_in}
 use Rattle.tables_log.specs.Lsn.{commits_before}
 use Rattle.tables_log.specs.StandsFor.{Transaction, after}
-use Rattle.pgoutput_msgs.specs.Telling.{oid_of, relation_of, a_relation, introduced, relation_once, relations_of, told_one, told_all}
+use Rattle.pgoutput_msgs.specs.Telling.{oid_of, relation_of, a_relation, introduced, relation_once, relations_of, mark_one, mark_all}
 use Rattle.pgoutput_msgs.specs.declared.message.Msg.TheVariants as m
 use Rattle.test_subscriber.specs.Hearing.{with_found, hear_in}
 use Rattle.test_subscriber.specs.Machine.{Rows, Machine}
@@ -58,18 +58,18 @@ AllTold sent (number ∷ numbers) = (slice_index_or sent number false ≡ true) 
 
 -- a table that was announced stays announced
 stays_told_one : (sent : List Bool) (number other : ℕ) → number < length sent → slice_index_or sent other false ≡ true
-    → slice_index_or (told_one sent number) other false ≡ true
+    → slice_index_or (mark_one sent number) other false ≡ true
 stays_told_one sent number other less h = by_test (other == number)
-    (λ here. ap (λ n. slice_index_or (told_one sent number) n false) (eqb-true other number here)
+    (λ here. ap (λ n. slice_index_or (mark_one sent number) n false) (eqb-true other number here)
     ∙ told_same sent number less)
     (λ beside. told_other sent number other beside ∙ h)
 
 still_told_one : (sent : List Bool) (number other : ℕ) → slice_index_or sent number false ≡ true
-    → slice_index_or (told_one sent number) other false ≡ slice_index_or sent other false
+    → slice_index_or (mark_one sent number) other false ≡ slice_index_or sent other false
 still_told_one sent number other h = by_test (other == number)
     (λ here.
     let same : other ≡ number = eqb-true other number here in
-    ap (λ n. slice_index_or (told_one sent number) n false) same ∙ told_same sent number (within sent number h)
+    ap (λ n. slice_index_or (mark_one sent number) n false) same ∙ told_same sent number (within sent number h)
     ∙ sym h ∙ ap (λ n. slice_index_or sent n false) (sym same))
     (λ beside. told_other sent number other beside)
   where
@@ -80,26 +80,26 @@ still_told_one sent number other h = by_test (other == number)
 
 pub told_stays : (sent : List Bool) (numbers : List ℕ) (count other : ℕ) → length sent ≡ count
     → All (λ number. number < count) numbers
-    → slice_index_or sent other false ≡ true → slice_index_or (told_all sent numbers) other false ≡ true
-unfolding told_all
+    → slice_index_or sent other false ≡ true → slice_index_or (mark_all sent numbers) other false ≡ true
+unfolding mark_all
 told_stays sent [] count other long within h = h
 told_stays sent (number ∷ numbers) count other long within h =
-    told_stays (told_one sent number) numbers count other (length-set sent number true ∙ long)
+    told_stays (mark_one sent number) numbers count other (length-set sent number true ∙ long)
     (All-tail (λ n. n < count) number numbers within)
     (stays_told_one sent number other
     (subst (λ c. number < c) (sym long) (All-head (λ n. n < count) number numbers within)) h)
 
 pub all_are_told : (sent : List Bool) (numbers : List ℕ) (count : ℕ) → length sent ≡ count
-    → All (λ number. number < count) numbers → AllTold (told_all sent numbers) numbers
-unfolding told_all
+    → All (λ number. number < count) numbers → AllTold (mark_all sent numbers) numbers
+unfolding mark_all
 all_are_told sent [] count long within = tt
 all_are_told sent (number ∷ numbers) count long within =
     let less : number < length sent =
     subst (λ c. number < c) (sym long) (All-head (λ n. n < count) number numbers within) in
     let others = All-tail (λ n. n < count) number numbers within in (
-      told_stays (told_one sent number) numbers count number (length-set sent number true ∙ long) others
+      told_stays (mark_one sent number) numbers count number (length-set sent number true ∙ long) others
           (told_same sent number less),
-      all_are_told (told_one sent number) numbers count (length-set sent number true ∙ long) others,
+      all_are_told (mark_one sent number) numbers count (length-set sent number true ∙ long) others,
     )
 
 -- ---- within one transaction
@@ -116,13 +116,13 @@ module _ (checked : CheckedOf) (transactions : List Transaction) (subscriber beg
       → slice_get checked.catalog.tables number ≡ found → number < length sent
       → Inside checked subscriber begin outer sent tables machine
       → Safe (Follows checked transactions subscriber) position (a_relation number found) machine
-      (λ at next. (at ≡ position) × Inside checked subscriber begin outer (told_one sent number) tables next)
+      (λ at next. (at ≡ position) × Inside checked subscriber begin outer (mark_one sent number) tables next)
   new_relation sent number None machine e less inside =
       absurd (let past = past_end checked.catalog.tables number e in omega (arith, past, less, inside.knows.flags))
   new_relation sent number (Some table) machine e less inside =
       let learnt = learns checked sent machine number table e less inside.knows inside.relations in
       safe_heard (Follows checked transactions subscriber)
-      (λ at next. (at ≡ position) × Inside checked subscriber begin outer (told_one sent number) tables next)
+      (λ at next. (at ≡ position) × Inside checked subscriber begin outer (mark_one sent number) tables next)
       position (m.Relation (relation_of number table)) [] machine learnt.next (good sent machine inside)
       (ap (λ phase. hear_in phase (m.Relation (relation_of number table)) machine) inside.busy ∙ learnt.heard) (
         refl,
@@ -142,7 +142,7 @@ module _ (checked : CheckedOf) (transactions : List Transaction) (subscriber beg
   -- a table that was announced before
   no_relation : (sent : List Bool) (number : ℕ) (machine : Machine) → slice_index_or sent number false ≡ true
       → Inside checked subscriber begin outer sent tables machine
-      → Inside checked subscriber begin outer (told_one sent number) tables machine
+      → Inside checked subscriber begin outer (mark_one sent number) tables machine
   no_relation sent number machine flag inside = record {
     busy = inside.busy;
     position = inside.position;
@@ -161,7 +161,7 @@ module _ (checked : CheckedOf) (transactions : List Transaction) (subscriber beg
       → slice_index_or sent number false ≡ flag → number < length sent
       → Inside checked subscriber begin outer sent tables machine
       → Safe (Follows checked transactions subscriber) position (introduced checked.catalog.tables flag number) machine
-      (λ at next. (at ≡ position) × Inside checked subscriber begin outer (told_one sent number) tables next)
+      (λ at next. (at ≡ position) × Inside checked subscriber begin outer (mark_one sent number) tables next)
   one_relation sent number machine true e less inside = (refl, no_relation sent number machine e inside)
   one_relation sent number machine false e less inside =
       new_relation sent number (slice_get checked.catalog.tables number) machine refl less inside
@@ -171,8 +171,8 @@ module _ (checked : CheckedOf) (transactions : List Transaction) (subscriber beg
       → Inside checked subscriber begin outer sent tables machine
       → Safe (Follows checked transactions subscriber) position (relations_of checked.catalog.tables sent numbers)
       machine
-      (λ at next. (at ≡ position) × Inside checked subscriber begin outer (told_all sent numbers) tables next)
-  unfolding relations_of relation_once told_all
+      (λ at next. (at ≡ position) × Inside checked subscriber begin outer (mark_all sent numbers) tables next)
+  unfolding relations_of relation_once mark_all
   relations_safe [] sent machine within inside = (refl, inside)
   relations_safe (number ∷ numbers) sent machine within inside =
       let less : number < length sent =
@@ -180,12 +180,12 @@ module _ (checked : CheckedOf) (transactions : List Transaction) (subscriber beg
       (All-head (λ n. n < length checked.catalog.tables) number numbers within) in
       safe_both (Follows checked transactions subscriber)
       (λ at next. (at ≡ position)
-      × Inside checked subscriber begin outer (told_all (told_one sent number) numbers) tables next)
-      (Inside checked subscriber begin outer (told_one sent number) tables)
+      × Inside checked subscriber begin outer (mark_all (mark_one sent number) numbers) tables next)
+      (Inside checked subscriber begin outer (mark_one sent number) tables)
       position (introduced checked.catalog.tables (slice_index_or sent number false) number)
-      (relations_of checked.catalog.tables (told_one sent number) numbers) machine
+      (relations_of checked.catalog.tables (mark_one sent number) numbers) machine
       (one_relation sent number machine (slice_index_or sent number false) refl less inside)
-      (λ next reached. relations_safe numbers (told_one sent number) next
+      (λ next reached. relations_safe numbers (mark_one sent number) next
       (All-tail (λ n. n < length checked.catalog.tables) number numbers within) reached)
 
 -- ---- what is staged

@@ -33,7 +33,7 @@ use Rattle.pgoutput_msgs.specs.Introducing.{IsChangeOf}
 use Rattle.pgoutput_msgs.specs.Ranges.{HasTexts, HasTextName}
 use Rattle.pgoutput_msgs.specs.Sent.{IsSent}
 use Rattle.pgoutput_msgs.specs.Telling as t
-use Rattle.pgoutput_msgs.specs.Telling.{sent_column, columns_from, relation_of, a_relation, introduced, relation_once, relations_of, told_one, told_by, message_of, named_in, said, said_each, enclosed, messages_for}
+use Rattle.pgoutput_msgs.specs.Telling.{sent_column, columns_from, relation_of, a_relation, introduced, relation_once, relations_of, mark_one, mark_by, message_of, named_in, said, said_each, enclosed, messages_for}
 use Rattle.pgoutput_msgs.specs.ValueText.{cells_of}
 use Rattle.pgoutput_msgs.specs.declared.message.Msg.{Msg}
 use Rattle.pgoutput_msgs.specs.declared.message.Msg.TheVariants as m
@@ -237,8 +237,8 @@ module _ (checked : CheckedOf) (limited : IsLimited checked.catalog) where
   relations_text sent [] = All-nil HasTexts
   relations_text sent (number ∷ numbers) =
       All-append HasTexts (introduced checked.catalog.tables (slice_index_or sent number false) number)
-      (relations_of checked.catalog.tables (told_one sent number) numbers)
-      (once_text (slice_index_or sent number false) number) (relations_text (told_one sent number) numbers)
+      (relations_of checked.catalog.tables (mark_one sent number) numbers)
+      (once_text (slice_index_or sent number false) number) (relations_text (mark_one sent number) numbers)
 
   -- what is sent of a change, if its own message is a text
   change_text : (sent : List Bool) (change : Option r.ChangeOf) → IfSome change (λ one. All HasTexts (message_of one))
@@ -345,14 +345,14 @@ module _ (checked : CheckedOf) (limited : IsLimited checked.catalog) where
         (first_fault setting (applied setting tables command) (number + 1) commands) h in
         let mine = got setting subscriber (change_of setting tables command) in
         All-append HasTexts (said checked.catalog.tables sent mine)
-        (said_each checked subscriber (told_by sent mine)
+        (said_each checked subscriber (mark_by sent mine)
         (record_of setting (applied setting tables command) commands))
         (change_text sent mine
         (subst (λ one. IfSome one (λ change. All HasTexts (message_of change)))
         (sym (shows checked covered subscriber tables command none.0))
         (seen_told tables command none.0 so)))
         (all_told commands (applied setting tables command) (number + 1) none.1 (said_after tables command none.0 so)
-        (told_by sent mine))
+        (mark_by sent mine))
 
     enclosed_text : (commit : CommitOf) (messages : List Msg) → All HasTexts messages
         → All HasTexts (enclosed commit messages)

@@ -14,7 +14,7 @@ use Rattle.filter_tree.specs.declared.table.Column.{Column}
 use Rattle.filter_tree.specs.declared.table.Table.{Table}
 use Rattle.shard_checker.specs.CheckedView.{CheckedOf}
 use Rattle.pgoutput_msgs.specs.ReadBack as back
-use Rattle.pgoutput_msgs.specs.Telling.{oid_of, type_oid_of, columns_from, relation_of, told_one}
+use Rattle.pgoutput_msgs.specs.Telling.{oid_of, type_oid_of, columns_from, relation_of, mark_one}
 use Rattle.pgoutput_msgs.specs.declared.relation.Relation.{Relation}
 use Rattle.pgoutput_msgs.specs.declared.relation.RelationColumn.{RelationColumn}
 use Rattle.pgoutput_msgs.specs.declared.relation.ReplicaIdentity.{ReplicaIdentity}
@@ -104,11 +104,11 @@ oid_differs one other h = by_test (oid_of one == oid_of other)
     (λ differ. differ)
 
 pub told_same : (sent : List Bool) (number : ℕ) → number < length sent
-    → slice_index_or (told_one sent number) number false ≡ true
+    → slice_index_or (mark_one sent number) number false ≡ true
 told_same sent number less = get_or-set_same sent number true false less
 
 pub told_other : (sent : List Bool) (number other : ℕ) → (other == number) ≡ false
-    → slice_index_or (told_one sent number) other false ≡ slice_index_or sent other false
+    → slice_index_or (mark_one sent number) other false ≡ slice_index_or sent other false
 told_other sent number other h = get_or-set_other sent number other true false
     (λ same. let here : (other == number) ≡ true = (unsigned_Decides other number).1 same in absurd cc)
 
@@ -128,7 +128,7 @@ pub record Learns (checked : CheckedOf) (sent : List Bool) (old : Machine) (rela
 knows_more : (checked : CheckedOf) (sent : List Bool) (machine next : Machine) (number : ℕ) → number < length sent
     → Knows checked sent machine
     → next.known ≡ knows machine (oid_of number) → (other : ℕ)
-    → next.known (oid_of other) ≡ slice_index_or (told_one sent number) other false
+    → next.known (oid_of other) ≡ slice_index_or (mark_one sent number) other false
 knows_more checked sent machine next number less known is other = ap (λ (f : ℕ → Bool). f (oid_of other)) is
     ∙ by_test (other == number)
     (λ here.
@@ -136,7 +136,7 @@ knows_more checked sent machine next number less known is other = ap (λ (f : �
     let oids : (oid_of other == oid_of number) ≡ true =
     (unsigned_Decides (oid_of other) (oid_of number)).1 (ap oid_of same) in
     ap (λ b. b || machine.known (oid_of other)) oids ∙ sym (told_same sent number less)
-    ∙ ap (λ n. slice_index_or (told_one sent number) n false) (sym same))
+    ∙ ap (λ n. slice_index_or (mark_one sent number) n false) (sym same))
     (λ beside. ap (λ b. b || machine.known (oid_of other)) (oid_differs other number beside) ∙ known.known other
     ∙ sym (told_other sent number other beside))
 
@@ -144,19 +144,19 @@ shape_is : (one other : TableShape) → Some one ≡ Some other → one ≡ othe
 shape_is one other h = cc
 
 same_flags : (checked : CheckedOf) (sent : List Bool) (number : ℕ) → length sent ≡ length checked.catalog.tables
-    → length (told_one sent number) ≡ length checked.catalog.tables
+    → length (mark_one sent number) ≡ length checked.catalog.tables
 same_flags checked sent number h = length-set sent number true ∙ h
 
 pub learns : (checked : CheckedOf) (sent : List Bool) (machine : Machine) (number : ℕ) (table : Table)
     → slice_get checked.catalog.tables number ≡ Some table → number < length sent
     → Knows checked sent machine → KeepsRelations checked machine
-    → Learns checked (told_one sent number) machine (relation_of number table)
+    → Learns checked (mark_one sent number) machine (relation_of number table)
 learns checked sent machine number table there less known keeps_all = by_kept (machine.kept (oid_of number)) refl
   where
     kept_after : (next : Machine) → next.kept (oid_of number) ≡ Some (shape_for number table)
         → ((other : ℕ) → (other == number) ≡ false → next.kept (oid_of other) ≡ machine.kept (oid_of other))
         → (other : ℕ) (another : Table) → slice_get checked.catalog.tables other ≡ Some another
-        → slice_index_or (told_one sent number) other false ≡ true
+        → slice_index_or (mark_one sent number) other false ≡ true
         → next.kept (oid_of other) ≡ Some (shape_for other another)
     kept_after next here elsewhere other another at flag = by_test (other == number)
         (λ same.
@@ -183,7 +183,7 @@ learns checked sent machine number table there less known keeps_all = by_kept (m
         (λ beside. keeps_all other another shape at (sym (elsewhere other beside) ∙ h))
 
     by_kept : (found : Option TableShape) → machine.kept (oid_of number) ≡ found
-        → Learns checked (told_one sent number) machine (relation_of number table)
+        → Learns checked (mark_one sent number) machine (relation_of number table)
     by_kept None e =
         let next : Machine = learned (oid_of number) (shape_for number table) machine in
         let here : next.kept (oid_of number) ≡ Some (shape_for number table) =

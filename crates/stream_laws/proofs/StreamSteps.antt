@@ -12,7 +12,7 @@ use Rattle.tables_log.specs.Commits as log
 use Rattle.tables_log.specs.Commits.{CommitOf}
 use Rattle.tables_log.specs.Lsn.{lsn_of, end_lsn_of, commits_before}
 use Rattle.tables_log.specs.StandsFor.{Transaction, left_by, after}
-use Rattle.pgoutput_msgs.specs.Telling.{begin_msg, commit_msg, enclosed, messages_for, oid_of, said_each, told_each}
+use Rattle.pgoutput_msgs.specs.Telling.{begin_msg, commit_msg, enclosed, messages_for, oid_of, said_each, mark_each}
 use Rattle.pgoutput_msgs.specs.declared.message.Msg.{Msg}
 use Rattle.copy_both.specs.Streams.{StreamStateOf, state_after}
 use Rattle.copy_both.specs.Tellings.{telling_of}
@@ -111,7 +111,7 @@ module _ (checked : CheckedOf) (transactions : List Transaction) (published : Is
       ≡ left_by (setting_in checked) (after (setting_in checked) (take state.done transactions)) transaction
       → (next : Machine)
       → Inside checked state.slot (lsn_of (1 + state.done)) machine
-      (told_each checked state.slot state.relation_sent
+      (mark_each checked state.slot state.relation_sent
       (record_of (setting_in checked) (after (setting_in checked) (take state.done transactions))
       transaction.commands))
       (left_by (setting_in checked) (after (setting_in checked) (take state.done transactions)) transaction) next
@@ -155,7 +155,7 @@ module _ (checked : CheckedOf) (transactions : List Transaction) (published : Is
       → after (setting_in checked) (take (suc state.done) transactions)
       ≡ left_by (setting_in checked) (after (setting_in checked) (take state.done transactions)) transaction
       → Inside checked state.slot (lsn_of (1 + state.done)) machine
-      (told_each checked state.slot state.relation_sent
+      (mark_each checked state.slot state.relation_sent
       (record_of (setting_in checked) (after (setting_in checked) (take state.done transactions))
       transaction.commands))
       (left_by (setting_in checked) (after (setting_in checked) (take state.done transactions)) transaction)
@@ -207,7 +207,7 @@ module _ (checked : CheckedOf) (transactions : List Transaction) (published : Is
       → (said : List Msg)
       → Safe (Follows checked transactions state.slot) position said (begun (lsn_of (1 + state.done)) machine)
       (λ at next. (at ≡ position) × Inside checked state.slot (lsn_of (1 + state.done)) machine
-      (told_each checked state.slot state.relation_sent
+      (mark_each checked state.slot state.relation_sent
       (record_of (setting_in checked) (after (setting_in checked) (take state.done transactions))
       transaction.commands))
       (left_by (setting_in checked) (after (setting_in checked) (take state.done transactions)) transaction) next)
@@ -228,7 +228,7 @@ module _ (checked : CheckedOf) (transactions : List Transaction) (published : Is
       (safe_both (Follows checked transactions state.slot)
       (Between checked transactions (state_after (telling_of checked) state (next_commit state transaction)))
       (Inside checked state.slot (lsn_of (1 + state.done)) machine
-      (told_each checked state.slot state.relation_sent
+      (mark_each checked state.slot state.relation_sent
       (record_of (setting_in checked) (after (setting_in checked) (take state.done transactions))
       transaction.commands))
       (left_by (setting_in checked) (after (setting_in checked) (take state.done transactions)) transaction))

@@ -12,7 +12,7 @@ use Rattle.table_changes.specs.Seen.{seen_tables}
 use Rattle.table_changes.specs.Tables.{Tables}
 use Rattle.shard_checker.specs.CheckedView.{CheckedOf, setting_in}
 use Rattle.tables_log.specs.StandsFor.{Transaction}
-use Rattle.pgoutput_msgs.specs.Telling.{oid_of, relations_of, told_all, said, told_by}
+use Rattle.pgoutput_msgs.specs.Telling.{oid_of, relations_of, mark_all, said, mark_by}
 use Rattle.pgoutput_msgs.specs.declared.message.Msg.TheVariants as m
 use Rattle.test_subscriber.specs.Hearing.{with_found, without_rows, hear_empty, empty_rest, hear_truncate, hear_in}
 use Rattle.test_subscriber.specs.Machine.{Machine}
@@ -120,8 +120,8 @@ module _ (checked : CheckedOf) (transactions : List Transaction) (subscriber beg
       machine
       (λ at next. (at ≡ position)
       × Inside checked subscriber begin outer
-      (told_by sent (option_map (as_recorded (setting_in checked)) (seen_tables numbers))) after next)
-  unfolding said told_by
+      (mark_by sent (option_map (as_recorded (setting_in checked)) (seen_tables numbers))) after next)
+  unfolding said mark_by
   truncate_safe [] within clears sent machine inside = (
     refl,
     record {
@@ -136,21 +136,21 @@ module _ (checked : CheckedOf) (transactions : List Transaction) (subscriber beg
   truncate_safe (number ∷ numbers) within clears sent machine inside =
       safe_both (Follows checked transactions subscriber)
       (λ at next. (at ≡ position)
-      × Inside checked subscriber begin outer (told_all sent (number ∷ numbers)) after next)
-      (Inside checked subscriber begin outer (told_all sent (number ∷ numbers)) before) position
+      × Inside checked subscriber begin outer (mark_all sent (number ∷ numbers)) after next)
+      (Inside checked subscriber begin outer (mark_all sent (number ∷ numbers)) before) position
       (relations_of checked.catalog.tables sent (number ∷ numbers))
       (m.Truncate 0 (map oid_of (number ∷ numbers)) ∷ []) machine
       (relations_safe checked transactions subscriber begin position outer follows before (number ∷ numbers) sent
       machine within inside)
       (λ next reached.
       let flags = all_are_told sent (number ∷ numbers) (length checked.catalog.tables) inside.knows.flags within in
-      let emptied_all = empties checked (told_all sent (number ∷ numbers)) (number ∷ numbers) next within
+      let emptied_all = empties checked (mark_all sent (number ∷ numbers)) (number ∷ numbers) next within
       reached.knows.known reached.knows.kept flags in
       safe_heard (Follows checked transactions subscriber)
       (λ at last. (at ≡ position)
-      × Inside checked subscriber begin outer (told_all sent (number ∷ numbers)) after last)
+      × Inside checked subscriber begin outer (mark_all sent (number ∷ numbers)) after last)
       position (m.Truncate 0 (map oid_of (number ∷ numbers))) [] next emptied_all.next
-      (good checked transactions subscriber begin position outer follows before (told_all sent (number ∷ numbers))
+      (good checked transactions subscriber begin position outer follows before (mark_all sent (number ∷ numbers))
       next reached)
       (ap (λ phase. hear_in phase (m.Truncate 0 (map oid_of (number ∷ numbers))) next) reached.busy
       ∙ emptied_all.heard) (

@@ -31,7 +31,7 @@ returns-clause-ok c =
     let fields : severities ++ (code ++ ((0 ∷ 77 ∷ []) ++ (before ++ (name ++ (after ++ (0 ∷ 0 ∷ []))))))
     ≡ error_fields (code_of (refusal_view c.args.refusal.now)) text =
     fields_are code before name after ∙ ap (error_fields code) c.words-words.ensures.text
-    ∙ ap (λ told. error_fields told text) c.code-code.ensures.code in
+    ∙ ap (λ sent. error_fields sent text) c.code-code.ensures.code in
     let same : size ≡ length (error_fields (code_of (refusal_view c.args.refusal.now)) text) + 4 =
     omega (
       arith,

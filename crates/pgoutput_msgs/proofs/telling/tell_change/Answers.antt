@@ -6,7 +6,7 @@ use Rattle.shard_checker.specs.CheckedView.{CheckedOf, checked_view, setting_in}
 use Rattle.table_changes.specs.Outs as o
 use Rattle.table_changes.specs.Outs.{got}
 use Rattle.table_changes.specs.Records as r
-use Rattle.pgoutput_msgs.specs.Telling.{told_by}
+use Rattle.pgoutput_msgs.specs.Telling.{mark_by}
 use Rattle.pgoutput_msgs.proofs.Everywhere.{is_sendable}
 use Rattle.pgoutput_msgs.proofs.SinkLemmas.{said_of, nothing_taken}
 use Rattle.pgoutput_msgs.proofs.TellingLemmas.{got_none, got_truncate, nothing_told}
@@ -43,4 +43,4 @@ returns-in-None-clause-relation_sent g c =
     let own : plan ≡ checked.plan = search rules in
     let out : None ≡ out_for plan c.args.subscriber change = search rules in
     nothing_told c.args.relation_sent.now
-    ∙ ap (told_by c.args.relation_sent.now) (sym (got_none checked c.args.subscriber change plan own out))
+    ∙ ap (mark_by c.args.relation_sent.now) (sym (got_none checked c.args.subscriber change plan own out))

@@ -6,7 +6,7 @@ use Rattle.copy_both.specs.Ears.{ear_phase, HearLeaves}
 use Rattle.copy_both.specs.ConnectionStates.{said_state}
 use Rattle.copy_both.specs.Hearing.{HeardOf}
 use Rattle.copy_both.specs.Links.{SendsFirst, frames_by, frames_said, link_heard, link_ear, link_sent, link_stage, link_checked, stage_by}
-use Rattle.copy_both.specs.Sessions.{heard_view, told_hearing}
+use Rattle.copy_both.specs.Sessions.{heard_view, reported_hearing}
 use Rattle.copy_both.specs.Voices.{Sends, voice_stage}
 use Rattle.copy_both.specs.declared.heard.Heard.{Heard}
 use Rattle.copy_both.specs.declared.link_fault.LinkFault.{LinkFault}
@@ -61,7 +61,7 @@ returns-in-Err-answer_heard-clause-left c =
     (subst (λ (n : ℕ). Left n fault.OutOfMemory) sent
     (unsaid (ear_phase (link_ear link)) (link_ear link) c.listen.new.self c.close-in-Err-answer_heard.new.self
     c.args.book.now c.listen.new.book
-    c.args.piece.now c.unwrap_or-sent.result (told_hearing c.in-Ok.heard) c.in-Ok.ensures.answer c.in-Ok.ensures.left
+    c.args.piece.now c.unwrap_or-sent.result (reported_hearing c.in-Ok.heard) c.in-Ok.ensures.answer c.in-Ok.ensures.left
     c.close-in-Err-answer_heard.ensures))
 
 pub invariant_of-self : goal.invariant_of-self
