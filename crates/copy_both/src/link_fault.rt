@@ -17,7 +17,7 @@ pub enum LinkFault {
     #[error("the length of a frame is less than 4, or that of a status is not 34")]
     BadLength,
     /// A client may not send a frame of this kind, or a CopyData with this first byte, while a stream runs.
-    #[error("a client can't send a frame or data of kind {0} while a stream runs")]
+    #[error("a client cannot send a frame or data of kind {0} during a stream")]
     Unexpected(u8),
     /// The start is refused with an ErrorResponse with this code.
     #[error("the start is refused: {0:?}")]

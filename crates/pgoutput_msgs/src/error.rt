@@ -13,16 +13,16 @@ use thiserror::Error;
 pub enum MsgError {
     /// This byte may not be here: it is not one of the letters of messages, of rows and of replica identities, of the
     /// kinds of a column's value, or of flags.
-    #[error("a message can't have the byte {0} here")]
+    #[error("a message cannot have the byte {0} here")]
     Unknown(u8),
     /// A value was not sent, because it is stored out of line and did not change (`u`).
-    #[error("a value of the message was left out, since it did not change")]
+    #[error("the message does not contain a value that did not change")]
     Toast,
     /// A count or a length is negative.
     #[error("a count or a length in the message is negative")]
     BadCount,
     /// The bytes end before the message does.
-    #[error("the message is not whole")]
+    #[error("the message is incomplete")]
     Short,
     /// A name or a text is not UTF-8.
     #[error("a text in the message is not UTF-8")]

@@ -24,14 +24,14 @@ pub enum Operation {
 #[derive(Clone, Copy, Debug, PartialEq, Eq, Error)]
 pub enum CheckError {
     /// A subscription names the publication, which does not publish the operation.
-    #[error("publication {publication} is taken, but does not publish {operation}")]
+    #[error("publication {publication} has a subscription, but does not publish {operation}")]
     PublishMissing {
         publication: usize,
         operation: Operation,
     },
     /// The table's replica identity does not distinguish its rows: it is NOTHING, or a unique index that the table does
     /// not have or that has a column which may be null. No catalog that `read_catalog` returns has such an index.
-    #[error("the replica identity of table {table} does not tell its rows apart")]
+    #[error("the replica identity of table {table} does not identify its rows")]
     NoIdentity {
         table: usize,
     },
@@ -65,13 +65,13 @@ pub enum CheckError {
         node: usize,
     },
     /// The subscriber that the node names might not take the rows.
-    #[error("at node {node} of the certificate of table {table} the subscriber may not take the row")]
+    #[error("at node {node} of the certificate of table {table} the subscriber might not take the row")]
     NotOwner {
         table: usize,
         node: usize,
     },
     /// Another subscriber might take the rows of the one that the node names.
-    #[error("at node {node} of the certificate of table {table} subscriber {subscriber} may take the row too")]
+    #[error("at node {node} of the certificate of table {table} subscriber {subscriber} might take the row too")]
     SecondOwner {
         table: usize,
         node: usize,

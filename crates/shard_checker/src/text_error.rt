@@ -11,7 +11,7 @@ use thiserror::Error;
 #[derive(Clone, Copy, Debug, PartialEq, Eq, Error)]
 pub enum TextError {
     /// The text of this line, counted from 1, is not a certificate.
-    #[error("line {0} is no certificate: {1}")]
+    #[error("line {0} is not a certificate: {1}")]
     Text(usize, CertError),
     /// All texts are certificates, and the sharding is refused.
     #[error("{0}")]

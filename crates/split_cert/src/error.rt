@@ -11,13 +11,13 @@ use thiserror::Error;
 #[derive(Clone, Copy, Debug, PartialEq, Eq, Error)]
 pub enum CertError {
     /// A word or a space that does not fit begins here.
-    #[error("this is no word of a certificate, at byte {0}")]
+    #[error("syntax error in the certificate, at byte {0}")]
     BadToken(usize),
     /// The text ends where a word or a space is expected.
-    #[error("the certificate is not whole")]
+    #[error("the certificate is incomplete")]
     Ended,
     /// The certificate ends here, and something comes after it.
-    #[error("something comes after the certificate, at byte {0}")]
+    #[error("there is text after the certificate, at byte {0}")]
     Trailing(usize),
     /// There are more than 1,000,000 nodes.
     #[error("the certificate has more than 1,000,000 nodes")]

@@ -15,37 +15,37 @@ pub struct ReadError {
 /// What is wrong with a text.
 #[derive(Clone, Copy, Debug, Error)]
 pub enum ErrorKind {
-    #[error("this is no token of SQL")]
+    #[error("invalid token")]
     BadToken,
     #[error("expected {0}")]
     Expected(&'static str),
     #[error("a name has more than 63 bytes")]
     NameTooLong,
-    #[error("this name was not made before")]
+    #[error("this name does not exist")]
     UnknownName,
-    #[error("this name is taken, or comes twice in a list")]
+    #[error("this name already exists, or is repeated in a list")]
     NameTwice,
-    #[error("lists of columns are not read after a table of a publication")]
+    #[error("column lists of publications are not supported")]
     ColumnList,
-    #[error("{0} is left out here")]
+    #[error("{0} is not supported here")]
     LeftOut(Omitted),
-    #[error("the types of the operands do not fit")]
+    #[error("the types of the operands do not match")]
     TypeClash,
-    #[error("a number is above 9223372036854775807")]
+    #[error("a number is greater than 9223372036854775807")]
     NumberTooLarge,
     #[error("the divisor is 0")]
     ZeroDivisor,
-    #[error("parentheses and NOT nest deeper than 64")]
+    #[error("parentheses and NOT are nested more than 64 levels deep")]
     TooDeep,
-    #[error("there are more {0} than are read")]
+    #[error("there are too many {0}")]
     TooMany(Limit),
     #[error("this table has no primary key")]
     NoKey,
-    #[error("this table comes twice in the publication, once with a filter")]
+    #[error("this table is in the publication twice, once with a filter")]
     TableTwice,
     #[error("out of memory")]
     OutOfMemory,
-    #[error("a column of this index may be null, so that it identifies no row")]
+    #[error("this index cannot be used as replica identity, because a column of it may be null")]
     NullableIndex,
 }
 
@@ -62,9 +62,9 @@ pub enum Omitted {
     StringForm,
     #[error("a cast")]
     Cast,
-    #[error("a quoted literal beside a number or a truth value")]
+    #[error("a quoted literal beside a number or a Boolean value")]
     Literal,
-    #[error("an order of texts or truth values")]
+    #[error("an ordering of texts or Boolean values")]
     Order,
     #[error("a condition on constants alone")]
     Constant,
@@ -83,25 +83,25 @@ pub enum Omitted {
 /// Things of which a catalog or a script may have only a limited number.
 #[derive(Clone, Copy, Debug, PartialEq, Eq, Error)]
 pub enum Limit {
-    #[error("tables (64)")]
+    #[error("tables (at most 64)")]
     Tables,
-    #[error("columns of a table (100)")]
+    #[error("columns of a table (at most 100)")]
     Columns,
-    #[error("publications (64)")]
+    #[error("publications (at most 64)")]
     Publications,
-    #[error("subscriptions (32)")]
+    #[error("subscriptions (at most 32)")]
     Subscriptions,
-    #[error("different atoms in the filters of a table (64)")]
+    #[error("different atoms in the filters of a table (at most 64)")]
     Atoms,
-    #[error("parts in the filters of a table (1,000)")]
+    #[error("parts in the filters of a table (at most 1,000)")]
     Nodes,
-    #[error("bytes in a string (65,535)")]
+    #[error("bytes in a string (at most 65,535)")]
     LiteralBytes,
-    #[error("steps (100,000)")]
+    #[error("steps (at most 100,000)")]
     Steps,
-    #[error("unique indexes of a table (8)")]
+    #[error("unique indexes of a table (at most 8)")]
     Indexes,
-    #[error("entries of an IN list (100)")]
+    #[error("entries of an IN list (at most 100)")]
     InList,
 }
 

@@ -13,7 +13,7 @@ pub enum CommandFault {
     #[error("there is no such table")]
     NoTable,
     /// The row doesn't fit its table.
-    #[error("the row doesn't fit its table: {0}")]
+    #[error("the row does not fit its table: {0}")]
     Row(RowFault),
     /// No row of the table has this primary key.
     #[error("no row of the table has this key")]

@@ -19,14 +19,14 @@ pub enum SubFault {
     Msg(MsgError),
     /// A frame or a message that can't come here: a change outside a transaction, a transaction within another, a
     /// Commit with another LSN than its Begin, or a Relation other than the one that was kept for its OID.
-    #[error("a frame or a message came where it can't come")]
+    #[error("unexpected frame or message")]
     OutOfPlace,
     /// A change of the table with this OID, whose Relation did not come on this connection.
-    #[error("no Relation came on this connection for the OID {0}")]
+    #[error("no Relation message was received on this connection for the OID {0}")]
     NoRelation(u32),
     /// A value that is not of its column's type, a row of another width, or a type other than the five types of
     /// columns.
-    #[error("a value is none of its column's type")]
+    #[error("a value is not of its column's type")]
     BadValue,
     /// A new row has the values of another row in the columns of the replica identity.
     #[error("another row has the same values in the columns of the replica identity")]
