@@ -7,7 +7,7 @@ use Rattle.std.specs.Option.{option_map}
 use Rattle.filter_tree.specs.Expr.{Expr}
 use Rattle.pub_catalog.specs.Catalogs.{CatalogOf}
 use Rattle.pub_reader.specs.Statements.{catalog_by}
-use Rattle.publisher_desk.specs.declared.note.Note.{Note}
+use Rattle.publisher_desk.specs.Seats.{SeatOf, empty_seat}
 use Rattle.senders.specs.CloseCauses.{RefusedClose}
 use Rattle.senders.specs.Closing.{IsClosed}
 use Rattle.senders.specs.declared.close_error.CloseError.{CloseError}
@@ -34,22 +34,22 @@ use Rattle.commands.specs.declared.failure.Status.TheVariants.{Done, Refused}
 use Rattle.cli.specs.Connections.{WasServed}
 use Rattle.cli.specs.Lines.{LineParts, ended_lines, parts_of}
 use Rattle.cli.specs.Serving.{IsRefusal}
-use Rattle.cli.specs.Talks.{AreAnswered, AreLastFor, AreNotes, Conversation}
+use Rattle.cli.specs.Talks.{AreAnswered, AreLastFor, Conversation, IsSeatOf}
 use Rattle.cli.specs.Telling.{closed_line, first_lines, name_of}
 use Rattle.cli.specs.declared.publish.door.Door.{Door}
 use Rattle.cli.specs.declared.requests.Feed.{Feed}
 
 -- ---- how it ends
 
-module _ (checked : CheckedOf) (limit : ℕ) (notes : List Note) where
-  -- The last line: the publisher was closed with the session's seat, one of 1,000, which has these notes, and with the
-  -- results of the connections, each of which was served to its end; or why it was not.
+module _ (checked : CheckedOf) (limit : ℕ) (seat : SeatOf) where
+  -- The last line: the publisher was closed with the session's seat, one of 1,000, and with the results of the
+  -- connections, each of which was served to its end; or why it was not.
   pub data IsLastLine : List ℕ → Status → Type 0 where
     Closed : (served : List Served) (book : Book) → All (WasServed checked) served
-        → IsClosed checked limit (notes ∷ []) served book
+        → IsClosed checked limit (seat ∷ []) served book
         → IsLastLine (closed_line (length (book_log book)) (length served)) Done
     Differs : (served : List Served) (error : CloseError) (name : List ℕ) → All (WasServed checked) served
-        → RefusedClose checked limit 1000 999 (notes ∷ []) served error → name_of error ≡ Some name
+        → RefusedClose checked limit 1000 999 (seat ∷ []) served error → name_of error ≡ Some name
         → IsLastLine (codes "close " ++ name) Refused
 
   -- whatever name the error has, the line with it is a last line
@@ -86,9 +86,9 @@ callers_at door = option_map (λ door. door.port) door
 pub record IsTalk (catalog : CatalogOf Expr) (limit : ℕ) (commands answers : List (List ℕ)) : Type 0 where
   pub said : List (List ℕ)
   pub unsaid : List (List ℕ)
-  pub notes : List Note
+  pub own : SeatOf
   pub first : commands ≡ said ++ unsaid
-  pub answered : AreAnswered (checked_by catalog) limit [] said answers notes
+  pub answered : AreAnswered (checked_by catalog) limit empty_seat said answers own
 
 -- Why lines of commands are not answered: there are none, the first is `QUIT;`, or the reader may fail.
 pub data AreUnanswered (may_fail : Bool) : List (List ℕ) → Type 0 where
@@ -101,18 +101,17 @@ abbrev pub AreUnansweredFor : Option ℕ → Bool → List (List ℕ) → Type 0
 AreUnansweredFor None may_fail lines = AreUnanswered may_fail lines
 AreUnansweredFor (Some port) may_fail lines = Unit {0}
 
--- That it listens, and those answers. If commands come from callers, it is their lines of which the session keeps
--- notes.
+-- That it listens, and those answers. If commands come from callers, the session's seat is that of their lines.
 pub record HasToldFirst (feed : Feed) (catalog : CatalogOf Expr) (commands : List (List ℕ)) (lines : List (List ℕ)) :
     Type 0 where
   pub port : ℕ
   pub callers : Option ℕ
   pub answers : List (List ℕ)
-  pub notes : List Note
+  pub seat : SeatOf
   pub port_is : IsPortFor feed.port port
   pub callers_are : AreCallersAt feed.commands callers
   pub talk : IsTalk catalog feed.limit commands answers
-  pub notes_are : AreNotes (checked_by catalog) feed.limit [] callers answers talk.notes notes
+  pub seat_is : IsSeatOf (checked_by catalog) feed.limit empty_seat callers answers talk.own seat
   pub are : lines ≡ first_lines port callers ++ answers
 
 -- the answers to all lines of commands, and a last line
@@ -122,7 +121,7 @@ pub record HasTold (may_fail : Bool) (feed : Feed) (catalog : CatalogOf Expr) (c
   pub line : List ℕ
   pub first : HasToldFirst feed catalog commands earlier
   pub unanswered : AreUnansweredFor first.callers may_fail first.talk.unsaid
-  pub last : IsLastLine (checked_by catalog) feed.limit first.notes line status
+  pub last : IsLastLine (checked_by catalog) feed.limit first.seat line status
   pub are : lines ≡ earlier ++ line ∷ []
 
 -- ---- what is answered
@@ -198,12 +197,12 @@ module _ (feed : Feed) (checked : CheckedOf) (before after : Option (List ℕ)) 
     pub port : ℕ
     pub callers : Option ℕ
     pub answers : List (List ℕ)
-    pub own : List Note
-    pub notes : List Note
+    pub own : SeatOf
+    pub seat : SeatOf
     pub port_is : IsPortFor feed.port port
     pub callers_are : AreCallersAt feed.commands callers
-    pub conversation : Conversation checked feed.limit [] before after answers own
-    pub notes_are : AreNotes checked feed.limit [] callers answers own notes
+    pub conversation : Conversation checked feed.limit empty_seat before after answers own
+    pub seat_is : IsSeatOf checked feed.limit empty_seat callers answers own seat
     pub are : lines ≡ first_lines port callers ++ answers
 
   -- the answers to all that could be read, and a last line
@@ -212,7 +211,7 @@ module _ (feed : Feed) (checked : CheckedOf) (before after : Option (List ℕ)) 
     pub line : List ℕ
     pub said : HasSaid earlier
     pub all : AreLastFor said.callers may_fail before after said.conversation.more
-    pub last : IsLastLine checked feed.limit said.notes line status
+    pub last : IsLastLine checked feed.limit said.seat line status
     pub are : lines ≡ earlier ++ line ∷ []
 
   abbrev pub MayHaveSaid : List (List ℕ) → Type 0

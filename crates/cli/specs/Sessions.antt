@@ -9,31 +9,33 @@ use Rattle.publisher_desk.specs.Answers.{IsMade}
 use Rattle.publisher_desk.specs.Logged.{IsRefused}
 use Rattle.publisher_desk.specs.Receipts.{receipt_of}
 use Rattle.publisher_desk.specs.Refusals.{HasFault}
-use Rattle.publisher_desk.specs.declared.note.Note.{Note}
+use Rattle.publisher_desk.specs.Seats.{SeatOf}
+use Rattle.publisher_desk.specs.Sights.{StartsWith}
 use Rattle.publisher_desk.specs.declared.note.Note.TheVariants.{Committed}
 
--- A commit of the list is refused after a log that has all of these notes, and memory is not the reason.
-pub record IsPassedOver (checked : CheckedOf) (limit : ℕ) (notes : List Note) (commands : List Command) : Type 0 where
+-- A commit of the list is refused after the log that the session has then seen, and memory is not the reason.
+pub record IsPassedOver (checked : CheckedOf) (limit : ℕ) (commands : List Command) (has : SeatOf) : Type 0 where
   pub error : CommitError
   pub known : error ≢ OutOfMemory
-  pub refused : IsRefused checked limit notes commands error
+  pub refused : IsRefused checked limit has commands error
   pub fault : HasFault (setting_in checked) commands error
 
 -- It was made a transaction, and its receipt follows the earlier notes.
-pub record IsMadeLast (checked : CheckedOf) (limit time : ℕ) (commands : List Command) (old new : List Note) : Type 0
+pub record IsMadeLast (checked : CheckedOf) (limit time : ℕ) (commands : List Command) (had has : SeatOf) : Type 0
   where
     pub number : ℕ
-    pub made : IsMade checked limit commands time number
-    pub last : new ≡ old ++ Committed (receipt_of number commands time) ∷ []
+    pub made : IsMade checked limit had.seen has.seen commands time number
+    pub last : has.notes ≡ had.notes ++ Committed (receipt_of number commands time) ∷ []
 
--- it was made a transaction, or skipped
-abbrev pub TakesUp : CheckedOf → ℕ → ℕ → List Command → List Note → List Note → Type 0
-TakesUp checked limit time commands old new =
-    IsMadeLast checked limit time commands old new ⊎ (IsPassedOver checked limit old commands × (new ≡ old))
+-- It was made a transaction, or skipped. What the session had seen is a beginning of what it has then seen.
+abbrev pub TakesUp : CheckedOf → ℕ → ℕ → List Command → SeatOf → SeatOf → Type 0
+TakesUp checked limit time commands had has =
+    (IsMadeLast checked limit time commands had has
+    ⊎ (IsPassedOver checked limit commands has × (has.notes ≡ had.notes))) × StartsWith has.seen had.seen
 
 -- So were these lists, in order: the first at this time, and each further one at the next.
-abbrev pub AreCommitted : CheckedOf → ℕ → ℕ → List (List Command) → List Note → List Note → Type 0
-AreCommitted checked limit time [] old new = new ≡ old
-AreCommitted checked limit time (commands ∷ lists) old new =
-    (mid : List Note) × TakesUp checked limit time commands old mid
-    × AreCommitted checked limit (time + 1) lists mid new
+abbrev pub AreCommitted : CheckedOf → ℕ → ℕ → List (List Command) → SeatOf → SeatOf → Type 0
+AreCommitted checked limit time [] had has = has ≡ had
+AreCommitted checked limit time (commands ∷ lists) had has =
+    (mid : SeatOf) × TakesUp checked limit time commands had mid
+    × AreCommitted checked limit (time + 1) lists mid has

@@ -16,7 +16,8 @@ use Rattle.publisher_desk.specs.Answers.{IsMade}
 use Rattle.publisher_desk.specs.Logged.{IsRefused}
 use Rattle.publisher_desk.specs.Receipts.{receipt_of}
 use Rattle.publisher_desk.specs.Refusals.{HasFault}
-use Rattle.publisher_desk.specs.declared.note.Note.{Note}
+use Rattle.publisher_desk.specs.Seats.{SeatOf}
+use Rattle.publisher_desk.specs.Sights.{StartsWith}
 use Rattle.publisher_desk.specs.declared.note.Note.TheVariants as n
 use Rattle.commands.specs.Failures.{fault_line}
 use Rattle.cli.specs.Lines.{AreLast, IsPlain, ReadsLine, ReadsSome}
@@ -55,84 +56,79 @@ AreLastFor (Some port) may_fail before after bytes = Unit {0}
 
 -- ---- what is answered
 
+-- `had` is the session's seat before an answer, and `has` the seat after it.
 module _ (checked : CheckedOf) (limit : ℕ) where
   -- Commands are answered with the number of the commit that they are, of which the session keeps a receipt. Or they
-  -- are answered with the reason why they are refused after a log that has all of the session's notes, and it keeps
-  -- nothing.
-  pub data IsTalkAnswered (had : List Note) (commands : List Command) : Answer → List Note → Type 0 where
-    Made : (number time : ℕ) → IsMade checked limit commands time number
-        → IsTalkAnswered had commands (a.Committed number) (n.Committed (receipt_of number commands time) ∷ [])
-    Refused : (error : CommitError) → IsRefused checked limit had commands error
-        → HasFault (setting_in checked) commands error → IsTalkAnswered had commands (a.Refused error) []
+  -- are answered with the reason why they are refused after the log that the session has then seen, and it keeps nothing.
+  pub data IsTalkAnswered (had : SeatOf) (commands : List Command) (has : SeatOf) : Answer → Type 0 where
+    Made : (number time : ℕ) → IsMade checked limit had.seen has.seen commands time number
+        → has.notes ≡ had.notes ++ n.Committed (receipt_of number commands time) ∷ []
+        → IsTalkAnswered had commands has (a.Committed number)
+    Refused : (error : CommitError) → IsRefused checked limit has commands error
+        → HasFault (setting_in checked) commands error → has.notes ≡ had.notes
+        → IsTalkAnswered had commands has (a.Refused error)
 
-  -- A step is answered with these lines, and the session keeps these notes, after those that it had. VIEW shows a log
-  -- that has all of them.
-  pub data IsTalkTold (had : List Note) : StepOf → List (List ℕ) → List Note → Type 0 where
-    Committing : (commands : List Command) (answer : Answer) (notes : List Note)
-        → IsTalkAnswered had commands answer notes → IsTalkTold had (Commit commands) (answer_line answer ∷ []) notes
-    Viewing : (lines : List (List ℕ)) → IsView checked had lines → IsTalkTold had View lines []
+  -- A step is answered with these lines. VIEW shows the log that the session has then seen.
+  pub data IsTalkTold (had has : SeatOf) : StepOf → List (List ℕ) → Type 0 where
+    Committing : (commands : List Command) (answer : Answer) → IsTalkAnswered had commands has answer
+        → IsTalkTold had has (Commit commands) (answer_line answer ∷ [])
+    Viewing : (lines : List (List ℕ)) → IsView checked has lines → has.notes ≡ had.notes → IsTalkTold had has View lines
 
-  -- A line is answered with these lines, and the session keeps these notes, after those that it had.
-  pub data IsAnswer (had : List Note) (line : List ℕ) : List (List ℕ) → List Note → Type 0 where
-    NoText : (IsUtf8 line → ⊥) → IsAnswer had line (fault_line i.Unread ∷ []) []
+  -- A line is answered with these lines. A step may show the session more of the log.
+  pub data IsAnswer (had : SeatOf) (line : List ℕ) : List (List ℕ) → SeatOf → Type 0 where
+    NoText : (IsUtf8 line → ⊥) → IsAnswer had line (fault_line i.Unread ∷ []) had
     NoScript : (error : ReadError) → TellsScript (script_by checked.catalog.tables line) error
-        → IsAnswer had line (fault_line (i.Script error) ∷ []) []
+        → IsAnswer had line (fault_line (i.Script error) ∷ []) had
     Unfit : (steps : List LineOf) (error : ReadError) → script_by checked.catalog.tables line ≡ Ok steps
         → first_unfit steps ≡ Some error.place → kind_name error.kind ≡ codes "Expected"
-        → IsAnswer had line (fault_line (i.Script error) ∷ []) []
-    Empty : script_by checked.catalog.tables line ≡ Ok [] → IsAnswer had line [] []
-    OneStep : (step : LineOf) (lines : List (List ℕ)) (notes : List Note)
-        → script_by checked.catalog.tables line ≡ Ok (step ∷ []) → IsTalkTold had step.step lines notes
-        → IsAnswer had line lines notes
+        → IsAnswer had line (fault_line (i.Script error) ∷ []) had
+    Empty : script_by checked.catalog.tables line ≡ Ok [] → IsAnswer had line [] had
+    OneStep : (step : LineOf) (lines : List (List ℕ)) (has : SeatOf)
+        → script_by checked.catalog.tables line ≡ Ok (step ∷ []) → IsTalkTold had has step.step lines
+        → StartsWith has.seen had.seen → IsAnswer had line lines has
 
-  -- Lines other than `QUIT;` are answered one after another, and the session keeps these notes, after those that it had.
-  pub data AreAnswered (had : List Note) : List (List ℕ) → List (List ℕ) → List Note → Type 0 where
-    Nothing : AreAnswered had [] [] []
-    OneMore : (lines answers own : List (List ℕ)) (line : List ℕ) (notes more : List Note)
-        → AreAnswered had lines answers notes → line ≢ codes "QUIT;" → IsAnswer (had ++ notes) line own more
-        → AreAnswered had (lines ++ line ∷ []) (answers ++ own) (notes ++ more)
+  -- Lines other than `QUIT;` are answered one after another.
+  pub data AreAnswered (had : SeatOf) : List (List ℕ) → List (List ℕ) → SeatOf → Type 0 where
+    Nothing : AreAnswered had [] [] had
+    OneMore : (lines answers own : List (List ℕ)) (line : List ℕ) (mid has : SeatOf) → AreAnswered had lines answers mid
+        → line ≢ codes "QUIT;" → IsAnswer mid line own has → AreAnswered had (lines ++ line ∷ []) (answers ++ own) has
 
   -- ---- whose lines are answered
 
-  -- The lines of one caller after another were answered, of which the session keeps these notes, after those that it
-  -- had.
-  pub data AreHeard (had : List Note) : List Note → Type 0 where
-    Nobody : AreHeard had []
-    NextCaller : (lines answers : List (List ℕ)) (notes more : List Note) → AreHeard had notes
-        → AreAnswered (had ++ notes) lines answers more → AreHeard had (notes ++ more)
+  -- The lines of one caller after another were answered.
+  pub data AreHeard (had : SeatOf) : SeatOf → Type 0 where
+    Nobody : AreHeard had had
+    NextCaller : (lines answers : List (List ℕ)) (mid has : SeatOf) → AreHeard had mid
+        → AreAnswered mid lines answers has → AreHeard had has
 
-  -- The session's notes are those of the reader's own lines. If commands come from callers at a port, they are those of
+  -- The session's seat is that of the reader's own lines. If commands come from callers at a port, it is that of
   -- callers' lines, and nothing is answered to the reader's lines.
-  abbrev pub AreNotes : List Note → Option ℕ → List (List ℕ) → List Note → List Note → Type 0
-  AreNotes had None answers own notes = notes ≡ own
-  AreNotes had (Some port) answers own notes = (answers ≡ []) × AreHeard had notes
+  abbrev pub IsSeatOf : SeatOf → Option ℕ → List (List ℕ) → SeatOf → SeatOf → Type 0
+  IsSeatOf had None answers own has = has ≡ own
+  IsSeatOf had (Some port) answers own has = (answers ≡ []) × AreHeard had has
 
   -- ---- what the session does
 
   -- commands are answered so
-  pub record Replies (commands : List Command) (before after : List Note) (answer : Answer) : Type 0 where
-    pub notes : List Note
-    pub is : IsTalkAnswered before commands answer notes
-    pub kept : after ≡ before ++ notes
+  pub record Replies (commands : List Command) (had has : SeatOf) (answer : Answer) : Type 0 where
+    pub is : IsTalkAnswered had commands has answer
+    pub begins : StartsWith has.seen had.seen
 
   -- a step is answered by a text
-  pub record Tells (step : StepOf) (before after : List Note) (text : List ℕ) : Type 0 where
+  pub record Tells (step : StepOf) (had has : SeatOf) (text : List ℕ) : Type 0 where
     pub lines : List (List ℕ)
-    pub notes : List Note
-    pub is : IsTalkTold before step lines notes
+    pub is : IsTalkTold had has step lines
     pub text_is : text ≡ text_of lines
-    pub kept : after ≡ before ++ notes
+    pub begins : StartsWith has.seen had.seen
 
   -- a line is answered by a text
-  pub record Answers (line : List ℕ) (before after : List Note) (text : List ℕ) : Type 0 where
+  pub record Answers (line : List ℕ) (had has : SeatOf) (text : List ℕ) : Type 0 where
     pub lines : List (List ℕ)
-    pub notes : List Note
-    pub is : IsAnswer before line lines notes
+    pub is : IsAnswer had line lines has
     pub text_is : text ≡ text_of lines
-    pub kept : after ≡ before ++ notes
 
   -- a line is read, and its answer is written
-  pub record GoesOn (before after old new : Option (List ℕ)) (had has : List Note) : Type 0 where
+  pub record GoesOn (before after old new : Option (List ℕ)) (had has : SeatOf) : Type 0 where
     pub line : List ℕ
     pub text : List ℕ
     pub other : line ≢ codes "QUIT;"
@@ -147,15 +143,15 @@ module _ (checked : CheckedOf) (limit : ℕ) where
     pub last : AreLast may_fail before after more
     pub unwritten : new ≡ old
 
-  abbrev pub HasGone : Bool → Option (List ℕ) → Option (List ℕ) → Option (List ℕ) → Option (List ℕ) → List Note
-      → List Note → Turn → Type 0
+  abbrev pub HasGone : Bool → Option (List ℕ) → Option (List ℕ) → Option (List ℕ) → Option (List ℕ) → SeatOf → SeatOf
+      → Turn → Type 0
   HasGone may_fail before after old new had has t.Line = GoesOn before after old new had has
   HasGone may_fail before after old new had has t.Quit =
       ReadsLine before after (codes "QUIT;") × (new ≡ old) × (has ≡ had)
   HasGone may_fail before after old new had has t.Over = IsOver may_fail before after old new × (has ≡ had)
 
   -- a line is read, and the first bytes of its answer are written
-  pub record FailsToTell (before after old new : Option (List ℕ)) (had has : List Note) : Type 0 where
+  pub record FailsToTell (before after old new : Option (List ℕ)) (had has : SeatOf) : Type 0 where
     pub line : List ℕ
     pub text : List ℕ
     pub other : line ≢ codes "QUIT;"
@@ -163,7 +159,7 @@ module _ (checked : CheckedOf) (limit : ℕ) where
     pub answered : Answers line had has text
     pub first : WritesFirst text old new
 
-  abbrev pub StopsNext : Option (List ℕ) → Option (List ℕ) → Option (List ℕ) → Option (List ℕ) → List Note → List Note
+  abbrev pub StopsNext : Option (List ℕ) → Option (List ℕ) → Option (List ℕ) → Option (List ℕ) → SeatOf → SeatOf
       → Failure → Type 0
   StopsNext before after old new had has f.OutOfMemory = ReadsSome before after × (new ≡ old)
   StopsNext before after old new had has f.Output = FailsToTell before after old new had has
@@ -171,68 +167,55 @@ module _ (checked : CheckedOf) (limit : ℕ) where
   StopsNext before after old new had has (f.Input fault) = ⊥
 
   -- lines are read, and answered by these
-  pub record Conversation (had : List Note) (before after : Option (List ℕ)) (answers : List (List ℕ))
-      (notes : List Note) : Type 0 where
+  pub record Conversation (had : SeatOf) (before after : Option (List ℕ)) (answers : List (List ℕ)) (has : SeatOf) :
+      Type 0 where
     pub lines : List (List ℕ)
     pub more : List ℕ
     pub consumed : Consumes before after (text_of lines ++ more)
     pub plain : All IsPlain lines
-    pub answered : AreAnswered had lines answers notes
+    pub answered : AreAnswered had lines answers has
 
   -- the last line that was read is `QUIT;`
   pub record HasQuit (after : Option (List ℕ)) : Type 0 where
     pub before : Option (List ℕ)
     pub line : ReadsLine before after (codes "QUIT;")
 
-  -- the lines of a caller were answered, and the session has these notes more
-  pub record HasTalked (had has : List Note) : Type 0 where
+  -- the lines of a caller were answered
+  pub record HasTalked (had has : SeatOf) : Type 0 where
     pub lines : List (List ℕ)
     pub answers : List (List ℕ)
-    pub notes : List Note
-    pub answered : AreAnswered had lines answers notes
-    pub kept : has ≡ had ++ notes
-
-  -- so were those of one caller after another
-  pub record HasHeard (had has : List Note) : Type 0 where
-    pub notes : List Note
-    pub heard : AreHeard had notes
-    pub kept : has ≡ had ++ notes
+    pub answered : AreAnswered had lines answers has
 
   -- `callers` is the port at which callers call, if commands come from callers
   module _ (callers : Option ℕ) where
-    -- the answers to all lines are written, and the session has these notes more
-    pub record HasAnswered (may_fail : Bool) (before after old new : Option (List ℕ)) (had has : List Note) : Type 0
-      where
-        pub answers : List (List ℕ)
-        pub own : List Note
-        pub notes : List Note
-        pub conversation : Conversation had before after answers own
-        pub last : AreLastFor callers may_fail before after conversation.more
-        pub notes_are : AreNotes had callers answers own notes
-        pub written : Appends old new (text_of answers)
-        pub kept : has ≡ had ++ notes
-
-    -- or the first of them
-    pub record HasBegun (before after old new : Option (List ℕ)) (had : List Note) : Type 0 where
+    -- the answers to all lines are written
+    pub record HasAnswered (may_fail : Bool) (before after old new : Option (List ℕ)) (had has : SeatOf) : Type 0 where
       pub answers : List (List ℕ)
-      pub own : List Note
-      pub notes : List Note
+      pub own : SeatOf
       pub conversation : Conversation had before after answers own
-      pub notes_are : AreNotes had callers answers own notes
+      pub last : AreLastFor callers may_fail before after conversation.more
+      pub seat_is : IsSeatOf had callers answers own has
       pub written : Appends old new (text_of answers)
 
-    -- or the first bytes of them, and the session has these notes more
-    pub record HasPart (before after old new : Option (List ℕ)) (had has : List Note) : Type 0 where
+    -- or the first of them
+    pub record HasBegun (before after old new : Option (List ℕ)) (had : SeatOf) : Type 0 where
       pub answers : List (List ℕ)
-      pub own : List Note
-      pub notes : List Note
+      pub own : SeatOf
+      pub has : SeatOf
       pub conversation : Conversation had before after answers own
-      pub notes_are : AreNotes had callers answers own notes
+      pub seat_is : IsSeatOf had callers answers own has
+      pub written : Appends old new (text_of answers)
+
+    -- or the first bytes of them
+    pub record HasPart (before after old new : Option (List ℕ)) (had has : SeatOf) : Type 0 where
+      pub answers : List (List ℕ)
+      pub own : SeatOf
+      pub conversation : Conversation had before after answers own
+      pub seat_is : IsSeatOf had callers answers own has
       pub first : WritesFirst (text_of answers) old new
-      pub kept : has ≡ had ++ notes
 
     -- the session stops because the writer fails, or memory ran out
-    abbrev pub IsCutOff : Option (List ℕ) → Option (List ℕ) → Option (List ℕ) → Option (List ℕ) → List Note → List Note
+    abbrev pub IsCutOff : Option (List ℕ) → Option (List ℕ) → Option (List ℕ) → Option (List ℕ) → SeatOf → SeatOf
         → Failure → Type 0
     IsCutOff before after old new had has f.OutOfMemory = HasBegun before after old new had
     IsCutOff before after old new had has f.Output = HasPart before after old new had has

@@ -5,7 +5,7 @@ use Rattle.std.specs.Option.{unwrap_or}
 use Rattle.shard_checker.specs.CheckedView.{CheckedOf}
 use Rattle.table_changes.specs.Commands.{Command}
 use Rattle.tables_log.specs.declared.book.Book.{Book}
-use Rattle.publisher_desk.specs.declared.note.Note.{Note}
+use Rattle.publisher_desk.specs.Seats.{SeatOf, empty_seat}
 use Rattle.senders.specs.CloseCauses.{RefusedClose}
 use Rattle.senders.specs.Closing.{IsClosed}
 use Rattle.senders.specs.declared.close_error.CloseError.{CloseError}
@@ -61,10 +61,10 @@ service_of service checked lists = record {
   connections = unwrap_or service.connections (length checked.catalog.subscriptions);
 }
 
--- The lists were committed in order, or skipped, and these are the notes of the session. As many connections were
+-- The lists were committed in order, or skipped, and this is the session's seat. As many connections were
 -- served as was requested, each to its end, with these results. None was refused memory.
-pub record IsOver (service : ServiceOf) (notes : List Note) (served : List Served) : Type 0 where
-  pub committed : AreCommitted service.checked service.limit 1 service.lists [] notes
+pub record IsOver (service : ServiceOf) (seat : SeatOf) (served : List Served) : Type 0 where
+  pub committed : AreCommitted service.checked service.limit 1 service.lists empty_seat seat
   pub many : length served ≡ service.connections
   pub each : All (WasServed service.checked) served
   pub memory : All HadMemory served
@@ -72,11 +72,11 @@ pub record IsOver (service : ServiceOf) (notes : List Note) (served : List Serve
 -- The last line: the publisher was closed with the session's seat, one of 1,000, and the results of the connections; or
 -- why it was not. The session has as many notes as the log has commits.
 pub data IsLast (service : ServiceOf) : List ℕ → Status → Type 0 where
-  Closed : (notes : List Note) (served : List Served) (book : Book) → IsOver service notes served
-      → IsClosed service.checked service.limit (notes ∷ []) served book
-      → IsLast service (closed_line (length notes) (length served)) Done
-  Differs : (notes : List Note) (served : List Served) (error : CloseError) (name : List ℕ)
-      → IsOver service notes served → RefusedClose service.checked service.limit 1000 999 (notes ∷ []) served error
+  Closed : (seat : SeatOf) (served : List Served) (book : Book) → IsOver service seat served
+      → IsClosed service.checked service.limit (seat ∷ []) served book
+      → IsLast service (closed_line (length seat.notes) (length served)) Done
+  Differs : (seat : SeatOf) (served : List Served) (error : CloseError) (name : List ℕ)
+      → IsOver service seat served → RefusedClose service.checked service.limit 1000 999 (seat ∷ []) served error
       → name_of error ≡ Some name → IsLast service (codes "close " ++ name) Refused
 
 -- whatever name the error has, the line with it is a last line

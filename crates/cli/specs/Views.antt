@@ -12,8 +12,8 @@ use Rattle.tables_log.specs.BookView.{book_log}
 use Rattle.tables_log.specs.StandsFor.{Transaction, AreAccepted, after}
 use Rattle.tables_log.specs.declared.book.Book.{Book}
 use Rattle.publisher_desk.specs.Logged.{AreNoted}
-use Rattle.publisher_desk.specs.Receipts.{ReceiptOf, transactions_of}
-use Rattle.publisher_desk.specs.declared.note.Note.{Note}
+use Rattle.publisher_desk.specs.Receipts.{transactions_of}
+use Rattle.publisher_desk.specs.Seats.{SeatOf}
 use Rattle.commands.specs.Names.{counted, subscriber_name}
 use Rattle.commands.specs.Output.{text_of}
 use Rattle.commands.specs.Simulate.Answers.{position_text}
@@ -56,14 +56,13 @@ pub record IsSeen (book : Book) (tables subscriptions : ℕ) (view : View) : Typ
   pub rows : AllAt (λ table rows. FoundIn book table rows.items) view.rows.items
   pub count : length view.progress.items ≡ subscriptions
 
--- The lines show how many transactions a log has, each of which was accepted after those before it, the rows that they
--- leave in each table, and each subscription. The log has all of these notes. Nothing is said of the progress
--- of the subscribers.
-pub record IsView (checked : CheckedOf) (notes : List Note) (lines : List (List ℕ)) : Type 0 where
-  pub log : List ReceiptOf
-  pub noted : AreNoted (setting_in checked) log notes
+-- The lines show how many transactions the log has that the session has seen, each of which was accepted after those
+-- before it, the rows that they leave in each table, and each subscription. The log has all notes of the session. Nothing
+-- is said of the progress of the subscribers.
+pub record IsView (checked : CheckedOf) (has : SeatOf) (lines : List (List ℕ)) : Type 0 where
+  pub noted : AreNoted (setting_in checked) has.seen has.notes
   pub transactions : List Transaction
-  pub transactions_are : transactions ≡ transactions_of log
+  pub transactions_are : transactions ≡ transactions_of has.seen
   pub rows : List (List (List Datum))
   pub progress : List Progress
   pub accepted : AreAccepted (setting_in checked) no_rows transactions
@@ -74,7 +73,7 @@ pub record IsView (checked : CheckedOf) (notes : List Note) (lines : List (List 
   pub are : lines ≡ shown_lines checked.catalog (length transactions) rows progress
 
 -- the text has such lines
-pub record IsViewText (checked : CheckedOf) (notes : List Note) (text : List ℕ) : Type 0 where
+pub record IsViewText (checked : CheckedOf) (has : SeatOf) (text : List ℕ) : Type 0 where
   pub lines : List (List ℕ)
-  pub view : IsView checked notes lines
+  pub view : IsView checked has lines
   pub is : text ≡ text_of lines

@@ -1,9 +1,8 @@
 -- What is so of a publisher's book stays so, and what it makes of answers.
 use Rattle.std.proofs.Common.{◌≡◌, ℕ, ◌+◌, ◌≤◌, List, [], ◌∷◌, ◌++◌, length, sym, ◌∙◌, ap, subst, arith, length-append, refl}
-use Rattle.std.specs.Prelude.{All, Option, replicate, true}
+use Rattle.std.specs.Prelude.{All, replicate, true}
 use Rattle.std.proofs.lemmas.List.{length-replicate}
 use Rattle.std.proofs.lemmas.List.Elements.{All-replicate}
-use Rattle.filter_tree.specs.Datum.{Datum}
 use Rattle.row_owners.specs.Owners.{OwnedWhere}
 use Rattle.row_owners.specs.declared.owner_set.OwnerSet.{OwnerSet}
 use Rattle.shard_checker.specs.CheckedView.{CheckedOf, setting_in}
@@ -23,11 +22,11 @@ use Rattle.tables_log.specs.declared.error.CommitError.{CommitError}
 use Rattle.tables_log.specs.declared.error.CommitError.TheVariants as e
 use Rattle.tables_log.specs.declared.slots.Slot.{Slot}
 use Rattle.tables_log.proofs.StandLemmas.{new_stands, each_is_logged, commits_add_one, slots_keep_it}
-use Rattle.publisher_desk.specs.Answers.{IsMade, IsFound, IsRefusedAfter}
+use Rattle.publisher_desk.specs.Answers.{IsMade, IsRefusedAfter}
 use Rattle.publisher_desk.specs.Held.{IsLogOf, AddsEntry, IsBookOf, IsHeldFor}
 use Rattle.publisher_desk.specs.Logged.{IsHistoryOf, Refuses}
-use Rattle.publisher_desk.specs.Receipts.{transactions_of}
-use Rattle.publisher_desk.specs.Sights.{Sees, view_of}
+use Rattle.publisher_desk.specs.Receipts.{ReceiptOf, receipt_of, transactions_of}
+use Rattle.publisher_desk.specs.Sights.{AddsTo, Sees, view_of}
 use Rattle.publisher_desk.specs.declared.sight.Sight.{Sight}
 use Rattle.publisher_desk.specs.declared.sight.View.{View}
 use Rattle.publisher_desk.specs.declared.connection_state.ConnectionState.{ConnectionState}
@@ -131,18 +130,6 @@ module _ (checked : CheckedOf) (limit : ℕ) (old : Book) (is : IsBookOf checked
         (commits_add_one old new commands time number commits is.transactions is.stands);
   }
 
-  is_made : (new : Book) (commands : List Command) (time number : ℕ) → Commits old new commands time number
-      → IsMade checked limit commands time number
-  unfolding adds_entry
-  is_made new commands time number commits =
-      let count = each_is_logged old is.transactions is.stands in
-      record {
-        earlier = is.transactions;
-        number_is = omega (arith, commits.number_is, count);
-        within = omega (arith, commits.number_is, commits.room, is.limited);
-        accepted = (adds_entry new commands time number commits).now.accepted;
-      }
-
   pub adds_as : (new : Book) (commands told : List Command) (time number own : ℕ) (seen : List CommitOf)
       → Commits old new commands time number → book_log old ≡ seen → commands ≡ told → number ≡ own
       → AddsEntry checked seen (book_log new) told time own
@@ -152,24 +139,27 @@ module _ (checked : CheckedOf) (limit : ℕ) (old : Book) (is : IsBookOf checked
       (subst (λ (log : List CommitOf). AddsEntry checked log (book_log new) commands time number) seen_is
       (adds_entry new commands time number commits)))
 
-  pub made_as : (new : Book) (commands told : List Command) (time number own : ℕ)
-      → Commits old new commands time number → commands ≡ told → number ≡ own → IsMade checked limit told time own
-  made_as new commands told time number own commits told_is own_is =
-      subst (λ (n : ℕ). IsMade checked limit told time n) own_is
-      (subst (λ (list : List Command). IsMade checked limit list time number) told_is
-      (is_made new commands time number commits))
-
-  pub is_found : (table number : ℕ) (key : List Datum) (answer : Option (List Datum)) → number ≡ length (book_log old)
-      → answer ≡ book_rows old table 0 key
-      → IsFound checked table key number answer
-  is_found table number key answer number_is answer_is =
-      let at = log_of checked old is.transactions is.named is.stands in
+  -- the seat has seen the whole log, which ends with the receipt
+  pub made_as : (new : Book) (commands told : List Command) (time number : ℕ) (receipt : ReceiptOf)
+      (history longer : View) (before after : Sight) → Commits old new commands time number
+      → receipt ≡ receipt_of number told time → IsHistoryOf new longer
+      → longer ≡ view_of true (history.all ++ receipt ∷ []) [] → AddsTo history.all receipt before after
+      → IsMade checked limit before.seen after.seen told time receipt.number
+  made_as new commands told time number receipt history longer before after commits is_receipt of_new longer_is adds =
+      let own : receipt.number ≡ number = ap (λ (one : ReceiptOf). one.number) is_receipt in
+      let named : receipt_of number told time ≡ receipt_of receipt.number told time =
+      ap (λ n. receipt_of n told time) (sym own) in
+      let all : longer.all ≡ after.seen = ap (λ (view : View). view.all) longer_is ∙ sym adds.seen in
       record {
-        transactions = is.transactions;
-        number_is = number_is ∙ each_is_logged old is.transactions is.stands;
-        accepted = at.accepted;
-        answer_is = answer_is ∙ is.stands.rows table 0 key
-            ∙ ap (λ (one : CheckedOf). after (setting_in one) is.transactions table 0 key) is.named;
+        earlier = history.all;
+        begins = adds.begins;
+        seen_is = adds.seen
+            ∙ ap (λ (one : ReceiptOf). history.all ++ one ∷ []) (is_receipt ∙ named);
+        number_is = adds.number;
+        within = omega (arith, own, commits.number_is, commits.room, is.limited);
+        accepted = subst (λ (list : List ReceiptOf). AreAccepted (setting_in checked) no_rows (transactions_of list)) all
+            (subst (λ (one : CheckedOf). AreAccepted (setting_in one) no_rows (transactions_of longer.all))
+            (commits.checked ∙ is.named) of_new.stands.accepted);
       }
 
   refused_in : (transactions : List Transaction) → StandsFor old transactions → (commands : List Command)

@@ -6,15 +6,17 @@ use Rattle.filter_tree.specs.Datum.{Datum}
 use Rattle.shard_checker.specs.CheckedView.{CheckedOf, setting_in}
 use Rattle.table_changes.specs.Commands.{Command}
 use Rattle.table_changes.specs.Setting.{Setting}
+use Rattle.table_changes.specs.Tables.{no_rows}
 use Rattle.tables_log.specs.BookView.{book_checked, book_log, book_rows}
 use Rattle.tables_log.specs.Committing.{Commits}
-use Rattle.tables_log.specs.StandsFor.{Transaction, StandsFor, after}
+use Rattle.tables_log.specs.StandsFor.{Transaction, AreAccepted, StandsFor, after}
 use Rattle.tables_log.specs.declared.book.Book.{Book}
 use Rattle.tables_log.specs.declared.error.CommitError.{CommitError}
 use Rattle.tables_log.proofs.StandLemmas.{each_is_logged, commits_add_one}
-use Rattle.publisher_desk.specs.Logged.{StandsIn, IsReadIn, IsNoted, AreNoted, own_numbers, RiseTo, IsSighted, AreLogged, IsHistoryOf, IsLogOfSeats, Records, Looks, Refuses, IsRefusedIn, IsRefused}
+use Rattle.publisher_desk.specs.Answers.{IsRead, IsRefusedAfter}
+use Rattle.publisher_desk.specs.Logged.{StandsIn, IsReadIn, IsNoted, AreNoted, own_numbers, RiseTo, IsSighted, IsSeatIn, AreLogged, IsHistoryOf, IsLogOfSeats, Records, Looks, Refuses, IsRefusedIn, IsRefused}
 use Rattle.publisher_desk.specs.Receipts.{ReceiptOf, transaction_of, transactions_of}
-use Rattle.publisher_desk.specs.Seats.{note_number, highest}
+use Rattle.publisher_desk.specs.Seats.{SeatOf, note_number, highest}
 use Rattle.publisher_desk.specs.Sights.{IsTold, Sees, StartsWith, sight, times, view_of}
 use Rattle.publisher_desk.specs.declared.note.Note.{Note}
 use Rattle.publisher_desk.specs.declared.note.Note.TheVariants.{Committed, Looked}
@@ -164,6 +166,17 @@ module _ (setting : Setting) (notes : List Note) (old new : Sight) (sighted : Is
       let longer = length_begins looks.log old.seen looks.sees.begins in
       let count = looks.number_is in omega (arith, high_is, seen, longer, count)
 
+pub read_as : (checked : CheckedOf) (reading : Reading) (old new : Sight)
+    → Looks (setting_in checked) reading.table reading.key reading.number reading.answer old new
+    → IsRead checked new.seen reading
+read_as checked reading old new looks = let seen = sym looks.sees.seen in record {
+  number_is = looks.number_is ∙ ap length seen;
+  accepted = subst (λ (log : List ReceiptOf). AreAccepted (setting_in checked) no_rows (transactions_of log)) seen
+      looks.accepted;
+  answer_is = looks.answer_is
+      ∙ ap (λ (log : List ReceiptOf). after (setting_in checked) (transactions_of log) reading.table 0 reading.key) seen;
+}
+
 -- ---- notes that were pushed onto a list with room
 
 module _ (setting : Setting) (notes roomy all : List Note) (old new : Sight) (same : roomy ≡ notes)
@@ -189,11 +202,37 @@ module _ (setting : Setting) (notes roomy all : List Note) (old new : Sight) (sa
       ∙ ap (λ (list : List Note). list ++ Looked reading ∷ []) same))
       (reading_sighted setting notes old new sighted reading looks)
 
--- the notes of a seat are those of a log that it has seen
-pub notes_in : (setting : Setting) (notes told : List Note) (old new : Sight) (log : List ReceiptOf) → notes ≡ told
-    → IsSighted setting notes old → Sees log old new → AreNoted setting log told
-notes_in setting notes told old new log same sighted sees =
-    subst (AreNoted setting log) same (noted_begins setting log old.seen notes sees.begins sighted.noted)
+-- ---- what was seen is a beginning of what is seen
+
+pub begins_same : (seen : List ReceiptOf) → StartsWith seen seen
+begins_same seen = ([], sym (append-nil seen))
+
+begins_seen : (log : List ReceiptOf) (old new : Sight) → Sees log old new → StartsWith new.seen old.seen
+begins_seen log old new sees = (sees.begins.0, sees.seen ∙ sees.begins.1)
+
+begins_recorded : (receipt : ReceiptOf) (old new : Sight) → Records receipt old new → StartsWith new.seen old.seen
+begins_recorded receipt old new records =
+    let adds = records.adds in (
+      adds.begins.0 ++ receipt ∷ [],
+      adds.seen ∙ ap (λ (list : List ReceiptOf). list ++ receipt ∷ []) adds.begins.1
+          ∙ append_assoc old.seen adds.begins.0 (receipt ∷ []),
+    )
+
+-- and so it is by what contracts see of the seat before
+module _ (before : SeatOf) (notes : List Note) (old new : Sight)
+    (is : record { notes = notes; seen = old.seen } ≡ before) where
+  begins_as : StartsWith new.seen old.seen → StartsWith new.seen before.seen
+  begins_as = subst (λ (seat : SeatOf). StartsWith new.seen seat.seen) is
+
+  pub seen_begins : (log : List ReceiptOf) → Sees log old new → StartsWith new.seen before.seen
+  seen_begins log sees = begins_as (begins_seen log old new sees)
+
+  pub recorded_begins : (receipt : ReceiptOf) → Records receipt old new → StartsWith new.seen before.seen
+  recorded_begins receipt records = begins_as (begins_recorded receipt old new records)
+
+pub same_begins : (before : SeatOf) (notes : List Note) (old : Sight)
+    → record { notes = notes; seen = old.seen } ≡ before → StartsWith old.seen before.seen
+same_begins before notes old is = subst (λ (seat : SeatOf). StartsWith old.seen seat.seen) is (begins_same old.seen)
 
 -- ---- refusals
 
@@ -205,14 +244,17 @@ module _ (checked : CheckedOf) (limit : ℕ) (notes : List Note) (commands : Lis
       subst (λ (list : List Note). IsSighted (setting_in checked) list new) (sym same)
       (seen_sighted (setting_in checked) notes old new sighted refuses.log refuses.sees)
 
-  pub refusal_noted : (told : List Note) → notes ≡ told → IsRefused checked limit told commands error
-  refusal_noted told same known = subst (λ (list : List Note). IsRefusedIn checked limit list commands error) same
-      (record {
-        log = refuses.log;
-        accepted = refuses.accepted;
-        noted = noted_begins (setting_in checked) refuses.log old.seen notes refuses.sees.begins sighted.noted;
-        refused = refuses.refused;
-      })
+  pub refusal_noted : (roomy : List Note) → roomy ≡ notes
+      → IsRefused checked limit (record { notes = roomy; seen = new.seen }) commands error
+  refusal_noted roomy same known =
+      let seen = sym refuses.sees.seen in
+      record {
+        accepted = subst (λ (log : List ReceiptOf). AreAccepted (setting_in checked) no_rows (transactions_of log)) seen
+            refuses.accepted;
+        noted = (refusal_sighted roomy same).noted;
+        refused = subst (λ (log : List ReceiptOf). IsRefusedAfter checked limit (transactions_of log) commands error) seen
+            refuses.refused;
+      }
 
 pub new_sighted : (setting : Setting) (notes : List Note) → notes ≡ [] → IsSighted setting notes (sight [] [])
 new_sighted setting notes none = record {
@@ -261,49 +303,49 @@ module _ (book : Book) (history : View) (is : IsHistoryOf book history) where
     log = history.all;
     sees = sees;
     number_is = number_is ∙ history_long;
+    accepted = subst (λ (one : CheckedOf). AreAccepted (setting_in one) no_rows (transactions_of history.all)) named
+        is.stands.accepted;
     answer_is = answer_is ∙ is.stands.rows table 0 key
         ∙ ap (λ (one : CheckedOf). after (setting_in one) (transactions_of history.all) table 0 key) named;
   }
 
 -- ---- all seats
 
-all_first : (P : List Note → Type 0) (notes : List Note) (seats : List (List Note)) → P notes → All P seats
-    → All P (notes ∷ seats)
-all_first P notes seats first rest zero other low = first
-all_first P notes seats first rest (suc place) other low = rest place other (omega (arith, low))
+all_first : (P : SeatOf → Type 0) (seat : SeatOf) (seats : List SeatOf) → P seat → All P seats → All P (seat ∷ seats)
+all_first P seat seats first rest zero other low = first
+all_first P seat seats first rest (suc place) other low = rest place other (omega (arith, low))
 
-pub none_logged : (setting : Setting) (log : View) (seats : List (List Note)) → seats ≡ [] → IsTold log
+pub none_logged : (setting : Setting) (log : View) (seats : List SeatOf) → seats ≡ [] → IsTold log
     → AreLogged setting log seats
 none_logged setting log seats none told = subst (AreLogged setting log) (sym none) (record {
   seen = told.seen;
-  noted = All-nil (AreNoted setting log.all);
-  rising = All-nil (λ (notes : List Note). RiseTo (length log.all) 0 (own_numbers notes));
+  each = All-nil (IsSeatIn setting log.all);
   once = λ n. let one = told.once n in omega (arith, one);
 })
 
-pub more_logged : (setting : Setting) (log lent : View) (notes : List Note) (seats all : List (List Note)) (one : Sight)
-    → lent ≡ view_of true log.all (one ∷ log.sights) → all ≡ notes ∷ seats → IsSighted setting notes one
-    → AreLogged setting lent seats → AreLogged setting log all
+pub more_logged : (setting : Setting) (log lent : View) (notes : List Note) (seats all : List SeatOf) (one : Sight)
+    → lent ≡ view_of true log.all (one ∷ log.sights) → all ≡ record { notes = notes; seen = one.seen } ∷ seats
+    → IsSighted setting notes one → AreLogged setting lent seats → AreLogged setting log all
 more_logged setting log lent notes seats all one lent_is all_is sighted rest =
     let logged : AreLogged setting (view_of true log.all (one ∷ log.sights)) seats =
     subst (λ (view : View). AreLogged setting view seats) lent_is rest in
     let longer = length_begins log.all one.seen logged.seen.0 in
     subst (AreLogged setting log) (sym all_is) (record {
       seen = logged.seen.1;
-      noted = all_first (AreNoted setting log.all) notes seats
-          (noted_begins setting log.all one.seen notes logged.seen.0 sighted.noted) logged.noted;
-      rising = all_first (λ (list : List Note). RiseTo (length log.all) 0 (own_numbers list)) notes seats
-          (subst (λ (list : List ℕ). RiseTo (length log.all) 0 list) sighted.own
-          (rise_longer (length one.seen) (length log.all) 0 one.own longer sighted.rising)) logged.rising;
+      each = all_first (IsSeatIn setting log.all) (record { notes = notes; seen = one.seen }) seats (record {
+        begins = logged.seen.0;
+        noted = noted_begins setting log.all one.seen notes logged.seen.0 sighted.noted;
+        rising = subst (λ (list : List ℕ). RiseTo (length log.all) 0 list) sighted.own
+            (rise_longer (length one.seen) (length log.all) 0 one.own longer sighted.rising);
+      }) logged.each;
       once = λ n. let sum = logged.once n in let mine = ap (times n) sighted.own in omega (arith, sum, mine);
     })
 
-pub logged_seats : (checked : CheckedOf) (book : Book) (history : View) (seats : List (List Note))
+pub logged_seats : (checked : CheckedOf) (book : Book) (history : View) (seats : List SeatOf)
     → IsHistoryOf book history → AreLogged (setting_in checked) history seats → IsLogOfSeats checked seats book
 logged_seats checked book history seats is logged = record {
   log = history.all;
   stands = is.stands;
-  noted = logged.noted;
-  rising = logged.rising;
+  each = logged.each;
   once = λ n. let sum = logged.once n in omega (arith, sum);
 }

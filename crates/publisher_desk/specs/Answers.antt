@@ -1,7 +1,6 @@
 -- What answers say of the transactions that were accepted before: PostgreSQL 15, 3.4. Transactions, and Chapter 6
 -- Data Manipulation.
-use Rattle.std.specs.Prelude.{◌≡◌, ℕ, ◌+◌, ◌<◌, ◌≤◌, List, [], ◌∷◌, ◌++◌, length, Option, Some}
-use Rattle.filter_tree.specs.Datum.{Datum}
+use Rattle.std.specs.Prelude.{◌≡◌, ℕ, ◌+◌, ◌<◌, ◌≤◌, List, [], ◌∷◌, ◌++◌, length, Some}
 use Rattle.shard_checker.specs.CheckedView.{CheckedOf, setting_in}
 use Rattle.table_changes.specs.Commands.{Command, CommandFault, first_fault}
 use Rattle.table_changes.specs.Tables.{no_rows}
@@ -10,25 +9,27 @@ use Rattle.tables_log.specs.Faults.{fault_view}
 use Rattle.tables_log.specs.StandsFor.{Transaction, AreAccepted, after}
 use Rattle.tables_log.specs.declared.error.CommitError.{CommitError}
 use Rattle.tables_log.specs.declared.error.CommitError.TheVariants as e
+use Rattle.publisher_desk.specs.Receipts.{ReceiptOf, receipt_of, transactions_of}
+use Rattle.publisher_desk.specs.Sights.{StartsWith}
 use Rattle.publisher_desk.specs.declared.note.Reading.{Reading}
 
--- The commands were accepted as the transaction of this number, after some others.
-pub record IsMade (checked : CheckedOf) (limit : ℕ) (commands : List Command) (time number : ℕ) : Type 0 where
-  pub earlier : List Transaction
+-- What had been seen before is a beginning of the receipts before the last that is now seen, which is of these commands
+-- and of this number. Each transaction was accepted after those before it.
+pub record IsMade (checked : CheckedOf) (limit : ℕ) (before seen : List ReceiptOf) (commands : List Command)
+    (time number : ℕ) : Type 0 where
+  pub earlier : List ReceiptOf
+  pub begins : StartsWith earlier before
+  pub seen_is : seen ≡ earlier ++ receipt_of number commands time ∷ []
   pub number_is : number ≡ length earlier + 1
   pub within : number ≤ limit
-  pub accepted : AreAccepted (setting_in checked) no_rows (earlier ++ record { commands = commands; time = time } ∷ [])
+  pub accepted : AreAccepted (setting_in checked) no_rows (transactions_of seen)
 
--- This is the row of the key after so many transactions, each of which was accepted after those before it.
-pub record IsFound (checked : CheckedOf) (table : ℕ) (key : List Datum) (number : ℕ) (answer : Option (List Datum)) :
-    Type 0 where
-  pub transactions : List Transaction
-  pub number_is : number ≡ length transactions
-  pub accepted : AreAccepted (setting_in checked) no_rows transactions
-  pub answer_is : answer ≡ after (setting_in checked) transactions table 0 key
-
-abbrev pub IsRead : CheckedOf → Reading → Type 0
-IsRead checked reading = IsFound checked reading.table reading.key reading.number reading.answer
+-- The answer is the row of the key after all transactions that were seen, and there are as many as the reading says.
+-- Each was accepted after those before it.
+pub record IsRead (checked : CheckedOf) (seen : List ReceiptOf) (reading : Reading) : Type 0 where
+  pub number_is : reading.number ≡ length seen
+  pub accepted : AreAccepted (setting_in checked) no_rows (transactions_of seen)
+  pub answer_is : reading.answer ≡ after (setting_in checked) (transactions_of seen) reading.table 0 reading.key
 
 -- ---- refusals
 

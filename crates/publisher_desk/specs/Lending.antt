@@ -16,8 +16,8 @@ use Rattle.tables_log.specs.declared.book.Book.{Book}
 use Rattle.publisher_desk.specs.Held.{AreSentUpTo}
 use Rattle.publisher_desk.specs.Logged.{AreNoted}
 use Rattle.publisher_desk.specs.Receipts.{ReceiptOf, transactions_of}
+use Rattle.publisher_desk.specs.Seats.{SeatOf}
 use Rattle.publisher_desk.specs.Sights.{Sees}
-use Rattle.publisher_desk.specs.declared.note.Note.{Note}
 use Rattle.publisher_desk.specs.declared.sight.Sight.{Sight}
 use Rattle.publisher_desk.specs.declared.step.SenderStep.{SenderStep}
 use Rattle.publisher_desk.specs.declared.step.SenderStep.TheVariants.{Entry, Skip, Reply, Ended, Finished, OutOfMemory}
@@ -38,14 +38,13 @@ pub record IsLent {U A : Type 0} (did : U → U → Book → Book → List Conne
   pub sent : AreSentUpTo (end_after (length (book_log old))) connections
   pub does : did before after old new connections left answer
 
--- A user was lent a book of a log that has these notes.
+-- A user was lent a book of the log that the seat has seen, of which its notes are.
 pub record IsLentTo {U A : Type 0}
     (did : U → U → Book → Book → List ConnectionState → List ConnectionState → A → Type 0) (checked : CheckedOf)
-    (notes : List Note) (before after : U) (answer : A) : Type 0 where
+    (seat : SeatOf) (before after : U) (answer : A) : Type 0 where
   pub lent : IsLent did checked before after answer
-  pub log : List ReceiptOf
-  pub log_is : transactions_of log ≡ lent.transactions
-  pub noted : AreNoted (setting_in checked) log notes
+  pub log_is : transactions_of seat.seen ≡ lent.transactions
+  pub noted : AreNoted (setting_in checked) seat.seen seat.notes
 
 -- A user was lent a book of a log that the seat has then seen.
 pub record LendsTo {U A : Type 0} (did : U → U → Book → Book → List ConnectionState → List ConnectionState → A → Type 0)

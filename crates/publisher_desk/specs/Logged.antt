@@ -11,7 +11,8 @@ use Rattle.tables_log.specs.declared.error.CommitError.{CommitError}
 use Rattle.tables_log.specs.declared.error.CommitError.TheVariants.{OutOfMemory}
 use Rattle.publisher_desk.specs.Answers.{IsRefusedAfter}
 use Rattle.publisher_desk.specs.Receipts.{ReceiptOf, transactions_of}
-use Rattle.publisher_desk.specs.Sights.{AddsTo, AreSeen, Sees, drawn_in, times, view_of}
+use Rattle.publisher_desk.specs.Seats.{SeatOf}
+use Rattle.publisher_desk.specs.Sights.{AddsTo, AreSeen, Sees, StartsWith, drawn_in, times, view_of}
 use Rattle.publisher_desk.specs.declared.note.Note.{Note}
 use Rattle.publisher_desk.specs.declared.note.Note.TheVariants.{Committed, Looked}
 use Rattle.publisher_desk.specs.declared.note.Reading.{Reading}
@@ -56,9 +57,9 @@ RiseTo high low [] = Unit {0}
 RiseTo high low (number ∷ numbers) = (low < number) × (number ≤ high) × RiseTo high number numbers
 
 -- how many receipts of these seats have this number
-abbrev pub drawn_by : ℕ → List (List Note) → ℕ
+abbrev pub drawn_by : ℕ → List SeatOf → ℕ
 drawn_by n [] = 0
-drawn_by n (notes ∷ seats) = times n (own_numbers notes) + drawn_by n seats
+drawn_by n (seat ∷ seats) = times n (own_numbers seat.notes) + drawn_by n seats
 
 -- ---- seats
 
@@ -68,12 +69,17 @@ pub record IsSighted (setting : Setting) (notes : List Note) (sight : Sight) : T
   pub own : sight.own ≡ own_numbers notes
   pub rising : RiseTo (length sight.seen) 0 sight.own
 
--- The seats' notes are what the log says. The numbers of each seat's receipts rise, and no two receipts have one number,
--- nor has one a number of the sights beside them.
-pub record AreLogged (setting : Setting) (log : View) (seats : List (List Note)) : Type 0 where
+-- The seat has seen a beginning of the log. Its notes are what the log says, and the numbers of its receipts rise.
+pub record IsSeatIn (setting : Setting) (log : List ReceiptOf) (seat : SeatOf) : Type 0 where
+  pub begins : StartsWith log seat.seen
+  pub noted : AreNoted setting log seat.notes
+  pub rising : RiseTo (length log) 0 (own_numbers seat.notes)
+
+-- So it is with each of these seats. No two of their receipts have one number, nor has one a number of the sights
+-- beside them.
+pub record AreLogged (setting : Setting) (log : View) (seats : List SeatOf) : Type 0 where
   pub seen : AreSeen log.all log.sights
-  pub noted : All (AreNoted setting log.all) seats
-  pub rising : All (λ (notes : List Note). RiseTo (length log.all) 0 (own_numbers notes)) seats
+  pub each : All (IsSeatIn setting log.all) seats
   pub once : (n : ℕ) → drawn_in n log.sights + drawn_by n seats ≤ 1
 
 -- The history tells the book's transactions, and no sight is taken in.
@@ -81,13 +87,13 @@ pub record IsHistoryOf (book : Book) (history : View) : Type 0 where
   pub stands : StandsFor book (transactions_of history.all)
   pub idle : history ≡ view_of true history.all []
 
--- The book is of the transactions of a log in which all receipts of these seats stand at their numbers, which rise in
--- each seat and of which no two are equal. Each reading is right by the log's beginning.
-pub record IsLogOfSeats (checked : CheckedOf) (seats : List (List Note)) (book : Book) : Type 0 where
+-- The book is of the transactions of a log of which each of these seats has seen a beginning, and in which all of their
+-- receipts stand at their numbers, which rise in each seat and of which no two are equal. Each reading is right by the
+-- log's beginning.
+pub record IsLogOfSeats (checked : CheckedOf) (seats : List SeatOf) (book : Book) : Type 0 where
   pub log : List ReceiptOf
   pub stands : StandsFor book (transactions_of log)
-  pub noted : All (AreNoted (setting_in checked) log) seats
-  pub rising : All (λ (notes : List Note). RiseTo (length log) 0 (own_numbers notes)) seats
+  pub each : All (IsSeatIn (setting_in checked) log) seats
   pub once : (n : ℕ) → drawn_by n seats ≤ 1
 
 -- ---- calls
@@ -97,12 +103,14 @@ pub record Records (receipt : ReceiptOf) (old new : Sight) : Type 0 where
   pub log : List ReceiptOf
   pub adds : AddsTo log receipt old new
 
--- The seat has seen the whole log, of so many commits. The answer is the row of the key after them.
+-- The seat has seen the whole log, of so many commits, each of which was accepted after those before it. The answer is the
+-- row of the key after them.
 pub record Looks (setting : Setting) (table : ℕ) (key : List Datum) (number : ℕ) (answer : Option (List Datum))
     (old new : Sight) : Type 0 where
   pub log : List ReceiptOf
   pub sees : Sees log old new
   pub number_is : number ≡ length log
+  pub accepted : AreAccepted setting no_rows (transactions_of log)
   pub answer_is : answer ≡ after setting (transactions_of log) table 0 key
 
 -- The seat has seen the whole log, after which the commands are refused.
@@ -115,15 +123,14 @@ pub record Refuses (checked : CheckedOf) (limit : ℕ) (commands : List Command)
 
 -- ---- refusals
 
--- The commands are refused after the transactions of a log, each of which was accepted after those before it, and of
--- which these notes are.
-pub record IsRefusedIn (checked : CheckedOf) (limit : ℕ) (notes : List Note) (commands : List Command)
+-- The commands are refused after the transactions that the seat has seen, each of which was accepted after those before
+-- it, and of which its notes are.
+pub record IsRefusedIn (checked : CheckedOf) (limit : ℕ) (seat : SeatOf) (commands : List Command)
     (error : CommitError) : Type 0 where
-  pub log : List ReceiptOf
-  pub accepted : AreAccepted (setting_in checked) no_rows (transactions_of log)
-  pub noted : AreNoted (setting_in checked) log notes
-  pub refused : IsRefusedAfter checked limit (transactions_of log) commands error
+  pub accepted : AreAccepted (setting_in checked) no_rows (transactions_of seat.seen)
+  pub noted : AreNoted (setting_in checked) seat.seen seat.notes
+  pub refused : IsRefusedAfter checked limit (transactions_of seat.seen) commands error
 
 -- unless memory is refused, which any commands may meet
-abbrev pub IsRefused : CheckedOf → ℕ → List Note → List Command → CommitError → Type 0
-IsRefused checked limit notes commands error = error ≢ OutOfMemory → IsRefusedIn checked limit notes commands error
+abbrev pub IsRefused : CheckedOf → ℕ → SeatOf → List Command → CommitError → Type 0
+IsRefused checked limit seat commands error = error ≢ OutOfMemory → IsRefusedIn checked limit seat commands error

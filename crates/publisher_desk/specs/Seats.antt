@@ -1,8 +1,18 @@
 -- What a session keeps of its calls: its commits and what it read, in their order.
 use Rattle.std.specs.Prelude.{◌≡◌, ℕ, ◌+◌, ◌<◌, ◌≤◌, ◌^◌, max, All, List, [], ◌∷◌, Some, slice_get}
+use Rattle.publisher_desk.specs.Receipts.{ReceiptOf}
 use Rattle.publisher_desk.specs.declared.note.Note.{Note}
 use Rattle.publisher_desk.specs.declared.note.Note.TheVariants.{Committed, Looked}
 use Rattle.publisher_desk.specs.declared.note.Reading.{Reading}
+
+-- A session's place at a publisher: its notes, and the beginning of the log that it has seen, as receipts.
+pub record SeatOf : Type 0 where
+  pub notes : List Note
+  pub seen : List ReceiptOf
+
+-- a seat without notes, which has seen nothing
+abbrev pub empty_seat : SeatOf
+empty_seat = record { notes = []; seen = [] }
 
 -- the number of a commit, or of how many commits there were when a row was read
 abbrev pub note_number : Note → ℕ
@@ -37,6 +47,13 @@ HasTime (Looked reading) = Unit {0}
 
 abbrev pub AreTimed : List Note → Type 0
 AreTimed notes = All HasTime notes
+
+-- so it is with the notes of a seat
+abbrev pub IsForwardSeat : SeatOf → Type 0
+IsForwardSeat seat = IsForward seat.notes
+
+abbrev pub IsTimedSeat : SeatOf → Type 0
+IsTimedSeat seat = AreTimed seat.notes
 
 -- As many seats are free as the share has parts, and the share has no amount.
 pub record AreFree (left parts amount : ℕ) : Type 0 where

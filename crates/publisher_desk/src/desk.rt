@@ -146,7 +146,7 @@ impl<P: Publishing> Desk<P> {
     ghost use Rattle.tables_log.specs.Logs.{entry_at};
     ghost use Rattle.tables_log.specs.Routes.{gets_some};
     ghost use Rattle.publisher_desk.specs.Counting.{IsCounted};
-    ghost use Rattle.publisher_desk.specs.Answers.{IsFound, IsMade};
+    ghost use Rattle.publisher_desk.specs.Answers.{IsMade};
     ghost use Rattle.publisher_desk.specs.Held.{AddsEntry, IsBookOf};
     ghost use Rattle.publisher_desk.specs.Lending.{IsLent, LendsTo, IsStepOf, IsNext};
     ghost use Rattle.publisher_desk.specs.Logged.{IsLogOfSeats, Looks, Records, Refuses};
@@ -200,8 +200,8 @@ impl<P: Publishing> Desk<P> {
             receipt ≡ receipt_of receipt.number (map command_view commands.items) time) }
         ensures ok { IfOk result (λ receipt.
             AddsEntry P.checked self.old self.new (map command_view commands.items) time receipt.number) }
-        ensures made { IfOk result (λ receipt.
-            IsMade P.checked P.limit (map command_view commands.items) time receipt.number) }
+        ensures made { IfOk result (λ receipt. IsMade P.checked P.limit (sight_of token.old).seen
+            (sight_of token.new).seen (map command_view commands.items) time receipt.number) }
         ensures above { IfOk result (λ receipt. mark.old.amount < receipt.number) }
         ensures seen { IfOk result (λ receipt. Records receipt (sight_of token.old) (sight_of token.new)) }
         ensures fault { IfErr result (HasFault (setting_in P.checked) (map command_view commands.items)) }
@@ -242,7 +242,6 @@ impl<P: Publishing> Desk<P> {
         key: &Row,
     ) -> Result<(u32, Option<Row>), AllocError>
         ensures number { IfOk result (λ found. found.0 ≡ length self.old) }
-        ensures row { IfOk result (λ found. IsFound P.checked table key.now found.0 found.1) }
         ensures above { IfOk result (λ found. mark.old.amount ≤ found.0) }
         ensures seen { IfOk result (λ found.
             Looks (setting_in P.checked) table key.now found.0 found.1 (sight_of token.old) (sight_of token.new)) }

@@ -67,6 +67,7 @@ impl<P: Publishing> Publisher<P> {
     ghost use Rattle.publisher_desk.specs.Receipts.{receipt_of};
     ghost use Rattle.publisher_desk.specs.Refusals.{HasFault, HasReadFault};
     ghost use Rattle.publisher_desk.specs.Seats.{AreUpTo, receipts};
+    ghost use Rattle.publisher_desk.specs.Sights.{StartsWith};
     ghost use Rattle.publisher_desk.specs.declared.note.Note.TheVariants.{Committed, Looked};
 
     /// A publisher without commits, whose log takes at most `limit` of them, and the 1,000 seats of its sessions.
@@ -116,7 +117,7 @@ impl<P: Publishing> Publisher<P> {
 
     /// Makes the commands one transaction, and logs it with this time, in microseconds since 2000-01-01. Returns its
     /// number, from 1, and adds a receipt to the seat. If there is an error, nothing changes, and the list is dropped:
-    /// the list has this error after a log that has all of the seat's commits.
+    /// the list has this error after the log as it is now, which the seat has then seen.
     ///
     /// # Errors
     ///
@@ -131,12 +132,14 @@ impl<P: Publishing> Publisher<P> {
         time: u64,
     ) -> Result<u32, CommitError>
         ensures ok { IfOk result (λ number.
-            seat.new ≡ seat.old ++ Committed (receipt_of number (map command_view commands.items) time) ∷ []) }
-        ensures made { IfOk result (IsMade P.checked P.limit (map command_view commands.items) time) }
-        ensures above { IfOk result (λ number. receipts seat.old < number) }
+            seat.new.notes ≡ seat.old.notes ++ Committed (receipt_of number (map command_view commands.items) time) ∷ []) }
+        ensures made { IfOk result (
+            IsMade P.checked P.limit seat.old.seen seat.new.seen (map command_view commands.items) time) }
+        ensures above { IfOk result (λ number. receipts seat.old.notes < number) }
         ensures fault { IfErr result (HasFault (setting_in P.checked) (map command_view commands.items)) }
-        ensures refused { IfErr result (IsRefused P.checked P.limit seat.old (map command_view commands.items)) }
-        ensures err { OnErr result (seat.new ≡ seat.old) }
+        ensures refused { IfErr result (IsRefused P.checked P.limit seat.new (map command_view commands.items)) }
+        ensures err { OnErr result (seat.new.notes ≡ seat.old.notes) }
+        ensures begins { StartsWith seat.new.seen seat.old.seen }
     {
         let Seat {
             notes,
@@ -165,7 +168,7 @@ impl<P: Publishing> Publisher<P> {
     }
 
     /// The row of the table that has this primary key after all commits that the log has, if there is one. The seat
-    /// keeps the answer. If there is an error, nothing changes.
+    /// keeps the answer, and has then seen the log. If there is an error, no note is added.
     ///
     /// # Errors
     ///
@@ -177,15 +180,16 @@ impl<P: Publishing> Publisher<P> {
         table: usize,
         key: Row,
     ) -> Result<Reading, ReadFault>
-        ensures ok { IfOk result (λ reading. seat.new ≡ seat.old ++ Looked reading ∷ []) }
+        ensures ok { IfOk result (λ reading. seat.new.notes ≡ seat.old.notes ++ Looked reading ∷ []) }
         ensures table { IfOk result (λ reading. reading.table ≡ table) }
         ensures key { IfOk result (λ reading. reading.key ≡ key) }
-        ensures answer { IfOk result (IsRead P.checked) }
-        ensures forward { IfOk result (λ reading. AreUpTo reading.number seat.old) }
-        ensures above { IfOk result (λ reading. receipts seat.old ≤ reading.number) }
+        ensures answer { IfOk result (IsRead P.checked seat.new.seen) }
+        ensures forward { IfOk result (λ reading. AreUpTo reading.number seat.old.notes) }
+        ensures above { IfOk result (λ reading. receipts seat.old.notes ≤ reading.number) }
         ensures known { OnOk result (table < length P.checked.catalog.tables) }
         ensures refused { IfErr result (HasReadFault P.checked table) }
-        ensures err { OnErr result (seat.new ≡ seat.old) }
+        ensures err { OnErr result (seat.new.notes ≡ seat.old.notes) }
+        ensures begins { StartsWith seat.new.seen seat.old.seen }
     {
         if table >= self.checked.catalog().tables.len() {
             return Err(ReadFault::NoTable);
@@ -267,16 +271,17 @@ impl<P: Publishing> Publisher<P> {
         answer
     }
 
-    /// Does what `with_slots` does, for a session. The book's log has all commits of the seat, and is no shorter than any
-    /// that the seat has read.
+    /// Does what `with_slots` does, for a session. The book's log is the one that the seat has then seen, and has all of
+    /// its commits.
     pub fn with_slots_for<U: SlotTask, R: Wait>(
         &self,
         rt: &R,
         seat: &mut Seat<P>,
         user: &mut U,
     ) -> U::Answer
-        ensures lent { IsLentTo U.did P.checked seat.old user.old user.new result }
-        ensures same { seat.new ≡ seat.old }
+        ensures lent { IsLentTo U.did P.checked seat.new user.old user.new result }
+        ensures same { seat.new.notes ≡ seat.old.notes }
+        ensures begins { StartsWith seat.new.seen seat.old.seen }
     {
         let Seat {
             notes: _,
@@ -301,8 +306,8 @@ impl<P: Publishing> Publisher<P> {
     /// The book, when the sessions are over: it is of the checked catalog and of some list of transactions. `rest` are
     /// the seats that no session has, and `seats` those of the sessions. The log has no fewer commits than these
     /// have receipts, and exactly as many if no seat is held back: the ledger of commits says so. Each receipt stands in
-    /// the log at its number, no two have one number, and each reading is right: the history says so. It takes time for
-    /// the notes of the seats.
+    /// the log at its number, no two have one number, each reading is right, and what each seat has seen is a beginning of
+    /// the log: the history says so. It takes time for the notes of the seats.
     pub fn into_counted(self, rest: Seats<P>, seats: &mut [Seat<P>]) -> Book
         ensures is { IsBookOf P.checked P.limit result }
         ensures counted { IsCounted P.parts rest seats.old (length (book_log result)) }

@@ -1,6 +1,6 @@
 //! Seats of sessions.
 
-ghost use Rattle.std.specs.Prelude.{◌≡◌, []};
+ghost use Rattle.std.specs.Prelude.{◌≡◌};
 
 use crate::history::Token;
 use crate::naming::Publishing;
@@ -10,8 +10,8 @@ use std::marker::Model;
 use std::sync::ledger::Share;
 
 /// A session's place at a publisher: its commits and what it read, in their order. Contracts see the list of these
-/// notes. No row was read of fewer commits than an earlier note knows of. Each receipt and each reading is what the log
-/// says.
+/// notes, and the beginning of the log that the session has seen. No row was read of fewer commits than an earlier note
+/// knows of. Each receipt and each reading is what the log says.
 #[derive(Drop)]
 pub struct Seat<P: Publishing> {
     pub(crate) notes: Vec<Note>,
@@ -21,30 +21,28 @@ pub struct Seat<P: Publishing> {
 }
 
 impl<P: Publishing> Model for Seat<P> {
-    ghost use Rattle.std.specs.Prelude.{List};
     ghost use Rattle.shard_checker.specs.CheckedView.{setting_in};
     ghost use Rattle.publisher_desk.specs.Logged.{IsSighted};
-    ghost use Rattle.publisher_desk.specs.Seats.{IsSeat};
+    ghost use Rattle.publisher_desk.specs.Seats.{IsSeat, SeatOf};
     ghost use Rattle.publisher_desk.specs.Sights.{sight_of};
-    ghost use Rattle.publisher_desk.specs.declared.note.Note.{Note};
 
-    ghost Value = { List Note };
+    ghost Value = { SeatOf };
 
-    ghost view = { λ s. s.notes.items };
+    ghost view = { λ s. record { notes = s.notes.items; seen = (sight_of s.token).seen } };
 
     ghost invariant = { λ s. IsSeat s.notes.items s.high s.mark.parts s.mark.amount × IsSighted (setting_in P.checked) s.notes.items (sight_of s.token) };
 }
 
 impl<P: Publishing> Seat<P> {
-    ghost use Rattle.std.specs.Prelude.{◌≡◌, []};
-    ghost use Rattle.publisher_desk.specs.Seats.{AreTimed, IsForward};
+    ghost use Rattle.std.specs.Prelude.{◌≡◌};
+    ghost use Rattle.publisher_desk.specs.Seats.{AreTimed, IsForward, empty_seat};
 
     /// A seat without notes, which has this part of the ledger.
     #[tactic(auto, using(crate::proofs::SeatLemmas::new_seat, crate::proofs::LoggedLemmas::new_sighted))]
     pub(crate) fn new(alloc: Global, mark: Share<P>) -> Seat<P>
         requires part { mark.parts ≡ 1 }
         requires none { mark.amount ≡ 0 }
-        ensures { result ≡ [] }
+        ensures { result ≡ empty_seat }
     {
         Seat {
             notes: Vec::new(alloc),
@@ -56,9 +54,9 @@ impl<P: Publishing> Seat<P> {
 
     /// The session's commits and what it read, in their order.
     pub fn notes(&self) -> &[Note]
-        ensures shows { result.now ≡ self.now }
-        ensures forward { IsForward self.now }
-        ensures timed { AreTimed self.now }
+        ensures shows { result.now ≡ self.now.notes }
+        ensures forward { IsForward self.now.notes }
+        ensures timed { AreTimed self.now.notes }
     {
         self.notes.as_slice()
     }

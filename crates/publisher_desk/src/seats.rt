@@ -31,7 +31,8 @@ impl<P: Publishing> Model for Seats<P> {
 }
 
 impl<P: Publishing> Seats<P> {
-    ghost use Rattle.std.specs.Prelude.{◌≡◌, ◌+◌, ◌<◌, [], IfSome, IfNone, IsSome, ◌↔◌};
+    ghost use Rattle.std.specs.Prelude.{◌≡◌, ◌+◌, ◌<◌, IfSome, IfNone, IsSome, ◌↔◌};
+    ghost use Rattle.publisher_desk.specs.Seats.{empty_seat};
 
     /// All seats, of a share that has a part for each.
     pub(crate) fn new(alloc: Global, share: Share<P>) -> Seats<P>
@@ -51,7 +52,7 @@ impl<P: Publishing> Seats<P> {
         ensures some { IsSome result ↔ (0 < self.old) }
         ensures left { IfSome result (λ seat. self.new + 1 ≡ self.old) }
         ensures none { IfNone result (self.new ≡ self.old) }
-        ensures new { IfSome result (λ seat. seat ≡ []) }
+        ensures new { IfSome result (λ seat. seat ≡ empty_seat) }
     {
         let Seats { alloc, left, share } = self;
         if *left == 0 {

@@ -21,20 +21,21 @@ use Rattle.tables_log.proofs.StandLemmas.{slots_keep_it}
 use Rattle.publisher_desk.specs.Counting.{total_receipts, IsCounted}
 use Rattle.publisher_desk.specs.Held.{IsBookOf}
 use Rattle.publisher_desk.specs.Receipts.{ReceiptOf, transactions_of}
-use Rattle.publisher_desk.specs.Seats.{receipts, AreTimed, IsForward}
+use Rattle.publisher_desk.specs.Seats.{SeatOf, receipts, IsForwardSeat, IsTimedSeat}
 use Rattle.publisher_desk.specs.declared.note.Note.{Note}
 use Rattle.publisher_desk.specs.declared.note.Note.TheVariants.{Committed, Looked}
 use Rattle.publisher_desk.specs.declared.note.Reading.{Reading}
 use Rattle.senders.specs.CloseCauses.{IsMissing, IsRepeated, IsNotLogged, IsToldBy, HasWrongReading, HasLateStart, HasOtherTaken, IsCloseCause, IsHeldBack, RefusedClose}
 use Rattle.senders.specs.Closing.{IsClosed}
-use Rattle.publisher_desk.specs.Logged.{RiseTo}
-use Rattle.senders.specs.Gathering.{receipts_in, all_receipts, all_readings, numbers_of, IsRising}
+use Rattle.publisher_desk.specs.Logged.{IsLogOfSeats, RiseTo}
+use Rattle.senders.specs.Gathering.{receipts_in, all_receipts, all_readings, numbers_of, IsRisingSeat}
 use Rattle.senders.specs.Histories.{AreInOrder, IsRight}
 use Rattle.senders.specs.Replays.{Replays, IsAsLong, IsUnlikeIn}
 use Rattle.senders.specs.Reached.{AreReached}
 use Rattle.senders.specs.TakenCommits.{IsTaken}
 use Rattle.senders.specs.declared.close_error.CloseError.{CloseError}
 use Rattle.senders.specs.declared.close_error.CloseError.TheVariants as f
+use Rattle.senders.proofs.LoggedLemmas.{order_begins}
 use Rattle.senders.proofs.NumberLemmas.{rise_is_range}
 use Rattle.senders.proofs.ReplayLemmas.{replays_all}
 
@@ -58,9 +59,9 @@ slots_after first old new slots (Err error) before ok err = slots_then first old
 
 -- ---- order
 
-pub in_order : (seats : List (List Note)) (gathered sorted : List ReceiptOf) (high : ℕ)
+pub in_order : (seats : List SeatOf) (gathered sorted : List ReceiptOf) (high : ℕ)
     → gathered ≡ all_receipts seats → length gathered ≡ high → IsPermutation gathered sorted
-    → All (IsRising high) seats → RiseTo high 0 (numbers_of sorted) → AreInOrder seats sorted × (length sorted ≡ high)
+    → All (IsRisingSeat high) seats → RiseTo high 0 (numbers_of sorted) → AreInOrder seats sorted × (length sorted ≡ high)
 in_order seats gathered sorted high all count moved rising rise =
     let long : length sorted ≡ high = length_permutation gathered sorted moved ∙ count in
     let numbers : length (numbers_of sorted) ≡ length sorted =
@@ -69,17 +70,17 @@ in_order seats gathered sorted high all count moved rising rise =
         all = subst (λ (list : List ReceiptOf). IsPermutation list sorted) all moved;
         numbered = rise_is_range high 0 (numbers_of sorted) (omega (arith, long, numbers)) rise
             ∙ ap (λ n. range_with_len 1 n) numbers;
-        rising = subst (λ (n : ℕ). All (IsRising n) seats) (sym long) rising;
+        rising = subst (λ (n : ℕ). All (IsRisingSeat n) seats) (sym long) rising;
       },
       long,
     )
 
-pub count_cause : (book : Book) (seats : List (List Note)) (gathered : List ReceiptOf) (high : ℕ)
+pub count_cause : (book : Book) (seats : List SeatOf) (gathered : List ReceiptOf) (high : ℕ)
     → gathered ≡ all_receipts seats → high ≡ length (book_log book) → length gathered ≢ high
     → length (book_log book) ≢ length (all_receipts seats)
 count_cause book seats gathered high all log apart same = apart (ap length all ∙ sym same ∙ sym log)
 
-pub repeated_cause : (book : Book) (seats : List (List Note)) (gathered sorted : List ReceiptOf) (high : ℕ)
+pub repeated_cause : (book : Book) (seats : List SeatOf) (gathered sorted : List ReceiptOf) (high : ℕ)
     → gathered ≡ all_receipts seats → high ≡ length (book_log book) → length gathered ≡ high
     → IsPermutation gathered sorted → IsNonDecreasingBy (λ (receipt : ReceiptOf). receipt.number) sorted
     → ¬ RiseTo high 0 (numbers_of sorted)
@@ -92,24 +93,24 @@ repeated_cause book seats gathered sorted high all log count moved order falls =
 
 -- ---- readings are the same in another order
 
-right_in_order : (P : Reading → Type 0) (seats : List (List Note)) (gathered sorted : List Reading)
+right_in_order : (P : Reading → Type 0) (seats : List SeatOf) (gathered sorted : List Reading)
     → gathered ≡ all_readings seats → IsPermutation gathered sorted → All P sorted → All P (all_readings seats)
 right_in_order P seats gathered sorted all moved right =
     subst (λ (list : List Reading). All P list) all
     (All-permutation P sorted gathered (IsPermutation-sym gathered sorted moved) right)
 
-wrong_in_order : (P : Reading → Type 0) (seats : List (List Note)) (gathered sorted : List Reading)
+wrong_in_order : (P : Reading → Type 0) (seats : List SeatOf) (gathered sorted : List Reading)
     → gathered ≡ all_readings seats → IsPermutation gathered sorted → ¬ All P sorted → ¬ All P (all_readings seats)
 wrong_in_order P seats gathered sorted all moved wrong right =
     wrong (All-permutation P gathered sorted moved (subst (λ (list : List Reading). All P list) (sym all) right))
 
 -- ---- causes
 
-long_count : (book : Book) (seats : List (List Note)) (order : List ReceiptOf) → AreInOrder seats order
+long_count : (book : Book) (seats : List SeatOf) (order : List ReceiptOf) → AreInOrder seats order
     → IsAsLong book order → length (book_log book) ≡ length (all_receipts seats)
 long_count book seats order ordered long = sym long.count ∙ length_permutation (all_receipts seats) order ordered.all
 
-unlike_cause : (book : Book) (seats : List (List Note)) (served : List Served) (order : List ReceiptOf)
+unlike_cause : (book : Book) (seats : List SeatOf) (served : List Served) (order : List ReceiptOf)
     (error : CloseError) → AreInOrder seats order → IsAsLong book order → IsUnlikeIn book order error
     → IsCloseCause book seats served error
 unfolding long_count
@@ -121,7 +122,7 @@ unlike_cause book seats served order f.TakenDiffers ordered long unlike = absurd
 unlike_cause book seats served order f.StartLate ordered long unlike = absurd unlike
 unlike_cause book seats served order f.OutOfMemory ordered long unlike = tt
 
-module _ (book fresh : Book) (seats : List (List Note)) (order : List ReceiptOf) (ordered : AreInOrder seats order)
+module _ (book fresh : Book) (seats : List SeatOf) (order : List ReceiptOf) (ordered : AreInOrder seats order)
     (long : IsAsLong book order) (replayed : Replays book fresh order)
     (count : length (book_log fresh) ≡ length order) where
   -- in the setting of the fresh book
@@ -172,9 +173,11 @@ module _ (book fresh : Book) (seats : List (List Note)) (order : List ReceiptOf)
   is_closed : (served : List Served) → All (IsRight (book_setting book) (transactions_of order)) (all_readings seats)
       → All (IsTaken (book_log fresh)) served
       → AreReached (length (book_checked book).catalog.subscriptions) served
-      → All IsForward seats → All AreTimed seats → IsClosed (book_checked book) (book_limit book) seats served fresh
-  is_closed served right taken reached forward timed = record {
+      → All IsForwardSeat seats → All IsTimedSeat seats → IsLogOfSeats (book_checked book) seats book
+      → IsClosed (book_checked book) (book_limit book) seats served fresh
+  is_closed served right taken reached forward timed logged = record {
     timed = timed;
+    begins = order_begins (book_checked book) book seats refl logged order ordered long.count;
     named = replayed.named;
     limited = replayed.limited;
     order = order;
@@ -191,7 +194,7 @@ module _ (book fresh : Book) (seats : List (List Note)) (order : List ReceiptOf)
 
 -- ---- what is compared, where lists are seen as slices
 
-module _ (book fresh : Book) (seats : List (List Note)) (receipts seen : List (Bor ReceiptOf))
+module _ (book fresh : Book) (seats : List SeatOf) (receipts seen : List (Bor ReceiptOf))
     (seen_is : seen ≡ receipts)
     (ordered : AreInOrder seats (map (λ (one : Bor ReceiptOf). one.now) receipts))
     (long : IsAsLong book (map (λ (one : Bor ReceiptOf). one.now) receipts)) where
@@ -259,16 +262,17 @@ module _ (book fresh : Book) (seats : List (List Note)) (receipts seen : List (B
           seen_count served seen_right taken late
 
       pub closed_compared : All (IsTaken (book_log fresh)) served
-          → AreReached (length (book_checked book).catalog.subscriptions) served → All IsForward seats
-          → All AreTimed seats → IsClosed (book_checked book) (book_limit book) seats served fresh
+          → AreReached (length (book_checked book).catalog.subscriptions) served → All IsForwardSeat seats
+          → All IsTimedSeat seats → IsLogOfSeats (book_checked book) seats book
+          → IsClosed (book_checked book) (book_limit book) seats served fresh
       unfolding seen_count seen_ordered seen_long seen_right
-      closed_compared taken reached forward timed =
+      closed_compared taken reached forward timed logged =
           is_closed book fresh seats (map (λ (one : Bor ReceiptOf). one.now) seen) seen_ordered seen_long replayed
-          seen_count served seen_right taken reached forward timed
+          seen_count served seen_right taken reached forward timed logged
 
 -- ---- the closed book
 
-pub still_closed : (checked : CheckedOf) (limit : ℕ) (seats : List (List Note)) (served : List Served)
+pub still_closed : (checked : CheckedOf) (limit : ℕ) (seats : List SeatOf) (served : List Served)
     (old new : Book) → ChangesSlots old new (book_slots new) → IsClosed checked limit seats served old
     → IsClosed checked limit seats served new
 still_closed checked limit seats served old new changes closed = record {
@@ -276,6 +280,7 @@ still_closed checked limit seats served old new changes closed = record {
   limited = changes.limit ∙ closed.limited;
   order = closed.order;
   ordered = closed.ordered;
+  begins = closed.begins;
   transactions = closed.transactions;
   told = closed.told;
   stands = slots_keep_it old new (book_slots new) changes closed.transactions closed.stands;
@@ -287,13 +292,13 @@ still_closed checked limit seats served old new changes closed = record {
   reached = closed.reached;
 }
 
-pub closed_as_named : (checked : CheckedOf) (limit : ℕ) (book fresh new : Book) (seats seen : List (List Note))
+pub closed_as_named : (checked : CheckedOf) (limit : ℕ) (book fresh new : Book) (seats seen : List SeatOf)
     (served told : List Served) → IsBookOf checked limit book → seen ≡ seats → told ≡ served
     → IsClosed (book_checked book) (book_limit book) seen told fresh → ChangesSlots fresh new (book_slots new)
     → IsClosed checked limit seats served new
 closed_as_named checked limit book fresh new seats seen served told is same alike closed changes =
     still_closed checked limit seats served fresh new changes
-    (subst (λ (list : List (List Note)). IsClosed checked limit list served fresh) same
+    (subst (λ (list : List SeatOf). IsClosed checked limit list served fresh) same
     (subst (λ (list : List Served). IsClosed checked limit seen list fresh) alike
     (subst (λ (n : ℕ). IsClosed checked n seen told fresh) is.limited
     (subst (λ (one : CheckedOf). IsClosed one (book_limit book) seen told fresh) is.named closed))))
@@ -306,13 +311,13 @@ receipts_counted [] = refl
 receipts_counted (Committed receipt ∷ notes) = let rest = receipts_counted notes in omega (arith, rest)
 receipts_counted (Looked reading ∷ notes) = receipts_counted notes
 
-all_counted : (seats : List (List Note)) → length (all_receipts seats) ≡ total_receipts seats
+all_counted : (seats : List SeatOf) → length (all_receipts seats) ≡ total_receipts seats
 all_counted [] = refl
 all_counted (seat ∷ seats) =
-    let rest = all_counted seats in let one = receipts_counted seat in
-    let both = length-append (receipts_in seat) (all_receipts seats) in omega (arith, rest, one, both)
+    let rest = all_counted seats in let one = receipts_counted seat.notes in
+    let both = length-append (receipts_in seat.notes) (all_receipts seats) in omega (arith, rest, one, both)
 
-held_back : (book : Book) (all left : ℕ) (seats : List (List Note)) (served : List Served) (error : CloseError)
+held_back : (book : Book) (all left : ℕ) (seats : List SeatOf) (served : List Served) (error : CloseError)
     → IsCounted all left seats (length (book_log book)) → IsCloseCause book seats served error
     → IsHeldBack all left seats error
 held_back book all left seats served f.CountDiffers counted cause = by_test (ltb (left + length seats) all)
@@ -325,13 +330,13 @@ held_back book all left seats served f.TakenDiffers counted cause = tt
 held_back book all left seats served f.StartLate counted cause = tt
 held_back book all left seats served f.OutOfMemory counted cause = tt
 
-module _ (checked : CheckedOf) (limit all left : ℕ) (book : Book) (seats : List (List Note)) (served : List Served)
+module _ (checked : CheckedOf) (limit all left : ℕ) (book : Book) (seats : List SeatOf) (served : List Served)
     (is : IsBookOf checked limit book) (counted : IsCounted all left seats (length (book_log book))) where
-  pub refused_as_named : (seen : List (List Note)) (told : List Served) (error : CloseError) → seen ≡ seats
+  pub refused_as_named : (seen : List SeatOf) (told : List Served) (error : CloseError) → seen ≡ seats
       → told ≡ served → IsCloseCause book seen told error → RefusedClose checked limit all left seats served error
   refused_as_named seen told error same alike cause =
       let why : IsCloseCause book seats served error =
-      subst (λ (list : List (List Note)). IsCloseCause book list served error) same
+      subst (λ (list : List SeatOf). IsCloseCause book list served error) same
       (subst (λ (list : List Served). IsCloseCause book seen list error) alike cause) in
       record {
         book = book;

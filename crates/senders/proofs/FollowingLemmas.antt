@@ -24,7 +24,7 @@ use Rattle.copy_both.specs.Tellings.{telling_of}
 use Rattle.copy_both.specs.VoiceLaws.{AreAt}
 use Rattle.senders.specs.declared.end.End.{End}
 use Rattle.publisher_desk.specs.Receipts.{ReceiptOf, transaction_of, transactions_of}
-use Rattle.publisher_desk.specs.Seats.{AreTimed, HasTime}
+use Rattle.publisher_desk.specs.Seats.{HasTime, IsTimedSeat, SeatOf}
 use Rattle.publisher_desk.specs.declared.note.Note.{Note}
 use Rattle.publisher_desk.specs.declared.note.Note.TheVariants.{Committed, Looked}
 use Rattle.senders.specs.Gathering.{all_receipts, receipts_in}
@@ -200,12 +200,12 @@ receipts_timed (Committed receipt ∷ notes) timed =
     (receipts_timed notes (All-tail HasTime (Committed receipt) notes timed))
 receipts_timed (Looked reading ∷ notes) timed = receipts_timed notes (All-tail HasTime (Looked reading) notes timed)
 
-all_timed : (seats : List (List Note)) → All AreTimed seats → All IsTimedReceipt (all_receipts seats)
+all_timed : (seats : List SeatOf) → All IsTimedSeat seats → All IsTimedReceipt (all_receipts seats)
 all_timed [] timed = All-nil IsTimedReceipt
-all_timed (notes ∷ seats) timed =
-    All-append IsTimedReceipt (receipts_in notes) (all_receipts seats)
-    (receipts_timed notes (All-head AreTimed notes seats timed))
-    (all_timed seats (All-tail AreTimed notes seats timed))
+all_timed (seat ∷ seats) timed =
+    All-append IsTimedReceipt (receipts_in seat.notes) (all_receipts seats)
+    (receipts_timed seat.notes (All-head IsTimedSeat seat seats timed))
+    (all_timed seats (All-tail IsTimedSeat seat seats timed))
 
 transactions_timed : (receipts : List ReceiptOf) → All IsTimedReceipt receipts
     → All IsTimedTransaction (transactions_of receipts)

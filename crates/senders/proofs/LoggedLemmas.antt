@@ -19,16 +19,17 @@ use Rattle.tables_log.specs.Commits.{CommitOf, commit_of}
 use Rattle.tables_log.specs.StandsFor.{Transaction, IsAccepted, AreAccepted, after, entries_from, left_by}
 use Rattle.tables_log.specs.declared.book.Book.{Book}
 use Rattle.tables_log.proofs.StandLemmas.{each_is_logged}
-use Rattle.publisher_desk.specs.Logged.{StandsIn, IsReadIn, AreNoted, own_numbers, drawn_by, IsLogOfSeats, RiseTo}
+use Rattle.publisher_desk.specs.Logged.{StandsIn, IsReadIn, AreNoted, own_numbers, drawn_by, IsLogOfSeats, IsSeatIn, RiseTo}
 use Rattle.publisher_desk.specs.Receipts.{ReceiptOf, transaction_of, transactions_of}
-use Rattle.publisher_desk.specs.Sights.{times}
+use Rattle.publisher_desk.specs.Seats.{SeatOf}
+use Rattle.publisher_desk.specs.Sights.{StartsWith, times}
 use Rattle.publisher_desk.specs.declared.note.Note.{Note}
 use Rattle.publisher_desk.specs.declared.note.Note.TheVariants.{Committed, Looked}
 use Rattle.publisher_desk.specs.declared.note.Reading.{Reading}
 use Rattle.publisher_desk.proofs.KeptLemmas.{times_append}
 use Rattle.publisher_desk.proofs.LoggedLemmas.{length_transactions, transactions_append}
 use Rattle.senders.specs.CloseCauses.{IsUnlike, IsRefusedThere, IsOtherThere, IsMissing, IsFalling, IsRepeated, IsNotLogged, HasWrongReading, IsCloseCause, CanCome}
-use Rattle.senders.specs.Gathering.{receipts_in, readings_in, all_receipts, all_readings, numbers_of, IsRising}
+use Rattle.senders.specs.Gathering.{receipts_in, readings_in, all_receipts, all_readings, numbers_of, IsRisingSeat}
 use Rattle.senders.specs.Histories.{AreInOrder, IsRight}
 use Rattle.senders.specs.declared.served.Served.{Served}
 use Rattle.senders.specs.declared.close_error.CloseError.{CloseError}
@@ -80,12 +81,12 @@ times_sorted : (n : ℕ) (gathered sorted : List ReceiptOf) → IsPermutation ga
 times_sorted n gathered sorted moved =
     times_sum n sorted ∙ sum_by-IsPermutation (only n) gathered sorted moved ∙ sym (times_sum n gathered)
 
-drawn_all : (n : ℕ) (seats : List (List Note)) → drawn_by n seats ≡ times n (numbers_of (all_receipts seats))
+drawn_all : (n : ℕ) (seats : List SeatOf) → drawn_by n seats ≡ times n (numbers_of (all_receipts seats))
 drawn_all n [] = refl
-drawn_all n (notes ∷ seats) =
-    let mine = ap (times n) (numbers_are notes) in let rest = drawn_all n seats in
-    let both = ap (times n) (numbers_append (receipts_in notes) (all_receipts seats)) in
-    let sum = times_append n (numbers_of (receipts_in notes)) (numbers_of (all_receipts seats)) in
+drawn_all n (seat ∷ seats) =
+    let mine = ap (times n) (numbers_are seat.notes) in let rest = drawn_all n seats in
+    let both = ap (times n) (numbers_append (receipts_in seat.notes) (all_receipts seats)) in
+    let sum = times_append n (numbers_of (receipts_in seat.notes)) (numbers_of (all_receipts seats)) in
     omega (arith, mine, rest, both, sum)
 
 times_at : (n : ℕ) (receipts : List ReceiptOf) (place : ℕ) (other : ReceiptOf) → place < length receipts
@@ -147,21 +148,21 @@ readings_stand setting log (Looked reading ∷ notes) noted =
     all_first (IsReadIn setting log) reading (readings_in notes) (noted 0 (Looked reading) (omega arith))
     (readings_stand setting log notes (λ place other low. noted (suc place) other (omega (arith, low))))
 
-all_stand : (setting : Setting) (log : List ReceiptOf) (seats : List (List Note)) → All (AreNoted setting log) seats
+all_stand : (setting : Setting) (log : List ReceiptOf) (seats : List SeatOf) → All (IsSeatIn setting log) seats
     → All (StandsIn log) (all_receipts seats)
-all_stand setting log [] noted = All-nil (StandsIn log)
-all_stand setting log (notes ∷ seats) noted =
-    all_append (StandsIn log) (receipts_in notes) (all_receipts seats)
-    (receipts_stand setting log notes (noted 0 notes (omega arith)))
-    (all_stand setting log seats (all_rest (AreNoted setting log) notes seats noted))
+all_stand setting log [] each = All-nil (StandsIn log)
+all_stand setting log (seat ∷ seats) each =
+    all_append (StandsIn log) (receipts_in seat.notes) (all_receipts seats)
+    (receipts_stand setting log seat.notes (each 0 seat (omega arith)).noted)
+    (all_stand setting log seats (all_rest (IsSeatIn setting log) seat seats each))
 
-all_read : (setting : Setting) (log : List ReceiptOf) (seats : List (List Note)) → All (AreNoted setting log) seats
+all_read : (setting : Setting) (log : List ReceiptOf) (seats : List SeatOf) → All (IsSeatIn setting log) seats
     → All (IsReadIn setting log) (all_readings seats)
-all_read setting log [] noted = All-nil (IsReadIn setting log)
-all_read setting log (notes ∷ seats) noted =
-    all_append (IsReadIn setting log) (readings_in notes) (all_readings seats)
-    (readings_stand setting log notes (noted 0 notes (omega arith)))
-    (all_read setting log seats (all_rest (AreNoted setting log) notes seats noted))
+all_read setting log [] each = All-nil (IsReadIn setting log)
+all_read setting log (seat ∷ seats) each =
+    all_append (IsReadIn setting log) (readings_in seat.notes) (all_readings seats)
+    (readings_stand setting log seat.notes (each 0 seat (omega arith)).noted)
+    (all_read setting log seats (all_rest (IsSeatIn setting log) seat seats each))
 
 -- ---- the order of all receipts is the log
 
@@ -234,13 +235,13 @@ entry_is setting tables number (first ∷ order) (suc place) receipt at =
 
 -- ---- no cause
 
-module _ (checked : CheckedOf) (book : Book) (seats : List (List Note)) (named : book_checked book ≡ checked)
+module _ (checked : CheckedOf) (book : Book) (seats : List SeatOf) (named : book_checked book ≡ checked)
     (logged : IsLogOfSeats checked seats book) where
   long : length (book_log book) ≡ length logged.log
   long = each_is_logged book (transactions_of logged.log) logged.stands ∙ length_transactions logged.log
 
   standing : All (StandsIn logged.log) (all_receipts seats)
-  standing = all_stand (setting_in checked) logged.log seats logged.noted
+  standing = all_stand (setting_in checked) logged.log seats logged.each
 
   order_logged : (order : List ReceiptOf) → AreInOrder seats order → length order ≡ length logged.log
       → order ≡ logged.log
@@ -249,13 +250,21 @@ module _ (checked : CheckedOf) (book : Book) (seats : List (List Note)) (named :
       order_is [] order logged.log count ordered.numbered
       (All-permutation (StandsIn logged.log) (all_receipts seats) order ordered.all standing)
 
-  rising : All (IsRising (length (book_log book))) seats
+  rising : All (IsRisingSeat (length (book_log book))) seats
   unfolding long
   rising place other low =
-      let notes : List Note = get_or seats place other in
-      subst (λ (n : ℕ). IsRising n notes) (sym long)
-      (subst (λ (list : List ℕ). RiseTo (length logged.log) 0 list) (numbers_are notes)
-      (logged.rising place other low))
+      let seat : SeatOf = get_or seats place other in
+      subst (λ (n : ℕ). IsRisingSeat n seat) (sym long)
+      (subst (λ (list : List ℕ). RiseTo (length logged.log) 0 list) (numbers_are seat.notes)
+      (logged.each place other low).rising)
+
+  -- what each seat has seen is a beginning of them
+  pub order_begins : (order : List ReceiptOf) → AreInOrder seats order → length order ≡ length (book_log book)
+      → All (λ (seat : SeatOf). StartsWith order seat.seen) seats
+  unfolding long order_logged
+  order_begins order ordered count place other low =
+      subst (λ (list : List ReceiptOf). StartsWith list (get_or seats place other).seen)
+      (sym (order_logged order ordered (count ∙ long))) (logged.each place other low).begins
 
   apart : (sorted : List ReceiptOf) → IsPermutation (all_receipts seats) sorted
       → IsNonDecreasingBy (λ (receipt : ReceiptOf). receipt.number) sorted
@@ -293,7 +302,7 @@ module _ (checked : CheckedOf) (book : Book) (seats : List (List Note)) (named :
     right place other low =
         let reading : Reading = get_or (all_readings seats) place other in
         let read : IsReadIn (setting_in checked) logged.log reading =
-        all_read (setting_in checked) logged.log seats logged.noted place other low in
+        all_read (setting_in checked) logged.log seats logged.each place other low in
         let told : transactions_of logged.log ≡ transactions_of read.earlier ++ transactions_of read.later =
         ap transactions_of read.log_is ∙ transactions_append read.earlier read.later in
         let count : length (transactions_of read.earlier) ≡ reading.number =
@@ -347,12 +356,18 @@ module _ (checked : CheckedOf) (book : Book) (seats : List (List Note)) (named :
   can_come served f.StartLate cause = tt
   can_come served f.OutOfMemory cause = tt
 
-pub comes_as_named : (checked : CheckedOf) (book : Book) (seats seen : List (List Note)) (served : List Served)
+pub comes_as_named : (checked : CheckedOf) (book : Book) (seats seen : List SeatOf) (served : List Served)
     (error : CloseError) → book_checked book ≡ checked → seen ≡ seats → IsLogOfSeats checked seats book
     → IsCloseCause book seen served error → CanCome error
 comes_as_named checked book seats seen served error named same logged cause =
-    can_come checked book seen named (subst (λ (list : List (List Note)). IsLogOfSeats checked list book) (sym same) logged)
+    can_come checked book seen named (subst (λ (list : List SeatOf). IsLogOfSeats checked list book) (sym same) logged)
     served error cause
+
+pub logged_as_named : (checked : CheckedOf) (book : Book) (seats seen : List SeatOf) → book_checked book ≡ checked
+    → seen ≡ seats → IsLogOfSeats checked seats book → IsLogOfSeats (book_checked book) seen book
+logged_as_named checked book seats seen named same logged =
+    subst (λ (one : CheckedOf). IsLogOfSeats one seen book) (sym named)
+    (subst (λ (list : List SeatOf). IsLogOfSeats checked list book) (sym same) logged)
 
 pub memory_comes : {A : Type 0} (result : Result A CloseError)
     → IsErrAnd result (λ error. error ≡ f.OutOfMemory) → IfErr result CanCome

@@ -13,9 +13,9 @@ use Rattle.tables_log.specs.declared.book.Book.{Book}
 use Rattle.publisher_desk.specs.Counting.{IsCounted}
 use Rattle.publisher_desk.specs.Held.{IsBookOf}
 use Rattle.publisher_desk.specs.Receipts.{ReceiptOf, transaction_of, transactions_of}
-use Rattle.publisher_desk.specs.declared.note.Note.{Note}
+use Rattle.publisher_desk.specs.Seats.{SeatOf}
 use Rattle.publisher_desk.specs.Logged.{RiseTo}
-use Rattle.senders.specs.Gathering.{all_receipts, all_readings, numbers_of, IsRising}
+use Rattle.senders.specs.Gathering.{all_receipts, all_readings, numbers_of, IsRisingSeat}
 use Rattle.senders.specs.Histories.{AreInOrder, IsRight}
 use Rattle.senders.specs.Reached.{AreReached}
 use Rattle.senders.specs.TakenCommits.{IsTaken}
@@ -49,9 +49,9 @@ pub data IsUnlike (setting : Setting) (log : List CommitOf) (order : List Receip
   IsRefusedThere : HasRefused setting order → IsUnlike setting log order
   IsOtherThere : HasOtherEntry setting log order → IsUnlike setting log order
 
-pub data IsMissing (setting : Setting) (log : List CommitOf) (seats : List (List Note)) : Type 0 where
+pub data IsMissing (setting : Setting) (log : List CommitOf) (seats : List SeatOf) : Type 0 where
   -- the numbers of a seat's receipts don't rise in its order, from 1 at least to the log's length at most
-  IsFalling : ¬ All (IsRising (length log)) seats → IsMissing setting log seats
+  IsFalling : ¬ All (IsRisingSeat (length log)) seats → IsMissing setting log seats
   -- of the receipts of all seats, sorted by their numbers, one has the number 0, that of the one before it, or one
   -- above the log's length
   IsRepeated : (sorted : List ReceiptOf) → IsPermutation (all_receipts seats) sorted
@@ -64,23 +64,23 @@ pub data IsMissing (setting : Setting) (log : List CommitOf) (seats : List (List
 -- ---- what holds where the receipts are those of the log
 
 -- The log of the book is that of the receipts.
-pub record IsToldBy (book : Book) (seats : List (List Note)) (order : List ReceiptOf) : Type 0 where
+pub record IsToldBy (book : Book) (seats : List SeatOf) (order : List ReceiptOf) : Type 0 where
   pub ordered : AreInOrder seats order
   pub accepted : AreAccepted (book_setting book) no_rows (transactions_of order)
   pub logged : book_log book ≡ entries_from (book_setting book) no_rows 1 (transactions_of order)
 
-pub record HasWrongReading (book : Book) (seats : List (List Note)) : Type 0 where
+pub record HasWrongReading (book : Book) (seats : List SeatOf) : Type 0 where
   pub order : List ReceiptOf
   pub told : IsToldBy book seats order
   pub wrong : ¬ All (IsRight (book_setting book) (transactions_of order)) (all_readings seats)
 
-pub record HasOtherTaken (book : Book) (seats : List (List Note)) (served : List Served) : Type 0 where
+pub record HasOtherTaken (book : Book) (seats : List SeatOf) (served : List Served) : Type 0 where
   pub order : List ReceiptOf
   pub told : IsToldBy book seats order
   pub right : All (IsRight (book_setting book) (transactions_of order)) (all_readings seats)
   pub other : ¬ All (IsTaken (book_log book)) served
 
-pub record HasLateStart (book : Book) (seats : List (List Note)) (served : List Served) : Type 0 where
+pub record HasLateStart (book : Book) (seats : List SeatOf) (served : List Served) : Type 0 where
   pub order : List ReceiptOf
   pub told : IsToldBy book seats order
   pub right : All (IsRight (book_setting book) (transactions_of order)) (all_readings seats)
@@ -89,7 +89,7 @@ pub record HasLateStart (book : Book) (seats : List (List Note)) (served : List 
 
 -- ---- refusals, each of which passes what comes before it
 
-abbrev pub IsCloseCause : Book → List (List Note) → List Served → CloseError → Type 0
+abbrev pub IsCloseCause : Book → List SeatOf → List Served → CloseError → Type 0
 IsCloseCause book seats served CountDiffers = length (book_log book) ≢ length (all_receipts seats)
 IsCloseCause book seats served ReceiptMissing = (length (book_log book) ≡ length (all_receipts seats))
     × IsMissing (book_setting book) (book_log book) seats
@@ -99,7 +99,7 @@ IsCloseCause book seats served StartLate = HasLateStart book seats served
 IsCloseCause book seats served OutOfMemory = Unit {0}
 
 -- Of all seats, `left` were never handed out. Receipts are too few only if not all others are passed in.
-abbrev pub IsHeldBack : ℕ → ℕ → List (List Note) → CloseError → Type 0
+abbrev pub IsHeldBack : ℕ → ℕ → List SeatOf → CloseError → Type 0
 IsHeldBack all left seats CountDiffers = left + length seats < all
 IsHeldBack all left seats ReceiptMissing = Unit {0}
 IsHeldBack all left seats ReadingWrong = Unit {0}
@@ -120,7 +120,7 @@ CanCome OutOfMemory = Unit {0}
 -- The publisher's book is of the checked catalog, takes this number of commits and is of some list of transactions.
 -- It has no fewer commits than the seats have receipts, and exactly as many if no seat is held back. It is the cause
 -- of the refusal.
-pub record RefusedClose (checked : CheckedOf) (limit all left : ℕ) (seats : List (List Note)) (served : List Served)
+pub record RefusedClose (checked : CheckedOf) (limit all left : ℕ) (seats : List SeatOf) (served : List Served)
     (error : CloseError) : Type 0 where
   pub book : Book
   pub is : IsBookOf checked limit book

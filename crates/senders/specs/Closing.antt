@@ -7,30 +7,32 @@ use Rattle.tables_log.specs.BookView.{book_checked, book_limit, book_log}
 use Rattle.tables_log.specs.StandsFor.{Transaction, StandsFor}
 use Rattle.tables_log.specs.declared.book.Book.{Book}
 use Rattle.publisher_desk.specs.Receipts.{ReceiptOf, transactions_of}
-use Rattle.publisher_desk.specs.Seats.{AreTimed, IsForward}
-use Rattle.publisher_desk.specs.declared.note.Note.{Note}
+use Rattle.publisher_desk.specs.Seats.{IsForwardSeat, IsTimedSeat, SeatOf}
+use Rattle.publisher_desk.specs.Sights.{StartsWith}
 use Rattle.senders.specs.Gathering.{all_readings}
 use Rattle.senders.specs.Histories.{AreInOrder, IsRight}
 use Rattle.senders.specs.Reached.{AreReached}
 use Rattle.senders.specs.TakenCommits.{IsTaken}
 
 -- The book is of the checked catalog, takes this number of commits, and is that of the transactions of the receipts
--- in the order of their numbers; its log has an entry for each. Each reading is right by these transactions, and is
--- of no fewer commits than an earlier note of its seat knows of. Times have 64 bits. Each connection took the commits
+-- in the order of their numbers; its log has an entry for each. What each seat has seen is a beginning of these receipts.
+-- Each reading is right by these transactions, and is of no fewer commits than an earlier note of its seat knows of.
+-- Times have 64 bits. Each connection took the commits
 -- of the book's log. Each commit before the start of a connection was taken for a connection of its slot, or is before a
 -- position that a client of the slot requested.
-pub record IsClosed (checked : CheckedOf) (limit : ℕ) (seats : List (List Note)) (served : List Served) (book : Book)
+pub record IsClosed (checked : CheckedOf) (limit : ℕ) (seats : List SeatOf) (served : List Served) (book : Book)
     : Type 0 where
   pub named : book_checked book ≡ checked
   pub limited : book_limit book ≡ limit
   pub order : List ReceiptOf
   pub ordered : AreInOrder seats order
+  pub begins : All (λ (seat : SeatOf). StartsWith order seat.seen) seats
   pub transactions : List Transaction
   pub told : transactions ≡ transactions_of order
   pub stands : StandsFor book transactions
   pub counted : length (book_log book) ≡ length order
   pub right : All (IsRight (setting_in checked) transactions) (all_readings seats)
-  pub forward : All IsForward seats
-  pub timed : All AreTimed seats
+  pub forward : All IsForwardSeat seats
+  pub timed : All IsTimedSeat seats
   pub taken : All (IsTaken (book_log book)) served
   pub reached : AreReached (length checked.catalog.subscriptions) served

@@ -17,7 +17,7 @@ use Rattle.copy_both.specs.VoiceLaws.{AreAt, takes_in}
 use Rattle.senders.specs.declared.end.End.{End}
 use Rattle.senders.specs.declared.end.End.TheVariants.{Finished}
 use Rattle.senders.specs.declared.served.Served.{Served}
-use Rattle.publisher_desk.specs.declared.note.Note.{Note}
+use Rattle.publisher_desk.specs.Seats.{SeatOf}
 use Rattle.senders.specs.Closing.{IsClosed}
 use Rattle.stream_laws.specs.Following.{Follows, items_from}
 use Rattle.stream_laws.specs.Cutting.{whole_in}
@@ -99,14 +99,14 @@ pub record AreExplained (checked : CheckedOf) (transactions : List Transaction) 
   pub few : length transactions ≤ 1000000000
 
 abbrev pub ClosedAreTold : Type 0
-ClosedAreTold = (checked : CheckedOf) (limit : ℕ) (seats : List (List Note)) (served : List Served) (book : Book)
+ClosedAreTold = (checked : CheckedOf) (limit : ℕ) (seats : List SeatOf) (served : List Served) (book : Book)
     (closed : IsClosed checked limit seats served book)
     → AreExplained checked closed.transactions
 
 -- So what was written to each connection, without a CopyDone at the end, is a prefix of the stream over the log of
 -- these transactions.
 abbrev pub ClosedTellTheLog : Type 0
-ClosedTellTheLog = (checked : CheckedOf) (limit : ℕ) (seats : List (List Note)) (served : List Served) (book : Book)
+ClosedTellTheLog = (checked : CheckedOf) (limit : ℕ) (seats : List SeatOf) (served : List Served) (book : Book)
     (closed : IsClosed checked limit seats served book)
     → (one : Served) → Contains served one → (frames : List Frame) (slot start : ℕ) → one.start ≡ Some start
     → (written : List ℕ) (failed : Bool) → IsStream checked frames slot start (commits_of one) written failed one.end
@@ -115,7 +115,7 @@ ClosedTellTheLog = (checked : CheckedOf) (limit : ℕ) (seats : List (List Note)
 -- And a subscriber that has its shard, opened this connection at its own position, and was fed any prefix of what was
 -- written has its shard of the tables as of the commits of these transactions that its position counts.
 abbrev pub ClosedAreFollowed : Type 0
-ClosedAreFollowed = (checked : Checked) (limit : ℕ) (seats : List (List Note)) (served : List Served) (book : Book)
+ClosedAreFollowed = (checked : Checked) (limit : ℕ) (seats : List SeatOf) (served : List Served) (book : Book)
     (closed : IsClosed (checked_view checked) limit seats served book)
     → (one : Served) (frames : List Frame) (slot start : ℕ) (written : List ℕ)
     → (part : IsFirstPart (checked_view checked) closed.transactions frames slot start (commits_of one) written one.end)

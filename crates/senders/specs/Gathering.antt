@@ -3,6 +3,7 @@ use Rattle.std.specs.Prelude.{ℕ, List, [], ◌∷◌, map}
 use Rattle.std.specs.List.{flat_map}
 use Rattle.publisher_desk.specs.Logged.{RiseTo}
 use Rattle.publisher_desk.specs.Receipts.{ReceiptOf}
+use Rattle.publisher_desk.specs.Seats.{SeatOf}
 use Rattle.publisher_desk.specs.declared.note.Note.{Note}
 use Rattle.publisher_desk.specs.declared.note.Note.TheVariants.{Committed, Looked}
 use Rattle.publisher_desk.specs.declared.note.Reading.{Reading}
@@ -20,11 +21,11 @@ readings_in (Committed receipt ∷ notes) = readings_in notes
 readings_in (Looked reading ∷ notes) = reading ∷ readings_in notes
 
 -- seat by seat
-abbrev pub all_receipts : List (List Note) → List ReceiptOf
-all_receipts seats = flat_map receipts_in seats
+abbrev pub all_receipts : List SeatOf → List ReceiptOf
+all_receipts seats = flat_map (λ (seat : SeatOf). receipts_in seat.notes) seats
 
-abbrev pub all_readings : List (List Note) → List Reading
-all_readings seats = flat_map readings_in seats
+abbrev pub all_readings : List SeatOf → List Reading
+all_readings seats = flat_map (λ (seat : SeatOf). readings_in seat.notes) seats
 
 abbrev pub numbers_of : List ReceiptOf → List ℕ
 numbers_of receipts = map (λ (receipt : ReceiptOf). receipt.number) receipts
@@ -32,3 +33,6 @@ numbers_of receipts = map (λ (receipt : ReceiptOf). receipt.number) receipts
 -- The numbers of a seat's receipts increase, and are from 1 to `high`.
 abbrev pub IsRising : ℕ → List Note → Type 0
 IsRising high notes = RiseTo high 0 (numbers_of (receipts_in notes))
+
+abbrev pub IsRisingSeat : ℕ → SeatOf → Type 0
+IsRisingSeat high seat = IsRising high seat.notes

@@ -6,7 +6,7 @@ ghost use Rattle.tables_log.specs.Committing.{ChangesSlots, IsNew};
 ghost use Rattle.senders.specs.declared.served.Served.{Served};
 ghost use Rattle.publisher_desk.specs.Counting.{IsCounted};
 ghost use Rattle.publisher_desk.specs.Held.{IsBookOf};
-ghost use Rattle.publisher_desk.specs.Seats.{AreTimed, IsForward};
+ghost use Rattle.publisher_desk.specs.Seats.{IsForwardSeat, IsTimedSeat};
 ghost use Rattle.publisher_desk.specs.Logged.{IsLogOfSeats};
 ghost use Rattle.senders.specs.CloseCauses.{CanCome, IsCloseCause, RefusedClose};
 ghost use Rattle.senders.specs.Closing.{IsClosed};
@@ -35,8 +35,8 @@ fn order_receipts<'a, P: Publishing>(
 ) -> Result<Vec<&'a Receipt>, CloseError>
     ensures ok { IfOk result (λ receipts. AreInOrder seats.now (map (λ receipt. receipt.now) receipts.items)) }
     ensures long { IfOk result (λ receipts. IsAsLong book.now (map (λ receipt. receipt.now) receipts.items)) }
-    ensures forward { OnOk result (All IsForward seats.now) }
-    ensures timed { OnOk result (All AreTimed seats.now) }
+    ensures forward { OnOk result (All IsForwardSeat seats.now) }
+    ensures timed { OnOk result (All IsTimedSeat seats.now) }
     ensures err { IfErr result (λ error. (served : List Served) → IsCloseCause book.now seats.now served error) }
 {
     let mut receipts = receipts_of(alloc, seats)?;
@@ -66,7 +66,7 @@ fn keep_confirmed(fresh: &mut Book, book: &Book, slots: usize)
 }
 
 /// Makes the receipts again on the fresh book, which has no commits, and compares readings and connections with it. The
-/// catalog has this number of slots.
+/// catalog has this number of slots, and the history of the publisher says that the notes of the seats are right.
 fn compare<P: Publishing>(
     alloc: Global,
     fresh: &mut Book,
@@ -77,6 +77,7 @@ fn compare<P: Publishing>(
 ) -> Result<(), CloseError>
     requires new { IsNew fresh.old (book_checked book.now) (book_limit book.now) }
     requires slots { slots ≡ length (book_checked book.now).catalog.subscriptions }
+    requires logged { IsLogOfSeats (book_checked book.now) seats.now book.now }
     ensures ok { OnOk result (IsClosed (book_checked book.now) (book_limit book.now) seats.now served.now fresh.new) }
     ensures log { OnOk result (length (book_log book.now) ≡ length (book_log fresh.new)) }
     ensures err { IfErr result (IsCloseCause book.now seats.now served.now) }

@@ -1,9 +1,9 @@
 //! Whether the numbers of receipts increase.
 
 ghost use Rattle.std.specs.Prelude.{◌≡◌, All, IsTrue, MatchBool, map};
-ghost use Rattle.publisher_desk.specs.Seats.{AreTimed, IsForward};
+ghost use Rattle.publisher_desk.specs.Seats.{IsForwardSeat, IsTimedSeat};
 ghost use Rattle.publisher_desk.specs.Logged.{RiseTo};
-ghost use Rattle.senders.specs.Gathering.{numbers_of, IsRising};
+ghost use Rattle.senders.specs.Gathering.{numbers_of, IsRising, IsRisingSeat};
 
 use publisher_desk::{Note, Publishing, Receipt, Seat};
 
@@ -43,9 +43,9 @@ fn is_rising(notes: &[Note], high: u32) -> bool
 /// Whether they do in each seat's order. In each seat, rows were read after no fewer commits than earlier notes know
 /// of.
 pub(crate) fn are_rising<P: Publishing>(seats: &[Seat<P>], high: u32) -> bool
-    ensures rising { MatchBool result (All (IsRising high) seats.now) (¬ All (IsRising high) seats.now) }
-    ensures forward { IsTrue result → All IsForward seats.now }
-    ensures timed { IsTrue result → All AreTimed seats.now }
+    ensures rising { MatchBool result (All (IsRisingSeat high) seats.now) (¬ All (IsRisingSeat high) seats.now) }
+    ensures forward { IsTrue result → All IsForwardSeat seats.now }
+    ensures timed { IsTrue result → All IsTimedSeat seats.now }
 {
     for seat in seats {
         if !is_rising(seat.notes(), high) {

@@ -2,7 +2,7 @@
 
 ghost use Rattle.std.specs.Prelude.{ℕ, All, List, ◌≡◌};
 ghost use Rattle.commands.specs.declared.failure.Status.TheVariants.{Done};
-ghost use Rattle.publisher_desk.specs.declared.note.Note.{Note};
+ghost use Rattle.publisher_desk.specs.Seats.{SeatOf};
 ghost use Rattle.shard_checker.specs.CheckedView.{CheckedOf};
 ghost use Rattle.cli.specs.Connections.{WasServed};
 ghost use Rattle.cli.specs.Published.{Closes, IsLastLine, IsLastLineOf};
@@ -20,9 +20,9 @@ fn tell_closed<'a, W: Writer>(
     connections: usize,
     writer: &mut W,
 ) -> Result<Status, Failure<'a>>
-    ensures { (checked : CheckedOf) (limit : ℕ) (notes : List Note)
-        → IsLastLine checked limit notes (closed_line commits connections) Done
-        → Closes checked limit notes (W.contents writer.old) (W.contents writer.new) result }
+    ensures { (checked : CheckedOf) (limit : ℕ) (seat : SeatOf)
+        → IsLastLine checked limit seat (closed_line commits connections) Done
+        → Closes checked limit seat (W.contents writer.old) (W.contents writer.new) result }
 {
     let line = format!(in alloc; "closed {commits} {connections}")?;
     say(line, Status::Done, writer)
@@ -34,8 +34,8 @@ fn tell_error<'a, W: Writer>(
     error: CloseError,
     writer: &mut W,
 ) -> Result<Status, Failure<'a>>
-    ensures { (checked : CheckedOf) (limit : ℕ) (notes : List Note) → IsLastLineOf checked limit notes error
-        → Closes checked limit notes (W.contents writer.old) (W.contents writer.new) result }
+    ensures { (checked : CheckedOf) (limit : ℕ) (seat : SeatOf) → IsLastLineOf checked limit seat error
+        → Closes checked limit seat (W.contents writer.old) (W.contents writer.new) result }
 {
     let name = name_of(error).ok_or(Failure::OutOfMemory)?;
     let line = format!(in alloc; "close {name}")?;

@@ -7,6 +7,7 @@ ghost use Rattle.commands.specs.Output.{ended, text_of};
 ghost use Rattle.shard_world.specs.ViewContents.{AllAt, FoundIn};
 ghost use Rattle.tables_log.specs.BookView.{book_slots};
 ghost use Rattle.tables_log.specs.Committing.{ChangesSlots};
+ghost use Rattle.publisher_desk.specs.Sights.{StartsWith};
 ghost use Rattle.cli.specs.Views as spec;
 ghost use Rattle.cli.specs.Views.{IsViewText, progress_lines};
 
@@ -192,8 +193,9 @@ pub(crate) fn view_text<P: Publishing, R: Wait>(
     publisher: &Publisher<P>,
     seat: &mut Seat<P>,
 ) -> Result<String, AllocError>
-    ensures text { IfOk result (λ text. IsViewText P.checked seat.old (string_bytes text)) }
-    ensures same { seat.new ≡ seat.old }
+    ensures text { IfOk result (λ text. IsViewText P.checked seat.new (string_bytes text)) }
+    ensures same { seat.new.notes ≡ seat.old.notes }
+    ensures begins { StartsWith seat.new.seen seat.old.seen }
 {
     let catalog = publisher.checked().catalog();
     let mut viewing = Viewing {

@@ -1,7 +1,7 @@
 use Rattle.std.proofs.Common.{Bool, List, ◌∷◌, sym, ◌∙◌, ap, rules}
 use Rattle.shard_checker.specs.CheckedView.{setting_in}
+use Rattle.publisher_desk.specs.Seats.{SeatOf}
 use Rattle.publisher_desk.specs.Sights.{left, sight_of, view_of}
-use Rattle.publisher_desk.specs.declared.note.Note.{Note}
 use Rattle.publisher_desk.proofs.LoggedLemmas.{more_logged}
 use Rattle.publisher_desk.proofs.auditing.+audit_all.Goals as goal
 
@@ -14,5 +14,5 @@ pub returns-in-Some-clause-logged : goal.returns-in-Some-clause-logged
 returns-in-Some-clause-logged g t c =
     more_logged (setting_in g.P.Publishing.checked) c.args.history.now c.lend.new.self c.seat.inside.notes.items
     c.in-Some.rest.now c.args.seats.now (sight_of c.seat.inside.token) c.lend.ensures
-    (search rules ∙ ap (λ (notes : List Note). notes ∷ c.in-Some.rest.now) (sym c.seat.view_is))
+    (search rules ∙ ap (λ (seat : SeatOf). seat ∷ c.in-Some.rest.now) (sym c.seat.view_is))
     c.seat.invariant.1 c.audit_all.ensures.logged

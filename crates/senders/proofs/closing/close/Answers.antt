@@ -2,7 +2,7 @@ use Rattle.std.proofs.Common.{◌∙◌, rules}
 use Rattle.senders.specs.CloseCauses.{CanCome, RefusedClose}
 use Rattle.senders.proofs.ReplayLemmas.{passes_on}
 use Rattle.senders.proofs.ClosingLemmas.{memory_refused, refused_as_named, closed_as_named}
-use Rattle.senders.proofs.LoggedLemmas.{comes_as_named, memory_comes}
+use Rattle.senders.proofs.LoggedLemmas.{comes_as_named, logged_as_named, memory_comes}
 use Rattle.senders.proofs.closing.close.Goals as goal
 
 pub returns-in_err-checked-clause-refused : goal.returns-in_err-checked-clause-refused
@@ -27,6 +27,12 @@ returns-in_err-compare-clause-refused g c =
     c.counted_book-book.ensures.counted c.as_slice.result.now c.as_slice-2.result.now c.in_err-compare.field-0.0
     (c.as_slice.ensures.value ∙ c.counted_book-book.ensures.same) c.as_slice-2.ensures.value
     c.in_err-compare.ensures.err)
+
+pub compare-requires-logged : goal.compare-requires-logged
+compare-requires-logged g c =
+    logged_as_named g.P.Publishing.checked c.counted_book-book.result c.args.seats.items c.as_slice.result.now
+    c.counted_book-book.ensures.is.named (c.as_slice.ensures.value ∙ c.counted_book-book.ensures.same)
+    c.counted_book-book.ensures.logged
 
 pub returns-clause-ok : goal.returns-clause-ok
 returns-clause-ok g c =

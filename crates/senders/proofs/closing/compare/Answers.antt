@@ -61,3 +61,4 @@ returns-clause-ok g c =
     c.if-not-are_taken.ensures
     (subst (λ (slots : ℕ). AreReached slots c.args.served.now) c.requires.slots
     (MatchBool-at_true _ _ c.if-not-reached.false c.in_ok-reached.ensures)) c.in_ok-receipts.ensures.forward c.in_ok-receipts.ensures.timed
+    c.requires.logged

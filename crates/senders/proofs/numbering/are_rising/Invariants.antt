@@ -1,8 +1,8 @@
 use Rattle.std.proofs.Common.{All, take}
-use Rattle.publisher_desk.specs.Seats.{AreTimed, IsForward}
-use Rattle.senders.specs.Gathering.{IsRising}
+use Rattle.publisher_desk.specs.Seats.{IsForwardSeat, IsTimedSeat}
+use Rattle.senders.specs.Gathering.{IsRisingSeat}
 use Rattle.senders.proofs.numbering.are_rising.Given as goal
 
 abbrev pub invariant-loop-seat : goal.invariant-loop-seat
-invariant-loop-seat g l = All (IsRising l.high) (take l.seat-index l.seats)
-    × All IsForward (take l.seat-index l.seats) × All AreTimed (take l.seat-index l.seats)
+invariant-loop-seat g l = All (IsRisingSeat l.high) (take l.seat-index l.seats)
+    × All IsForwardSeat (take l.seat-index l.seats) × All IsTimedSeat (take l.seat-index l.seats)

@@ -47,9 +47,15 @@ pub returns-in-Ok-clause-made : goal.returns-in-Ok-clause-made
 returns-in-Ok-clause-made g c =
     made_as g.P.Publishing.checked g.P.Publishing.limit c.self.inside.book c.self.invariant.is
     c.make_commit.new.book (map command_view c.as_slice.result.now) (map command_view c.args.commands.items)
-    c.args.time c.in-Ok.number c.new-receipt.result.number c.in-Ok.ensures.ok
-    (ap (λ (list : List Command). map command_view list) c.as_slice.ensures.value)
-    (sym (ap (λ (receipt : ReceiptOf). receipt.number) c.new-receipt.ensures))
+    c.args.time c.in-Ok.number c.new-receipt.result c.self.inside.history c.record.new.self
+    (sight_of c.args.token.now) (sight_of c.record.new.token) c.in-Ok.ensures.ok c.new-receipt.ensures
+    (history_adds c.self.inside.book c.self.inside.history c.self.invariant.told c.make_commit.new.book
+    (map command_view c.as_slice.result.now) c.args.time c.in-Ok.number c.new-receipt.result c.record.new.self
+    c.in-Ok.ensures.ok
+    (ap (λ (receipt : ReceiptOf). receipt.commands) c.new-receipt.ensures
+    ∙ sym (ap (λ (list : List Command). map command_view list) c.as_slice.ensures.value))
+    (ap (λ (receipt : ReceiptOf). receipt.time) c.new-receipt.ensures) c.record.ensures.log)
+    c.record.ensures.log c.record.ensures.seen
 
 pub returns-in-Err-clause-fault : goal.returns-in-Err-clause-fault
 returns-in-Err-clause-fault g c =

@@ -1,13 +1,6 @@
 use Rattle.publisher_desk.specs.Sights.{sight_of}
-use Rattle.publisher_desk.proofs.HeldLemmas.{is_found}
 use Rattle.publisher_desk.proofs.LoggedLemmas.{looks_in}
 use Rattle.publisher_desk.proofs.desk.Desk.look.Goals as goal
-
-pub returns-clause-row : goal.returns-clause-row
-returns-clause-row g c =
-    is_found g.P.Publishing.checked g.P.Publishing.limit c.self.inside.book c.self.invariant.is c.args.table
-    c.in_ok-found.found.0 c.args.key.now c.in_ok-found.found.1 c.in_ok-found.ensures.number
-    c.in_ok-found.ensures.row
 
 pub returns-clause-seen : goal.returns-clause-seen
 returns-clause-seen g c =

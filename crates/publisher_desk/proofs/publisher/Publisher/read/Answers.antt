@@ -4,9 +4,10 @@ use Rattle.pub_catalog.specs.CatalogView.{catalog_view}
 use Rattle.pub_catalog.specs.Catalogs.{CatalogOf}
 use Rattle.shard_checker.specs.CheckedView.{CheckedOf, setting_in}
 use Rattle.shard_checker.specs.declared.checked.Checked.{Checked}
+use Rattle.publisher_desk.specs.Seats.{SeatOf}
 use Rattle.publisher_desk.specs.Sights.{sight_of}
 use Rattle.publisher_desk.specs.declared.note.Reading.{Reading}
-use Rattle.publisher_desk.proofs.LoggedLemmas.{none_later, reading_noted, seen_noted}
+use Rattle.publisher_desk.proofs.LoggedLemmas.{none_later, read_as, reading_noted, seen_begins, seen_noted}
 use Rattle.publisher_desk.proofs.SeatLemmas.{reading_pushed, seat_stays, up_to_seen}
 use Rattle.publisher_desk.proofs.publisher.Publisher.read.Goals as goal
 
@@ -39,11 +40,22 @@ invariant_of-seat-2 g c = (
 
 pub returns-clause-forward : goal.returns-clause-forward
 returns-clause-forward g c =
-    up_to_seen c.seat.inside.notes.items c.args.seat.now c.seat.inside.high c.in_ok-number.number c.seat.view_is
+    up_to_seen c.seat.inside.notes.items c.args.seat.now.notes c.seat.inside.high c.in_ok-number.number
+    (ap (λ (seat : SeatOf). seat.notes) c.seat.view_is)
     c.seat.invariant.0.high_is
     (none_later (setting_in g.P.Publishing.checked) c.seat.inside.notes.items (sight_of c.seat.inside.token)
     (sight_of c.look.new.token) c.seat.invariant.1 c.seat.inside.high _ _ _ _ c.seat.invariant.0.high_is
     c.in_ok-number.ensures.seen)
+
+pub returns-clause-answer : goal.returns-clause-answer
+returns-clause-answer g c =
+    read_as g.P.Publishing.checked _ (sight_of c.seat.inside.token) (sight_of c.look.new.token)
+    c.in_ok-number.ensures.seen
+
+pub returns-clause-begins : goal.returns-clause-begins
+returns-clause-begins g c =
+    seen_begins c.args.seat.now c.seat.inside.notes.items (sight_of c.seat.inside.token) (sight_of c.look.new.token)
+    c.seat.view_is c.in_ok-number.ensures.seen.log c.in_ok-number.ensures.seen.sees
 
 -- there is no such table
 pub returns-then-table-len-clause-refused : goal.returns-then-table-len-clause-refused

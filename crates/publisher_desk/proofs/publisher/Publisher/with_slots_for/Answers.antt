@@ -1,6 +1,8 @@
+use Rattle.std.proofs.Common.{ap, ◌∙◌}
 use Rattle.shard_checker.specs.CheckedView.{setting_in}
+use Rattle.publisher_desk.specs.Receipts.{transactions_of}
 use Rattle.publisher_desk.specs.Sights.{sight_of}
-use Rattle.publisher_desk.proofs.LoggedLemmas.{notes_in, seen_sighted}
+use Rattle.publisher_desk.proofs.LoggedLemmas.{seen_begins, seen_sighted}
 use Rattle.publisher_desk.proofs.publisher.Publisher.with_slots_for.Goals as goal
 
 -- the seat has seen more of the log, and has no note of it
@@ -15,10 +17,15 @@ invariant_of-seat g c = (
 pub returns-clause-lent : goal.returns-clause-lent
 returns-clause-lent g c = record {
   lent = c.with_slots_for-answer.ensures.lent.lent;
-  log = c.with_slots_for-answer.ensures.lent.log;
-  log_is = c.with_slots_for-answer.ensures.lent.log_is;
-  noted = notes_in (setting_in g.P.Publishing.checked) c.seat.inside.notes.items c.args.seat.now
-      (sight_of c.seat.inside.token) (sight_of c.with_slots_for-answer.new.token)
-      c.with_slots_for-answer.ensures.lent.log
-      c.seat.view_is c.seat.invariant.1 c.with_slots_for-answer.ensures.lent.sees;
+  log_is = ap transactions_of c.with_slots_for-answer.ensures.lent.sees.seen
+      ∙ c.with_slots_for-answer.ensures.lent.log_is;
+  noted = (seen_sighted (setting_in g.P.Publishing.checked) c.seat.inside.notes.items (sight_of c.seat.inside.token)
+      (sight_of c.with_slots_for-answer.new.token) c.seat.invariant.1 c.with_slots_for-answer.ensures.lent.log
+      c.with_slots_for-answer.ensures.lent.sees).noted;
 }
+
+pub returns-clause-begins : goal.returns-clause-begins
+returns-clause-begins g c =
+    seen_begins c.args.seat.now c.seat.inside.notes.items (sight_of c.seat.inside.token)
+    (sight_of c.with_slots_for-answer.new.token) c.seat.view_is c.with_slots_for-answer.ensures.lent.log
+    c.with_slots_for-answer.ensures.lent.sees
