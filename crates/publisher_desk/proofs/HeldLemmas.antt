@@ -28,7 +28,7 @@ use Rattle.publisher_desk.specs.Logged.{IsHistoryOf, Refuses}
 use Rattle.publisher_desk.specs.Receipts.{ReceiptOf, receipt_of, transactions_of}
 use Rattle.publisher_desk.specs.Sights.{AddsTo, Sees, view_of}
 use Rattle.publisher_desk.specs.declared.sight.Sight.{Sight}
-use Rattle.publisher_desk.specs.declared.sight.View.{View}
+use Rattle.publisher_desk.specs.declared.sight.HistoryView.{HistoryView}
 use Rattle.publisher_desk.specs.declared.connection_state.ConnectionState.{ConnectionState}
 
 sent_longer : (connections : List ConnectionState) (commits more : ℕ) → commits ≤ more
@@ -47,7 +47,7 @@ log_of checked book transactions named stands =
 
 pub new_held : (one checked : CheckedOf) (book : Book) (limit most total count : ℕ) (idle : ConnectionState)
     (connections : List ConnectionState)
-    (history : View) → IsNew book one limit → one ≡ checked → limit ≡ most → total ≡ 0
+    (history : HistoryView) → IsNew book one limit → one ≡ checked → limit ≡ most → total ≡ 0
     → idle.sent ≡ 0 → connections ≡ replicate count idle → count ≡ length checked.catalog.subscriptions
     → history ≡ view_of true [] [] → IsHeldFor checked most book total connections history
 new_held one checked book limit most total count idle connections history new same bound none unsent all long empty =
@@ -68,7 +68,7 @@ new_held one checked book limit most total count idle connections history new sa
     }
 
 pub commit_held : (checked : CheckedOf) (limit : ℕ) (old new : Book) (commands : List Command)
-    (time number total more : ℕ) (connections : List ConnectionState) (history longer : View)
+    (time number total more : ℕ) (connections : List ConnectionState) (history longer : HistoryView)
     → Commits old new commands time number
     → more ≡ total + 1 → IsHistoryOf new longer
     → IsHeldFor checked limit old total connections history → IsHeldFor checked limit new more connections longer
@@ -90,7 +90,7 @@ commit_held checked limit old new commands time number total more connections hi
 
 slots_held : (checked : CheckedOf) (limit : ℕ) (old new : Book) (slots : List Slot) (total : ℕ)
     (connections : List ConnectionState)
-    (history : View) → ChangesSlots old new slots
+    (history : HistoryView) → ChangesSlots old new slots
     → IsHeldFor checked limit old total connections history → IsHeldFor checked limit new total connections history
 slots_held checked limit old new slots total connections history changes held = record {
   is = record {
@@ -110,7 +110,7 @@ slots_held checked limit old new slots total connections history changes held = 
 }
 
 pub kept_held : (checked : CheckedOf) (limit : ℕ) (old new : Book) (total more : ℕ) (connections : List ConnectionState)
-    (history : View) → IsKept old new → more ≡ total → IsHeldFor checked limit old total connections history
+    (history : HistoryView) → IsKept old new → more ≡ total → IsHeldFor checked limit old total connections history
     → IsHeldFor checked limit new more connections history
 kept_held checked limit old new total more connections history kept same held =
     subst (λ (n : ℕ). IsHeldFor checked limit new n connections history) (sym same)
@@ -141,7 +141,7 @@ module _ (checked : CheckedOf) (limit : ℕ) (old : Book) (is : IsBookOf checked
 
   -- the seat has seen the whole log, which ends with the receipt
   pub made_as : (new : Book) (commands told : List Command) (time number : ℕ) (receipt : ReceiptOf)
-      (history longer : View) (before after : Sight) → Commits old new commands time number
+      (history longer : HistoryView) (before after : Sight) → Commits old new commands time number
       → receipt ≡ receipt_of number told time → IsHistoryOf new longer
       → longer ≡ view_of true (history.all ++ receipt ∷ []) [] → AddsTo history.all receipt before after
       → IsMade checked limit before.seen after.seen told time receipt.number
@@ -149,7 +149,7 @@ module _ (checked : CheckedOf) (limit : ℕ) (old : Book) (is : IsBookOf checked
       let own : receipt.number ≡ number = ap (λ (one : ReceiptOf). one.number) is_receipt in
       let named : receipt_of number told time ≡ receipt_of receipt.number told time =
       ap (λ n. receipt_of n told time) (sym own) in
-      let all : longer.all ≡ after.seen = ap (λ (view : View). view.all) longer_is ∙ sym adds.seen in
+      let all : longer.all ≡ after.seen = ap (λ (view : HistoryView). view.all) longer_is ∙ sym adds.seen in
       record {
         earlier = history.all;
         begins = adds.begins;
@@ -191,7 +191,7 @@ module _ (checked : CheckedOf) (limit : ℕ) (old : Book) (is : IsBookOf checked
       (refused_in transactions stands commands error refused))
 
   -- of the whole log, which the seat has seen
-  pub refuses : (history : View) (before after : Sight) (commands : List Command) (error : CommitError)
+  pub refuses : (history : HistoryView) (before after : Sight) (commands : List Command) (error : CommitError)
       → IsHistoryOf old history → Sees history.all before after → RefusedBy old commands error
       → Refuses checked limit commands before after error
   refuses history before after commands error told sees refused = record {

@@ -10,7 +10,7 @@ use Rattle.atomic_table.proofs.Lists.{at_set, at_snoc, set_else}
 use Rattle.publisher_desk.specs.Receipts.{ReceiptOf}
 use Rattle.publisher_desk.specs.Sights.{view_of, StartsWith, AreSeen, times, drawn_in, drawn, Fits, IsKept, IsTold, begun, shown_in, shown, added_in, added, rest_in, only_in, left, given, joined, nobody}
 use Rattle.publisher_desk.specs.declared.sight.Sight.{Sight}
-use Rattle.publisher_desk.specs.declared.sight.View.{View}
+use Rattle.publisher_desk.specs.declared.sight.HistoryView.{HistoryView}
 
 -- ---- numbers
 
@@ -31,22 +31,22 @@ drawn_in_append : (n : ℕ) (sights more : List Sight) → drawn_in n (sights ++
 drawn_in_append n [] more = omega arith
 drawn_in_append n (one ∷ sights) more = let rest = drawn_in_append n sights more in omega (arith, rest)
 
-drawn_append : (n : ℕ) (views more : List View) → drawn n (views ++ more) ≡ drawn n views + drawn n more
+drawn_append : (n : ℕ) (views more : List HistoryView) → drawn n (views ++ more) ≡ drawn n views + drawn n more
 drawn_append n [] more = omega arith
 drawn_append n (view ∷ views) more = let rest = drawn_append n views more in omega (arith, rest)
 
-drawn_set : (n : ℕ) (views : List View) (by : ℕ) (v w : View) → get_elem? views by ≡ some v
+drawn_set : (n : ℕ) (views : List HistoryView) (by : ℕ) (v w : HistoryView) → get_elem? views by ≡ some v
     → drawn n (set views by w) + drawn_in n v.sights ≡ drawn n views + drawn_in n w.sights
 drawn_set n [] by v w at = absurd (some-ne-none v (sym at))
 drawn_set n (view ∷ views) zero v w at =
-    let same = ap (λ (u : View). drawn_in n u.sights) (some-injective view v at) in omega (arith, same)
+    let same = ap (λ (u : HistoryView). drawn_in n u.sights) (some-injective view v at) in omega (arith, same)
 drawn_set n (view ∷ views) (suc by) v w at = let rest = drawn_set n views by v w at in omega (arith, rest)
 
-drawn_one : (n : ℕ) (views : List View) (by : ℕ) (v : View) → get_elem? views by ≡ some v
+drawn_one : (n : ℕ) (views : List HistoryView) (by : ℕ) (v : HistoryView) → get_elem? views by ≡ some v
     → drawn_in n v.sights ≤ drawn n views
 drawn_one n [] by v at = absurd (some-ne-none v (sym at))
 drawn_one n (view ∷ views) zero v at =
-    let same = ap (λ (u : View). drawn_in n u.sights) (some-injective view v at) in omega (arith, same)
+    let same = ap (λ (u : HistoryView). drawn_in n u.sights) (some-injective view v at) in omega (arith, same)
 drawn_one n (view ∷ views) (suc by) v at = let rest = drawn_one n views by v at in omega (arith, rest)
 
 -- ---- beginnings
@@ -106,16 +106,16 @@ cut_drawn n (one ∷ sights) = omega arith
 off : false ≡ true → ⊥
 off same = true≢false (sym same)
 
-fits_set : (keeper : ℕ) (log : List ReceiptOf) (views : List View) (by : ℕ) (w : View)
-    → ((j : ℕ) (u : View) → j ≢ by → get_elem? views j ≡ some u → Fits keeper log j u) → Fits keeper log by w
-    → (j : ℕ) (u : View) → get_elem? (set views by w) j ≡ some u → Fits keeper log j u
+fits_set : (keeper : ℕ) (log : List ReceiptOf) (views : List HistoryView) (by : ℕ) (w : HistoryView)
+    → ((j : ℕ) (u : HistoryView) → j ≢ by → get_elem? views j ≡ some u → Fits keeper log j u) → Fits keeper log by w
+    → (j : ℕ) (u : HistoryView) → get_elem? (set views by w) j ≡ some u → Fits keeper log j u
 fits_set keeper log views by w others mine j u at = ⊎_elim
-    (λ (here : (j ≡ by) × (w ≡ u)). subst (λ (one : ℕ × View). Fits keeper log one.0 one.1)
+    (λ (here : (j ≡ by) × (w ≡ u)). subst (λ (one : ℕ × HistoryView). Fits keeper log one.0 one.1)
     (λ i. (sym here.0 i, here.1 i)) mine)
     (λ (there : (j ≢ by) × (get_elem? views j ≡ some u)). others j u there.0 there.1)
     (at_set views by j w u at)
 
-module _ (views : List View) (kept : IsKept views) (by : ℕ) (v : View) (at : get_elem? views by ≡ some v) where
+module _ (views : List HistoryView) (kept : IsKept views) (by : ℕ) (v : HistoryView) (at : get_elem? views by ≡ some v) where
   tells : v.keeps ≡ true → IsTold v
   tells keeps =
       let mine = kept.each by v at in
@@ -128,7 +128,7 @@ module _ (views : List View) (kept : IsKept views) (by : ℕ) (v : View) (at : g
             let all = kept.low n (omega (arith, long, above)) in omega (arith, one, all);
       }
 
-  stays : (w : View) → w.keeps ≡ v.keeps → w.all ≡ v.all → AreSeen kept.log w.sights
+  stays : (w : HistoryView) → w.keeps ≡ v.keeps → w.all ≡ v.all → AreSeen kept.log w.sights
       → ((n : ℕ) → drawn_in n w.sights ≡ drawn_in n v.sights) → IsKept (set views by w)
   stays w keeps all seen same =
       let mine = kept.each by v at in
@@ -212,7 +212,7 @@ module _ (views : List View) (kept : IsKept views) (by : ℕ) (v : View) (at : g
         low = λ n above. let same = count n in let before = kept.low n above in omega (arith, same, before);
       }
 
-  joins_kept : (other : ℕ) (w : View) → other ≢ by → get_elem? (set views by (joined v w)) other ≡ some w
+  joins_kept : (other : ℕ) (w : HistoryView) → other ≢ by → get_elem? (set views by (joined v w)) other ≡ some w
       → IsKept (set (set views by (joined v w)) other nobody)
   joins_kept other w apart there =
       let mine = kept.each by v at in
@@ -237,7 +237,7 @@ module _ (views : List View) (kept : IsKept views) (by : ℕ) (v : View) (at : g
 
 -- ---- what the table asks
 
-abbrev holds : State ReceiptOf View → Type 0
+abbrev holds : State ReceiptOf HistoryView → Type 0
 holds state = IsKept state.views
 
 pub opens : (words : List ℕ) → IsKept (view_of true [] [] ∷ [])
@@ -249,16 +249,16 @@ opens words = record {
   low = λ n above. refl;
 }
   where
-    one : (by : ℕ) (v : View) → get_elem? (view_of true [] [] ∷ []) by ≡ some v → Fits 0 [] by v
+    one : (by : ℕ) (v : HistoryView) → get_elem? (view_of true [] [] ∷ []) by ≡ some v → Fits 0 [] by v
     one zero v at = subst (Fits 0 [] 0) (some-injective _ _ at) ((λ _. (refl, refl)), tt)
     one (suc by) v at = absurd (some-ne-none v (sym at))
 
-pub begins : (slots id : ℕ) (me : Me ReceiptOf View)
+pub begins : (slots id : ℕ) (me : Me ReceiptOf HistoryView)
     → Allows holds slots id me 0 (λ n. n) (λ n after. after ≡ (begun me.0, me.1))
 begins slots id me state kept homes at bound =
     (begun me.0, table.keeps, tt, begins_kept state.views kept id me.0 at, refl)
 
-pub shows : (slots id : ℕ) (me : Me ReceiptOf View) → me.0.keeps ≡ true
+pub shows : (slots id : ℕ) (me : Me ReceiptOf HistoryView) → me.0.keeps ≡ true
     → Allows holds slots id me 0 (λ n. n) (λ n after. (after ≡ (shown me.0, me.1)) × IsTold me.0)
 shows slots id me keeps state kept homes at bound = (
   shown me.0,
@@ -268,7 +268,7 @@ shows slots id me keeps state kept homes at bound = (
   (refl, tells state.views kept id me.0 at keeps),
 )
 
-pub checks : (slots id : ℕ) (me : Me ReceiptOf View) → me.0.keeps ≡ true
+pub checks : (slots id : ℕ) (me : Me ReceiptOf HistoryView) → me.0.keeps ≡ true
     → Allows holds slots id me 0 (λ n. n) (λ n after. (after ≡ me) × IsTold me.0)
 checks slots id me keeps state kept homes at bound = (
   me.0,
@@ -278,7 +278,7 @@ checks slots id me keeps state kept homes at bound = (
   (refl, tells state.views kept id me.0 at keeps),
 )
 
-pub adds : (slots id : ℕ) (me : Me ReceiptOf View) (f : ℕ → ℕ) (receipt : ReceiptOf) → me.0.keeps ≡ true
+pub adds : (slots id : ℕ) (me : Me ReceiptOf HistoryView) (f : ℕ → ℕ) (receipt : ReceiptOf) → me.0.keeps ≡ true
     → receipt.number ≡ length me.0.all + 1
     → Allows holds slots id me 0 f (λ n after. (told : ReceiptOf) × (some receipt ≡ some told)
     × (after ≡ (added told me.0, me.1)) × IsTold me.0)
@@ -290,8 +290,8 @@ adds slots id me f receipt keeps number state kept homes at bound = (
   (receipt, refl, refl, tells state.views kept id me.0 at keeps),
 )
 
-pub cuts : (id : ℕ) (v : View) → Splits holds id v (left v) (given v)
+pub cuts : (id : ℕ) (v : HistoryView) → Splits holds id v (left v) (given v)
 cuts id v state kept at = cuts_kept state.views kept id v at
 
-pub joins : (id : ℕ) (v : View) (other : ℕ) (w : View) → Joins holds id v other w (joined v w) nobody
+pub joins : (id : ℕ) (v : HistoryView) (other : ℕ) (w : HistoryView) → Joins holds id v other w (joined v w) nobody
 joins id v other w state kept at apart there = joins_kept state.views kept id v at other w apart there

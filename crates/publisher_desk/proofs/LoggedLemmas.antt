@@ -22,7 +22,7 @@ use Rattle.publisher_desk.specs.declared.note.Note.{Note}
 use Rattle.publisher_desk.specs.declared.note.Note.TheVariants.{Committed, Looked}
 use Rattle.publisher_desk.specs.declared.note.Reading.{Reading}
 use Rattle.publisher_desk.specs.declared.sight.Sight.{Sight}
-use Rattle.publisher_desk.specs.declared.sight.View.{View}
+use Rattle.publisher_desk.specs.declared.sight.HistoryView.{HistoryView}
 
 -- ---- a longer log
 
@@ -275,11 +275,11 @@ pub length_transactions : (log : List ReceiptOf) → length (transactions_of log
 length_transactions [] = refl
 length_transactions (receipt ∷ log) = ap suc (length_transactions log)
 
-module _ (book : Book) (history : View) (is : IsHistoryOf book history) where
+module _ (book : Book) (history : HistoryView) (is : IsHistoryOf book history) where
   pub history_long : length (book_log book) ≡ length history.all
   history_long = each_is_logged book (transactions_of history.all) is.stands ∙ length_transactions history.all
 
-  pub history_adds : (new : Book) (commands : List Command) (time number : ℕ) (receipt : ReceiptOf) (more : View)
+  pub history_adds : (new : Book) (commands : List Command) (time number : ℕ) (receipt : ReceiptOf) (more : HistoryView)
       → Commits book new commands time number → receipt.commands ≡ commands → receipt.time ≡ time
       → more ≡ view_of true (history.all ++ receipt ∷ []) [] → IsHistoryOf new more
   history_adds new commands time number receipt more commits commands_are time_is more_is =
@@ -315,7 +315,7 @@ all_first : (P : SeatOf → Type 0) (seat : SeatOf) (seats : List SeatOf) → P 
 all_first P seat seats first rest zero other low = first
 all_first P seat seats first rest (suc place) other low = rest place other (omega (arith, low))
 
-pub none_logged : (setting : Setting) (log : View) (seats : List SeatOf) → seats ≡ [] → IsTold log
+pub none_logged : (setting : Setting) (log : HistoryView) (seats : List SeatOf) → seats ≡ [] → IsTold log
     → AreLogged setting log seats
 none_logged setting log seats none told = subst (AreLogged setting log) (sym none) (record {
   seen = told.seen;
@@ -323,12 +323,12 @@ none_logged setting log seats none told = subst (AreLogged setting log) (sym non
   once = λ n. let one = told.once n in omega (arith, one);
 })
 
-pub more_logged : (setting : Setting) (log lent : View) (notes : List Note) (seats all : List SeatOf) (one : Sight)
+pub more_logged : (setting : Setting) (log lent : HistoryView) (notes : List Note) (seats all : List SeatOf) (one : Sight)
     → lent ≡ view_of true log.all (one ∷ log.sights) → all ≡ record { notes = notes; seen = one.seen } ∷ seats
     → IsSighted setting notes one → AreLogged setting lent seats → AreLogged setting log all
 more_logged setting log lent notes seats all one lent_is all_is sighted rest =
     let logged : AreLogged setting (view_of true log.all (one ∷ log.sights)) seats =
-    subst (λ (view : View). AreLogged setting view seats) lent_is rest in
+    subst (λ (view : HistoryView). AreLogged setting view seats) lent_is rest in
     let longer = length_begins log.all one.seen logged.seen.0 in
     subst (AreLogged setting log) (sym all_is) (record {
       seen = logged.seen.1;
@@ -341,7 +341,7 @@ more_logged setting log lent notes seats all one lent_is all_is sighted rest =
       once = λ n. let sum = logged.once n in let mine = ap (times n) sighted.own in omega (arith, sum, mine);
     })
 
-pub logged_seats : (checked : CheckedOf) (book : Book) (history : View) (seats : List SeatOf)
+pub logged_seats : (checked : CheckedOf) (book : Book) (history : HistoryView) (seats : List SeatOf)
     → IsHistoryOf book history → AreLogged (setting_in checked) history seats → IsLogOfSeats checked seats book
 logged_seats checked book history seats is logged = record {
   log = history.all;

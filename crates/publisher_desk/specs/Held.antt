@@ -10,7 +10,7 @@ use Rattle.tables_log.specs.Slots.{end_after}
 use Rattle.tables_log.specs.StandsFor.{Transaction, AreAccepted, StandsFor, entries_from}
 use Rattle.tables_log.specs.declared.book.Book.{Book}
 use Rattle.publisher_desk.specs.Logged.{IsHistoryOf}
-use Rattle.publisher_desk.specs.declared.sight.View.{View}
+use Rattle.publisher_desk.specs.declared.sight.HistoryView.{HistoryView}
 use Rattle.publisher_desk.specs.declared.connection_state.ConnectionState.{ConnectionState}
 
 -- No client was sent the log past this position.
@@ -41,7 +41,7 @@ pub record IsBookOf (checked : CheckedOf) (limit : ℕ) (book : Book) : Type 0 w
 -- So is the book; the total is the number of its commits, no slot's client was sent the log past its end, and the
 -- history tells its transactions.
 pub record IsHeldFor (checked : CheckedOf) (limit : ℕ) (book : Book) (total : ℕ) (connections : List ConnectionState)
-    (history : View) : Type 0 where
+    (history : HistoryView) : Type 0 where
   pub is : IsBookOf checked limit book
   pub counted : length (book_log book) ≡ total
   pub slots : length connections ≡ length checked.catalog.subscriptions

@@ -17,7 +17,7 @@ use Rattle.publisher_desk.specs.declared.note.Note.{Note}
 use Rattle.publisher_desk.specs.declared.note.Note.TheVariants.{Committed, Looked}
 use Rattle.publisher_desk.specs.declared.note.Reading.{Reading}
 use Rattle.publisher_desk.specs.declared.sight.Sight.{Sight}
-use Rattle.publisher_desk.specs.declared.sight.View.{View}
+use Rattle.publisher_desk.specs.declared.sight.HistoryView.{HistoryView}
 
 -- ---- notes
 
@@ -77,13 +77,13 @@ pub record IsSeatIn (setting : Setting) (log : List ReceiptOf) (seat : SeatOf) :
 
 -- So it is with each of these seats. No two of their receipts have one number, nor has one a number of the sights
 -- beside them.
-pub record AreLogged (setting : Setting) (log : View) (seats : List SeatOf) : Type 0 where
+pub record AreLogged (setting : Setting) (log : HistoryView) (seats : List SeatOf) : Type 0 where
   pub seen : AreSeen log.all log.sights
   pub each : All (IsSeatIn setting log.all) seats
   pub once : (n : ℕ) → drawn_in n log.sights + drawn_by n seats ≤ 1
 
 -- The history tells the book's transactions, and no sight is taken in.
-pub record IsHistoryOf (book : Book) (history : View) : Type 0 where
+pub record IsHistoryOf (book : Book) (history : HistoryView) : Type 0 where
   pub stands : StandsFor book (transactions_of history.all)
   pub idle : history ≡ view_of true history.all []
 

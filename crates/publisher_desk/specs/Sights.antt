@@ -4,7 +4,7 @@ use mathlib.Core.Option.{some}
 use lib.ListN.{get_elem?}
 use Rattle.atomic_table.specs.Seated.{TableId}
 use Rattle.publisher_desk.specs.declared.sight.Sight.{Sight}
-use Rattle.publisher_desk.specs.declared.sight.View.{View}
+use Rattle.publisher_desk.specs.declared.sight.HistoryView.{HistoryView}
 use Rattle.publisher_desk.specs.Receipts.{ReceiptOf}
 
 -- the name of no table
@@ -14,7 +14,7 @@ no_table = record { words = 0; slots = 0; views_name = 0; atom = 0; block = 0; o
 abbrev pub sight : List ReceiptOf → List ℕ → Sight
 sight seen own = record { seen = seen; own = own }
 
-abbrev pub view_of : Bool → List ReceiptOf → List Sight → View
+abbrev pub view_of : Bool → List ReceiptOf → List Sight → HistoryView
 view_of keeps all sights = record { keeps = keeps; all = all; sights = sights }
 
 -- The log begins with these.
@@ -36,45 +36,45 @@ drawn_in n [] = 0
 drawn_in n (one ∷ sights) = times n one.own + drawn_in n sights
 
 -- and of the views
-abbrev pub drawn : ℕ → List View → ℕ
+abbrev pub drawn : ℕ → List HistoryView → ℕ
 drawn n [] = 0
 drawn n (view ∷ views) = drawn_in n view.sights + drawn n views
 
-abbrev pub Fits : ℕ → List ReceiptOf → ℕ → View → Type 0
+abbrev pub Fits : ℕ → List ReceiptOf → ℕ → HistoryView → Type 0
 Fits keeper log by view = (view.keeps ≡ true → (by ≡ keeper) × (view.all ≡ log)) × AreSeen log view.sights
 
 -- One view at most has the whole log, each sight has seen a beginning of it, and no number is drawn twice, or is above
 -- the log's length.
-pub record IsKept (views : List View) : Type 0 where
+pub record IsKept (views : List HistoryView) : Type 0 where
   pub keeper : ℕ
   pub log : List ReceiptOf
-  pub each : (by : ℕ) (view : View) → get_elem? views by ≡ some view → Fits keeper log by view
+  pub each : (by : ℕ) (view : HistoryView) → get_elem? views by ≡ some view → Fits keeper log by view
   pub once : (n : ℕ) → drawn n views ≤ 1
   pub low : (n : ℕ) → length log < n → drawn n views ≡ 0
 
 -- what a step tells the view that has the whole log
-pub record IsTold (view : View) : Type 0 where
+pub record IsTold (view : HistoryView) : Type 0 where
   pub seen : AreSeen view.all view.sights
   pub once : (n : ℕ) → drawn_in n view.sights ≤ 1
   pub low : (n : ℕ) → length view.all < n → drawn_in n view.sights ≡ 0
 
 -- ---- steps
 
-abbrev pub begun : View → View
+abbrev pub begun : HistoryView → HistoryView
 begun view = view_of view.keeps view.all (sight [] [] ∷ view.sights)
 
 abbrev pub shown_in : List ReceiptOf → List Sight → List Sight
 shown_in all [] = []
 shown_in all (one ∷ sights) = sight all one.own ∷ sights
 
-abbrev pub shown : View → View
+abbrev pub shown : HistoryView → HistoryView
 shown view = view_of view.keeps view.all (shown_in view.all view.sights)
 
 abbrev pub added_in : List ReceiptOf → ℕ → List Sight → List Sight
 added_in all number [] = []
 added_in all number (one ∷ sights) = sight all (one.own ++ number ∷ []) ∷ sights
 
-abbrev pub added : ReceiptOf → View → View
+abbrev pub added : ReceiptOf → HistoryView → HistoryView
 added receipt view = view_of view.keeps (view.all ++ receipt ∷ [])
     (added_in (view.all ++ receipt ∷ []) receipt.number view.sights)
 
@@ -88,23 +88,23 @@ abbrev pub rest_in : List Sight → List Sight
 rest_in [] = []
 rest_in (one ∷ sights) = sights
 
-abbrev pub holder : Sight → View
+abbrev pub holder : Sight → HistoryView
 holder one = view_of false [] (one ∷ [])
 
 abbrev pub only_in : List Sight → List Sight
 only_in [] = []
 only_in (one ∷ sights) = one ∷ []
 
-abbrev pub left : View → View
+abbrev pub left : HistoryView → HistoryView
 left view = view_of view.keeps view.all (rest_in view.sights)
 
-abbrev pub given : View → View
+abbrev pub given : HistoryView → HistoryView
 given view = view_of false [] (only_in view.sights)
 
-abbrev pub joined : View → View → View
+abbrev pub joined : HistoryView → HistoryView → HistoryView
 joined view other = view_of view.keeps view.all (other.sights ++ view.sights)
 
-abbrev pub nobody : View
+abbrev pub nobody : HistoryView
 nobody = view_of false [] []
 
 abbrev pub sight_of : Option Sight → Sight

@@ -67,7 +67,7 @@ pub(crate) fn audit_all<P: Publishing>(
             let count = count_receipts(notes.as_slice());
             let mine = mem::replace(mark, all.empty());
             all.merge(mine);
-            history.lend(token);
+            history.take_in(token);
             audit_all(counted, all, history, rest);
             *token = Some(history.give_back());
             *mark = all.split_off(1, count);

@@ -9,7 +9,7 @@ ghost use Rattle.publisher_desk.specs.Lending.{IsNext, IsStepOf, commits_in};
 
 use crate::auditing::audit_all;
 use crate::connection_state::ConnectionState;
-use crate::history::{History, Token};
+use crate::history::{History, HistoryToken};
 use crate::naming::Publishing;
 use crate::note::copy_found;
 use crate::receipt::Receipt;
@@ -191,7 +191,7 @@ impl<P: Publishing> Desk<P> {
     pub(crate) fn commit(
         &mut self,
         mark: &mut Share<P>,
-        token: &mut Option<Token<P>>,
+        token: &mut Option<HistoryToken<P>>,
         commands: Vec<Command>,
         time: u64,
     ) -> Result<Receipt, CommitError>
@@ -237,7 +237,7 @@ impl<P: Publishing> Desk<P> {
         &mut self,
         alloc: Global,
         mark: &mut Share<P>,
-        token: &mut Option<Token<P>>,
+        token: &mut Option<HistoryToken<P>>,
         table: usize,
         key: &Row,
     ) -> Result<(u32, Option<Row>), AllocError>
@@ -356,7 +356,7 @@ impl<P: Publishing> Desk<P> {
     /// Does what `with_slots` does. The seat's token has then seen the whole history.
     pub(crate) fn with_slots_for<U: SlotTask>(
         &mut self,
-        token: &mut Option<Token<P>>,
+        token: &mut Option<HistoryToken<P>>,
         user: &mut U,
     ) -> U::Answer
         ensures log { self.new ≡ self.old }

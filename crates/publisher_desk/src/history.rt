@@ -4,7 +4,7 @@ ghost use Rattle.std.specs.Prelude.{◌≡◌};
 
 use crate::naming::Publishing;
 use crate::receipt::Receipt;
-use crate::sight::{Adds, Begins, Checks, Keeps, Passes, Shows, View};
+use crate::sight::{Adds, Begins, Checks, HistoryView, Keeps, Passes, Shows};
 use atomic_table::{Seat, Table};
 use std::alloc::Global;
 use std::marker::{Model, PhantomData};
@@ -13,12 +13,12 @@ use std::sync::ledger::Total;
 /// What a seat knows of the log. It takes no bytes. Contracts see it as the beginning of the log that the seat has seen,
 /// and the numbers of its commits.
 #[derive(Drop)]
-pub(crate) struct Token<P: Publishing> {
-    seat: Seat<Receipt, View>,
+pub(crate) struct HistoryToken<P: Publishing> {
+    seat: Seat<Receipt, HistoryView>,
     of: PhantomData<Total<P>>,
 }
 
-impl<P: Publishing> Model for Token<P> {
+impl<P: Publishing> Model for HistoryToken<P> {
     ghost use Rattle.std.specs.Prelude.{◌≡◌, []};
     ghost use Rattle.publisher_desk.specs.Sights.{first_in, holder};
     ghost use Rattle.publisher_desk.specs.declared.sight.Sight as s;
@@ -34,16 +34,16 @@ impl<P: Publishing> Model for Token<P> {
 /// see what its own token knows.
 #[derive(Drop)]
 pub(crate) struct History<P: Publishing> {
-    table: Table<Receipt, View, (), Keeps, Global>,
-    keeper: Seat<Receipt, View>,
+    table: Table<Receipt, HistoryView, (), Keeps, Global>,
+    keeper: Seat<Receipt, HistoryView>,
     of: PhantomData<Total<P>>,
 }
 
 impl<P: Publishing> Model for History<P> {
     ghost use Rattle.std.specs.Prelude.{◌≡◌, [], true};
-    ghost use Rattle.publisher_desk.specs.declared.sight.View as v;
+    ghost use Rattle.publisher_desk.specs.declared.sight.HistoryView as v;
 
-    ghost Value = { v.View };
+    ghost Value = { v.HistoryView };
 
     ghost view = { λ h. h.keeper.me.0 };
 
@@ -56,8 +56,8 @@ impl<P: Publishing> History<P> {
 
     /// A history without receipts.
     pub(crate) fn new(
-        table: Table<Receipt, View, (), Keeps, Global>,
-        keeper: Seat<Receipt, View>,
+        table: Table<Receipt, HistoryView, (), Keeps, Global>,
+        keeper: Seat<Receipt, HistoryView>,
     ) -> History<P>
         requires table { table.shared.table_id ≡ P.history }
         requires keeper { keeper.table_id ≡ P.history }
@@ -73,7 +73,7 @@ impl<P: Publishing> History<P> {
     }
 
     /// Takes in what the seat knows; a seat without a token has seen nothing.
-    pub(crate) fn lend(&mut self, token: &mut Option<Token<P>>)
+    pub(crate) fn take_in(&mut self, token: &mut Option<HistoryToken<P>>)
         ensures { self.new ≡ view_of true self.old.all (sight_of token.old ∷ self.old.sights) }
     {
         let History {
@@ -83,7 +83,7 @@ impl<P: Publishing> History<P> {
         } = self;
         match token.take() {
             Some(mine) => {
-                let Token { seat, of: _ } = mine;
+                let HistoryToken { seat, of: _ } = mine;
                 table.shared.join_seat::<Passes>(keeper, seat);
             }
             None => {
@@ -135,7 +135,7 @@ impl<P: Publishing> History<P> {
     }
 
     /// A token with the sight that was taken in last.
-    pub(crate) fn give_back(&mut self) -> Token<P>
+    pub(crate) fn give_back(&mut self) -> HistoryToken<P>
         requires { 0 < length self.old.sights }
         ensures rest { self.new ≡ left self.old }
         ensures first { result ≡ first_in self.old.sights }
@@ -146,31 +146,31 @@ impl<P: Publishing> History<P> {
             of: _,
         } = self;
         let seat = table.shared.split_seat::<Passes>(keeper);
-        Token {
+        HistoryToken {
             seat,
             of: PhantomData,
         }
     }
 
     /// Adds the receipt to the log, of which the seat then knows all.
-    pub(crate) fn record(&mut self, token: &mut Option<Token<P>>, receipt: &Receipt)
+    pub(crate) fn record(&mut self, token: &mut Option<HistoryToken<P>>, receipt: &Receipt)
         requires idle { self.old ≡ view_of true self.old.all [] }
         requires number { receipt.now.number ≡ length self.old.all + 1 }
         ensures log { self.new ≡ view_of true (self.old.all ++ receipt.now ∷ []) [] }
         ensures seen { AddsTo self.old.all receipt.now (sight_of token.old) (sight_of token.new) }
     {
-        self.lend(token);
+        self.take_in(token);
         self.add(receipt);
         *token = Some(self.give_back());
     }
 
     /// Shows the log to the seat.
-    pub(crate) fn look(&mut self, token: &mut Option<Token<P>>)
+    pub(crate) fn look(&mut self, token: &mut Option<HistoryToken<P>>)
         requires idle { self.old ≡ view_of true self.old.all [] }
         ensures log { self.new ≡ self.old }
         ensures seen { Sees self.old.all (sight_of token.old) (sight_of token.new) }
     {
-        self.lend(token);
+        self.take_in(token);
         self.show();
         *token = Some(self.give_back());
     }

@@ -3,7 +3,7 @@
 ghost use Rattle.std.specs.Prelude.{◌≡◌, IfOk};
 
 use crate::receipt::Receipt;
-use crate::sight::{Keeps, View};
+use crate::sight::{HistoryView, Keeps};
 use atomic_table::{Seat, Table};
 use std::alloc::{AllocError, Global};
 use std::marker::Model;
@@ -17,8 +17,8 @@ pub(crate) const SEATS: u64 = 1_000;
 #[derive(Drop)]
 pub struct Opening {
     pub(crate) blank: Blank,
-    pub(crate) table: Table<Receipt, View, (), Keeps, Global>,
-    pub(crate) keeper: Seat<Receipt, View>,
+    pub(crate) table: Table<Receipt, HistoryView, (), Keeps, Global>,
+    pub(crate) keeper: Seat<Receipt, HistoryView>,
 }
 
 impl Model for Opening {

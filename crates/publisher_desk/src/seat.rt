@@ -2,7 +2,7 @@
 
 ghost use Rattle.std.specs.Prelude.{◌≡◌};
 
-use crate::history::Token;
+use crate::history::HistoryToken;
 use crate::naming::Publishing;
 use crate::note::Note;
 use std::alloc::Global;
@@ -17,7 +17,7 @@ pub struct Seat<P: Publishing> {
     pub(crate) notes: Vec<Note>,
     pub(crate) high: u32,
     pub(crate) mark: Share<P>,
-    pub(crate) token: Option<Token<P>>,
+    pub(crate) token: Option<HistoryToken<P>>,
 }
 
 impl<P: Publishing> Model for Seat<P> {

@@ -15,7 +15,7 @@ pub struct Sight {
 
 /// What one token knows: whether it is the one that has the whole log, the log, and the sights that it has taken in. It
 /// is only for proofs: no value of it is made.
-pub struct View {
+pub struct HistoryView {
     pub keeps: bool,
     pub all: LinkedList<Receipt>,
     pub sights: LinkedList<Sight>,
@@ -24,7 +24,7 @@ pub struct View {
 /// What holds of all tokens between any two steps.
 pub struct Keeps;
 
-impl TableRule<Receipt, View, ()> for Keeps {
+impl TableRule<Receipt, HistoryView, ()> for Keeps {
     ghost use Rattle.std.specs.Prelude.{[], true};
     ghost use Rattle.publisher_desk.specs.Sights.{IsKept, view_of};
 
@@ -36,7 +36,7 @@ impl TableRule<Receipt, View, ()> for Keeps {
 /// A step that takes in the sight of a seat that has seen nothing.
 pub struct Begins;
 
-impl Play<Receipt, View> for Begins {
+impl Play<Receipt, HistoryView> for Begins {
     ghost use Rattle.std.specs.Prelude.{◌≡◌};
     ghost use Rattle.publisher_desk.specs.Sights.{begun};
 
@@ -46,7 +46,7 @@ impl Play<Receipt, View> for Begins {
 /// A step that shows the log to the sight that was taken in last.
 pub struct Shows;
 
-impl Play<Receipt, View> for Shows {
+impl Play<Receipt, HistoryView> for Shows {
     ghost use Rattle.std.specs.Prelude.{◌≡◌};
     ghost use Rattle.publisher_desk.specs.Sights.{IsTold, shown};
 
@@ -56,7 +56,7 @@ impl Play<Receipt, View> for Shows {
 /// A step that changes nothing, and tells how the sights that were taken in stand to the log.
 pub struct Checks;
 
-impl Play<Receipt, View> for Checks {
+impl Play<Receipt, HistoryView> for Checks {
     ghost use Rattle.std.specs.Prelude.{◌≡◌};
     ghost use Rattle.publisher_desk.specs.Sights.{IsTold};
 
@@ -66,7 +66,7 @@ impl Play<Receipt, View> for Checks {
 /// A step that adds the receipt that it announces to the log, and to the sight that was taken in last.
 pub struct Adds;
 
-impl Play<Receipt, View> for Adds {
+impl Play<Receipt, HistoryView> for Adds {
     ghost use Rattle.std.specs.Prelude.{◌≡◌};
     ghost use mathlib.Core.Option.{some};
     ghost use Rattle.publisher_desk.specs.Receipts.{ReceiptOf};
@@ -78,7 +78,7 @@ impl Play<Receipt, View> for Adds {
 /// How one token gets the sight that another took in last, and how that takes it in.
 pub struct Passes;
 
-impl Split<View> for Passes {
+impl Split<HistoryView> for Passes {
     ghost use Rattle.publisher_desk.specs.Sights.{given, left};
 
     ghost left = { left };
@@ -86,7 +86,7 @@ impl Split<View> for Passes {
     ghost right = { given };
 }
 
-impl Join<View> for Passes {
+impl Join<HistoryView> for Passes {
     ghost use Rattle.publisher_desk.specs.Sights.{joined, nobody};
 
     ghost both = { joined };

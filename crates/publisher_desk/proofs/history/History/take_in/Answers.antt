@@ -1,7 +1,7 @@
 use Rattle.std.proofs.Common.{sym, ap, ◌∙◌, arith}
 use Rattle.atomic_table.specs.Seated.{TableId}
 use Rattle.publisher_desk.proofs.KeptLemmas.{begins, joins}
-use Rattle.publisher_desk.proofs.history.History.lend.Goals as goal
+use Rattle.publisher_desk.proofs.history.History.take_in.Goals as goal
 
 pub load-requires : goal.load-requires
 load-requires g c =
