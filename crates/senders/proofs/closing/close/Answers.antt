@@ -28,8 +28,8 @@ returns-in_err-compare-clause-refused g c =
     (c.as_slice.ensures.value ∙ c.counted_book-book.ensures.same) c.as_slice-2.ensures.value
     c.in_err-compare.ensures.err)
 
-pub compare-requires-logged : goal.compare-requires-logged
-compare-requires-logged g c =
+pub compare-requires-clause-logged : goal.compare-requires-clause-logged
+compare-requires-clause-logged g c =
     logged_as_named g.P.Publishing.checked c.counted_book-book.result c.args.seats.items c.as_slice.result.now
     c.counted_book-book.ensures.is.named (c.as_slice.ensures.value ∙ c.counted_book-book.ensures.same)
     c.counted_book-book.ensures.logged
