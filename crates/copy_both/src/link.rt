@@ -156,9 +156,9 @@ impl Link {
         taken
     }
 
-    /// Takes the next commit of the log, as `take` does, by the sets that the book keeps with it: a commit from which the
-    /// subscriber gets nothing isn't looked at, nor is such a change of another commit. The book's catalog is that of the
-    /// link, or one by which the same subscribers get something from each change.
+    /// Takes the next commit of the log, as `take` does, by the sets that the book keeps with it: a commit from which
+    /// the subscriber gets nothing is skipped, and so is such a change of another commit. The book's catalog is that of
+    /// the link, or one by which the same subscribers get something from each change.
     ///
     /// The time it takes is that of the changes that are for the subscriber and their messages, and one test for each
     /// change of a commit that has one.

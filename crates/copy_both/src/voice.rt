@@ -207,8 +207,8 @@ impl Voice {
         }
     }
 
-    /// Takes the next commit, which is in the book's log, as `take_entry` does. By the sets that the book keeps with it,
-    /// a commit from which the subscriber gets nothing isn't looked at, nor is such a change of another commit.
+    /// Takes the next commit, which is in the book's log, as `take_entry` does. A commit from which the subscriber gets
+    /// nothing by the sets that the book keeps with it is skipped, and so is such a change of another commit.
     pub(crate) fn take_held(
         &mut self,
         book: &Book,

@@ -72,3 +72,5 @@ joined_6 out a b c d e f = simp append_assoc
 pub joined_7 : (out a b c d e f g : List ℕ)
     → out ++ a ++ b ++ c ++ d ++ e ++ f ++ g ≡ out ++ (a ++ (b ++ (c ++ (d ++ (e ++ (f ++ g))))))
 joined_7 out a b c d e f g = simp append_assoc
+
+pub ruleset content_laws = (data_is_read, keepalive_is_read, status_is_read)

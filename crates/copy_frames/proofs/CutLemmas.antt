@@ -252,3 +252,7 @@ piece_is_kept old piece None e = ap (inbox old piece) e
 piece_is_kept old piece (Some BadLength) e = ap (inbox old piece) e
 piece_is_kept old piece (Some FrameTooLong) e = ap (inbox old piece) e
 piece_is_kept old piece (Some OutOfMemory) e = absurd (faults old.limit (old.bytes ++ piece) (sym e))
+
+pub ruleset scan_turns = (scan_ends_part, scan_ends_fault, reaches_on)
+
+pub ruleset cut_laws = (cuts_are_spelled, spelled_are_cut, cuts_are_whole)

@@ -34,7 +34,7 @@ impl Model for Deframer {
 }
 
 /// Looks through the frames from `start` on, up to the first that is not whole or has a length that no frame may have.
-#[tactic(auto, using(crate::proofs::CutLemmas::scan_ends_part, crate::proofs::CutLemmas::scan_ends_fault, crate::proofs::CutLemmas::reaches_on))]
+#[tactic(auto, using(crate::proofs::CutLemmas::scan_turns))]
 fn scan(limit: u32, bytes: &[u8], start: usize) -> (usize, Option<FrameFault>)
     requires { Reaches limit bytes.now start }
     ensures { Scans limit bytes.now result }

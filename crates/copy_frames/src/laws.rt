@@ -10,7 +10,7 @@ ghost use Rattle.copy_frames.specs.ContentLaws.{XLogDataIsRead, KeepaliveIsRead,
 /// are cut into those frames and what comes after them. Each frame is within the limit, what is left at the end is not
 /// a whole frame, and a fault is that of the length there ("55.7. Message Formats"). So bytes are made of the frames
 /// that are cut from them and a rest with its fault (`made`), and of no others (`only`).
-#[tactic(auto, using(crate::proofs::CutLemmas::cuts_are_spelled, crate::proofs::CutLemmas::spelled_are_cut, crate::proofs::CutLemmas::cuts_are_whole))]
+#[tactic(auto, using(crate::proofs::CutLemmas::cut_laws))]
 pub fn bytes_make_frames()
     ensures spelled { CutsAreSpelled }
     ensures cut { SpelledAreCut }
@@ -31,7 +31,7 @@ pub fn pieces_make_frames()
 {}
 
 /// A law about what is carried in CopyData: what is spelled is read.
-#[tactic(auto, using(crate::proofs::ContentLemmas::data_is_read, crate::proofs::ContentLemmas::keepalive_is_read, crate::proofs::ContentLemmas::status_is_read))]
+#[tactic(auto, using(crate::proofs::ContentLemmas::content_laws))]
 pub fn bodies_are_read_as_spelled()
     ensures data { XLogDataIsRead }
     ensures keepalive { KeepaliveIsRead }

@@ -71,3 +71,5 @@ is_done {A = A} rule front count i bytes total over so_far =
     ∙ ap (λ (all : List A). let whole : Outcome (List A) = Ok (all, bytes) in whole) (append-nil front)
 
 pub ruleset counting = (goes_on, is_done)
+
+pub ruleset counting_turns = (goes_on, ends, is_done)

@@ -298,3 +298,7 @@ pub enclosed_none : (commit : CommitOf) (messages : List Msg) → length message
     → messages ≡ enclosed commit messages
 enclosed_none commit [] none = refl
 enclosed_none commit (first ∷ others) none = absurd (omega (arith, none))
+
+pub ruleset got_changes = (got_none, got_insert, got_update, got_delete, got_truncate, truncated_numbers)
+
+pub ruleset kept_numbers = (keeps_on, keeps_past, all_kept)

@@ -114,3 +114,5 @@ length_fours [] = refl
 length_fours (n ∷ numbers) =
     let split = ap length (flat_map-cons int32 n numbers) ∙ length-append (int32 n) (flat_map int32 numbers) in
     omega (arith, split, length_fours numbers)
+
+pub ruleset writing_turns = (room_left, writes_on, all_written)

@@ -98,4 +98,5 @@ CommitsIntroduce = (checked : CheckedOf) (subscriber : ℕ) (sent : List Bool) (
 abbrev pub CommitsInTurnIntroduce : Type 0
 CommitsInTurnIntroduce = (checked : CheckedOf) (subscriber : ℕ) (sent : List Bool) (commits : List CommitOf)
     → length checked.catalog.tables ≤ length sent → All (IsOf checked.catalog.tables) commits
-    → Introduces sent (relation_sent_in_turn checked subscriber sent commits) (messages_in_turn checked subscriber sent commits)
+    → Introduces sent (relation_sent_in_turn checked subscriber sent commits)
+    (messages_in_turn checked subscriber sent commits)

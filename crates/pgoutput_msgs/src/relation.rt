@@ -99,7 +99,7 @@ fn put_column(column: &RelationColumn, out: &mut Vec<u8>)
     put_signed_int32(column.type_modifier, out);
 }
 
-#[tactic(auto, using(crate::proofs::Writing::room_left, crate::proofs::Writing::writes_on, crate::proofs::Writing::all_written))]
+#[tactic(auto, using(crate::proofs::Writing::writing_turns))]
 fn put_columns(columns: &[RelationColumn], out: &mut Vec<u8>)
     requires { HasRoom out.old (flat_map column_spelling columns.now) }
     ensures { Puts out.old out.new (flat_map column_spelling columns.now) }
@@ -165,7 +165,7 @@ fn read_column(r: &mut Reader, alloc: Global) -> Result<RelationColumn, MsgError
     })
 }
 
-#[tactic(auto, using(crate::proofs::Counting::goes_on, crate::proofs::Counting::ends, crate::proofs::Counting::is_done))]
+#[tactic(auto, using(crate::proofs::Counting::counting_turns))]
 fn read_counted_columns(
     r: &mut Reader,
     alloc: Global,

@@ -41,7 +41,7 @@ fn put_truncate(tables: &[usize], out: &mut Vec<u8>)
     put_oids(tables, out);
 }
 
-#[tactic(auto, using(crate::proofs::Writing::room_left, crate::proofs::Writing::writes_on, crate::proofs::Writing::all_written))]
+#[tactic(auto, using(crate::proofs::Writing::writing_turns))]
 fn put_oids(tables: &[usize], out: &mut Vec<u8>)
     requires numbers { All IsTableNumber tables.now }
     requires room { HasRoom out.old (flat_map spec.oid_spelling tables.now) }

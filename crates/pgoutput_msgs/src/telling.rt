@@ -46,7 +46,8 @@ pub fn messages_of(
     ensures exact { IfOk result (λ messages. messages.items
         ≡ spec.messages_for (checked_view checked.now) subscriber relation_sent.old commit.now) }
     ensures relation_sent { OnOk result
-        (relation_sent.new ≡ spec.relation_sent_after (checked_view checked.now) subscriber relation_sent.old commit.now) }
+        (relation_sent.new
+        ≡ spec.relation_sent_after (checked_view checked.now) subscriber relation_sent.old commit.now) }
     ensures err { OnErr result (relation_sent.new ≡ relation_sent.old) }
     ensures room { IfOk result (λ messages. All IsWithinRange messages.items) }
     ensures sent { IfOk result (λ messages. All IsSent messages.items) }
@@ -93,8 +94,8 @@ fn tables_of(checked: &Checked) -> &[Table]
 
 /// Reports to the subscriber of this number the changes of a commit that are for it, and tables whose Relation was not
 /// sent: the messages between Begin and Commit of `messages_of`, which a sink takes one after the other.
-/// `relation_sent` is, for each table by its number, whether its Relation was sent. `owners` are the subscribers that get
-/// something from each of the first changes; a change that isn't for the subscriber by its set isn't looked at. The only
+/// `relation_sent` is, for each table by its number, whether its Relation was sent. `owners` are the subscribers that
+/// get something from each of the first changes; a change that is not for the subscriber by its set is skipped. The only
 /// error is out of memory; then `sink` has taken the first few messages.
 ///
 /// PostgreSQL 15, 55.5.3. Logical Replication Protocol Message Flow.
@@ -111,7 +112,8 @@ pub fn tell_changes<S: MessageSink>(
     ensures said { OnOk result (TakesEach S.takes_one sink.old sink.new
         (spec.said_each (checked_view checked.now) subscriber relation_sent.old commit.now.changes)) }
     ensures relation_sent { OnOk result
-        (relation_sent.new ≡ spec.relation_sent_after (checked_view checked.now) subscriber relation_sent.old commit.now) }
+        (relation_sent.new
+        ≡ spec.relation_sent_after (checked_view checked.now) subscriber relation_sent.old commit.now) }
 {
     tell_each(
         alloc,
@@ -158,7 +160,7 @@ fn tell_each<S: MessageSink>(
 }
 
 /// Reports a change to the subscriber.
-#[tactic(auto, using(crate::proofs::TellingLemmas::got_none, crate::proofs::TellingLemmas::got_insert, crate::proofs::TellingLemmas::got_update, crate::proofs::TellingLemmas::got_delete, crate::proofs::TellingLemmas::got_truncate, crate::proofs::TellingLemmas::truncated_numbers))]
+#[tactic(auto, using(crate::proofs::TellingLemmas::got_changes))]
 fn tell_change<S: MessageSink>(
     alloc: Global,
     checked: &Checked,
@@ -211,7 +213,7 @@ fn table_of(change: &Change) -> usize
 }
 
 /// Those of the tables that the subscriber gets anything of.
-#[tactic(auto, using(crate::proofs::TellingLemmas::keeps_on, crate::proofs::TellingLemmas::keeps_past, crate::proofs::TellingLemmas::all_kept))]
+#[tactic(auto, using(crate::proofs::TellingLemmas::kept_numbers))]
 fn carried_of(
     alloc: Global,
     plan: &Plan,

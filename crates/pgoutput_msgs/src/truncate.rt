@@ -21,7 +21,7 @@ pub(crate) fn truncate_len(relations: &[u32]) -> usize
     relations.len().saturating_mul(4).saturating_add(6)
 }
 
-#[tactic(auto, using(crate::proofs::Writing::room_left, crate::proofs::Writing::writes_on, crate::proofs::Writing::all_written))]
+#[tactic(auto, using(crate::proofs::Writing::writing_turns))]
 fn put_oids(oids: &[u32], out: &mut Vec<u8>)
     requires { HasRoom out.old (flat_map int32 oids.now) }
     ensures { Puts out.old out.new (flat_map int32 oids.now) }
@@ -42,7 +42,7 @@ pub(crate) fn put_truncate(options: u8, relations: &Items<u32>, out: &mut Vec<u8
     put_oids(relations.as_slice(), out);
 }
 
-#[tactic(auto, using(crate::proofs::Counting::goes_on, crate::proofs::Counting::ends, crate::proofs::Counting::is_done))]
+#[tactic(auto, using(crate::proofs::Counting::counting_turns))]
 fn oids(r: &mut Reader, alloc: Global, count: u32) -> Result<Vec<u32>, MsgError>
     ensures { Reads (λ oids. oids.items) (many (big_endian w32) count r.old) result r.new }
 {

@@ -149,7 +149,7 @@ pub(crate) fn put_text(text: &str, out: &mut Vec<u8>)
     put(text.as_bytes(), out);
 }
 
-#[tactic(auto, using(crate::proofs::Writing::room_left, crate::proofs::Writing::writes_on, crate::proofs::Writing::all_written))]
+#[tactic(auto, using(crate::proofs::Writing::writing_turns))]
 fn put_cells(cells: &[Cell], out: &mut Vec<u8>)
     requires fits { All IsCellWithinRange cells.now }
     requires room { HasRoom out.old (flat_map cell_spelling cells.now) }
@@ -211,7 +211,7 @@ fn read_cell(r: &mut Reader, alloc: Global) -> Result<Cell, MsgError>
     }
 }
 
-#[tactic(auto, using(crate::proofs::Counting::goes_on, crate::proofs::Counting::ends, crate::proofs::Counting::is_done))]
+#[tactic(auto, using(crate::proofs::Counting::counting_turns))]
 fn read_cells(r: &mut Reader, alloc: Global, count: u16) -> Result<Vec<Cell>, MsgError>
     ensures { Reads (λ cells. cells.items) (many cell_at count r.old) result r.new }
 {

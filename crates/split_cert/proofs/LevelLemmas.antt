@@ -47,3 +47,5 @@ pub none_done : (levels : List ℕ) → slice_get levels 0 ≢ Some 0 → (witho
 none_done [] h = (refl, refl)
 none_done (zero ∷ levels) h = absurd (h refl)
 none_done (suc left ∷ levels) h = (refl, refl)
+
+pub ruleset level_steps = (done_goes, shorter, none_done)

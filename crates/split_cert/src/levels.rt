@@ -76,7 +76,7 @@ impl Levels {
     }
 
     /// Closes the last splits of which no branch follows any more.
-    #[tactic(auto, using(crate::proofs::LevelLemmas::done_goes, crate::proofs::LevelLemmas::shorter, crate::proofs::LevelLemmas::none_done))]
+    #[tactic(auto, using(crate::proofs::LevelLemmas::level_steps))]
     pub(crate) fn close(&mut self)
         ensures closed { self.new ≡ spec.without_done self.old }
         ensures due { spec.is_due self.new ≡ true }

@@ -242,3 +242,5 @@ read_same xs i one other low is also =
     let met : Some (get_or xs i one) ≡ Some (get_or xs i other) = sym (get_there xs i one low)
     ∙ get_there xs i other low in
     let same : get_or xs i one ≡ get_or xs i other = cc in is ∙ same ∙ sym also
+
+pub ruleset known_relations = (known_here, unknown_here, unknown_nowhere)

@@ -34,3 +34,5 @@ completes_end columns width number past many completes row long =
     let also : length row ≤ number = omega (arith, past, many, long) in
     completes.whole row long
     (ap (λ some. values_at some row) (drop_of_length-le columns past) ∙ sym (drop_of_length-le row also))
+
+pub ruleset completing = (completes_begin, completes_go_on, completes_end)

@@ -54,7 +54,7 @@ impl Replica {
     }
 
     /// The place of the copy of the table with this OID, if its Relation came on this connection.
-    #[tactic(auto, using(crate::proofs::CopyLemmas::known_here, crate::proofs::CopyLemmas::unknown_here, crate::proofs::CopyLemmas::unknown_nowhere))]
+    #[tactic(auto, using(crate::proofs::CopyLemmas::known_relations))]
     fn known_place(&self, oid: u32) -> Result<usize, SubFault>
         ensures ok { IfOk result (IsKnownAt self.now.copies.items oid) }
         ensures fault { IfErr result (λ e. e ≡ NoRelation oid) }

@@ -34,7 +34,7 @@ fn copies(alloc: Global, rows: &[&Row]) -> Result<Vec<Row>, AllocError>
 }
 
 /// Whether these are the numbers of all columns, in their order, of rows of this width.
-#[tactic(auto, using(crate::proofs::WholeLemmas::completes_begin, crate::proofs::WholeLemmas::completes_go_on, crate::proofs::WholeLemmas::completes_end))]
+#[tactic(auto, using(crate::proofs::WholeLemmas::completing))]
 fn are_all(columns: &[usize], width: usize) -> bool
     ensures { result ≡ true → (row : List Datum) → length row ≡ width → values_at columns.now row ≡ row }
 {
