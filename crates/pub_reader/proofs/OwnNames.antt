@@ -47,7 +47,7 @@ first_of P (Err fault) h = tt
 
 -- ---- one more name
 
-same_bytes : IsEquivalence bytes_eq
+pub same_bytes : IsEquivalence bytes_eq
 same_bytes = decided bytes_eq bytes_eq-Decides
 
 own_none : AreOwnNames []
@@ -139,7 +139,7 @@ none_known : (count : ℕ) → AreKnown count []
 unfolding IsDistinct
 none_known count = (tt, All-nil (λ number. number < count))
 
-turned_any : (number : ℕ) (numbers : List ℕ) → list_any (nat_eq number) numbers ≡ list_any (λ n. n == number) numbers
+pub turned_any : (number : ℕ) (numbers : List ℕ) → list_any (nat_eq number) numbers ≡ list_any (λ n. n == number) numbers
 turned_any number [] = refl
 turned_any number (n ∷ numbers) = rw (turned number n, turned_any number numbers) refl
   where

@@ -20,6 +20,7 @@ pub mod Steps
 pub mod Subscriptions
 pub mod TableNames
 pub mod Tables
+pub mod WellFormed
 pub use Rattle.sql_reader.specs.ErrorKinds
 pub use Rattle.sql_reader.specs.KindNames
 pub use Rattle.sql_reader.specs.Reading

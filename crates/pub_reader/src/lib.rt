@@ -10,6 +10,7 @@ mod filter_clause;
 mod filters;
 mod identity;
 mod index;
+mod laws;
 mod names;
 mod object;
 mod parameter;
@@ -27,6 +28,7 @@ mod subscription;
 mod table;
 mod table_name;
 
+pub use laws::catalogs_are_well_formed;
 pub use pub_catalog::{Catalog, Entry, Operations, Publication, Subscription};
 pub use script::{Line, read_script};
 pub use sql_reader::{ErrorKind, Limit, Omitted, ReadError, read_row, write_row};
