@@ -6,6 +6,7 @@ use Rattle.std.specs.Io.KnownBytes.{Appends, Consumes, IsAtEnd}
 use Rattle.filter_tree.specs.Expr.{Expr}
 use Rattle.pub_catalog.specs.Catalogs.{CatalogOf}
 use Rattle.pub_reader.specs.Statements.{catalog_by}
+use Rattle.publisher_desk.specs.Seats.{SeatOf, empty_seat}
 use Rattle.replica_identity.specs.Plans.{plan_of}
 use Rattle.shard_checker.specs.CatalogTruth.{ShardingIsWrong}
 use Rattle.shard_checker.specs.CheckedView.{CheckedOf}
@@ -307,21 +308,21 @@ module _ (may_fail : Bool) (feed : Feed) (known old : Option (List ℕ)) where
           unrefused_lines = subst (λ (lines : List (List ℕ)). IsFirstRefusal catalog (trees_in lines) None)
               certificates_are unrefused
 
-          abbrev tail_of : (answers : List (List ℕ)) (notes : _) → Conversation (checked_by catalog) feed.limit [] left later answers notes
+          abbrev tail_of : (answers : List (List ℕ)) (own : SeatOf) → Conversation (checked_by catalog) feed.limit empty_seat left later answers own
               → (rest : List ℕ) × IsInput known (input_with (rest))
-          tail_of answers notes talk =
+          tail_of answers own talk =
               let more = given_more later (text_of talk.lines ++ talk.more) talk.consumed in
               ((text_of talk.lines ++ talk.more) ++ more.0, more.1)
 
-          abbrev is_talk : (answers : List (List ℕ)) (notes : _)
-              (talk : Conversation (checked_by catalog) feed.limit [] left later answers notes)
-              → IsTalk catalog feed.limit (ended_lines (tail_of answers notes talk).0) answers
-          is_talk answers notes talk =
+          abbrev is_talk : (answers : List (List ℕ)) (own : SeatOf)
+              (talk : Conversation (checked_by catalog) feed.limit empty_seat left later answers own)
+              → IsTalk catalog feed.limit (ended_lines (tail_of answers own talk).0) answers
+          is_talk answers own talk =
               let more = given_more later (text_of talk.lines ++ talk.more) talk.consumed in
               record {
                 said = talk.lines;
                 unsaid = ended_lines (talk.more ++ more.0);
-                notes = notes;
+                own = own;
                 first = ap ended_lines (append_assoc (text_of talk.lines) talk.more more.0)
                     ∙ ended_lines-text talk.lines (talk.more ++ more.0) talk.plain;
                 answered = talk.answered;
@@ -333,11 +334,11 @@ module _ (may_fail : Bool) (feed : Feed) (known old : Option (List ℕ)) where
             port = said.port;
             callers = said.callers;
             answers = said.answers;
-            notes = said.notes;
+            seat = said.seat;
             port_is = said.port_is;
             callers_are = said.callers_are;
             talk = is_talk said.answers said.own said.conversation;
-            notes_are = said.notes_are;
+            seat_is = said.seat_is;
             are = said.are;
           }
 
@@ -369,12 +370,12 @@ module _ (may_fail : Bool) (feed : Feed) (known old : Option (List ℕ)) where
               subst (AreUnanswered may_fail) (sym no_line) NoneLeft
           last_lines bytes rest (Fails is) none = MayFail (ended_lines (bytes ++ rest)) is
 
-          unanswered : (callers : Option ℕ) (answers : List (List ℕ)) (notes : _)
-              (talk : Conversation (checked_by catalog) feed.limit [] left later answers notes)
+          unanswered : (callers : Option ℕ) (answers : List (List ℕ)) (own : SeatOf)
+              (talk : Conversation (checked_by catalog) feed.limit empty_seat left later answers own)
               → AreLastFor callers may_fail left later talk.more
-              → AreUnansweredFor callers may_fail (is_talk answers notes talk).unsaid
-          unanswered (Some port) answers notes talk last = tt
-          unanswered None answers notes talk last =
+              → AreUnansweredFor callers may_fail (is_talk answers own talk).unsaid
+          unanswered (Some port) answers own talk last = tt
+          unanswered None answers own talk last =
               let bytes = text_of talk.lines ++ talk.more in
               last_lines talk.more (given_more later bytes talk.consumed).0 last
               (starts_all known left later head bytes head_read

@@ -5,7 +5,7 @@ use Rattle.std.proofs.lemmas.List.Sorted.{length_permutation}
 use Rattle.shard_checker.specs.CheckedView.{CheckedOf}
 use Rattle.tables_log.specs.BookView.{book_log}
 use Rattle.tables_log.specs.declared.book.Book.{Book}
-use Rattle.publisher_desk.specs.declared.note.Note.{Note}
+use Rattle.publisher_desk.specs.Seats.{SeatOf, empty_seat}
 use Rattle.senders.specs.CloseCauses.{RefusedClose}
 use Rattle.senders.specs.Closing.{IsClosed}
 use Rattle.senders.specs.Gathering.{all_receipts, receipts_in}
@@ -35,26 +35,26 @@ all_served checked served filled place other below =
 -- ---- how it ended
 
 -- the log has as many commits as the session has notes
-module _ (service : ServiceOf) (notes : List Note) (served : List Served) (over : IsOver service notes served)
+module _ (service : ServiceOf) (seat : SeatOf) (served : List Served) (over : IsOver service seat served)
     (checked : CheckedOf) (limit : ℕ) (is_for : IsFor service checked limit) where
-  commits : (book : Book) → IsClosed checked limit (notes ∷ []) served book → length (book_log book) ≡ length notes
+  commits : (book : Book) → IsClosed checked limit (seat ∷ []) served book → length (book_log book) ≡ length seat.notes
   commits book closed =
-      closed.counted ∙ (length_permutation (all_receipts (notes ∷ [])) closed.order closed.ordered.all
-      ∙ (ap length (append-nil (receipts_in notes))
-      ∙ receipts_are_all service.checked service.limit 1 service.lists [] notes over.committed refl))
+      closed.counted ∙ (length_permutation (all_receipts (seat ∷ [])) closed.order closed.ordered.all
+      ∙ (ap length (append-nil (receipts_in seat.notes))
+      ∙ receipts_are_all service.checked service.limit 1 service.lists empty_seat seat over.committed refl))
 
-  pub closed_is_last : (book : Book) → IsClosed checked limit (notes ∷ []) served book
+  pub closed_is_last : (book : Book) → IsClosed checked limit (seat ∷ []) served book
       → IsLast service (closed_line (length (book_log book)) (length served)) Done
   closed_is_last book closed =
       subst (λ (n : ℕ). IsLast service (closed_line n (length served)) Done) (sym (commits book closed))
-      (Closed notes served book over
-      (subst (λ (c : CheckedOf). IsClosed c service.limit (notes ∷ []) served book) (sym is_for.checked_is)
-      (subst (λ (l : ℕ). IsClosed checked l (notes ∷ []) served book) (sym is_for.limit_is) closed)))
+      (Closed seat served book over
+      (subst (λ (c : CheckedOf). IsClosed c service.limit (seat ∷ []) served book) (sym is_for.checked_is)
+      (subst (λ (l : ℕ). IsClosed checked l (seat ∷ []) served book) (sym is_for.limit_is) closed)))
 
-  pub error_is_last : (error : CloseError) → RefusedClose checked limit 1000 999 (notes ∷ []) served error
+  pub error_is_last : (error : CloseError) → RefusedClose checked limit 1000 999 (seat ∷ []) served error
       → IsLastOf service error
   error_is_last error refused name named =
-      Differs notes served error name over
-      (subst (λ (c : CheckedOf). RefusedClose c service.limit 1000 999 (notes ∷ []) served error) (sym is_for.checked_is)
-      (subst (λ (l : ℕ). RefusedClose checked l 1000 999 (notes ∷ []) served error) (sym is_for.limit_is) refused))
+      Differs seat served error name over
+      (subst (λ (c : CheckedOf). RefusedClose c service.limit 1000 999 (seat ∷ []) served error) (sym is_for.checked_is)
+      (subst (λ (l : ℕ). RefusedClose checked l 1000 999 (seat ∷ []) served error) (sym is_for.limit_is) refused))
       named

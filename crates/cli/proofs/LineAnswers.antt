@@ -1,5 +1,5 @@
 -- What a line is answered, by what reading it gave.
-use Rattle.std.proofs.Common.{◌≡◌, ℕ, Bool, true, false, List, [], ◌∷◌, ◌++◌, map, Option, Some, None, if◌then◌else◌, append-nil, refl, sym, ap, subst, ◌∙◌, codes, option_to_list}
+use Rattle.std.proofs.Common.{◌≡◌, ℕ, Bool, true, false, List, [], ◌∷◌, ◌++◌, map, Option, Some, None, if◌then◌else◌, refl, sym, subst, codes, option_to_list}
 use Rattle.std.specs.Prelude.{IsUtf8, Result, Ok, Err}
 use Rattle.filter_tree.specs.declared.table.Table.{Table}
 use Rattle.pub_reader.specs.Scripts.{LineOf, script_by}
@@ -7,7 +7,8 @@ use Rattle.pub_reader.specs.StepView.{step_view}
 use Rattle.pub_reader.specs.Steps.{StepOf, Commit, View}
 use Rattle.pub_reader.specs.declared.step.Step.{Step}
 use Rattle.pub_reader.specs.declared.step.Step.TheVariants as s
-use Rattle.publisher_desk.specs.declared.note.Note.{Note}
+use Rattle.publisher_desk.specs.Seats.{SeatOf}
+use Rattle.publisher_desk.specs.Sights.{StartsWith}
 use Rattle.shard_checker.specs.CheckedView.{CheckedOf}
 use Rattle.shard_world.specs.declared.answer.Answer.{Answer}
 use Rattle.table_changes.specs.Commands.{Command}
@@ -24,12 +25,11 @@ use Rattle.commands.specs.declared.failure.InputFault.TheVariants as i
 use Rattle.cli.specs.Talks.{Answers, Committing, Empty, IsAnswer, Replies, Viewing, NoScript, NoText, OneStep, Tells, Unfit, first_unfit, is_fit, unfit_from}
 use Rattle.cli.specs.Views.{IsViewText}
 
-module _ (checked : CheckedOf) (limit : ℕ) (line : List ℕ) (had : List Note) where
-  -- nothing is kept
+module _ (checked : CheckedOf) (limit : ℕ) (line : List ℕ) (had : SeatOf) where
+  -- the seat stays as it is
   told_only : (lines : List (List ℕ)) (text : List ℕ) → text ≡ text_of lines
-      → IsAnswer checked limit had line lines [] → Answers checked limit line had had text
-  told_only lines text is answer =
-      record { lines = lines; notes = []; is = answer; text_is = is; kept = sym (append-nil had) }
+      → IsAnswer checked limit had line lines had → Answers checked limit line had had text
+  told_only lines text is answer = record { lines = lines; is = answer; text_is = is }
 
   pub no_text : (text : List ℕ) → (IsUtf8 line → ⊥) → text ≡ text_of (fault_line i.Unread ∷ [])
       → Answers checked limit line had had text
@@ -58,40 +58,37 @@ module _ (checked : CheckedOf) (limit : ℕ) (line : List ℕ) (had : List Note)
     pub empty : (text : List ℕ) → script_by tables line ≡ Ok [] → text ≡ [] → Answers checked limit line had had text
     empty text reads is = told_only [] text is (Empty (reads_so [] reads))
 
-    pub one_step : (step : LineOf) (text : List ℕ) (has : List Note) → script_by tables line ≡ Ok (step ∷ [])
+    pub one_step : (step : LineOf) (text : List ℕ) (has : SeatOf) → script_by tables line ≡ Ok (step ∷ [])
         → Tells checked limit step.step had has text → Answers checked limit line had has text
     one_step step text has reads tells = record {
       lines = tells.lines;
-      notes = tells.notes;
-      is = OneStep step tells.lines tells.notes (reads_so (step ∷ []) reads) tells.is;
+      is = OneStep step tells.lines has (reads_so (step ∷ []) reads) tells.is tells.begins;
       text_is = tells.text_is;
-      kept = tells.kept;
     }
 
 -- ---- the answer of a step
 
 module _ (checked : CheckedOf) (limit : ℕ) where
-  pub committed : (step : StepOf) (commands : List Command) (had has : List Note) (answer : Answer) (text : List ℕ)
+  pub committed : (step : StepOf) (commands : List Command) (had has : SeatOf) (answer : Answer) (text : List ℕ)
       → step ≡ Commit commands → Replies checked limit commands had has answer
       → text ≡ text_of (answer_line answer ∷ []) → Tells checked limit step had has text
   committed step commands had has answer text e replies is =
       subst (λ (s : StepOf). Tells checked limit s had has text) (sym e) (record {
         lines = answer_line answer ∷ [];
-        notes = replies.notes;
-        is = Committing commands answer replies.notes replies.is;
+        is = Committing commands answer replies.is;
         text_is = is;
-        kept = replies.kept;
+        begins = replies.begins;
       })
 
-  pub viewed : (step : StepOf) (had has : List Note) (text : List ℕ) → step ≡ View → has ≡ had
-      → IsViewText checked had text → Tells checked limit step had has text
-  viewed step had has text e same is =
+  pub viewed : (step : StepOf) (had has : SeatOf) (text : List ℕ) → step ≡ View
+      → has.notes ≡ had.notes → StartsWith has.seen had.seen → IsViewText checked has text
+      → Tells checked limit step had has text
+  viewed step had has text e same begins is =
       subst (λ (s : StepOf). Tells checked limit s had has text) (sym e) (record {
         lines = is.lines;
-        notes = [];
-        is = Viewing is.lines is.view;
+        is = Viewing is.lines is.view same;
         text_is = is.is;
-        kept = same ∙ sym (append-nil had);
+        begins = begins;
       })
 
 pub view_left : (step : Step) → is_fit (step_view step) ≡ true → ((commands : _) → step ≡ s.Commit commands → ⊥)

@@ -6,7 +6,7 @@ use Rattle.std.proofs.lemmas.List.Elements.{All-nil}
 use Rattle.std.proofs.lemmas.List.Concat.{flat_map-append}
 use Rattle.std.specs.Io.KnownBytes.{Appends, Consumes, IsAtEnd}
 use Rattle.shard_checker.specs.CheckedView.{CheckedOf}
-use Rattle.publisher_desk.specs.declared.note.Note.{Note}
+use Rattle.publisher_desk.specs.Seats.{SeatOf, empty_seat}
 use Rattle.commands.proofs.Writing.{first_after, first_nothing, unwritten}
 use Rattle.commands.specs.Inputs.{IsInput}
 use Rattle.commands.specs.Output.{StopsText, Writes, WritesFirst, ended, text_of}
@@ -14,23 +14,23 @@ use Rattle.commands.specs.declared.failure.Failure.{Failure}
 use Rattle.commands.specs.declared.failure.Failure.TheVariants as f
 use Rattle.commands.specs.declared.failure.Status.{Status}
 use Rattle.cli.specs.Published.{AreCallersAt, Closes, HasClosed, IsClosing, IsLastLine, HasSaid, IsPortFor, MayHaveSaid, Opens, Serves, StopsTelling}
-use Rattle.cli.specs.Talks.{AreNotes, Conversation, HasAnswered, IsCutOff, Nobody, Nothing}
+use Rattle.cli.specs.Talks.{Conversation, HasAnswered, IsCutOff, IsSeatOf, Nobody, Nothing}
 use Rattle.cli.specs.Lines.{IsPlain}
 use Rattle.cli.specs.Telling.{IsStop, WritesLine, first_lines}
 use Rattle.cli.specs.declared.requests.Feed.{Feed}
 
 -- ---- the last line
 
-module _ (checked : CheckedOf) (limit : ℕ) (notes : List Note) where
+module _ (checked : CheckedOf) (limit : ℕ) (seat : SeatOf) where
   pub closes : (line : List ℕ) (status : Status) (old new : Option (List ℕ)) (result : Result Status Failure)
-      → IsLastLine checked limit notes line status → WritesLine line status old new result
-      → Closes checked limit notes old new result
+      → IsLastLine checked limit seat line status → WritesLine line status old new result
+      → Closes checked limit seat old new result
   closes line status old new (Ok told) last says = record {
     lines = says.lines;
     whole = record {
       line = line;
       are = says.whole.0;
-      last = subst (λ (s : Status). IsLastLine checked limit notes line s) (sym says.whole.1) last;
+      last = subst (λ (s : Status). IsLastLine checked limit seat line s) (sym says.whole.1) last;
     };
     appends = says.appends;
   }
@@ -45,7 +45,7 @@ module _ (checked : CheckedOf) (limit : ℕ) (notes : List Note) where
         record {
           line = line;
           are = w.1.0;
-          last = subst (λ (s : Status). IsLastLine checked limit notes line s) (sym w.1.1) last;
+          last = subst (λ (s : Status). IsLastLine checked limit seat line s) (sym w.1.1) last;
         },
       )
     ];
@@ -57,11 +57,11 @@ module _ (checked : CheckedOf) (limit : ℕ) (notes : List Note) where
 module _ (feed : Feed) (checked : CheckedOf) (may_fail : Bool) where
   -- ---- before the session
 
-  silence : (before : Option (List ℕ)) → Conversation checked feed.limit [] before before [] []
+  silence : (before : Option (List ℕ)) → Conversation checked feed.limit empty_seat before before [] empty_seat
   silence before =
       record { lines = []; more = []; consumed = Consumes-nil before; plain = All-nil IsPlain; answered = Nothing }
 
-  nothing_kept : (callers : Option ℕ) → AreNotes checked feed.limit [] callers [] [] []
+  nothing_kept : (callers : Option ℕ) → IsSeatOf checked feed.limit empty_seat callers [] empty_seat empty_seat
   nothing_kept None = refl
   nothing_kept (Some port) = (refl, Nobody)
 
@@ -71,12 +71,12 @@ module _ (feed : Feed) (checked : CheckedOf) (may_fail : Bool) where
     port = port;
     callers = callers;
     answers = [];
-    own = [];
-    notes = [];
+    own = empty_seat;
+    seat = empty_seat;
     port_is = is;
     callers_are = are;
     conversation = silence before;
-    notes_are = nothing_kept callers;
+    seat_is = nothing_kept callers;
     are = sym (append-nil (first_lines port callers));
   }
 
@@ -119,20 +119,20 @@ module _ (feed : Feed) (checked : CheckedOf) (may_fail : Bool) where
     abbrev first_text : List ℕ
     first_text = text_of firsts
 
-    abbrev said : (answers : List (List ℕ)) (own notes : List Note)
-        → Conversation checked feed.limit [] before after answers own
-        → AreNotes checked feed.limit [] callers answers own notes
+    abbrev said : (answers : List (List ℕ)) (own seat : SeatOf)
+        → Conversation checked feed.limit empty_seat before after answers own
+        → IsSeatOf checked feed.limit empty_seat callers answers own seat
         → HasSaid feed checked before after (firsts ++ answers)
-    said answers own notes talk are = record {
+    said answers own seat talk are = record {
       port = port;
       callers = callers;
       answers = answers;
       own = own;
-      notes = notes;
+      seat = seat;
       port_is = opens.port_is;
       callers_are = opens.callers_are;
       conversation = talk;
-      notes_are = are;
+      seat_is = are;
       are = refl;
     }
 
@@ -140,39 +140,39 @@ module _ (feed : Feed) (checked : CheckedOf) (may_fail : Bool) where
     said_text answers = flat_map-append ended firsts answers
 
     -- it is cut off
-    cut_off : (new : Option (List ℕ)) (has : List Note) (failure : Failure)
-        → IsCutOff checked feed.limit callers before after mid new [] has failure
+    cut_off : (new : Option (List ℕ)) (has : SeatOf) (failure : Failure)
+        → IsCutOff checked feed.limit callers before after mid new empty_seat has failure
         → Serves feed checked before after may_fail old new (Err failure)
     cut_off new has f.OutOfMemory cut = record {
       lines = firsts ++ cut.answers;
-      begun = inr (said cut.answers cut.own cut.notes cut.conversation cut.notes_are);
+      begun = inr (said cut.answers cut.own cut.has cut.conversation cut.seat_is);
       appends = subst (Appends old new) (sym (said_text cut.answers))
           (Appends-trans old mid new first_text (text_of cut.answers) opens.told cut.written);
     }
     cut_off new has f.Output cut = record {
       lines = firsts ++ cut.answers;
-      part = inl (inr (said cut.answers cut.own cut.notes cut.conversation cut.notes_are));
+      part = inl (inr (said cut.answers cut.own has cut.conversation cut.seat_is));
       first = subst (λ (t : List ℕ). WritesFirst t old new) (sym (said_text cut.answers))
           (first_after first_text (text_of cut.answers) old mid new opens.told cut.first);
     }
     cut_off new has (f.CommandLine why) cut = absurd cut
     cut_off new has (f.Input fault) cut = absurd cut
 
-    -- where the session began without notes
-    pub cut_off_returned : (new : Option (List ℕ)) (had has : List Note) (failure : Failure)
-        (result : Result Status Failure) → had ≡ []
+    -- where the session began with an empty seat
+    pub cut_off_returned : (new : Option (List ℕ)) (had has : SeatOf) (failure : Failure)
+        (result : Result Status Failure) → had ≡ empty_seat
         → IsCutOff checked feed.limit callers before after mid new had has failure
         → IsErrAnd result (λ failed. failed ≡ failure) → Serves feed checked before after may_fail old new result
     cut_off_returned new had has failure (Ok told) none cut is = absurd is
     cut_off_returned new had has failure (Err failed) none cut is =
         subst (λ (f : Failure). Serves feed checked before after may_fail old new (Err f)) (sym is)
         (cut_off new has failure
-        (subst (λ (notes : List Note). IsCutOff checked feed.limit callers before after mid new notes has failure) none
+        (subst (λ (seat : SeatOf). IsCutOff checked feed.limit callers before after mid new seat has failure) none
         cut))
 
     -- memory is refused after the session
-    pub no_memory : (new : Option (List ℕ)) (limit : ℕ) {had has : List Note} (result : Result Status Failure)
-        → feed.limit ≡ limit → had ≡ [] → HasAnswered checked limit callers may_fail before after mid new had has
+    pub no_memory : (new : Option (List ℕ)) (limit : ℕ) {had has : SeatOf} (result : Result Status Failure)
+        → feed.limit ≡ limit → had ≡ empty_seat → HasAnswered checked limit callers may_fail before after mid new had has
         → IsErrAnd result (λ failed. failed ≡ f.OutOfMemory) → Serves feed checked before after may_fail old new result
     no_memory new limit {had} {has} result same none answers is =
         let answered = subst (λ (l : ℕ). HasAnswered checked l callers may_fail before after mid new had has) (sym same)
@@ -181,22 +181,22 @@ module _ (feed : Feed) (checked : CheckedOf) (may_fail : Bool) where
         (record {
           answers = answered.answers;
           own = answered.own;
-          notes = answered.notes;
+          has = has;
           conversation = answered.conversation;
-          notes_are = answered.notes_are;
+          seat_is = answered.seat_is;
           written = answered.written;
         })
         is
 
     -- the last line comes
-    closed_lines : {has : List Note} (now : Option (List ℕ))
-        (answered : HasAnswered checked feed.limit callers may_fail before after mid now [] has) (lines : List (List ℕ))
-        (status : Status) → IsClosing checked feed.limit answered.notes lines status
+    closed_lines : {has : SeatOf} (now : Option (List ℕ))
+        (answered : HasAnswered checked feed.limit callers may_fail before after mid now empty_seat has) (lines : List (List ℕ))
+        (status : Status) → IsClosing checked feed.limit has lines status
         → HasClosed feed checked before after may_fail ((firsts ++ answered.answers) ++ lines) status
-    closed_lines now answered lines status closing = record {
+    closed_lines {has} now answered lines status closing = record {
       earlier = firsts ++ answered.answers;
       line = closing.line;
-      said = said answered.answers answered.own answered.notes answered.conversation answered.notes_are;
+      said = said answered.answers answered.own has answered.conversation answered.seat_is;
       all = answered.last;
       last = closing.last;
       are = ap (λ (l : List (List ℕ)). (firsts ++ answered.answers) ++ l) closing.are;
@@ -208,9 +208,9 @@ module _ (feed : Feed) (checked : CheckedOf) (may_fail : Bool) where
         flat_map-append ended (firsts ++ answers) lines
         ∙ ap (λ (t : List ℕ). t ++ text_of lines) (said_text answers)
 
-    closes_then : (now new : Option (List ℕ)) (has : List Note) (result : Result Status Failure)
-        → (answered : HasAnswered checked feed.limit callers may_fail before after mid now [] has)
-        → Closes checked feed.limit answered.notes now new result
+    closes_then : (now new : Option (List ℕ)) (has : SeatOf) (result : Result Status Failure)
+        → (answered : HasAnswered checked feed.limit callers may_fail before after mid now empty_seat has)
+        → Closes checked feed.limit has now new result
         → Serves feed checked before after may_fail old new result
     closes_then now new has (Ok status) answered closing =
         let before_last = Appends-trans old mid now first_text (text_of answered.answers) opens.told answered.written in
@@ -225,7 +225,7 @@ module _ (feed : Feed) (checked : CheckedOf) (may_fail : Bool) where
         let before_last = Appends-trans old mid now first_text (text_of answered.answers) opens.told answered.written in
         record {
           lines = firsts ++ answered.answers;
-          begun = inr (said answered.answers answered.own answered.notes answered.conversation answered.notes_are);
+          begun = inr (said answered.answers answered.own has answered.conversation answered.seat_is);
           appends = subst (Appends old new)
               (append-nil (first_text ++ text_of answered.answers) ∙ sym (said_text answered.answers))
               (Appends-trans old now new (first_text ++ text_of answered.answers) [] before_last
@@ -238,8 +238,7 @@ module _ (feed : Feed) (checked : CheckedOf) (may_fail : Bool) where
         elim closing.part [
           | inl none ↦ record {
             lines = firsts ++ answered.answers;
-            part = inl (inr (said answered.answers answered.own answered.notes answered.conversation
-                answered.notes_are));
+            part = inl (inr (said answered.answers answered.own has answered.conversation answered.seat_is));
             first = subst (λ (t : List ℕ). WritesFirst t old new)
                 (ap (λ (lines : List (List ℕ)). (first_text ++ text_of answered.answers) ++ text_of lines) none
                 ∙ append-nil (first_text ++ text_of answered.answers) ∙ sym (said_text answered.answers)) first;
@@ -253,19 +252,16 @@ module _ (feed : Feed) (checked : CheckedOf) (may_fail : Bool) where
     closes_then now new has (Err (f.CommandLine why)) answered closing = absurd closing
     closes_then now new has (Err (f.Input fault)) answered closing = absurd closing
 
-    -- if the session began with no notes
-    pub closes_after : (now new : Option (List ℕ)) (limit : ℕ) {had has : List Note} (result : Result Status Failure)
-        → feed.limit ≡ limit → had ≡ [] → HasAnswered checked limit callers may_fail before after mid now had has
+    -- if the session began with an empty seat
+    pub closes_after : (now new : Option (List ℕ)) (limit : ℕ) {had has : SeatOf} (result : Result Status Failure)
+        → feed.limit ≡ limit → had ≡ empty_seat → HasAnswered checked limit callers may_fail before after mid now had has
         → Closes checked limit has now new result → Serves feed checked before after may_fail old new result
     closes_after now new limit {had} {has} result same none answers closing =
         let answered = subst (λ (l : ℕ). HasAnswered checked l callers may_fail before after mid now had has) (sym same)
         answers in
-        let first = subst (λ (notes : List Note). HasAnswered checked feed.limit callers may_fail before after mid now notes has)
+        let first = subst (λ (seat : SeatOf). HasAnswered checked feed.limit callers may_fail before after mid now seat has)
         none answered in
-        let kept : has ≡ first.notes = first.kept in
-        closes_then now new has result first
-        (subst (λ (n : List Note). Closes checked feed.limit n now new result) kept
-        (subst (λ (l : ℕ). Closes checked l has now new result) (sym same) closing))
+        closes_then now new has result first (subst (λ (l : ℕ). Closes checked l has now new result) (sym same) closing)
 
 -- ---- before the lines
 

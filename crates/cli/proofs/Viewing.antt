@@ -12,8 +12,8 @@ use Rattle.tables_log.specs.StandsFor.{Transaction, AreAccepted, StandsFor, afte
 use Rattle.tables_log.specs.declared.book.Book.{Book}
 use Rattle.tables_log.proofs.StandLemmas.{each_is_logged}
 use Rattle.publisher_desk.specs.Logged.{AreNoted}
-use Rattle.publisher_desk.specs.Receipts.{ReceiptOf, transactions_of}
-use Rattle.publisher_desk.specs.declared.note.Note.{Note}
+use Rattle.publisher_desk.specs.Receipts.{transactions_of}
+use Rattle.publisher_desk.specs.Seats.{SeatOf}
 use Rattle.cli.specs.Views.{IsSeen, IsView, shown_lines, view_lines}
 use Rattle.cli.specs.declared.publish.view.View.{View}
 
@@ -32,19 +32,18 @@ all_weaker P Q (x ∷ xs) weaker all (suc number) =
     all_weaker (λ n. P (suc n)) (λ n. Q (suc n)) xs (λ n. weaker (suc n)) (λ n. all (suc n)) number
 
 module _ (checked : CheckedOf) (book : Book) (transactions : List Transaction) (named : book_checked book ≡ checked)
-    (stands : StandsFor book transactions) (notes : List Note) (log : List ReceiptOf)
-    (log_is : transactions_of log ≡ transactions) (noted : AreNoted (setting_in checked) log notes) where
+    (stands : StandsFor book transactions) (has : SeatOf) (log_is : transactions_of has.seen ≡ transactions)
+    (noted : AreNoted (setting_in checked) has.seen has.notes) where
   -- the tests of a table's rows
   abbrev are_at : ℕ → List (List Datum) → Type 0
   are_at table rows = AreRows (holds (setting_in checked).keys (after (setting_in checked) transactions) table) rows
 
   pub shows : (tables subscriptions : ℕ) (view : View) → tables ≡ length checked.catalog.tables
       → subscriptions ≡ length checked.catalog.subscriptions → IsSeen book tables subscriptions view
-      → IsView checked notes (view_lines checked.catalog view)
+      → IsView checked has (view_lines checked.catalog view)
   shows tables subscriptions view all_tables all_slots seen =
       let rows : List (List (List Datum)) = map (λ rows. rows.items) view.rows.items in
       record {
-        log = log;
         noted = noted;
         transactions = transactions;
         transactions_are = sym log_is;

@@ -2,7 +2,7 @@
 
 ghost use Rattle.std.specs.Prelude.{◌≡◌, IfErr, OnOk};
 ghost use Rattle.commands.specs.declared.failure.Failure.TheVariants.{OutOfMemory};
-ghost use Rattle.cli.specs.Talks.{HasHeard, HasTalked};
+ghost use Rattle.cli.specs.Talks.{AreHeard, HasTalked};
 
 use crate::publish::hall::Hall;
 use crate::publish::incoming::LineReader;
@@ -74,7 +74,7 @@ pub(crate) fn answer_callers<'a, P: Publishing, R: Wait + Clock + Eprint>(
     seat: &mut Seat<P>,
     listener: &TcpListener,
 ) -> Result<(), Failure<'a>>
-    ensures ok { OnOk result (HasHeard P.checked P.limit seat.old seat.new) }
+    ensures ok { OnOk result (AreHeard P.checked P.limit seat.old seat.new) }
     ensures err { IfErr result (λ failure. failure ≡ OutOfMemory) }
 {
     let alloc = publisher.allocator();

@@ -1,7 +1,7 @@
-use Rattle.std.proofs.Common.{◌≡◌, ◌∙◌, [], All, ℕ, List, ap, length, map, rules, refl, sym, subst}
+use Rattle.std.proofs.Common.{◌≡◌, ◌∙◌, All, ℕ, List, ap, length, map, rules, refl, sym, subst}
 use Rattle.std.proofs.lemmas.List.{length-map}
 use Rattle.std.specs.Option.{unwrap_or}
-use Rattle.publisher_desk.specs.declared.note.Note.{Note}
+use Rattle.publisher_desk.specs.Seats.{SeatOf, empty_seat}
 use Rattle.senders.specs.declared.served.Served.{Served}
 use Rattle.commands.specs.declared.failure.Failure.TheVariants as f
 use Rattle.cli.proofs.LastLines.{all_served}
@@ -39,14 +39,14 @@ returns g c =
     let lists = map list_view c.args.lists.items in
     let served = c.in_ok-served.served.items in
     let places = c.run_both-committed.new.places.items in
-    let notes = c.run_both-committed.new.seat in
+    let seat = c.run_both-committed.new.seat in
     let all : map Ended served ≡ places = c.in_ok-served.ensures.all in
     let subscriptions : c.len-subscriptions.result ≡ length checked.catalog.subscriptions = search rules in
     let count : c.unwrap_or.result ≡ service.connections = c.unwrap_or.ensures
     ∙ ap (λ (n : ℕ). unwrap_or c.args.service.connections n) subscriptions in
-    let over : IsOver service notes served = record {
-      committed = subst (λ (l : ℕ). AreCommitted checked l 1 lists [] notes) (sym c.requires.limit)
-          (subst (λ (s : List Note). AreCommitted checked g.P.Publishing.limit 1 lists s notes) c.in-Some.ensures.new
+    let over : IsOver service seat served = record {
+      committed = subst (λ (l : ℕ). AreCommitted checked l 1 lists empty_seat seat) (sym c.requires.limit)
+          (subst (λ (s : SeatOf). AreCommitted checked g.P.Publishing.limit 1 lists s seat) c.in-Some.ensures.new
           c.in_ok-committed.ensures.committed);
       many = sym (length-map served (λ (s : Served). Ended s)) ∙ (ap length all ∙ (c.run_both-committed.ensures.same
           ∙ (c.in_ok-places.ensures ∙ count)));

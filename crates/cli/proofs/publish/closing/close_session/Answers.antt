@@ -1,6 +1,6 @@
 use Rattle.std.proofs.Common.{◌≡◌, [], ◌∷◌, ℕ, List, length, rules, subst, sym}
 use Rattle.tables_log.specs.BookView.{book_log}
-use Rattle.publisher_desk.specs.declared.note.Note.{Note}
+use Rattle.publisher_desk.specs.Seats.{SeatOf}
 use Rattle.senders.specs.CloseCauses.{RefusedClose}
 use Rattle.senders.specs.Closing.{IsClosed}
 use Rattle.commands.specs.declared.failure.Status.TheVariants.{Done}
@@ -16,7 +16,7 @@ returns-in-Ok g c =
     let book = c.in-Ok.closed.book in
     let seats : c.in_ok-seats.seats.items ≡ c.args.seat ∷ [] = search rules in
     let is : IsClosed checked limit (c.args.seat ∷ []) served book =
-    subst (λ (s : List (List Note)). IsClosed checked limit s served book) seats c.in-Ok.ensures.ok in
+    subst (λ (s : List SeatOf). IsClosed checked limit s served book) seats c.in-Ok.ensures.ok in
     let commits : c.log_len.result ≡ length (book_log book) = search rules in
     let many : c.len.result ≡ length served = search rules in
     c.tell_closed.ensures checked limit c.args.seat
@@ -34,7 +34,7 @@ returns-in-Err g c =
     let refused : RefusedClose checked limit 1000 999 (c.args.seat ∷ []) served error =
     subst (λ (n : ℕ). RefusedClose checked limit n 999 (c.args.seat ∷ []) served error) c.requires.parts
     (subst (λ (n : ℕ). RefusedClose checked limit g.P.Ledger.parts n (c.args.seat ∷ []) served error) c.requires.rest
-    (subst (λ (s : List (List Note)). RefusedClose checked limit g.P.Ledger.parts c.args.rest s served error) seats
+    (subst (λ (s : List SeatOf). RefusedClose checked limit g.P.Ledger.parts c.args.rest s served error) seats
     c.in-Err.ensures.refused)) in
     c.tell_error.ensures checked limit c.args.seat
     (λ name named. Differs served error name c.requires.served refused named)

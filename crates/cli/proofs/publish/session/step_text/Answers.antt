@@ -19,5 +19,5 @@ returns-in_default g c =
     IfOk-weaker c.view_text.result _ _
     (λ text is. viewed g.P.Publishing.checked g.P.Publishing.limit (step_view c.args.step) c.args.seat.now
     c.view_text.new.seat (string_bytes text) (view_left c.args.step c.requires c.in_default.not-Commit)
-    c.view_text.ensures.same is)
+    c.view_text.ensures.same c.view_text.ensures.begins is)
     c.view_text.ensures.text
