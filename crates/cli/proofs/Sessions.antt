@@ -57,7 +57,7 @@ module _ (checked : CheckedOf) (limit : ℕ) where
   pub takes_up : (time : ℕ) (commands : List Command) (had has : SeatOf) (result : Result ℕ CommitError)
       → IfErr result (λ error. error ≢ OutOfMemory)
       → IfOk result (λ number. has.notes ≡ had.notes ++ Committed (receipt_of number commands time) ∷ [])
-      → IfOk result (IsMade checked limit commands time) → IfErr result (IsRefused checked limit has commands)
+      → IfOk result (IsMade checked limit had.seen has.seen commands time) → IfErr result (IsRefused checked limit has commands)
       → IfErr result (HasFault (setting_in checked) commands) → OnErr result (has.notes ≡ had.notes)
       → StartsWith has.seen had.seen → TakesUp checked limit time commands had has
   takes_up time commands had has (Ok number) known last made refused fault same begins =
