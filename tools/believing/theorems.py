@@ -57,6 +57,11 @@ SHOWN = Theorem("shown", [
     clauses("catalog_text", "catalog.rt", "write_catalog"),
 ], most=650)
 
+READ = Theorem("read", [clauses("pub_reader", "laws.rt", "catalogs_are_well_formed")], most=200, tokens={
+    "catalog_by": "the catalog that a text spells, which `read_catalog` returns: the grammar is read in part 6",
+    "as_filter": "the filter that is written there: the grammar is read in part 6",
+})
+
 CODEC = Theorem("codec", [
     clauses("pgoutput_msgs", "encoding.rt", "encode"),
     clauses("pgoutput_msgs", "decoding.rt", "decode", "found", "only", "trailing", "fault"),
@@ -156,4 +161,4 @@ PROGRAM = Theorem("program", [
                "says of it what part 2 says of `decode`",
 })
 
-THEOREMS = [SOUNDNESS, SHOWN, CODEC, CONNECTION, ENDED, HEADLINE, THREADS, PROGRAM]
+THEOREMS = [SOUNDNESS, SHOWN, READ, CODEC, CONNECTION, ENDED, HEADLINE, THREADS, PROGRAM]
