@@ -1,5 +1,5 @@
-"""That first_build builds each library after those that it uses, gives the most processes to the library for which the
-most work waits, and reports what is not proved."""
+"""Tests that first_build builds each library after the libraries that it uses, gives the most processes to the library
+that the most work depends on, and reports what is not proved."""
 
 import os
 import pathlib
@@ -11,7 +11,8 @@ from tally import Tally
 
 TOOLS = pathlib.Path(__file__).resolve().parent.parent
 
-# The libraries: how many lines of code each has, and which it uses. Most work waits for `low`, and then for `long`.
+# Each library, with its lines of code and the libraries that it uses. The most work depends on `low`, and then on
+# `long`.
 CRATES = {
     "low": (10, ""),
     "long": (400, "low"),
@@ -20,7 +21,8 @@ CRATES = {
     "publisher_main": (10, "high"),
 }
 
-# Is run as rt: it notes the library, its processes and how nice it is, and builds it if those that it uses are there.
+# Runs in place of rt: records the library, its number of processes and its niceness, and builds the library if those
+# that it uses have been built.
 RT = """\
 #!/bin/sh
 name=$(basename "$PWD")
@@ -34,7 +36,7 @@ mkdir -p out/rlib
 
 
 def check_building(tally: Tally) -> None:
-    """Builds libraries by a script in place of rt."""
+    """Builds the libraries, with a script in place of rt."""
     with tempfile.TemporaryDirectory() as folder:
         root = repository(pathlib.Path(folder))
         status, told, notes = build(root, fails="short")
@@ -42,7 +44,7 @@ def check_building(tally: Tally) -> None:
         tally.check("what is built after it", "high" in notes, False)
         status, told, notes = build(root, fails="")
         first, *others, last = notes or [""]
-        # (the two are begun together, and either may be the first to note it)
+        # Two of the libraries are started together, and either may be recorded first.
         tally.check(
             "the libraries that are built", (status, first, sorted(others), last), (0, "low", ["long", "short"], "high"))
         processes, nice = notes["low"]
@@ -52,7 +54,7 @@ def check_building(tally: Tally) -> None:
 
 
 def repository(root: pathlib.Path) -> pathlib.Path:
-    """A repository with these libraries and with first_build."""
+    """Creates a repository that contains these libraries and first_build."""
     (root / "tools" / "testing").mkdir(parents=True)
     shutil.copy2(TOOLS / "first_build", root / "tools")
     shutil.copytree(TOOLS / "building", root / "tools" / "building")
@@ -69,8 +71,8 @@ def repository(root: pathlib.Path) -> pathlib.Path:
 
 
 def build(root: pathlib.Path, fails: str) -> tuple[int, str, dict[str, tuple[int, int]]]:
-    """The status of first_build and what it says, and by each library, in the order in which they were begun, its
-    processes and how nice it was."""
+    """Returns the status of first_build, its messages, and the number of processes and the niceness of each library, in
+    the order in which they were started."""
     notes = root / "notes"
     notes.write_text("")
     variables = {"PATH": f"{root / 'bin'}:{os.environ['PATH']}", "NOTES": str(notes), "FAILS": fails}

@@ -1,6 +1,6 @@
-"""Calls of the libraries, one by one, through the program `call_driver`, with the expected answers.
+"""Tests single calls of the libraries, which the program `call_driver` makes.
 
-These come from the rules, from PostgreSQL's documentation or from a server, and never from the program.
+The expected answers come from the rules, from PostgreSQL's documentation or from a server, and never from the program.
 """
 
 import os
@@ -16,20 +16,20 @@ TESTING = pathlib.Path(__file__).resolve().parent
 BUILT = TESTING.parent.parent / "crates" / "call_driver" / "out" / "call_driver"
 NAMED = os.environ.get("CALL_DRIVER")
 
-# How long the calls of one topic may take.
+# The time limit for the calls of one topic, in seconds.
 SECONDS = 600
 
-# How much of a line is shown where an answer is wrong.
+# How many characters of a wrong line are shown.
 SHOWN = 200
 
 
 def why_not_built() -> str | None:
-    """Why the program cannot be run here. One that the environment names is always run."""
+    """Returns why the program cannot be run, or None if it can. A program that the environment names is always run."""
     return None if NAMED or BUILT.exists() else "the program call_driver is not built"
 
 
 def answers(lines: Iterable[str]) -> list[str]:
-    """What the program answers to each of the lines, or why it does not."""
+    """Returns the program's answer to each line, or the reason why there is none."""
     try:
         run = subprocess.run(
             [NAMED or str(BUILT)], input="".join(f"{line}\n" for line in lines), encoding="utf-8", timeout=SECONDS,
@@ -43,12 +43,12 @@ def answers(lines: Iterable[str]) -> list[str]:
 
 
 def short(text: str) -> str:
-    """The text, cut short where it is long."""
+    """Returns the text, shortened if it is long."""
     return text if len(text) <= SHOWN else f"{text[:SHOWN]}.. ({len(text)} characters)"
 
 
 def check_topic(tally: Tally, topic: str, calls: list[Call]) -> None:
-    """Makes the calls of a topic, which begin with a desk that is clear."""
+    """Makes the calls of a topic, starting with an empty desk."""
     found = answers(call.line for call in calls)
     tally.check(f"{topic}: how many lines are answered", len(found), len(calls))
     for call, answer in zip(calls, found):
@@ -57,7 +57,7 @@ def check_topic(tally: Tally, topic: str, calls: list[Call]) -> None:
 
 
 def check_calls(tally: Tally) -> None:
-    """Makes the calls of all topics, and says how many they are."""
+    """Makes the calls of all topics, and prints how many there are."""
     count = 0
     for topic, calls in topics():
         listed = list(calls)

@@ -1,4 +1,4 @@
-"""What catalog.sql prints of databases, and what pgshard and judge make of it, beside a server."""
+"""Tests what catalog.sql prints of databases, and what pgshard and judge answer for it, against a server."""
 
 import pathlib
 import shlex
@@ -14,20 +14,20 @@ from tally import Tally
 
 CASES = pathlib.Path(__file__).resolve().parent / "cases"
 
-# What judge says of a server where it is told about no subscriptions, and where it is told.
+# What judge prints for a server if no subscriptions are named, and if some are.
 NOTE = "each publication counts as a subscriber of its own; -v subscriptions='..' names others\n"
 TOLD = "the subscribers are those of -v subscriptions\n"
 
 
 def check_filters(tally: Tally, server: Server) -> None:
-    """Each form of filter: its text in a catalog, and its values on 10,000 rows."""
+    """Tests each form of filter: its text in the catalog, and its value on 10,000 rows."""
     comparison = Comparison(server, "forms", forms.FORMS)
     comparison.check_texts(tally)
     comparison.check_values(tally, list(rows.rows(10_000)))
 
 
 def check_unread(tally: Tally, server: Server) -> None:
-    """Each form that pgshard refuses, in a catalog of its own."""
+    """Tests each form that pgshard refuses, in a catalog of its own."""
     server.create("refused", f"CREATE TABLE refused ({forms.COLUMNS});")
     for form in forms.REFUSED:
         server.psql("refused", f"""
@@ -46,8 +46,8 @@ def check_unread(tally: Tally, server: Server) -> None:
 
 
 def check_cases(tally: Tally, server: Server) -> None:
-    """The databases of testing/cases: the catalogs that are to be printed, and what judge is to say of each and of its
-    text, where that is something else. All is written by hand."""
+    """Tests the databases of testing/cases: the catalog that is printed of each, and what judge says of the database
+    and of the printed catalog, if that differs. The expected texts are written by hand."""
     with_judge = python_with("pglast") is not None
     if not with_judge:
         print("skipped: what judge says of these servers, since pglast is not installed (apt-get install python3-pglast)")
@@ -68,7 +68,8 @@ def check_cases(tally: Tally, server: Server) -> None:
 
 
 def check_second(tally: Tally, server: Server, path: pathlib.Path, catalog: str) -> None:
-    """A database that is made of a printed catalog has that catalog, where columns of other types are text."""
+    """Checks that a database created from a printed catalog has that catalog again, except that columns of other types
+    are text."""
     second = f"{path.stem}_again"
     server.create(second, without_subscriptions(catalog))
     tally.check(
@@ -77,7 +78,7 @@ def check_second(tally: Tally, server: Server, path: pathlib.Path, catalog: str)
 
 
 def without_comments(catalog: str) -> str:
-    """Without tables that are not published and types that are in comments."""
+    """Returns the catalog without tables that are not published, and without the types that are given in comments."""
     lines = [line for line in catalog.splitlines(keepends=True) if not line.startswith("-- not published: ")]
     for at, line in enumerate(lines):
         if line.startswith("    ") and " text /* " in line:
@@ -87,7 +88,8 @@ def without_comments(catalog: str) -> str:
 
 
 def check_reader(tally: Tally, server: Server) -> None:
-    """The script needs no rights, takes no number of a transaction, and prints the same whatever psql's form is."""
+    """Checks that the script needs no privileges, assigns no transaction ID, and prints the same whatever output format
+    psql is set to."""
     setup = (CASES / "names.txt").read_text(encoding="utf-8").split("%%\n")[0]
     server.create("reader", setup)
     server.psql("reader", """

@@ -1,16 +1,17 @@
-"""Filters as people write them, and as catalog.sql prints them, in two databases and in pgshard."""
+"""Compares filters as people write them with filters as catalog.sql prints them, in two databases and in pgshard."""
 
 import json
 
 import forms
 from programs import catalog_of, pgshard, without_subscriptions
 
-# Each publication has a subscription of its own, and pgshard reads at most 32 of these.
+# Each publication has a subscription of its own, and pgshard reads at most 32 subscriptions.
 FORMS_A_TABLE = 30
 
 
 class Comparison:
-    """A database in which each form is the filter of a table in a publication, and a second, made of its catalog."""
+    """A database in which each form is the filter of a table in a publication, and a second database created from the
+    catalog of the first."""
 
     def __init__(self, server, name, listed):
         self.server = server
@@ -19,7 +20,7 @@ class Comparison:
         server.create(self.first, self.setup())
         self.catalog = catalog_of(server, self.first)
         server.create(self.second, without_subscriptions(self.catalog))
-        # What the server writes of each filter, by table and publication.
+        # The text of each filter as the server prints it, by table and publication.
         self.texts = {database: self.texts_of(database) for database in (self.first, self.second)}
 
     def setup(self):
@@ -77,7 +78,7 @@ class Comparison:
             self.server.psql(database, "\n".join(statements))
 
     def server_values(self, database, table):
-        """For each row in order the value of each filter, as the server writes it in that database."""
+        """Returns the value of each filter for each row, in order, as the server computes it in that database."""
         values = ", ".join(
             f"coalesce(({self.texts[database][f'forms{table} p{place}']})::text, 'null')"
             for place in range(len(self.tables[table])))
@@ -86,7 +87,7 @@ class Comparison:
 
 
 def unlike(some, others, place):
-    """The first rows whose values in the two lists differ at a place."""
+    """Returns the first rows for which the two lists differ in the value at a place."""
     if len(some) != len(others):
         return [f"{len(some)} rows and {len(others)}"]
     return [row for row, (one, other) in enumerate(zip(some, others)) if one[place] != other[place]][:5]

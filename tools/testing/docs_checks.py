@@ -1,4 +1,4 @@
-"""That the documents name what is there, and stay short."""
+"""Tests that everything the documents name exists, and that the documents stay short."""
 
 import pathlib
 import re
@@ -10,10 +10,10 @@ from tally import Tally
 ROOT = pathlib.Path(__file__).resolve().parent.parent.parent
 CRATES = ROOT / "crates"
 
-# At most this many words.
+# The greatest number of words of a document.
 WORDS = {"README.md": 1100, "docs/ARCHITECTURE.md": 1200, "docs/TESTED.md": 500, "bench/README.md": 1500}
 
-# How many lines the README of a crate may have.
+# The number of lines that a crate's README may have.
 LINES = range(20, 96)
 
 QUOTED = re.compile(r"`([^`\n]+)`")
@@ -22,29 +22,29 @@ PATH = re.compile(r"[\w.*-]+(?:/[\w.*-]+)+/?\Z")
 NAME = re.compile(r"[A-Za-z_]\w*_\w*\Z")
 WORD = re.compile(r"\w+")
 
-# Functions that a README says are in a crate's files: `one` and `other` of `crate` (`src/file.rt`, `beside.rt`).
+# Functions that a README says are in files of a crate: `one` and `other` of `crate` (`src/file.rt`, `beside.rt`).
 CITED = re.compile(r"((?:`\w+`(?:, | and )?)+) of `(\w+)`\s\(((?:`[\w/]+\.rt`(?:, | and )?)+)\)")
 
-# A function in a file of the README's own crate, as `one` (`src/file.rt`), or of another, as `one` of `crate/src/file.rt`;
-# or a crate in the place of the function, which has the file.
+# A function in a file of the README's own crate, as `one` (`src/file.rt`), or of another crate, as `one` of
+# `crate/src/file.rt`. A crate may be named instead of a function; it then contains the file.
 CITED_HERE = re.compile(r"`(\w+)` (?:\((?:in )?`(src/[\w/]+\.rt)`|(?:of|in) `(\w+/src/[\w/]+\.rt)`)")
 
-# How long the first build takes: one figure in all documents.
+# The duration of the first build, which has to be the same in all documents.
 BUILD = re.compile(r"(?:first build|--build)[^.\n]{0,80}?\b(\d+)(?: to \d+)? (?:processor )?minutes")
 
-# Where the names are that documents may use.
+# The files that define the names that documents may use.
 SOURCES = "crates/*/src/**/*.rt", "crates/*/specs/**/*.antt", "crates/*/proofs/**/*.antt", "tools/**/*", "examples/*"
 
-# Where a document's path may begin, beside its own folder.
+# The folders that a document's path may be relative to, besides its own folder.
 BEGINS = [ROOT, CRATES, ROOT / "tools", ROOT / "tools" / "testing", *CRATES.iterdir()]
 
-# What is PostgreSQL's, and paths that are made or mean others.
+# PostgreSQL's names, and paths that are created later or are patterns.
 ELSEWHERE = {"information_schema", "pg_read_all_stats", "t_pkey", "X/X"}
 MEANS_OTHERS = re.compile(r"NAME|MODULE|out/|\*")
 
 
 def check_documents(tally: Tally) -> None:
-    """How long documents are, and then what they name."""
+    """Checks the length of the documents, and then what they name."""
     for name, most in WORDS.items():
         count = len((ROOT / name).read_text(encoding="utf-8").split())
         tally.check(f"{count} words of {name}, at most {most}", count <= most, True)
@@ -66,7 +66,7 @@ def check_documents(tally: Tally) -> None:
 
 
 def check_citations(tally: Tally) -> None:
-    """That a function which a crate's README shows is in the file and the crate that it names."""
+    """Checks that each function that a crate's README cites is in the crate and the file that it gives."""
     for readme in sorted(CRATES.glob("*/README.md")):
         for names, crate, files in CITED.findall(readme.read_text(encoding="utf-8")):
             if not (CRATES / crate).is_dir():
@@ -80,7 +80,7 @@ def check_citations(tally: Tally) -> None:
 
 
 def has_cited(crate: pathlib.Path, name: str, own: str, other: str) -> bool:
-    """Whether the cited file exists and has the function; a crate is cited with one of its own files."""
+    """Returns whether the cited file exists and contains the function. A crate is cited with one of its own files."""
     if own and (CRATES / name).is_dir():
         return (CRATES / name / own).exists()
     path = crate / own if own else CRATES / other
@@ -88,14 +88,15 @@ def has_cited(crate: pathlib.Path, name: str, own: str, other: str) -> bool:
 
 
 def cited_files(crate: str, files: str) -> list[pathlib.Path]:
-    """The files, of which the first begins with src/ or a crate, and others may be beside it."""
+    """Returns the files. The first path begins with src/ or a crate; the others may be relative to the first one's
+    folder."""
     first, *others = [pathlib.Path(name) for name in QUOTED.findall(files)]
     path = CRATES / crate / first if first.parts[0] == "src" else CRATES / first
     return [path, *(path.parent / name if len(name.parts) == 1 else CRATES / name for name in others)]
 
 
 def check_drawing(tally: Tally) -> None:
-    """That the drawing of the crates is that of crates.txt, and that no file is a link, which the gate refuses."""
+    """Checks that the drawing of the crates matches crates.txt, and that no file is a link, which the gate refuses."""
     drawn = subprocess.run([sys.executable, ROOT / "tools" / "crate_graph", "--check"], capture_output=True)
     tally.check("docs/crates.svg, which tools/crate_graph writes", drawn.returncode, 0)
     listed = subprocess.run(["git", "-C", ROOT, "ls-files", "-s"], capture_output=True, encoding="utf-8")
@@ -104,13 +105,13 @@ def check_drawing(tally: Tally) -> None:
 
 
 def crates() -> list[str]:
-    """The crates of crates.txt."""
+    """Returns the crates of crates.txt."""
     lines = (ROOT / "crates.txt").read_text(encoding="utf-8").splitlines()
     return [re.match(r"\w+", line)[0] for line in lines if line and not line.startswith("#")]
 
 
 def known_words() -> set[str]:
-    """All words of the code, the definitions, the scripts and the examples."""
+    """Returns all words of the code, the definitions, the scripts and the examples."""
     found = set()
     for pattern in SOURCES:
         for path in ROOT.glob(pattern):
@@ -121,7 +122,7 @@ def known_words() -> set[str]:
 
 
 def is_missing(document: pathlib.Path, word: str, known: set[str]) -> bool:
-    """Whether a word between backquotes is a path or a name that is not there."""
+    """Returns whether a word between backquotes is a path or a name that does not exist."""
     if word in ELSEWHERE:
         return False
     if PATH.match(word):
@@ -130,6 +131,6 @@ def is_missing(document: pathlib.Path, word: str, known: set[str]) -> bool:
 
 
 def is_there(document: pathlib.Path, word: str) -> bool:
-    """Whether a path of a document is there, with its ending or without."""
+    """Returns whether a document's path exists, with or without its extension."""
     begins = [document.parent, *BEGINS]
     return any((begin / word).exists() or next(begin.glob(f"{word}.*"), None) is not None for begin in begins)

@@ -1,20 +1,20 @@
-"""That each must-fail edit and each wrong body still applies: every old text occurs in its file exactly once. Whether
-the
-prover refuses it is what `rt ci` and tools/wrong_bodies say."""
+"""Tests that each must-fail edit and each wrong body still applies, that is, that every old text occurs in its file
+exactly once. Whether the prover refuses it is tested by `rt ci` and tools/wrong_bodies."""
 
 import pathlib
 
 from tally import Tally
 
 CRATES = pathlib.Path(__file__).resolve().parent.parent.parent / "crates"
-# Where each kind of edit is.
+# The folders of the two kinds of edits.
 FOLDERS = ("must-fail", "wrong")
-# How many the gate tries, and in how many crates: each edit costs a check, and a crate's first one a proof.
+# How many edits the gate may try, and in how many crates: each edit costs a check, and the first one of a crate a
+# proof.
 MOST_EDITS, MOST_CRATES = 62, 9
 
 
 def fault_of(crate: pathlib.Path, edit: pathlib.Path) -> str | None:
-    """What keeps the edit from being applied, if anything does."""
+    """Returns why the edit cannot be applied, or None if it can."""
     text = None
     old = None
     for line in edit.read_text(encoding="utf-8").splitlines():

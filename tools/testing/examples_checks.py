@@ -1,4 +1,4 @@
-"""That the program prints what the documents show of it."""
+"""Tests that the program prints what the documents show."""
 
 import subprocess
 from dataclasses import dataclass
@@ -9,7 +9,7 @@ from tally import Tally
 ROOT = TOOLS.parent
 EXAMPLES = ROOT / "examples"
 
-# The table of docs/JUDGING.md.
+# The example of docs/JUDGING.md.
 SHOWN = """
     CREATE TABLE orders (id integer PRIMARY KEY, region text);
     ALTER TABLE orders REPLICA IDENTITY FULL;
@@ -20,7 +20,7 @@ SHOWN = """
 
 @dataclass(frozen=True)
 class Example:
-    """A run with its input and its status, and the documents that show what it prints, whole or its end."""
+    """A run with its input and status, and the documents that show its output or the end of it."""
 
     documents: tuple[str, ...]
     words: tuple[str, ...]
@@ -30,7 +30,7 @@ class Example:
 
 
 def check_examples(tally: Tally) -> None:
-    """Runs of the examples, and what a person is told about some."""
+    """Runs the examples, and checks the messages at a terminal for some of them."""
     for example in examples():
         status, output = pgshard(*example.words, text=example.text)
         shown = "".join(output.splitlines(keepends=True)[-example.lines:]) if example.lines else output
@@ -47,7 +47,7 @@ def check_examples(tally: Tally) -> None:
 
 
 def check_judge_example(tally: Tally, server) -> None:
-    """What judge says of the database of the README."""
+    """Checks what judge says of the README's database."""
     server.create("shown", read("server.sql"))
     output, status = judge(*server.words("shown")).rsplit("status ", 1)
     tally.check("the status of the README's database", status, "1\n")
@@ -61,7 +61,7 @@ def check_judge_example(tally: Tally, server) -> None:
 
 
 def examples() -> list[Example]:
-    """The examples of the documents."""
+    """Returns the examples of the documents."""
     lossy, shop = read("lossy.sql"), read("shop.sql")
     certificates = pgshard("make", text=shop)[1]
     moves = f"{shop}%%\n{certificates}%%\n{read('moves.txt')}"
@@ -78,10 +78,10 @@ def examples() -> list[Example]:
 
 
 def read(name: str) -> str:
-    """The text of an example."""
+    """Returns the text of an example."""
     return (EXAMPLES / name).read_text(encoding="utf-8")
 
 
 def is_shown(document: str, output: str) -> bool:
-    """Whether a document has an output as lines of a block."""
+    """Returns whether a document shows an output as a block."""
     return f"```\n{output}```\n" in (ROOT / document).read_text(encoding="utf-8")

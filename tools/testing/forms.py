@@ -1,4 +1,4 @@
-"""Filters as people write them, and the text that catalog.sql is to print of each, written down by hand."""
+"""Filters as people write them, and the text that catalog.sql should print of each, written by hand."""
 
 from dataclasses import dataclass
 
@@ -22,7 +22,8 @@ COLUMNS = """
 
 @dataclass
 class Form:
-    """A filter, its text in the catalog, and whether the server writes that text as it writes the filter itself."""
+    """A filter, its text in the catalog, and whether the server prints that text in the same way as the filter
+    itself."""
 
     filter: str
     printed: str
@@ -34,12 +35,12 @@ def same(filter, printed):
 
 
 def other(filter, printed):
-    """A form that the server tells from the printed one, by types, and whose values are the same."""
+    """A form that the server distinguishes from the printed one by types, though their values are the same."""
     return Form(filter, printed, is_same=False)
 
 
 FORMS = [
-    # Comparisons of integers, at the limits of each type and past them.
+    # Comparisons of integers, at and beyond the limits of each type.
     same("s = 5", "(s = 5)"),
     same("s = -5", "(s = -5)"),
     same("s < 32767", "(s < 32767)"),
@@ -127,7 +128,7 @@ FORMS = [
     same("s NOT BETWEEN -9 AND 9", "((s < -9) OR (s > 9))"),
     same("b BETWEEN SYMMETRIC 9 AND -9", "(((b >= 9) AND (b <= -9)) OR ((b >= -9) AND (b <= 9)))"),
     same("(i, t) = (5, 'a')", "((i = 5) AND (t = 'a'::text))"),
-    # Texts, and what of other forms is in them.
+    # Texts, including texts that contain parts of other forms.
     same("t = 'a'", "(t = 'a'::text)"),
     same("t <> ''", "(t <> ''::text)"),
     same("'a' = t", "('a'::text = t)"),
@@ -201,7 +202,8 @@ FORMS = [
 
 @dataclass
 class Refused:
-    """A filter that pgshard refuses, its text in the catalog, the kind of the fault and what is at its place."""
+    """A filter that pgshard refuses, its text in the catalog, the kind of the fault, and the text at the fault's
+    position."""
 
     filter: str
     printed: str
@@ -219,7 +221,8 @@ REFUSED = [
     Refused("i::smallint = 5", "((i)::smallint = 5)", "LeftOut", "::smallint"),
     Refused("b::integer = 5", "((b)::integer = 5)", "LeftOut", "::integer"),
     Refused("s::integer::bigint = 5", "((s)::bigint = 5)", "LeftOut", "::bigint"),
-    # A cast after a remainder comes after the fault of its operands, and one in parentheses before it.
+    # A fault of a remainder's operands is reported before a cast that follows the remainder, and after a cast in
+    # parentheses.
     Refused("s % i::smallint = 1", "((s % (i)::smallint) = 1)", "TypeClash", "% (i)"),
     Refused("b % b::integer = 1", "((b % ((b)::integer)::bigint) = 1)", "LeftOut", "::integer"),
     Refused("b = 5 % 3", "(b = (5 % 3))", "TypeClash", "% 3"),

@@ -1,5 +1,5 @@
-"""What judge says of keywords as names, of files and programs that are not there, and of tables that are not
-decided."""
+"""Tests what judge says of keywords as names, of files and programs that do not exist, and of tables that it cannot
+decide."""
 
 import pathlib
 import tempfile
@@ -9,7 +9,8 @@ from programs import judge
 from server import Server
 from tally import Tally
 
-# A program that answers as pgshard does where the first of two tables has a certificate, and the second this line.
+# A program that answers as pgshard does if the first of two tables has a certificate and the second one's answer is
+# this line.
 UNDECIDED = """\
 #!/bin/sh
 case $1 in
@@ -30,7 +31,7 @@ UNDECIDED_WORDS = {
 
 
 def check_keywords(tally: Tally, server: Server) -> None:
-    """All keywords of the server as names of columns, and some as names of schemas, tables and publications."""
+    """Tests all keywords of the server as names of columns, and some as names of schemas, tables and publications."""
     words = server.psql("postgres", "SELECT quote_ident(word) FROM pg_get_keywords() ORDER BY word;").split("\n")
     tables = [words[at:at + 50] for at in range(0, len(words), 50)]
     statements = []
@@ -49,14 +50,14 @@ def check_keywords(tally: Tally, server: Server) -> None:
 
 
 def check_no_server(tally: Tally) -> None:
-    """No server listens in a new folder."""
+    """Tests judge on a new folder, in which no server listens."""
     with tempfile.TemporaryDirectory() as folder:
         tally.check("a server that is not there", judge("-h", folder).split("\n")[-3:], [
             "judge: psql ended with status 2, so nothing is judged", "status 4", ""])
 
 
 def check_files(tally: Tally) -> None:
-    """What is no judgement: a file or a program that is not there."""
+    """Tests inputs that yield no judgment: a file or a program that does not exist."""
     with tempfile.TemporaryDirectory() as folder:
         file = pathlib.Path(folder) / "catalog.sql"
         file.write_bytes(b"CREATE SCHEMA \"\xe9\";")
@@ -75,7 +76,7 @@ def check_files(tally: Tally) -> None:
 
 
 def check_undecided(tally: Tally) -> None:
-    """What judge says of a table for which `make` finds neither a certificate nor a row."""
+    """Tests what judge says of a table for which `make` finds neither a certificate nor a row."""
     with tempfile.TemporaryDirectory() as folder:
         catalog, program = pathlib.Path(folder) / "catalog.sql", pathlib.Path(folder) / "program"
         catalog.write_text(

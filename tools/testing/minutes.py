@@ -1,9 +1,8 @@
-"""What a run of the gate costs: the processor minutes of each crate's proofs, must-fail edits and tests, where a seed
-is
-the check of a crate that its edits begin with.
+"""Measures a run of the gate: the processor minutes of each crate's proofs, seeds, must-fail edits and tests. A seed is
+the check of the unchanged crate on which its edits are based.
 
-They are added up from what /proc says of the prover's processes, twice a second. So what a process does in its last
-half second is left out.
+The times are read from /proc for the prover's processes, twice a second. What a process does after the last reading is
+not counted.
 """
 
 import os
@@ -17,25 +16,25 @@ import time
 from collections import Counter
 from typing import NamedTuple
 
-# How long it is from one look at the processes to the next, in seconds.
+# The time between two readings of the processes, in seconds.
 PAUSE = 0.5
 TICKS = os.sysconf("SC_CLK_TCK")
-# How many processor seconds an edit may take.
+# An edit that takes more processor seconds than this is reported.
 SLOW = 40
 PARTS = ["proofs", "seeds", "edits", "tests"]
 
 
 class Part(NamedTuple):
-    """What the prover works for."""
+    """What a process of the prover works on."""
 
     crate: str
     kind: str
-    # The number of an edit among those of its crate, if it has one.
+    # The number of the edit among those of its crate, if it has one.
     edit: int | None = None
 
 
 class Process(NamedTuple):
-    """What /proc says of a process: its parent, when it was started, and its processor time without its children's."""
+    """What /proc says of a process: its parent, its start time, and its processor time without that of its children."""
 
     parent: int
     start: int
@@ -43,8 +42,9 @@ class Process(NamedTuple):
 
 
 def part_of(words: list[str], folder: str) -> Part | None:
-    """What the process with this command line works for in this folder. An edit is tried in a folder of its own. So is
-    the crate as it is, once, and the edits are tried over what that check keeps, which is in a folder `seed`."""
+    """Returns what the process with this command line works on in this folder. An edit is tried in a folder of its own.
+    The unchanged crate is checked once in the same way, and the edits start from what that check keeps in a folder
+    named `seed`."""
     for at, word in enumerate(words):
         if os.path.basename(word) == "rattle" and words[at + 1:at + 2] in (["check"], ["build"]):
             options = words[at + 2:]
@@ -62,10 +62,10 @@ def part_of(words: list[str], folder: str) -> Part | None:
 
 
 def process_of(number: str) -> Process | None:
-    """A process, or None if it is gone."""
+    """Returns a process, or None if it has ended."""
     try:
         with open(f"/proc/{number}/stat", "rb") as file:
-            # What comes before is the program's name in parentheses, which may have any bytes.
+            # The fields before these end with the program's name in parentheses, which may contain any bytes.
             fields = file.read().rpartition(b")")[2].split()
     except OSError:
         return None
@@ -73,13 +73,13 @@ def process_of(number: str) -> Process | None:
 
 
 def processes() -> dict[int, Process]:
-    """All that run now."""
+    """Returns all processes that are running."""
     found = {int(number): process_of(number) for number in os.listdir("/proc") if number.isdigit()}
     return {number: process for number, process in found.items() if process is not None}
 
 
 def part_now(number: int) -> Part | None:
-    """What a process works for."""
+    """Returns what a process works on."""
     try:
         with open(f"/proc/{number}/cmdline", "rb") as file:
             words = os.fsdecode(file.read()).split("\0")
@@ -89,7 +89,7 @@ def part_now(number: int) -> Part | None:
 
 
 class Meter:
-    """Adds up the processor time of what a command starts."""
+    """Adds up the processor time of all processes that a command starts."""
 
     def __init__(self, command: int):
         self.command = command
@@ -97,7 +97,7 @@ class Meter:
         self.seconds: dict[tuple[int, int], float] = {}
 
     def look(self) -> None:
-        """Looks at the processes. Several may have the same command line, since the prover makes some of itself."""
+        """Reads the processes. Several may have the same command line, since the prover starts copies of itself."""
         found = processes()
         for number, process in found.items():
             key = number, process.start
@@ -109,20 +109,20 @@ class Meter:
                 self.seconds[key] = process.seconds
 
     def is_below(self, number: int, found: dict[int, Process]) -> bool:
-        """Whether the command started a process, or what it started did."""
+        """Returns whether a process was started by the command or by one of its descendants."""
         while number in found and number != self.command:
             number = found[number].parent
         return number == self.command
 
     def totals(self) -> Counter[Part]:
-        """The seconds of each part."""
+        """Returns the seconds of each part."""
         totals: Counter[Part] = Counter()
         for key, part in self.parts.items():
             totals[part._replace(edit=None)] += self.seconds[key]
         return totals
 
     def slow(self) -> list[tuple[str, float]]:
-        """The edits that took over 40 seconds, and how many."""
+        """Returns the edits that took more than 40 seconds, with their seconds."""
         seconds: Counter[Part] = Counter()
         for key, part in self.parts.items():
             if part.kind == "edits":
@@ -131,20 +131,21 @@ class Meter:
 
 
 def name_of(part: Part) -> str:
-    """The name of an edit. rt numbers them from 0, in the order of their names; without a number it is the only one."""
+    """Returns the name of an edit. rt numbers the edits of a crate from 0, in the order of their names; an edit without
+    a number is the only one."""
     edits = sorted(path.stem for path in pathlib.Path("crates", part.crate, "must-fail").glob("*.edit"))
     number = part.edit or 0
     return f"{part.crate}/{edits[number] if number < len(edits) else number}"
 
 
 def row(name: str, cells: list[str]) -> str:
-    """A line of the table."""
+    """Formats a line of the table."""
     return f"{name:<20}" + "".join(f"{cell:>10}" for cell in cells)
 
 
 def table(totals: Counter[Part], slow: list[tuple[str, float]], wall: float, whole: float) -> str:
-    """The minutes of each part, the edits that are slow, and the minutes of the whole run, in which programs are built
-    and run too."""
+    """Returns the table: the minutes of each part, the slow edits, and the minutes of the whole run, which also builds
+    and runs programs."""
     def cells(crates: list[str]) -> list[str]:
         each = [sum(totals[Part(crate, kind)] for crate in crates) for kind in PARTS]
         return [f"{seconds / 60:.1f}" for seconds in [*each, sum(each)]]
@@ -160,13 +161,13 @@ def table(totals: Counter[Part], slow: list[tuple[str, float]], wall: float, who
 
 
 def write(output: bytes) -> None:
-    """Writes to the standard output, at once."""
+    """Writes to standard output, and flushes it."""
     sys.stdout.buffer.write(output)
     sys.stdout.buffer.flush()
 
 
 def pass_on(command: subprocess.Popen[bytes], meter: Meter) -> bytes:
-    """Writes what a command writes but for the last line, which is returned. The processes are looked at meanwhile."""
+    """Copies a command's output except the last line, which is returned. Reads the processes meanwhile."""
     held = b""
     due = time.monotonic()
     while True:
@@ -183,12 +184,12 @@ def pass_on(command: subprocess.Popen[bytes], meter: Meter) -> bytes:
             write(held[:begin])
             held = held[begin:]
         elif command.poll() is not None:
-            # What the command left running may hold its output open.
+            # A process that the command left running may keep the output open.
             return held
 
 
 def run(words: list[str]) -> int:
-    """Runs a command, and gives its status. The table comes before the last line of its output."""
+    """Runs a command, prints the table before the last line of its output, and returns its status."""
     started = time.monotonic()
     try:
         command = subprocess.Popen(words, stdout=subprocess.PIPE)
@@ -203,5 +204,5 @@ def run(words: list[str]) -> int:
     used = resource.getrusage(resource.RUSAGE_CHILDREN)
     write(table(meter.totals(), meter.slow(), time.monotonic() - started, used.ru_utime + used.ru_stime).encode())
     write(last)
-    # A shell has the same status for a command that a signal ended.
+    # The status that a shell reports for a command ended by a signal.
     return status if status >= 0 else 128 - status

@@ -1,4 +1,5 @@
-"""That gate_minutes passes on what it runs, and that it knows the prover's processes."""
+"""Tests that gate_minutes passes on the output and status of the command that it runs, and recognizes the prover's
+processes."""
 
 import os
 import pathlib
@@ -11,10 +12,10 @@ from tally import Tally
 
 GATE_MINUTES = pathlib.Path(__file__).resolve().parent.parent / "gate_minutes"
 
-# Is run as the prover, for long enough to be seen, also on a machine that does much else.
+# Runs in place of the prover, long enough to be seen even on a busy machine.
 PROVER = "#!/bin/sh\nsleep 5\n"
 
-# What is found of a command line in a folder.
+# Command lines, each with its folder and the part that should be found.
 LINES = [
     ("/opt/rattle/bin/rattle check --crate-name one src/lib.rt --jobs 2", "/repo/crates/one", Part("one", "proofs")),
     ("/opt/rattle/bin/rattle build --crate-name one src/lib.rt -o one.rlib", "/repo/crates/one", Part("one", "proofs")),
@@ -44,7 +45,7 @@ the whole: 2.0 minutes, 7.5 of processors
 
 
 def check_minutes(tally: Tally) -> None:
-    """The parts and the table by themselves, and then runs."""
+    """Tests the parts and the table, and then whole runs."""
     for line, folder, part in LINES:
         tally.check(f"the part of {line or 'no command line'}", part_of(line.split(), folder), part)
     tally.check("a table of minutes", table(TOTALS, [("one/row_is_lost", 52.4)], 120.0, 450.0), TABLE)
@@ -57,7 +58,7 @@ def check_minutes(tally: Tally) -> None:
 
 
 def check_runs_of_commands(tally: Tally) -> None:
-    """The output of a command and its status are kept, and the table comes before the last line."""
+    """Checks that a command's output and status are kept, and that the table comes before the last line."""
     status, before, last, errors = gate_minutes("sh", "-c", "echo one; echo two; echo why >&2; echo 1 failed; exit 3")
     tally.check("a command that fails", (status, before[:2], last, errors), (3, ["one", "two"], "1 failed\n", "why\n"))
     tally.check("its table", [line.split()[0] for line in before[2:]], ["processor", "all", "the"])
@@ -72,7 +73,7 @@ def check_runs_of_commands(tally: Tally) -> None:
 
 
 def check_parts_seen(tally: Tally) -> None:
-    """Processes of the prover are seen while they run, one of them in the folder of an edit."""
+    """Checks that processes of the prover are seen while they run, one of them in the folder of an edit."""
     with tempfile.TemporaryDirectory() as folder:
         prover = pathlib.Path(folder) / "rattle"
         prover.write_text(PROVER)
@@ -88,7 +89,7 @@ def check_parts_seen(tally: Tally) -> None:
 
 
 def check_jobs(tally: Tally) -> None:
-    """rt is told how many checks to make at once, unless a variable says that already."""
+    """Checks that rt is told how many checks to run at once, unless a variable already says so."""
     others = {name: value for name, value in os.environ.items() if name != "RT_JOBS"}
     _, _, last, _ = gate_minutes("sh", "-c", "echo $RT_JOBS", environment=others)
     tally.check("checks at once", int(last) in range(1, len(os.sched_getaffinity(0)) + 1), True)
@@ -97,7 +98,7 @@ def check_jobs(tally: Tally) -> None:
 
 
 def gate_minutes(*words: str, environment: dict[str, str] | None = None) -> tuple[int, list[str], str, str]:
-    """A run: its status, the lines of its output but the last one, that one, and its errors."""
+    """Runs gate_minutes. Returns its status, its output except the last line, that line, and its standard error."""
     answer = subprocess.run(
         [GATE_MINUTES, *words], stdout=subprocess.PIPE, stderr=subprocess.PIPE, encoding="utf-8", env=environment
     )

@@ -1,5 +1,5 @@
-"""The Debian package: its files, and runs of its commands from another root by a user without rights; its manual pages,
-its completion, and that `make install` installs the same."""
+"""Tests the Debian package: its files, runs of its commands from another root by an unprivileged user, its manual pages
+and its completion. Also tests that `make install` installs the same files."""
 
 import gzip
 import os
@@ -17,7 +17,7 @@ EXAMPLES = ROOT / "examples"
 VERSION = (ROOT / "VERSION").read_text().strip()
 NOBODY = 65534
 
-# What a package has; a folder's name ends with a slash.
+# Files of the package.
 FILES = [
     "usr/bin/pgshard", "usr/lib/pgshard/release/pgshard", "usr/lib/pgshard/tools/judge", "usr/lib/pgshard/tools/front",
     "usr/share/man/man1/pgshard.1.gz", "usr/share/man/man1/pgshard-judge.1.gz", "usr/share/man/man1/pgshard-serve.1.gz",
@@ -27,7 +27,7 @@ FILES = [
     "usr/share/doc/pgshard/copyright", "usr/share/doc/pgshard/changelog.gz",
 ]
 
-# What Debian's package alone has.
+# Files that only Debian's package has.
 DEBIAN_ALONE = {"usr/share/doc/pgshard/copyright", "usr/share/doc/pgshard/changelog.gz",
                 "usr/share/lintian/overrides/pgshard"}
 
@@ -35,7 +35,7 @@ NEEDED = {"Depends": ["libc6", "python3"], "Recommends": ["postgresql-client", "
 
 
 def check_package(tally: Tally) -> None:
-    """Builds the package of the program that is tested, and tries it."""
+    """Builds a package of the program under test, and tests it."""
     with tempfile.TemporaryDirectory() as name:
         folder = Path(name)
         folder.chmod(0o755)
@@ -72,7 +72,7 @@ def check_files(tally: Tally, package: Path, root: Path) -> None:
 
 
 def check_commands(tally: Tally, folder: Path) -> None:
-    """Runs in another folder, where the user may write nothing."""
+    """Runs the commands in a folder in which the user may not write."""
     away = folder / "away"
     away.mkdir()
     for name in "shop.sql", "lossy.sql":
@@ -93,7 +93,7 @@ def check_commands(tally: Tally, folder: Path) -> None:
 
 
 def run(folder: Path, *words: str) -> tuple[int, str, str]:
-    """A run of the installed command: its status, its output and its errors."""
+    """Runs the installed command. Returns its status, output and standard error."""
     answer = subprocess.run(
         [folder / "root" / "usr" / "bin" / "pgshard", *words], stdin=subprocess.DEVNULL, stdout=subprocess.PIPE,
         stderr=subprocess.PIPE, encoding="utf-8", cwd=folder / "away", env=environment(), **rights())
@@ -101,17 +101,17 @@ def run(folder: Path, *words: str) -> tuple[int, str, str]:
 
 
 def environment() -> dict[str, str]:
-    """A user's, with nothing of the repository."""
+    """Returns the environment of a user, with nothing from the repository."""
     return {"PATH": "/usr/bin:/bin", "LANG": "C.UTF-8", "HOME": "/nonexistent"}
 
 
 def rights() -> dict:
-    """Those of a user who may write nothing, where the tests run as root."""
+    """If the tests run as root, returns the arguments that run a command as a user who may not write."""
     return {"user": NOBODY, "group": NOBODY, "extra_groups": []} if os.geteuid() == 0 else {}
 
 
 def check_serving(tally: Tally, folder: Path) -> None:
-    """serve and front, until they listen. Another port is tried where somebody else has taken the first one."""
+    """Runs serve and front until they listen. Tries another port if the first one has been taken."""
     shutil.copy(EXAMPLES / "feed.txt", folder / "away")
     serve = "serve", "shop.sql", "shop.certs", "feed.txt"
     front = "front", "--backend", "1", "--catalog", "shop.sql"
@@ -131,7 +131,7 @@ def check_serving(tally: Tally, folder: Path) -> None:
 
 
 def check_pages(tally: Tally, folder: Path) -> None:
-    """That the manual pages are rendered without a warning, and have their lists."""
+    """Checks that the manual pages are rendered without warnings, and have the expected sections."""
     pages = sorted(folder.glob("*.gz"))
     for path in pages:
         text = gzip.decompress(path.read_bytes()).decode()
@@ -146,7 +146,7 @@ def check_pages(tally: Tally, folder: Path) -> None:
 
 
 def check_page(tally: Tally, command: list[str], path: Path, text: str) -> None:
-    """That a command renders a page, and says nothing of it on standard error."""
+    """Checks that a command renders a page, and writes nothing to standard error."""
     if shutil.which(command[0]) is None:
         print(f"skipped: {path.name} by {command[0]}, which is not installed")
         return
@@ -161,7 +161,7 @@ def check_page(tally: Tally, command: list[str], path: Path, text: str) -> None:
 
 
 def check_completion(tally: Tally, root: Path) -> None:
-    """What bash completes."""
+    """Checks what bash completes."""
     cases = [
         (["ju"], ["judge"]), (["sim"], ["simulate"]), (["sh"], ["show"]), (["check", "--s"], ["--show"]), (["--v"], ["--version"]), (["help", "fr"], ["front"]),
         (["eval", "--i"], ["--insert"]), (["serve", "--po"], ["--port"]), (["judge", "--ex"], ["--explain"]),
@@ -177,7 +177,7 @@ def check_completion(tally: Tally, root: Path) -> None:
 
 
 def check_make(tally: Tally, folder: Path) -> None:
-    """That make installs the files of the package under another prefix, and removes them."""
+    """Checks that make installs the files of the package under another prefix, and removes them again."""
     variables = [f"DESTDIR={folder / 'stage'}", "PREFIX=/opt/x", f"PROGRAM={Path(program()).resolve()}"]
     words = ["make", "-s", "-C", str(ROOT), *variables]
     subprocess.run([*words, "install"], check=True)
@@ -208,7 +208,7 @@ def check_lintian(tally: Tally, package: Path) -> None:
 
 
 def check_refused(tally: Tally, folder: Path) -> None:
-    """A program that is not there."""
+    """Checks that no package is built from a program that does not exist."""
     answer = subprocess.run(
         [TOOLS / "package", "--program", folder / "none", "--output", folder], stdout=subprocess.PIPE,
         stderr=subprocess.DEVNULL)

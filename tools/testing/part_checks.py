@@ -1,4 +1,5 @@
-"""That tools/test runs the parts that are named, goes on after a part that fails or raises, and says what it has."""
+"""Tests that tools/test runs the named parts, continues after a part that fails or raises, and reports what each part
+counted."""
 
 import contextlib
 import io
@@ -18,7 +19,7 @@ MISSING = Need("a thing", lambda: "there is no such thing")
 
 
 def check_parts(tally: Tally) -> None:
-    """The table, the runner on parts of its own, and the command line."""
+    """Tests the table, the runner with parts of its own, and the command line."""
     names = [part.name for part in PARTS]
     tally.check("names of parts that occur twice", sorted({name for name in names if names.count(name) > 1}), [])
     for part in PARTS:
@@ -46,7 +47,7 @@ def raises(tally: Tally) -> None:
 
 
 def never_ends(tally: Tally) -> None:
-    """A part that passes a check and then waits for what does not come."""
+    """A part that passes a check and then waits for ever."""
     tally.check("one", 1, 1)
     threading.Event().wait()
 
@@ -57,7 +58,7 @@ def takes_server(tally: Tally, server: str) -> None:
 
 
 def run(parts: list[Part], shares: Shared) -> tuple[int, int, str]:
-    """How many checks of some parts passed and failed, and what was printed."""
+    """Runs some parts. Returns how many checks passed and failed, and what was printed."""
     own, printed = Tally(), io.StringIO()
     with contextlib.redirect_stdout(printed):
         run_parts(own, parts, shares)
@@ -65,7 +66,7 @@ def run(parts: list[Part], shares: Shared) -> tuple[int, int, str]:
 
 
 def check_runner(tally: Tally) -> None:
-    """A part that fails, one that raises, one that cannot be imported and one that needs what is missing."""
+    """Tests a part that fails, one that raises, one that cannot be imported, and one whose need is missing."""
     parts = [
         Part("fails", "", (), "part_checks:fails"),
         Part("raises", "", (), "part_checks:raises"),
@@ -83,7 +84,7 @@ def check_runner(tally: Tally) -> None:
 
 
 def check_time(tally: Tally) -> None:
-    """A part that does not end."""
+    """Tests a part that does not end."""
     own, printed = Tally(), io.StringIO()
     with contextlib.redirect_stdout(printed), contextlib.ExitStack() as stack:
         run_part(own, Part("late", "", (), "part_checks:never_ends"), Shared(stack), seconds=1)
@@ -93,7 +94,7 @@ def check_time(tally: Tally) -> None:
 
 
 def check_server(tally: Tally) -> None:
-    """The server is started by the first part that needs it, once, and stopped at the end."""
+    """Checks that the first part that needs the server starts it, once, and that it is stopped at the end."""
     told: list[str] = []
 
     @contextlib.contextmanager
@@ -115,7 +116,7 @@ def check_server(tally: Tally) -> None:
 
 
 def check_command_line(tally: Tally) -> None:
-    """Names of parts, the list, the seed and usage errors."""
+    """Tests names of parts, the list, the seed and usage errors."""
     listed = test("--list")
     tally.check("the status of --list", listed.returncode, 0)
     tally.check("the parts of --list", [line.split()[0] for line in listed.stdout.splitlines()], [it.name for it in PARTS])
@@ -129,5 +130,5 @@ def check_command_line(tally: Tally) -> None:
 
 
 def test(*words: str) -> subprocess.CompletedProcess[str]:
-    """A run of tools/test."""
+    """Runs tools/test."""
     return subprocess.run([sys.executable, TEST, *words], capture_output=True, encoding="utf-8", timeout=600)

@@ -1,4 +1,5 @@
-"""Runs parts of tools/test: what each needs, the server that they share, and what is counted of a part that raises."""
+"""Runs the parts of tools/test: checks what each needs, shares a server among them, and counts a part that raises as
+failed."""
 
 import contextlib
 import faulthandler
@@ -23,23 +24,24 @@ from tally import Tally
 
 @dataclass(frozen=True)
 class Need:
-    """Something that a part needs: its name, and why it is missing here, or None if it is there."""
+    """Something that a part needs: its name, and a function that returns why it is missing, or None if it is
+    available."""
 
     name: str
     why_missing: Callable[[], str | None]
 
 
 def needed(name: str, is_there: Callable[[], object], why: str) -> Need:
-    """A need with one reason for which it is missing."""
+    """Returns a need that can be missing for one reason only."""
     return Need(name, lambda: None if is_there() else why)
 
 
-# How long a part may take, in seconds, and how long after that the tests end, whatever they wait for.
+# The time limit of a part in seconds, and the time after it when the tests are ended in any case.
 MOST_SECONDS = 1800
 GRACE = 120
 
 NO_SERVER = "PostgreSQL 15 and psql are not installed"
-# A part fails where there is no program, and is not skipped.
+# Without a program, a part fails instead of being skipped.
 PROGRAM = Need("the program", lambda: None)
 C_COMPILER = needed("a C compiler", lambda: shutil.which("cc"), "no C compiler is installed")
 DPKG = needed("dpkg-deb", lambda: shutil.which("dpkg-deb"), "dpkg-deb is not installed")
@@ -73,31 +75,31 @@ class Part:
     function: str
 
     def why_skipped(self) -> str | None:
-        """Why the part cannot run here, or None if it can."""
+        """Returns why the part cannot run, or None if it can."""
         return next((why for need in self.needs if (why := need.why_missing()) is not None), None)
 
     def imported(self) -> Callable[..., None]:
-        """The function itself."""
+        """Imports and returns the function."""
         module, name = self.function.split(":")
         found: Callable[..., None] = getattr(importlib.import_module(module), name)
         return found
 
     def line(self) -> str:
-        """The part as `--list` shows it."""
+        """Returns the line that `--list` prints."""
         needs = f" (needs {', '.join(need.name for need in self.needs)})" if self.needs else ""
         return f"{self.name:14} {self.tests}{needs}"
 
 
 @dataclass
 class Shared:
-    """The server that parts share. It is started when the first part asks for it."""
+    """The server that the parts share. It is started when the first part asks for it."""
 
     stack: contextlib.ExitStack
     start: Callable[[], contextlib.AbstractContextManager[object]] = server.server
     started: list[object] = field(default_factory=list)
 
     def server(self) -> object:
-        """The running server."""
+        """Returns the running server."""
         if not self.started:
             self.started.append(self.stack.enter_context(self.start()))
         return self.started[0]
@@ -105,13 +107,13 @@ class Shared:
 
 @contextlib.contextmanager
 def shared() -> Iterator[Shared]:
-    """What parts share. The server is stopped at the end."""
+    """Provides what the parts share. The server is stopped at the end."""
     with contextlib.ExitStack() as stack:
         yield Shared(stack)
 
 
 def run_parts(tally: Tally, parts: Sequence[Part], shares: Shared) -> None:
-    """Runs parts one after the other, and prints of each what it counted and how long it took."""
+    """Runs parts one after the other, and prints what each counted and how long it took."""
     for part in parts:
         why = part.why_skipped()
         if why is not None:
@@ -125,9 +127,8 @@ def run_parts(tally: Tally, parts: Sequence[Part], shares: Shared) -> None:
 
 @contextlib.contextmanager
 def ended_within(seconds: int) -> Iterator[None]:
-    """What takes longer raises TimeoutError. If this does not end it either, the program shows what each of its
-    threads
-    waits for, and exits."""
+    """Raises TimeoutError in a block that takes longer. If that does not end it either, prints a traceback of every
+    thread and exits."""
     def raise_late(number: int, frame: object) -> None:
         raise TimeoutError(f"no end within {seconds} seconds")
 
@@ -143,8 +144,8 @@ def ended_within(seconds: int) -> Iterator[None]:
 
 
 def run_part(tally: Tally, part: Part, shares: Shared, seconds: int = MOST_SECONDS) -> None:
-    """Runs one part. An exception counts as a failed check, is printed with its traceback, and ends this part alone, as
-    the end of its time does."""
+    """Runs one part. An exception counts as a failed check and ends only this part, after its traceback is printed. So
+    does the time limit."""
     try:
         with ended_within(seconds):
             if PROGRAM in part.needs:

@@ -1,7 +1,7 @@
 """The parts of tools/test, in the order in which they run.
 
-To add a part, add one line to PARTS. The function is named as `module:function`, and is imported when the part runs.
-It takes the tally, and also the server where the part needs one.
+To add a part, add one line to PARTS. The function is given as `module:function`, and is imported when the part runs. It
+takes the tally, and also the server if the part needs one.
 """
 
 from part_runner import (

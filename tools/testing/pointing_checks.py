@@ -1,4 +1,5 @@
-"""What a person at a terminal is told about faults: by tools/explain, by the script pgshard and by judge."""
+"""Tests the messages about faults that a user at a terminal gets from tools/explain, from the script pgshard and from
+judge."""
 
 import os
 import pathlib
@@ -27,9 +28,9 @@ CREATE SUBSCRIPTION u CONNECTION '' PUBLICATION "q 2";
 """
 LINES = CATALOG.count("\n")
 
-# Words, the text, the status, the output, and what is told.
+# Arguments, input, status, output, and the expected messages.
 TOLD = [
-    # Texts that are not read: a column is counted in characters.
+    # Texts that are refused. Columns are counted in characters.
     (["make"], "CREATE TABLE ö (", 3, "catalog 13 BadToken\n",
      ["f:1:14: this is not an SQL token, or a quote or comment is not terminated: ö"]),
     (["make"], CATALOG.replace("region < 5", "regio < 5"), 3,
@@ -47,7 +48,7 @@ TOLD = [
     (["make"], f"{CATALOG}%%\n", 3, "input\n",
      ["pgshard: pgshard make needs one part, separated by lines %%; the input has 2"]),
     (["make"], b"CREATE\xff", 3, "input\n", ["pgshard: the input is not valid UTF-8, at byte 6"]),
-    # Rows, each by the line of its answer.
+    # Rows, each pointed at by the line of its answer.
     (["eval", "t"], f"{CATALOG}%%\n(1, 'ä, b', 3)\n(1, 2\n(1, 'a, ''b''', 3000000000)\n(1, 'a')\n(1, 'ä', x)\n", 1,
      "p=true q 2=false\nunreadable 5 Expected\ninvalid OutOfRange 2\ninvalid Width\nunreadable 10 Expected\n",
      [f"f:{LINES + 3}:6: syntax error: the end of the row",
@@ -82,7 +83,7 @@ TOLD = [
      ["f:1:14: the replica identity of public.t does not identify its rows"]),
     (["serve", "--port", "1"], f"{CATALOG}%%\no 0\n%%\n", 1, "listening 1\nclose TakenDiffers\n",
      ["pgshard: a connection took commits other than those of the log"]),
-    # What points at nothing.
+    # Outputs that give no position.
     (["make"], CATALOG, 0, "o 0\n", []),
     (["make"], CATALOG, 4, "", ["pgshard: cannot write the output"]),
     (["serve", "--port", "1"], CATALOG, 4, "", ["pgshard: cannot write the output, or the port is not available"]),
@@ -90,13 +91,13 @@ TOLD = [
     (["nothing"], "", 2, "command line\nwhy\n", []),
 ]
 
-# Certificates, and where they stop being one.
+# Certificates, and the position of the fault in each.
 CERTIFICATES = [
     ("", 0), ("o", 1), ("o 0", 3), ("o 0 ", 3), ("o 01", 2), ("s 0 o 0 o 1", 11), ("s 0 o 0 o 1 n", 13), ("o 0 o 0", 3),
     ("x 0", 0), ("o  0", 2), ("s 0 o 0 o 1 n 0", 15),
 ]
 
-# Stands for the built program: it writes what the environment says once its input has ended, or at once.
+# Runs in place of the program: writes what the environment says after its input has ended, or at once for --help.
 PROGRAM = """\
 #!/bin/sh
 [ "$1" = --help ] || cat > /dev/null
@@ -104,7 +105,7 @@ printf '%s' "$WRITES"
 exit $ENDS
 """
 
-# The same, where a table is not sound.
+# Does the same for a table that is not sound.
 ANSWERS = """\
 #!/bin/sh
 cat > /dev/null
@@ -117,7 +118,7 @@ exit 1
 
 
 def check_pointing(tally: Tally) -> None:
-    """Sentences by themselves, and then runs."""
+    """Tests the messages, and then whole runs."""
     for words, text, status, output, expected in TOLD:
         data = text if isinstance(text, bytes) else text.encode()
         tally.check(f"what is told of {output!r}", explained(words, Source("f", data), status, output), expected)
@@ -133,7 +134,7 @@ def check_pointing(tally: Tally) -> None:
 
 
 def check_explain(tally: Tally, folder: pathlib.Path) -> None:
-    """The output and the status of a run stay, and its input need not end."""
+    """Checks that explain keeps the output and status of a run, and need not wait for the input to end."""
     program, catalog = written(folder / "program", PROGRAM), folder / "catalog.sql"
     catalog.write_text(CATALOG)
     says = {"WRITES": "counter public.t (0, '', 5) owners none\n", "ENDS": "1"}
@@ -158,7 +159,7 @@ def check_explain(tally: Tally, folder: pathlib.Path) -> None:
 
 
 def explain(program: pathlib.Path | str, *words: str, WRITES: str, ENDS: str, **given) -> tuple[int, str, str]:
-    """A run by tools/explain: its status, its output and the sentences."""
+    """Runs tools/explain. Returns its status, output and messages."""
     environment = os.environ | {"WRITES": WRITES, "ENDS": ENDS}
     answer = subprocess.run(
         [TOOLS / "explain", program, *words], stdout=subprocess.PIPE, stderr=subprocess.PIPE, env=environment,
@@ -167,7 +168,7 @@ def explain(program: pathlib.Path | str, *words: str, WRITES: str, ENDS: str, **
 
 
 def check_script(tally: Tally, root: pathlib.Path) -> None:
-    """The script pgshard in an installed copy: only a person at a terminal is told, and of files by their names."""
+    """Tests the script pgshard in an installed copy: messages are written only to a terminal, and name the files."""
     installed(root, PROGRAM)
     (root / "catalog").write_text("CREATE\n")
     (root / "certificates").write_text("o 0\no x\n")
@@ -187,7 +188,7 @@ def check_script(tally: Tally, root: pathlib.Path) -> None:
 
 
 def check_judge_marks(tally: Tally, folder: pathlib.Path) -> None:
-    """judge points into a file for a person at a terminal."""
+    """Checks that judge points into a file if standard error is a terminal."""
     program, catalog = written(folder / "made", PROGRAM), folder / "judged.sql"
     catalog.write_text(CATALOG)
     environment = os.environ | {"PGSHARD": str(program), "WRITES": "catalog 13 TypeClash\n", "ENDS": "3"}
@@ -204,7 +205,7 @@ def check_judge_marks(tally: Tally, folder: pathlib.Path) -> None:
 
 
 def check_program(tally: Tally) -> None:
-    """Runs of pgshard itself."""
+    """Tests runs of pgshard itself."""
     cases = [
         (["make"], CATALOG.replace("region < 5", "region < 6"), 1, "1:14: public.t: s and u get the row"),
         (["make"], CATALOG.replace("PUBLICATION p;", "PUBLICATION r;"), 3, "6:49: this name does not exist: r\n"),
@@ -222,7 +223,7 @@ def check_program(tally: Tally) -> None:
 
 
 def at_terminal(command: list, given: bytes, environment: dict[str, str]) -> tuple[int, str, str]:
-    """A run whose standard error is a terminal: its status, its output, and the sentences there."""
+    """Runs a command whose standard error is a terminal. Returns its status, its output and what it wrote there."""
     leader, follower = os.openpty()
     try:
         answer = subprocess.run(
@@ -234,7 +235,7 @@ def at_terminal(command: list, given: bytes, environment: dict[str, str]) -> tup
 
 
 def read_all(terminal: int) -> bytes:
-    """What was written to a terminal whose other end is closed."""
+    """Reads what was written to a terminal until its other end is closed."""
     found = b""
     while True:
         try:
@@ -247,14 +248,14 @@ def read_all(terminal: int) -> bytes:
 
 
 def by_pipes(command: list, given: bytes, environment: dict[str, str]) -> tuple[int, str, str]:
-    """The same without a terminal."""
+    """Runs a command whose standard error is a pipe."""
     answer = subprocess.run(
         command, input=given, stdout=subprocess.PIPE, stderr=subprocess.PIPE, env=environment, timeout=300)
     return answer.returncode, answer.stdout.decode(), answer.stderr.decode()
 
 
 def written(path: pathlib.Path, text: str) -> pathlib.Path:
-    """A script that is written there."""
+    """Writes an executable script."""
     path.write_text(text)
     path.chmod(0o755)
     return path

@@ -1,4 +1,4 @@
-"""Calls that are made by as many processes as there are processors."""
+"""Runs a function in as many processes as there are processors."""
 
 import os
 import signal
@@ -13,7 +13,7 @@ Answer = TypeVar("Answer")
 
 
 def each(function: Callable[[Given], Answer], given: Sequence[Given]) -> Iterator[Answer]:
-    """What a function returns of each value, in their order. If a process is killed, this raises."""
+    """Yields the function's result for each value, in order. Raises if a process is killed."""
     processes = min(len(os.sched_getaffinity(0)), len(given))
     if processes <= 1:
         yield from map(function, given)
@@ -26,8 +26,7 @@ def each(function: Callable[[Given], Answer], given: Sequence[Given]) -> Iterato
 
 
 def end_by_signals() -> None:
-    """From here on a signal that asks this process to end ends it at once. An exit, as the program that started it
-    makes of
-    such a signal, could come while the process holds a lock that the others wait for."""
+    """Makes signals that ask this process to end kill it at once. The starting program exits on such a signal instead,
+    and an exit could happen while the process holds a lock that others wait for."""
     for ending in ENDINGS:
         signal.signal(ending, signal.SIG_DFL)

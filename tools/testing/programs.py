@@ -1,4 +1,4 @@
-"""Runs of catalog.sql, pgshard and judge."""
+"""Runs catalog.sql, pgshard and judge."""
 
 import functools
 import os
@@ -13,7 +13,8 @@ PGSHARD = os.environ.get("PGSHARD") or str(TOOLS.parent / "pgshard")
 
 @functools.cache
 def why_unusable() -> str | None:
-    """Why the program cannot be run, or None. If PGSHARD names none, the script proves and builds it here."""
+    """Returns why the program cannot be run, or None. If PGSHARD is not set, the script proves and builds the program
+    here."""
     try:
         ended = subprocess.run([PGSHARD, "--version"], stdin=subprocess.DEVNULL, stdout=subprocess.DEVNULL)
     except OSError as fault:
@@ -22,25 +23,25 @@ def why_unusable() -> str | None:
 
 
 def prepare() -> None:
-    """Makes sure that the program can be run, so that no run with a time limit has to build it."""
+    """Makes sure that the program can be run, so that no run with a time limit has to build it first."""
     why = why_unusable()
     if why is not None:
         raise RuntimeError(f"the program can't be run: {why}")
 
 
 def program() -> str:
-    """The program itself: the one that PGSHARD names now, or the one that the script runs."""
+    """Returns the path of the program: the one that PGSHARD names at present, or the one that the script runs."""
     return os.environ.get("PGSHARD") or program_of_script()
 
 
 @functools.cache
 def program_of_script() -> str:
-    """The program that the script runs."""
+    """Returns the path of the program that the script runs."""
     return subprocess.run([PGSHARD, "--program"], stdout=subprocess.PIPE, encoding="utf-8", check=True).stdout.strip()
 
 
 def catalog_of(server, database, *words):
-    """What catalog.sql prints of a database, with some words for psql."""
+    """Returns what catalog.sql prints of a database, with additional arguments for psql."""
     script = TOOLS / "catalog.sql"
     answer = subprocess.run(
         ["psql", *server.words(database), *words, "-f", script],
@@ -49,7 +50,7 @@ def catalog_of(server, database, *words):
 
 
 def pgshard(*words: str, text: str | bytes, seconds: int | None = None) -> tuple[int | None, str]:
-    """The status of a run, and its output. Its input is a text, or bytes that need not be UTF-8."""
+    """Returns the status and the output of a run. Its input is a text, or bytes that need not be UTF-8."""
     given = text if isinstance(text, bytes) else text.encode()
     try:
         answer = subprocess.run([PGSHARD, *words], input=given, stdout=subprocess.PIPE, timeout=seconds)
@@ -59,7 +60,7 @@ def pgshard(*words: str, text: str | bytes, seconds: int | None = None) -> tuple
 
 
 def decoded(output: bytes) -> str:
-    """An output's text. What is not UTF-8 is shown as digits, in which no expected text is found."""
+    """Returns an output as text. If it is not UTF-8, returns its hexadecimal digits, which match no expected text."""
     try:
         return output.decode()
     except UnicodeDecodeError:
@@ -67,7 +68,7 @@ def decoded(output: bytes) -> str:
 
 
 def judge(*words, program=PGSHARD):
-    """What judge prints, with its status as the last line."""
+    """Returns what judge prints, with its status as the last line."""
     answer = subprocess.run(
         [TOOLS / "judge", *patience(words), *words],
         stdout=subprocess.PIPE, stderr=subprocess.STDOUT, encoding="utf-8", env=environment() | {"PGSHARD": program})
@@ -75,10 +76,10 @@ def judge(*words, program=PGSHARD):
 
 
 def patience(words):
-    """More time for judge than it has, so that a machine that is busy changes no answer."""
+    """Gives judge more time than its default, so that a busy machine changes no answer."""
     return () if "--seconds" in words else ("--seconds", "300")
 
 
 def without_subscriptions(catalog):
-    """What another database can be made of: a subscription would connect."""
+    """Returns the part of a catalog from which another database can be created: a subscription would connect."""
     return catalog.split("CREATE SUBSCRIPTION ")[0]

@@ -1,4 +1,4 @@
-"""That the tools are a package of Python: pip installs it without a network, its commands run, and no module imports
+"""Tests that the tools are a Python package: pip installs it without a network, its commands run, and no module imports
 itself through others."""
 
 import ast
@@ -12,7 +12,7 @@ from programs import PGSHARD, TOOLS, judge
 from pythons import python_with
 from tally import Tally
 
-# What pip needs to build and install a package without a network.
+# The libraries that pip needs to build and install a package without a network.
 NEEDED = "ensurepip, setuptools, wheel"
 
 ROOT = TOOLS.parent
@@ -24,7 +24,7 @@ Imports = dict[str, set[str]]
 
 
 def check_python_package(tally: Tally) -> None:
-    """What is installed, and what its commands print."""
+    """Tests what is installed, and what its commands print."""
     tally.check("modules that import themselves", cycle_in(imports_of(TOOLS)), [])
     with tempfile.TemporaryDirectory() as folder:
         commands = installed(pathlib.Path(folder))
@@ -41,7 +41,7 @@ def check_python_package(tally: Tally) -> None:
 
 
 def installed(folder: pathlib.Path) -> pathlib.Path:
-    """Installs a copy of the package into a new environment, and answers the folder of its commands."""
+    """Installs a copy of the package into a new environment, and returns the folder of its commands."""
     copy, environment = folder / "copy", folder / "environment"
     (copy / "tools").mkdir(parents=True)
     for name in FILES:
@@ -56,25 +56,26 @@ def installed(folder: pathlib.Path) -> pathlib.Path:
 
 
 def output_of(command: pathlib.Path, *words: str | pathlib.Path) -> str:
-    """What an installed command prints, beside the program that is tested."""
+    """Returns what an installed command prints, with the program under test."""
     environment = os.environ | {"PGSHARD": os.path.abspath(PGSHARD)}
     return subprocess.run([command, *words], stdout=subprocess.PIPE, encoding="utf-8", env=environment).stdout
 
 
 def imports_of(folder: pathlib.Path) -> Imports:
-    """The modules of a folder, and which of them each imports. Tests import one another by their names in testing/."""
+    """Returns the modules of a folder, each with the modules that it imports. Tests import one another by their names
+    in testing/."""
     paths = {module_name(path.relative_to(folder)): path for path in folder.rglob("*.py")}
     return {name: named_in(path) & paths.keys() - {name} for name, path in paths.items()}
 
 
 def module_name(path: pathlib.Path) -> str:
-    """The name by which a file is imported."""
+    """Returns the name by which a file is imported."""
     parts = path.with_suffix("").parts
     return ".".join(parts[1:] if parts[0] == "testing" else parts).removesuffix(".__init__")
 
 
 def named_in(path: pathlib.Path) -> set[str]:
-    """What a file imports: modules, and names in them, which may be modules."""
+    """Returns what a file imports: modules, and names in them, which may be modules too."""
     found = set()
     for node in ast.walk(ast.parse(path.read_text(encoding="utf-8"))):
         if isinstance(node, ast.Import):
@@ -86,8 +87,8 @@ def named_in(path: pathlib.Path) -> set[str]:
 
 
 def cycle_in(imports: Imports) -> list[str]:
-    """Modules that import themselves through one another, or none: those that are left when each module is taken out
-    that imports none of the others, or that none of them imports."""
+    """Returns modules that import themselves through others, if there are any: those that remain after every module is
+    removed that imports none of the remaining ones or is imported by none of them."""
     left = dict(imports)
     while True:
         named = set().union(*(its & left.keys() for its in left.values()))

@@ -1,14 +1,14 @@
-"""Which Python has a library."""
+"""Finds a Python that has a library."""
 
 import subprocess
 import sys
 
-# Debian's packages are for the second, which need not be the first one on the path.
+# Debian's packages are installed for the second one, which need not be the first on the path.
 PYTHONS = [sys.executable, "/usr/bin/python3"]
 
 
 def python_with(library: str) -> str | None:
-    """The first of some Pythons that has it, or None."""
+    """Returns the first Python that has the library, or None."""
     for python in PYTHONS:
         try:
             answer = subprocess.run([python, "-c", f"import {library}"], stderr=subprocess.DEVNULL)

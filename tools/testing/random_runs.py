@@ -1,10 +1,10 @@
 #!/usr/bin/env python3
-"""pgshard on random cases, beside the model: all of a seed, as tools/test makes them, or one again.
+"""Compares pgshard with the model on random cases: all cases of a seed, as tools/test does, or a single one.
 
     tools/testing/random_runs.py [--seed N] [--case N] [--save FILE]
 
-Without --seed it is that of the environment variable SEED, or the day's. The variable PGSHARD names another program
-than the built one. --save writes the input of a case to a file, and makes no run.
+The default seed is the environment variable SEED, or the date. The variable PGSHARD names a program to run instead of
+the built one. With --save, the input of a case is written to a file, and nothing is run.
 """
 
 import argparse
@@ -20,7 +20,7 @@ from tally import Tally
 
 
 def main() -> int:
-    """Makes the cases, and ends with 1 where one fails."""
+    """Runs the cases, and returns 1 if one fails."""
     parser = argparse.ArgumentParser(description=__doc__.splitlines()[0])
     parser.add_argument("--seed", type=int, default=seed())
     parser.add_argument("--case", type=int)

@@ -1,16 +1,16 @@
 #!/usr/bin/env python3
-"""`make` on small random tables, beside an exhaustive search for what a certificate can tell.
+"""Compares `make` on small random tables with an exhaustive search based on what a certificate can express.
 
     tools/testing/random_tables.py [--program FILE] [--tables N] [--seed N]
 
-Each table has up to three columns besides its key, and up to six atoms. A certificate is right exactly where each
-assignment of values to the atoms, of those that no leaf of a certificate shows to be impossible, has one owner; `make`
-has to find one there. Elsewhere a row has to be one that none or several take, and `unknown` is told apart by whether a
-search over boundary values finds such a row.
+Each table has up to three columns besides its key, and up to six atoms. A certificate exists exactly if each assignment
+of values to the atoms has one owner, where assignments that a leaf of a certificate can show to be impossible are left
+out; `make` has to find one then. Otherwise it has to print a row that no subscriber or several take, or `unknown`. For
+`unknown`, a search over boundary values finds out whether there is such a row.
 
 A filter is a tuple: ("!", f), ("&", f, g), ("|", f, g), ("true", f), ("false", f), ("unknown", f), or an atom: ("null",
 column), ("cmp", column, divisor, operator, literal), ("in", column, divisor, literals), ("between", column, divisor,
-low, high), ("distinct", column, divisor, literal). A divisor of 0 is for the column itself.
+low, high), ("distinct", column, divisor, literal). A divisor of 0 means the column itself.
 """
 
 import argparse
@@ -35,11 +35,11 @@ TESTS = {"true": 1, "false": 0, "unknown": None}
 OTHER = "other"
 
 
-# ---- what filters say
+# ---- what filters evaluate to
 
 
 def remainder(number, divisor):
-    """The remainder with the sign of the number."""
+    """Returns the remainder, which has the sign of the number."""
     rest = abs(number) % abs(divisor)
     return rest if number >= 0 else -rest
 
@@ -53,7 +53,7 @@ def both(left, right):
 
 
 def said(atom, value):
-    """What the atom says of a value of its term, which isn't null."""
+    """Returns the value of the atom if its term has this value, which is not null."""
     kind, *_, last = atom
     if kind == "cmp":
         return int(COMPARED[atom[3]](value, last))
@@ -116,7 +116,7 @@ def named(atom):
 
 
 def values_of(columns, term, atoms):
-    """Values that speak for all that the term has."""
+    """Returns values that represent all values of the term."""
     column, divisor = term
     kind = columns[column][0]
     literals = {it for atom in atoms if atom[0] != "null" and term_of(atom) == term for it in named(atom)}
@@ -131,7 +131,7 @@ def values_of(columns, term, atoms):
 
 
 def of_column(columns, column, atoms):
-    """The values that the atoms of the column may have together, as far as a certificate tells."""
+    """Yields the combinations of values that the atoms of the column may have, as far as a certificate can tell."""
     mine = [atom for atom in atoms if atom[1] == column]
     if not columns[column][1]:
         yield {atom: of_null(atom) for atom in mine}
@@ -165,7 +165,7 @@ def tried_values(columns, column, atoms):
 
 
 def fault_in_rows(columns, shares):
-    """A row that none or several take, of boundary values, or nothing."""
+    """Returns a row of boundary values that no subscriber or several take, or None."""
     atoms = all_atoms(shares)
     for row in itertools.product(*(tried_values(columns, it, atoms) for it in range(len(columns)))):
         if len(owners(shares, lambda atom: in_row(atom, row))) != 1:
@@ -214,7 +214,7 @@ def random_filter(source, atoms, depth):
 
 
 def divided(source, atoms):
-    """Shares that divide all rows, as a tree of tests does."""
+    """Returns shares that divide all rows, built as a tree of tests."""
     shares = [None] * source.randint(1, SHARES)
 
     def go(path, left, depth):
@@ -258,7 +258,7 @@ def text_of(filter):
         return f"NOT ({text_of(parts[0])})"
     if head in "&|":
         left, right = parts
-        # A chain leans to the left, and takes no parentheses there.
+        # A chain associates to the left, and needs no parentheses there.
         opened = text_of(left) if left[0] == head else f"({text_of(left)})"
         return f"{opened} {'AND' if head == '&' else 'OR'} ({text_of(right)})"
     if head in TESTS:
@@ -278,7 +278,7 @@ def text_of(filter):
 
 
 def catalog(tables):
-    """A catalog of the tables. Each subscriber takes its share of them by one publication."""
+    """Returns a catalog of the tables. Each subscriber takes its share of them through one publication."""
     lines = []
     for number, (columns, _) in enumerate(tables):
         declared = "".join(f", c{it} {kind}{' NOT NULL' if not_null else ''}" for it, (kind, not_null) in enumerate(columns))
@@ -302,7 +302,7 @@ def value_in(text):
 
 
 def verdict(columns, shares, line):
-    """What is wrong with the line for a table, or the sort of a line that is right."""
+    """Returns what is wrong with the line for a table, or which kind of line it is if it is right."""
     is_sound = has_certificate(columns, shares)
     if line[:2] in ("s ", "o ", "e ", "n "):
         return "certificate" if is_sound else "WRONG: a certificate where there is none"

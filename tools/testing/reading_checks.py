@@ -1,5 +1,5 @@
-"""That docs/READING.md names the definitions that give the main theorems their meaning, and that tools/reading finds
-them."""
+"""Tests that docs/READING.md lists the definitions that give the main theorems their meaning, and that tools/reading
+finds them."""
 
 import pathlib
 import shutil
@@ -44,7 +44,7 @@ longest (Light ∷ shades) = 0
 longest shades = lower shades
 """
 
-# The names of each definition, without those that are bound, fields, or between quotes.
+# The names that each definition uses, without bound names, fields, and what is between quotes.
 NAMES = {
     "Pair": ["Shade", "top", "≡"],
     "Shade": [],
@@ -95,8 +95,8 @@ pub fn build(tower: &mut Tower) -> bool
 """
 
 
-# Premises, and a name that is gone, each of which the page has to show or to miss: the file, a text of it, what is put
-# in its place, and what tools/reading says then.
+# New premises, and names that no longer exist. The page has to differ if there is a new premise, and a missing name has
+# to be reported. Each has the file, a text of it, what replaces the text, and what tools/reading should then print.
 DIFFERS = "docs/READING.md differs from the definitions"
 PLANTS = {
     "a new requires": (
@@ -120,7 +120,7 @@ PLANTS = {
 
 
 def check_reading(tally: Tally) -> None:
-    """The page, and then how names are found."""
+    """Tests the page, and then how names are found."""
     text = PAGE.read_text(encoding="utf-8")
     tally.check("docs/READING.md, which tools/reading --write writes", text, computed(text))
     for theorem in THEOREMS:
@@ -135,7 +135,7 @@ def check_reading(tally: Tally) -> None:
 
 
 def check_plants(tally: Tally, root: pathlib.Path) -> None:
-    """The page beside a copy of the sources, and beside copies in which a premise is new or a name is gone."""
+    """Tests the page on a copy of the sources, and on copies that have a new premise or lack a name."""
     for name in "tools/believing", *(f"crates/{crate.name}/{part}" for crate in CRATES.iterdir() for part in ("src", "specs")):
         if (ROOT / name).is_dir():
             shutil.copytree(ROOT / name, root / name)
@@ -154,13 +154,13 @@ def check_plants(tally: Tally, root: pathlib.Path) -> None:
 
 
 def reading(root: pathlib.Path) -> tuple[int, str]:
-    """The status of tools/reading in a repository, and what it says."""
+    """Returns the status of tools/reading in a repository, and what it prints."""
     ended = subprocess.run([sys.executable, root / "tools" / "reading"], capture_output=True, encoding="utf-8")
     return ended.returncode, ended.stdout + ended.stderr
 
 
 def check_definitions(tally: Tally, file: pathlib.Path) -> None:
-    """What a file of definitions imports and defines."""
+    """Tests what a file of definitions imports and defines."""
     file.write_text(DEFINITIONS, encoding="utf-8")
     read = definitions.read(file)
     imports = [(it.path, it.names, it.alias) for it in read.imports[1:]]
@@ -172,7 +172,7 @@ def check_definitions(tally: Tally, file: pathlib.Path) -> None:
 
 
 def check_code(tally: Tally, file: pathlib.Path) -> None:
-    """A type and a contract."""
+    """Tests a type and a contract."""
     file.write_text(CODE, encoding="utf-8")
     tower, build = code.item(file, "Tower"), code.contract(file, "build", ("answer",))
     tally.check("the types of a struct, of its public fields", tower.types, ["Tower", "Stone"])

@@ -1,6 +1,6 @@
-"""Calls with each of their requests for memory refused in turn.
+"""Tests calls in which each request for memory is refused in turn.
 
-The program `refused_calls` makes the calls, and tests what is left after each refusal. The refusals come from
+The program `refused_calls` makes the calls, and tests the state after each refusal. The refusals come from
 `refusing.c`, which is compiled here.
 """
 
@@ -21,17 +21,17 @@ CALLS = [
     "Book::commit", "Link::take", "Link::hear", "Subscriber::feed", "World::step", "make", "Memo", "Publisher::commit",
     "serve"]
 
-# How long the program may take.
+# The time limit for the program, in seconds.
 SECONDS = 600
 
 
 def why_not_built() -> str | None:
-    """Why the program cannot be run here. One that the environment names is always run."""
+    """Returns why the program cannot be run, or None if it can. A program that the environment names is always run."""
     return None if NAMED or BUILT.exists() else "the program refused_calls is not built"
 
 
 def program() -> str:
-    """The program of the calls."""
+    """Returns the program that makes the calls."""
     return NAMED or str(BUILT)
 
 
@@ -45,14 +45,14 @@ def check_refusals(tally: Tally) -> None:
 
 
 def check_refused(tally: Tally, status: int | None, output: str, errors: str) -> None:
-    """A run with refusals: each call meets some, and in all they are as many as the library tells."""
+    """Checks a run with refusals: each call has met some, and their total is what the library reports."""
     met = re.findall("^(.*): ([1-9][0-9]*) refused$", output, re.M)
     tally.check(f"calls with each request refused, which wrote {output!r}", (status, [call for call, _ in met]), (0, CALLS))
     tally.check("how many requests were refused", errors, f"{sum(int(count) for _, count in met)} refused\n")
 
 
 def run(variables: dict[str, str]) -> tuple[int | None, str, str]:
-    """The program's status, and what it writes to standard output and standard error."""
+    """Returns the program's status, its standard output and its standard error."""
     try:
         answer = subprocess.run(
             [program()], stdin=subprocess.DEVNULL, stdout=subprocess.PIPE, stderr=subprocess.PIPE,

@@ -1,6 +1,5 @@
-"""That each refusal of memory or of a device is made of the error of a request, and that tools/refusals_made sees a
-body
-that gives up without one."""
+"""Tests that each OutOfMemory and each device error comes from the error of a request, and that tools/refusals_made
+finds a body that gives up without one."""
 
 import sys
 from dataclasses import dataclass
@@ -15,7 +14,8 @@ from refusing.listing import LIST, Entry, faults, found_in, read_list, sources, 
 
 @dataclass(frozen=True)
 class Plant:
-    """A give-up: what it does, a text of the sources that one file has, and what is put in its place."""
+    """A planted place that gives up: what it does, a text that occurs in one file of the sources, and what replaces the
+    text."""
 
     what: str
     old: str
@@ -28,7 +28,7 @@ COMMIT_FROM = "impl From<AllocError> for CommitError {"
 
 
 def before(text: str, more: str, what: str) -> Plant:
-    """A give-up that is put before a text."""
+    """Returns a plant that is inserted before a text."""
     return Plant(what, text, more + text)
 
 
@@ -115,7 +115,7 @@ PLANTS = [
 
 
 def check_refusals_made(tally: Tally) -> None:
-    """The sources as they are, and with each give-up."""
+    """Tests the sources as they are, and with each plant."""
     texts, entries = sources(), read_list(LIST.read_text(encoding="utf-8"))
     tally.check("what tools/refusals_made says of the sources", faults(found_in(texts), entries), [])
     moved = {f"other/{name}": text for name, text in texts.items()}
@@ -126,7 +126,8 @@ def check_refusals_made(tally: Tally) -> None:
 
 
 def check_written(tally: Tally, texts: dict[str, str], entries: list[Entry]) -> None:
-    """The list that is written is in step, but for a place of another form, for which a person has to give a reason."""
+    """Checks that the list that would be written agrees with the existing one, and that a place of another form is
+    reported until a person gives a reason for it."""
     found = found_in(texts)
     tally.check("the list that is written", written_list(found, entries), LIST.read_text(encoding="utf-8"))
     plant = PLANTS[0]
@@ -136,7 +137,7 @@ def check_written(tally: Tally, texts: dict[str, str], entries: list[Entry]) -> 
 
 
 def check_plant(tally: Tally, texts: dict[str, str], entries: list[Entry], plant: Plant) -> None:
-    """One give-up, in the one file that has its text."""
+    """Tests one plant, in the one file that contains its text."""
     files = [name for name, text in texts.items() if plant.old in text]
     tally.check(f"{plant.what}: how many files have its text", len(files), 1)
     for name in files[:1]:

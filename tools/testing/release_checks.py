@@ -1,5 +1,5 @@
-"""That the script pgshard runs the release where it is of the sources, and builds the program where it is not; that
-tools/release makes a release only of what was proved; and what the gate says of a release."""
+"""Tests that the script pgshard runs the release if it belongs to the sources, and builds the program otherwise; that
+tools/release makes a release only of a program that was proved; and what the gate says of a release."""
 
 import hashlib
 import os
@@ -30,12 +30,12 @@ FILES = {
     "crates/publisher_main/stdin": "",
 }
 
-# What the sum of the sources is of, in this order, by documentation.
+# What the sum of the sources is computed from, in this order, according to the documentation.
 LINES = ["high: low kit", "low:", "publisher_main may_wait=5: high"]
 SOURCES = ["HANDLES", "crates/high/specs/a/B C.antt", "crates/high/src/lib.rt", "crates/low/proofs/Lib.antt",
            "crates/low/src/lib.rt", "crates/publisher_main/src/main.rt"]
 
-# Is run as rt. A program that is built says what its source was.
+# Runs in place of rt. A program that it builds prints its source.
 RT = """\
 #!/bin/sh
 case $1 in
@@ -53,7 +53,7 @@ NOT_FOUND = "the command rt, which proves and builds the program, is not found"
 
 
 class Fake:
-    """A repository with a script in place of rt, which is on the path or is not."""
+    """A repository with a script in place of rt, which may be on the path."""
 
     def __init__(self, folder: str) -> None:
         self.root = Path(folder) / "repository"
@@ -71,7 +71,7 @@ class Fake:
         (self.bin / "rt").chmod(0o755)
 
     def run(self, *words: str, with_rt: bool = False, kit: str = "1") -> tuple[int, str, str]:
-        """A run of the script, by its words, or of a tool."""
+        """Runs the script with these arguments, or a tool."""
         first = self.bin if with_rt else Path("/nonexistent")
         others = [it for it in os.environ["PATH"].split(":") if not (Path(it) / "rt").exists()]
         script = self.root / words[0] if words[0].startswith("tools/") else self.root / "pgshard"
@@ -83,7 +83,7 @@ class Fake:
         return answer.returncode, answer.stdout, answer.stderr
 
     def write(self, name: str, text: str) -> None:
-        """Writes a file in its place, and sets its time back, as some copies do."""
+        """Overwrites a file and restores its time, as some copy commands do."""
         path = self.root / name
         times = path.stat().st_atime_ns, path.stat().st_mtime_ns
         path.write_text(text)
@@ -91,7 +91,7 @@ class Fake:
 
 
 def check_release(tally: Tally) -> None:
-    """The life of a release."""
+    """Tests the life of a release."""
     with tempfile.TemporaryDirectory() as folder:
         fake = Fake(folder)
         check_sum(tally, fake)
@@ -104,7 +104,7 @@ def check_release(tally: Tally) -> None:
 
 
 def check_sum(tally: Tally, fake: Fake) -> None:
-    """The sum, made another way."""
+    """Compares the sum with one that is computed in another way."""
     sums = [hashlib.sha256((fake.root / name).read_bytes()).hexdigest() for name in SOURCES]
     text = "".join([*(f"{line}\n" for line in LINES), *(f"{it}  {name}\n" for it, name in zip(sums, SOURCES))])
     expected = hashlib.sha256(text.encode()).hexdigest()
@@ -148,7 +148,8 @@ def check_first_release(tally: Tally, fake: Fake) -> None:
 
 
 def check_other_sources(tally: Tally, fake: Fake) -> None:
-    """What is written in place and keeps its time, too, is another source; what the program does not use is none."""
+    """Checks that a source that was changed in place counts as changed even if its time is the same, and that a file
+    that the program does not use is ignored."""
     for name in "crates/low/proofs/Lib.antt", "crates/high/specs/a/B C.antt", "crates/publisher_main/src/main.rt", "HANDLES":
         fake.write(name, f"{FILES[name]}more\n")
         tally.check(f"a run after {name} was changed", fake.run("make"), (
@@ -172,7 +173,7 @@ def check_other_sources(tally: Tally, fake: Fake) -> None:
 
 
 def check_other_file(tally: Tally, fake: Fake) -> None:
-    """A released file that is not the one of the manifest is never run."""
+    """Checks that a released file that differs from the manifest is never run."""
     released = fake.root / "release" / "pgshard-x86_64-linux"
     text = released.read_text()
     fake.write("release/pgshard-x86_64-linux", text.replace("main", "evil"))
@@ -184,7 +185,7 @@ def check_other_file(tally: Tally, fake: Fake) -> None:
 
 
 def check_gate(tally: Tally, fake: Fake) -> None:
-    """What the gate says once it has proved and built the program."""
+    """Tests what the gate says after it has proved and built the program."""
     built = fake.root / "crates" / "publisher_main" / "out" / "publisher_main"
     status, output, _ = fake.run("--build", "make", with_rt=True)
     tally.check("a build beside the release", (status, output), (0, "//! main\n"))
@@ -205,7 +206,7 @@ def check_gate(tally: Tally, fake: Fake) -> None:
 
 
 def check_refused(tally: Tally, fake: Fake) -> None:
-    """What no release is made of. The built program was changed above."""
+    """Tests what no release can be made of. The built program was changed above."""
     status, _, told = fake.run("tools/release", with_rt=True)
     tally.check("a release of another program", (status, "is not the program that was proved" in told), (1, True))
     before = fake.run("tools/sources")[1].strip()

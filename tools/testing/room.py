@@ -1,11 +1,11 @@
-"""How many checks a machine has room for at one time."""
+"""Computes how many checks a machine can run at a time."""
 
 import os
 import re
 
-# What a check of a crate here takes of memory at most, in bytes.
+# The most memory that a check of a crate takes, in bytes.
 MEMORY = 5_000_000_000
-# What a control group may use, as the two versions of control groups say it, and what it uses now.
+# The files that contain a control group's memory limit and its present use, in both versions of control groups.
 GROUPS = [
     ("/sys/fs/cgroup/memory.max", "/sys/fs/cgroup/memory.stat", r"anon (\d+)"),
     ("/sys/fs/cgroup/memory/memory.limit_in_bytes", "/sys/fs/cgroup/memory/memory.stat", r"total_rss (\d+)"),
@@ -13,7 +13,7 @@ GROUPS = [
 
 
 def number_in(path: str, pattern: str) -> int | None:
-    """The number that the pattern finds in a file, or None."""
+    """Returns the number that the pattern finds in a file, or None."""
     try:
         with open(path, encoding="utf-8") as file:
             found = re.search(pattern, file.read(), re.M)
@@ -23,7 +23,7 @@ def number_in(path: str, pattern: str) -> int | None:
 
 
 def free() -> int | None:
-    """The free memory in bytes, or None if the system does not say."""
+    """Returns the free memory in bytes, or None if the system does not report it."""
     kilobytes = number_in("/proc/meminfo", r"^MemAvailable:\s+(\d+)")
     if kilobytes is None:
         return None
@@ -36,7 +36,8 @@ def free() -> int | None:
 
 
 def checks() -> int | None:
-    """One for each processor, or fewer if there is less memory, but at least one; None if that is not known."""
+    """Returns the number of processors, or fewer if memory is short, but at least one; None if the free memory is not
+    known."""
     memory = free()
     if memory is None:
         return None

@@ -1,11 +1,11 @@
-"""Rows of the columns in forms.py: the limits of each type, what the filters name, nulls, and values by chance."""
+"""Rows of the columns in forms.py: the limits of each type, values that the filters name, nulls, and random values."""
 
 import random
 
 INTEGERS = [0, 1, -1, 2, -2, 3, 4, 5, -5, 6, 7, 8, 9, -9, 10]
 SMALL = [*INTEGERS, 32767, -32768, 32766, -32767]
 MIDDLE = [*SMALL, 32768, -32769, 2147483647, -2147483648, 2147483646]
-# The least bigint is no number that pgshard reads.
+# pgshard does not read the least bigint as a number.
 LARGE = [
     *MIDDLE, 2147483648, -2147483649, 3000000000, -3000000000, 3000000005, 6000000005,
     9223372036854775807, -9223372036854775807,
@@ -34,7 +34,7 @@ def text(chance):
 
 
 def rows(count):
-    """Rows as both SQL and pgshard write them, in the order of their ids."""
+    """Yields rows in the syntax that SQL and pgshard share, in the order of their ids."""
     chance = random.Random(15)
     for identity in range(count):
         yield "({})".format(", ".join([

@@ -1,4 +1,4 @@
-"""The script pgshard in an installed copy: files in place of standard input, the other commands, and the help."""
+"""Tests the script pgshard in an installed copy: files in place of standard input, the other commands, and the help."""
 
 import os
 import re
@@ -11,7 +11,7 @@ from pathlib import Path
 from programs import PGSHARD, TOOLS
 from tally import Tally
 
-# Stands for the program: it prints its name and the words that it gets, and then its input.
+# Runs in place of the program: prints its name and arguments, and then its input.
 ECHO = """\
 #!/bin/sh
 printf '%s' "${0##*/}"
@@ -34,7 +34,7 @@ FILES = {
 
 @dataclass(frozen=True)
 class Run:
-    """The words of a run, what it is given, and the words and the input that the program is to get."""
+    """The arguments and the standard input of a run, and the arguments and the input that the program should get."""
 
     words: tuple[str, ...]
     got: str
@@ -81,7 +81,7 @@ RUNS = [
     Run(("--version",), "<--version>", "", ""),
 ]
 
-# Words that are refused, and why.
+# Arguments that are refused, and the reason.
 REFUSED = [
     (("make", "none"), "there is no file none"),
     (("check", "catalog", "none"), "there is no file none"),
@@ -93,7 +93,7 @@ COMMAND = re.compile(r"^  ([a-z]+) +\S", re.M)
 
 
 def check_script(tally: Tally) -> None:
-    """Runs in another folder, by a symbolic link."""
+    """Runs the script in another folder, through a symbolic link."""
     with tempfile.TemporaryDirectory() as folder:
         copy, files = Path(folder) / "copy", Path(folder) / "files"
         installed(copy, ECHO)
@@ -107,7 +107,7 @@ def check_script(tally: Tally) -> None:
 
 
 def installed(root: Path, program: str | None = None) -> None:
-    """An installed copy, whose program is this script, or the one that is tested."""
+    """Makes an installed copy, whose program is this script or the program under test."""
     (root / "release").mkdir(parents=True)
     shutil.copy2(TOOLS.parent / "pgshard", root)
     (root / "tools").symlink_to(TOOLS)
@@ -119,7 +119,7 @@ def installed(root: Path, program: str | None = None) -> None:
 
 
 def check_inputs(tally: Tally, script: Path, files: Path) -> None:
-    """What the program gets."""
+    """Checks what the program gets."""
     for run in RUNS:
         name = f" {run.got}".rstrip(" ")
         found = ran(script, *run.words, given=run.given, folder=files)
@@ -132,7 +132,7 @@ def check_inputs(tally: Tally, script: Path, files: Path) -> None:
 
 
 def check_others(tally: Tally, script: Path, files: Path) -> None:
-    """judge and front, what an installed copy lacks, and that the program takes the script's place."""
+    """Tests judge and front, what an installed copy lacks, and that the program replaces the script's process."""
     for tool in "judge", "front":
         expected = subprocess.run([TOOLS / tool, "--help"], stdout=subprocess.PIPE, encoding="utf-8").stdout
         for words in (tool, "--help"), ("help", tool):
@@ -150,7 +150,7 @@ def check_others(tally: Tally, script: Path, files: Path) -> None:
 
 
 def check_process(tally: Tally, script: Path, files: Path) -> None:
-    """A signal that the script gets comes to the program, as it is the same process."""
+    """Checks that the program runs in the script's own process, so that it gets the script's signals."""
     program = script.resolve().parent / "release" / "pgshard"
     program.write_text("#!/bin/sh\necho $$\n")
     for words in ("serve", "catalog"), ("serve", "catalog", "script"):
@@ -160,7 +160,7 @@ def check_process(tally: Tally, script: Path, files: Path) -> None:
 
 
 def check_help(tally: Tally, root: Path) -> None:
-    """The program's own help, with what the script adds."""
+    """Tests the program's own help, with what the script adds to it."""
     installed(root)
     script, text = root / "pgshard", (root / "pgshard").read_text()
     _, own, _ = ran(Path(PGSHARD), "--help", folder=root)
@@ -181,7 +181,7 @@ def check_help(tally: Tally, root: Path) -> None:
 
 
 def ran(script: Path, *words: str, folder: Path, given: str = "") -> tuple[int, str, str]:
-    """A run: its status, its output and its errors."""
+    """Runs the script. Returns its status, output and standard error."""
     answer = subprocess.run(
         [script, *words], input=given.encode(), stdout=subprocess.PIPE, stderr=subprocess.PIPE, cwd=folder,
         env=os.environ | {"TMPDIR": str(folder)})

@@ -1,4 +1,4 @@
-"""A PostgreSQL 15 server of its own, which listens to a socket in its folder alone and is gone afterwards."""
+"""Runs a private PostgreSQL 15 server, which listens only on a socket in its own folder and is removed afterwards."""
 
 import contextlib
 import os
@@ -12,9 +12,9 @@ import tempfile
 
 PROGRAMS = pathlib.Path("/usr/lib/postgresql/15/bin")
 USER = "postgres"
-# How long a server may take to start or to stop, on a machine that does much else, too.
+# How long a server may take to start or to stop, also on a busy machine, in seconds.
 SECONDS = 600
-# By these a program is asked to end.
+# The signals that ask a program to end.
 ENDINGS = (signal.SIGTERM, signal.SIGINT, signal.SIGHUP)
 
 
@@ -41,50 +41,51 @@ class Server:
         self.folder = folder
 
     def words(self, database):
-        """The words by which psql connects."""
+        """Returns the arguments with which psql connects."""
         return ["-h", str(self.folder), "-U", USER, "-d", database]
 
     def psql(self, database: str, sql: str) -> str:
-        """What some statements print, without its last newline."""
+        """Returns what some statements print, without the last newline."""
         words = ["psql", "-X", "-q", "-A", "-t", "-v", "ON_ERROR_STOP=1", *self.words(database)]
         answer = subprocess.run(
             words, input=sql, stdout=subprocess.PIPE, encoding="utf-8", check=True, env=environment())
         return answer.stdout.removesuffix("\n")
 
     def refusal(self, database: str, sql: str) -> str:
-        """What the server says to some statements, of which it refuses one, and '' where it refuses none."""
+        """Returns the server's message if it refuses one of the statements, and '' otherwise."""
         words = ["psql", "-X", "-q", "-A", "-t", "-v", "ON_ERROR_STOP=1", *self.words(database)]
         answer = subprocess.run(words, input=sql, capture_output=True, encoding="utf-8", env=environment())
         return answer.stderr if answer.returncode else ""
 
     def told(self, database: str, sql: str) -> str:
-        """What psql says of some statements, notices and faults too, without where it is in its input."""
+        """Returns all that psql prints for some statements, with notices and errors, but without positions in its
+        input."""
         answer = subprocess.run(
             ["psql", "-X", "-q", "-A", "-t", *self.words(database), "-c", sql], stdin=subprocess.DEVNULL,
             stdout=subprocess.PIPE, stderr=subprocess.STDOUT, encoding="utf-8", env=environment())
         return answer.stdout
 
     def create(self, database, sql):
-        """Makes a database, and runs some statements in it."""
+        """Creates a database, and runs some statements in it."""
         begin = f"CREATE DATABASE {database};\n\\connect {database}\nSET client_min_messages = error;\n"
         self.psql("postgres", begin + sql)
 
 
 def environment():
-    """Without what names another server, or another form of its answers."""
+    """Returns the environment without variables that name another server or change the format of its answers."""
     others = {name: value for name, value in os.environ.items() if not name.startswith("PG")}
     return others | {"PGCLIENTENCODING": "UTF8", "PYTHONUTF8": "1"}
 
 
 def stop_on_endings():
-    """From here on a signal that asks the program to end is an exit, so that the server is stopped first."""
+    """Makes signals that ask the program to end raise an exit from now on, so that the server is stopped first."""
     for ending in ENDINGS:
         signal.signal(ending, lambda number, _: sys.exit(128 + number))
 
 
 @contextlib.contextmanager
 def endings_held():
-    """Such a signal waits until the block is done."""
+    """Delays such signals until the block is done."""
     before = signal.pthread_sigmask(signal.SIG_BLOCK, ENDINGS)
     try:
         yield
@@ -94,7 +95,7 @@ def endings_held():
 
 @contextlib.contextmanager
 def server(settings=""):
-    """A server with these words for its start."""
+    """Runs a server, started with these additional options."""
     with tempfile.TemporaryDirectory(prefix="pgshard_tools_", dir="/tmp") as name:
         folder = pathlib.Path(name)
         if os.geteuid() == 0:
@@ -112,7 +113,7 @@ def server(settings=""):
 
 def start(data, folder, settings=""):
     run_as_user(PROGRAMS / "initdb", "-D", data, "-U", USER, "-A", "trust", "-E", "UTF8", "--locale=C", "--no-sync")
-    # Nothing of the server's own changes tables, or locks them, while they are looked at.
+    # The server starts nothing that could change or lock tables while they are examined.
     options = f"-k {folder} -c listen_addresses='' -c wal_level=logical -c fsync=off -c autovacuum=off {settings}"
     run_as_user(PROGRAMS / "pg_ctl", "-D", data, "-o", options, "-l", folder / "log", "-w", "-t", SECONDS, "start")
 

@@ -1,4 +1,4 @@
-"""That a server takes what `show` prints, and has of it what it has of the text that was shown."""
+"""Tests that a server takes what `show` prints, and creates the same objects from it as from the original text."""
 
 import random
 import re
@@ -14,20 +14,21 @@ from runs.shows import CATALOG, FILTERS, T
 from server import Server
 from tally import Tally
 
-# How many random catalogs are made.
+# The number of random catalogs.
 CATALOGS = 40
 
-# What a state begins with that is a refusal.
+# The beginning of a state that is a refusal.
 REFUSED = "refused: "
 
-# A statement. A quote that is written twice ends one text and begins the next.
+# Matches a statement. A doubled quote is read as the end of one text and the beginning of the next.
 STATEMENT = re.compile(r"""(?:"[^"]*"|'[^']*'|[^;"'])*;""")
 
-# What a statement of a subscription has at its end, so that it does not connect.
+# The end of a statement that creates a subscription which does not connect.
 UNCONNECTED = "WITH (connect = false, slot_name = NONE)"
 
-# What a database has: tables with their columns, indexes, identities, publications with what they carry, subscriptions.
-# The names of the indexes of keys are the server's own, and conditions may be written otherwise.
+# Lists the objects of a database: tables with their columns, indexes, identities, publications with what they carry,
+# and subscriptions. Names of key indexes are chosen by the server, and conditions may be printed differently, so these
+# are left out.
 HAS = r"""
 SELECT 'column', c.oid::regclass, a.attname, format_type(a.atttypid, a.atttypmod), a.attnotnull
 FROM pg_class c JOIN pg_attribute a ON a.attrelid = c.oid WHERE c.relkind = 'r' AND c.oid >= 16384 AND a.attnum > 0
@@ -53,14 +54,14 @@ WHERE subdbid = (SELECT oid FROM pg_database WHERE datname = current_database())
 
 @dataclass(frozen=True)
 class Text:
-    """A catalog's text, and the same for a server, where no subscription connects."""
+    """A catalog's text, and the same text for a server, in which no subscription connects."""
 
     text: str
     for_server: str
 
 
 def check_shown(tally: Tally, server: Server) -> None:
-    """Makes two databases of each catalog, if the server takes its text, and otherwise one."""
+    """Creates two databases from each catalog if the server takes its text, and otherwise one."""
     count, compared = 0, 0
     for count, text in enumerate(texts(), 1):
         compared += is_compared(tally, server, count, text)
@@ -69,7 +70,7 @@ def check_shown(tally: Tally, server: Server) -> None:
 
 
 def texts() -> Iterator[Text]:
-    """Catalogs that are written down, and random ones of the day's seed."""
+    """Yields fixed catalogs, and random ones of the day's seed."""
     filters = "".join(
         f"CREATE PUBLICATION p{number} FOR TABLE t WHERE ({condition});\n" for number, (condition, _) in enumerate(FILTERS))
     for text in (BASE, REGIONS, INDEXED, CATALOG, T + filters):
@@ -79,23 +80,22 @@ def texts() -> Iterator[Text]:
 
 
 def of_case(made: ShownCase, chance: random.Random) -> Text:
-    """A random catalog."""
+    """Returns the text of a random catalog."""
     statements = CatalogText(made.catalog, chance, False).statements()
     ended = [[*it[:-1], UNCONNECTED, ";"] if it[:2] == ["CREATE", "SUBSCRIPTION"] else it for it in statements]
     return Text(made.catalog_text, "\n".join(" ".join(it) for it in ended))
 
 
 def unconnected(text: str) -> str:
-    """A text whose subscriptions do not connect."""
+    """Returns a text whose subscriptions do not connect."""
     found = [it[0].strip() for it in STATEMENT.finditer(text)]
     return "\n".join(
         it.removesuffix(";") + f" {UNCONNECTED};" if it.startswith("CREATE SUBSCRIPTION ") else it for it in found)
 
 
 def is_compared(tally: Tally, server: Server, number: int, text: Text) -> bool:
-    """Whether the server takes both texts of a catalog, and so has to have the same of both. It refuses what is shown
-    only
-    where it refuses the catalog's own text for the same reason, as for a key of over 32 columns."""
+    """Returns whether the server takes both texts of a catalog; it must then have the same objects from both. It may
+    refuse what is shown only if it refuses the original text for the same reason, such as a key of over 32 columns."""
     status, shown = pgshard("show", text=text.text)
     tally.check(f"show of catalog {number}", status, 0)
     found = state(server, "shown", unconnected(shown))
@@ -107,7 +107,8 @@ def is_compared(tally: Tally, server: Server, number: int, text: Text) -> bool:
 
 
 def state(server: Server, database: str, text: str) -> str:
-    """What a database has that is made of a text, or what the server refuses. The database is dropped again."""
+    """Returns the objects of a database that is created from a text, or the server's refusal. The database is dropped
+    again."""
     server.psql("postgres", f"CREATE DATABASE {database}")
     try:
         said = server.refusal(database, f"SET client_min_messages = error;\n{text}")

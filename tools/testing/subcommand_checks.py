@@ -1,4 +1,4 @@
-"""That each subcommand has runs in which memory is refused, and runs in which a read or a write fails."""
+"""Tests that each subcommand has runs in which memory is refused, and runs in which a read or a write fails."""
 
 import pathlib
 import re
@@ -9,16 +9,16 @@ from tally import Tally
 
 CRATES = pathlib.Path(__file__).resolve().parent.parent.parent / "crates"
 
-# Where the subcommands are declared, and how.
+# The file that declares the subcommands, and the form of a declaration.
 SOURCE = "cli/src/tree.rt"
 DECLARED = re.compile(r'Command::new\(\s*alloc,\s*"(\w+)"')
 
-# What listens has runs of its own: in the files serves.py and publishes.py of each folder.
+# Subcommands that listen have runs of their own, in the files serves.py and publishes.py of each folder.
 LISTENS = {"serve", "publish"}
 
 
 def check_subcommands(tally: Tally) -> None:
-    """Compares the subcommands with the first words of the cases."""
+    """Compares the subcommands with the first arguments of the cases."""
     text = (CRATES / SOURCE).read_text(encoding="utf-8")
     subcommands = set(DECLARED.findall(text)) - {"pgshard"}
     tally.check("subcommands that listen", LISTENS - subcommands, set())

@@ -1,8 +1,8 @@
-"""How many checks passed and failed, and what is printed of those that fail."""
+"""Counts the checks that pass and fail, and prints those that fail."""
 
 import difflib
 
-# A line that is longer is cut: some outputs have lines of 100,000 characters.
+# Longer lines are cut: some outputs have lines of 100,000 characters.
 SHOWN = 1000
 
 
@@ -13,7 +13,7 @@ class Tally:
     failed = 0
 
     def check(self, what: str, found: object, expected: object) -> None:
-        """Counts a check, and prints one that fails."""
+        """Counts a check, and prints it if it fails."""
         if found == expected:
             self.passed += 1
             return
@@ -29,6 +29,6 @@ class Tally:
 
 
 def show(line: str) -> None:
-    """Prints a line, cut where it is long."""
+    """Prints a line, cut if it is long."""
     more = len(line) - SHOWN
     print(line if more <= 0 else f"{line[:SHOWN]} .. and {more} characters")

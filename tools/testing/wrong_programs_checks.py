@@ -1,5 +1,5 @@
-"""That the tests of runs without memory, of runs whose reads and writes fail, and of streams with a byte changed each
-catch a wrong program, and pass what only hands the program's answers on."""
+"""Tests that the tests of runs without memory, of runs whose reads and writes fail, and of streams with a changed byte
+each catch a wrong program, and pass one that only copies the answers of the program under test."""
 
 import contextlib
 import io
@@ -21,13 +21,13 @@ from tally import Tally
 
 TESTING = pathlib.Path(__file__).resolve().parent
 
-# What is tried is small: one run, with each of its requests and calls.
+# The tests are small: one run, in which each request and each call fails in turn.
 WORDS = ("make",)
 TEXT = b"CREATE TABLE t (id integer PRIMARY KEY); CREATE PUBLICATION p FOR TABLE t;\n"
 
 
 def check_wrong_programs(tally: Tally) -> None:
-    """The wrong programs of each kind."""
+    """Tests the wrong programs of each kind."""
     check_ignored_byte(tally)
     with tempfile.TemporaryDirectory() as folder, instead_of_program(folder):
         refusing, failing = compiled(folder, "refusing"), compiled(folder, "failing")
@@ -48,7 +48,7 @@ def check_wrong_programs(tally: Tally) -> None:
 
 @contextlib.contextmanager
 def instead_of_program(folder: str) -> Iterator[None]:
-    """The tests run the wrong program, and that the real one."""
+    """Lets the tests run the wrong program, which in turn runs the real one."""
     file = f"{folder}/wrong"
     subprocess.run(["cc", "-static", "-O", "-o", file, TESTING / "wrong_program.c"], check=True)
     before = {name: os.environ.get(name) for name in ("PGSHARD", "REAL", "WRONG")}
@@ -61,7 +61,7 @@ def instead_of_program(folder: str) -> Iterator[None]:
 
 
 def failures(wrong: str, check: Callable[[Tally], object]) -> int:
-    """How many checks fail where the program is wrong in this way. What they print is left unsaid."""
+    """Returns how many checks fail if the program is wrong in this way. What they print is discarded."""
     own = Tally()
     os.environ["WRONG"] = wrong
     with contextlib.redirect_stdout(io.StringIO()):
@@ -70,9 +70,8 @@ def failures(wrong: str, check: Callable[[Tally], object]) -> int:
 
 
 def check_ignored_byte(tally: Tally) -> None:
-    """What a program writes of a stream with each byte changed, if it is right, and if it ignores what a byte is
-    changed
-    to: it answers one change of a byte as another."""
+    """Tests a program's answers on a stream with each byte changed: the right answers, and those of a program that
+    ignores the value of a changed byte, that is, answers one change of the byte as another."""
     stream = min(STREAMS.values(), key=len)
     right = list(Changes(stream).answers())
     tally.check("the first difference of a right program", first_difference(Changes(stream), "".join(right).encode()), None)
@@ -86,10 +85,10 @@ def check_ignored_byte(tally: Tally) -> None:
 
 
 def head(answer: str) -> str:
-    """The line that names the change."""
+    """Returns the line that names the change."""
     return answer.split("\n", 1)[0] + "\n"
 
 
 def body(answer: str) -> str:
-    """The lines after it."""
+    """Returns the lines after it."""
     return answer.split("\n", 1)[1]

@@ -1,4 +1,5 @@
-"""Calls with their answers: a table for each topic, and modules for calls that a loop makes, as at limits of inputs."""
+"""Calls with their answers: a table for each topic, and modules for calls that are generated, for example at the limits
+of inputs."""
 
 import pathlib
 from collections.abc import Iterator
@@ -25,7 +26,7 @@ MODULES = [
 
 
 def topics() -> Iterator[tuple[str, Iterator[Call]]]:
-    """The topics by name, with the calls of each."""
+    """Yields each topic with its calls."""
     for path in sorted(FOLDER.glob("*.calls")):
         yield path.stem, calls_of(path)
     for module in MODULES:

@@ -5,13 +5,13 @@ from collections.abc import Iterator
 from .streams import CATALOG, SPLIT, sharded
 from .table import NEW, Call
 
-# Besides the book's table `t`, one that the book does not have.
+# A table that the catalog has besides `t`, but the book does not.
 NAMES = "catalog.read CREATE TABLE t (id integer PRIMARY KEY, region text);CREATE TABLE u (id integer PRIMARY KEY);"
 
-# The rows that the first commit makes.
+# The rows that the first commit inserts.
 KEPT = "(1050, 'a') (1060, 'a')"
 
-# Commands that a table with these rows alone refuses, and why.
+# Commands that are refused if the table has only these rows, and why.
 REFUSED = [
     ("INSERT t (1050, 'b')", "DuplicateKey"), ("DELETE t (1051)", "NoSuchRow"),
     ("UPDATE t (1051) (1052, 'b')", "NoSuchRow"), ("UPDATE t (1050) (1060, 'b')", "DuplicateKey"),
@@ -22,17 +22,17 @@ LENGTHS = [1, 2, 3, 10, 100, 999, 1_000]
 
 
 def inserts(first: int, count: int) -> list[str]:
-    """Inserts of rows of these numbers."""
+    """Returns inserts of rows with these numbers."""
     return [f"INSERT t ({number}, 'a')" for number in range(first, first + count)]
 
 
 def commit(commands: list[str]) -> str:
-    """The script of a commit of the commands."""
+    """Returns the script of a commit with these commands."""
     return " ".join(["COMMIT", ", ".join(commands)]).rstrip() + ";"
 
 
 def many_rows() -> Iterator[Call]:
-    """10,000 rows come from the last to the first, 100 in a commit, and go from the first to the last."""
+    """Inserts 10,000 rows from the last to the first, 100 in a commit, and deletes them from the first to the last."""
     yield from sharded()
     yield Call("book.new 1000", "ok")
     for number in range(100):
@@ -48,13 +48,14 @@ def many_rows() -> Iterator[Call]:
 
 
 def begun() -> Iterator[Call]:
-    """A book whose only commit makes two rows."""
+    """Creates a book whose only commit inserts two rows."""
     yield Call("book.new 2", "ok")
     yield Call("book.commit 1 COMMIT INSERT t (1050, 'a'), INSERT t (1060, 'a');", "Ok(1)")
 
 
 def left(length: int) -> Iterator[Call]:
-    """A refusal left the rows, and the list without the command, this many, is accepted, or is empty."""
+    """Checks that a refusal has left the rows unchanged. Then the list, which without the command has this many
+    entries, is accepted, or is empty."""
     yield Call("book.log", "1")
     yield Call("book.rows 0", KEPT)
     rest = inserts(1, length)
@@ -64,7 +65,7 @@ def left(length: int) -> Iterator[Call]:
 
 
 def refusals() -> Iterator[Call]:
-    """A refusal in the middle of a list leaves the rows."""
+    """Checks that a refusal in the middle of a list changes no rows."""
     yield from sharded(CATALOG, SPLIT)
     yield Call(NAMES, "ok")
     for length in LENGTHS:
@@ -82,7 +83,7 @@ def refusals() -> Iterator[Call]:
 
 
 def lists() -> Iterator[Call]:
-    """A list has at most 1,000 commands. Their changes are copied."""
+    """Checks that a list may have at most 1,000 commands, and that their changes are copied."""
     yield from sharded()
     yield Call("book.new 9", "ok")
     yield Call(f"book.commit 1 {commit(inserts(1, 1_001))}", "Err(TooManyCommands)")

@@ -1,4 +1,4 @@
-"""Catalogs and scripts at the limits of those that are read."""
+"""Catalogs and scripts at the limits of what is read."""
 
 from collections.abc import Iterator
 
@@ -16,14 +16,14 @@ TEXT = 65_535
 
 
 def strings() -> Iterator[Call]:
-    """The strings of subscriptions have a limit. These have a quote too."""
+    """Checks the limit of subscriptions' strings, here strings that contain a quote."""
     begin = "catalog.read CREATE PUBLICATION p;CREATE SUBSCRIPTION s CONNECTION '"
     yield Call(f"{begin}{(TEXT - 1) * 'a'}''' PUBLICATION p;", "ok")
     yield Call(f"{begin}{TEXT * 'a'}''' PUBLICATION p;", "TooMany(LiteralBytes) 54")
 
 
 def counts() -> Iterator[Call]:
-    """As many tables, columns, publications and subscriptions as there may be, and one more."""
+    """Checks the greatest number of tables, columns, publications and subscriptions, and one more of each."""
     tables = ";\\n".join(f"CREATE TABLE t{number} (id integer PRIMARY KEY)" for number in range(64))
     yield Call(f"catalog.read {tables};", "ok")
     yield Call(f"catalog.read {tables};\\nCREATE TABLE u (id integer PRIMARY KEY);", "TooMany(Tables) 2755")
@@ -41,7 +41,8 @@ def counts() -> Iterator[Call]:
 
 
 def parts() -> Iterator[Call]:
-    """Filters with as many atoms and nodes as there may be, and one more; and the deepest, and a deeper one."""
+    """Checks filters with the greatest number of atoms and nodes, and one more; and the deepest filter, and a deeper
+    one."""
     atoms = " OR ".join(f"id = {number}" for number in range(64))
     for before, after, answer in [
             ("", "", "ok"), ("", " OR id = 1", "ok"), ("", " OR id = 64", "TooMany(Atoms) 147"),
@@ -55,12 +56,13 @@ def parts() -> Iterator[Call]:
 
 
 def name(letter: str, number: int) -> str:
-    """A name of 63 bytes."""
+    """Returns a name of 63 bytes."""
     return f"{60 * letter}{number:03}"
 
 
 def table(number: int) -> str:
-    """A table of 100 columns, all in its key and in each of its 8 indexes, the last of which identifies its rows."""
+    """Returns a table of 100 columns, all of them in its key and in each of its 8 indexes, the last of which is its
+    replica identity."""
     columns = [name("c", column) for column in range(2, 100)]
     declared = ", ".join(f"{column} boolean NOT NULL" for column in columns)
     key = ", ".join(["id", "region", *columns])
@@ -72,8 +74,8 @@ def table(number: int) -> str:
 
 
 def filter_of(publication: int, number: int) -> str:
-    """A filter for each publication and table. The one of the last publication on the first table has a text of 65,535
-    bytes, and those on the last table together have 64 atoms and 1,000 nodes."""
+    """Returns a filter for a publication and a table. The filter of the last publication on the first table contains a
+    text of 65,535 bytes, and those on the last table together have 64 atoms and 1,000 nodes."""
     if (publication, number) == (63, 0):
         return f"region = '{TEXT * 'a'}'"
     if (publication, number) == (2, 63):
@@ -82,15 +84,16 @@ def filter_of(publication: int, number: int) -> str:
 
 
 def publication(number: int) -> str:
-    """A publication that names each table with a filter."""
+    """Returns a publication that names each table with a filter."""
     tables = ", ".join(
         f"{name('s', table)}.{name('t', table)} WHERE ({filter_of(number, table)})" for table in range(64))
     return f"CREATE PUBLICATION {name('p', number)} FOR TABLE {tables};\\n"
 
 
 def largest() -> str:
-    """64 schemas, publications of every table and of every schema, a table in each schema, 62 publications that name
-    each table with a filter, and 32 subscriptions to all publications. A comment before them makes up 16 MB."""
+    """Returns a catalog of 64 schemas with a table each, a publication of all tables and one of all schemas, 62
+    publications that name each table with a filter, and 32 subscriptions to all publications. A comment before them
+    makes it 16 MB long."""
     schemas = [name("s", number) for number in range(64)]
     every = ", ".join(name("p", number) for number in range(64))
     return "".join([
@@ -103,7 +106,7 @@ def largest() -> str:
 
 
 def shown() -> str:
-    """What the largest catalog has."""
+    """Returns what is shown of the largest catalog."""
     tables = [f"{name('s', number)}.{name('t', number)}" for number in range(64)]
     whole = " ".join(map(str, range(64)))
     filtered = " ".join(f"{number}?" for number in range(64))
@@ -113,7 +116,7 @@ def shown() -> str:
 
 
 def shown_table(number: int) -> str:
-    """What a table of the largest catalog has."""
+    """Returns what is shown of a table of the largest catalog."""
     columns = " ".join(["id Integer! region Text!", *(f"{name('c', column)} Boolean!" for column in range(2, 100))])
     every = " ".join(map(str, range(100)))
     indexes = "; ".join(f"{name('i', index)} {every}" for index in range(8))
@@ -121,7 +124,7 @@ def shown_table(number: int) -> str:
 
 
 def largest_catalog() -> Iterator[Call]:
-    """The largest catalog, and what it has."""
+    """Checks the largest catalog."""
     yield Call(f"catalog.read {largest()}", "ok")
     yield Call("catalog.show", shown())
     for number in range(64):
@@ -129,7 +132,8 @@ def largest_catalog() -> Iterator[Call]:
 
 
 def scripts() -> Iterator[Call]:
-    """A row of 100 values, one of them the longest text, as a key and as a row; and 100,000 steps, and one more."""
+    """Checks a row of 100 values, one of them the longest text, as a key and as a row; and a script of 100,000 steps,
+    and of one more."""
     yield Call("catalog.read CREATE TABLE t (id integer PRIMARY KEY);", "ok")
     numbers = ", ".join(f"-{number}" for number in range(1, 97))
     row = f"('{TEXT * 'a'}', {numbers}, NULL, TRUE, '')"

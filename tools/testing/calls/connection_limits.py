@@ -1,4 +1,4 @@
-"""Connections at the limits of what a client sends and of what is told to it."""
+"""Connections at the limits of what a client sends and of what is sent to it."""
 
 from collections.abc import Iterator
 
@@ -9,29 +9,29 @@ from .table import NEW, Call
 QUERY = (
     b"Q\0\0\0\x5aSTART_REPLICATION SLOT \"s0\" LOGICAL 0/0 (proto_version '1', publication_names '\"pa\"')\0").hex()
 
-# A status that the log is flushed up to 128, which wants a reply.
+# A status that reports the log as flushed up to 128, and requests a reply.
 STATUS = (b"d\0\0\0\x26r" + 3 * b"\0\0\0\0\0\0\0\x80" + b"\0\0\0\0\0\0\0\x05\x01").hex()
 
 COPY_BOTH = b"W\0\0\0\x07\0\0\0".hex()
 
-# How many bytes tell of the first commit of the largest table: Begin, a Relation of 100 columns of which 10 have a name
-# of two bytes and the others one of three, an Insert of 100 of the longest texts, an Update of 200 and Commit, each
-# after the 30 bytes of its frame.
+# The number of bytes that are sent for the first commit of the largest table: Begin, a Relation of 100 columns of which
+# 10 have a name of two bytes and the others one of three, an Insert of 100 of the longest texts, an Update of 200 of
+# them and Commit, each after the 30 bytes of its frame.
 TOLD = (
     (30 + 21) + (30 + 17 + 10 * (1 + 2 + 1 + 8) + 90 * (1 + 3 + 1 + 8)) + (30 + 8 + 100 * (1 + 4 + TEXT))
     + (30 + 11 + 200 * (1 + 4 + TEXT)) + (30 + 26))
 
-# How many statuses have over 16 MiB together.
+# How many statuses exceed 16 MiB together.
 STATUSES = 430_186
 
 
 def heard(started: str, replies: int) -> str:
-    """What is answered where nothing ends."""
+    """Returns the answer of a connection that does not end."""
     return f"Ok(Heard {{ started: {started}, replies: {replies}, ended: None }})"
 
 
 def longest_rows() -> Iterator[Call]:
-    """A voice and a link tell of the longest rows."""
+    """Checks that a voice and a link send the longest rows."""
     yield from wide_book()
     yield Call("voice.new", "ok")
     yield Call("voice.start 0 0", "Ok(())")
@@ -48,13 +48,13 @@ def longest_rows() -> Iterator[Call]:
 
 
 def query(length: int) -> str:
-    """A Query whose length is this number, of blanks and then a start with all 64 publications."""
+    """Returns a Query of this length, which consists of blanks and a start with all 64 publications."""
     command = start(64).encode()
     return (b"Q" + length.to_bytes(4, "big") + (length - 5 - len(command)) * b" " + command + b"\0").hex()
 
 
 def longest_starts() -> Iterator[Call]:
-    """The longest start is heard, by an ear and by a link, and no longer one."""
+    """Checks that an ear and a link accept the longest start, and no longer one."""
     for length, answer, said in [
             (65_536, heard("Some(0)", 0), COPY_BOTH), (65_537, "Err(FrameTooLong)", "")]:
         yield from published_book()
@@ -68,7 +68,7 @@ def longest_starts() -> Iterator[Call]:
 
 
 def many_statuses() -> Iterator[Call]:
-    """Many statuses come in a piece of over 16 MiB. Each is replied to by a keepalive of 23 bytes."""
+    """Sends many statuses in a piece of over 16 MiB. Each is answered by a keepalive of 23 bytes."""
     yield from published_book()
     yield Call("link.new", "0")
     yield Call(f"link.hear 0 4 {query(65_536)}", heard("Some(0)", 0))
@@ -82,7 +82,7 @@ def many_statuses() -> Iterator[Call]:
 
 
 def named() -> Iterator[Call]:
-    """A start may name the 64 publications of its subscription, and no other number."""
+    """Checks that a start may name the 64 publications of its subscription, and no other number of them."""
     yield from published_book()
     other = "42704 publication \"pppppppppppppppppppppppppppppppppppppppppppppppppppppppppppp064\" does not exist"
     for count, answer in [

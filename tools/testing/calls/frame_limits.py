@@ -1,4 +1,4 @@
-"""Frames in pieces of each length, and the longest."""
+"""Frames that are cut into pieces of each length, and the longest frames."""
 
 from collections.abc import Iterator
 
@@ -22,13 +22,13 @@ COPY_DONE = b"c\0\0\0\x04".hex()
 
 
 def frames_come(frames: list[str]) -> Iterator[Call]:
-    """These frames come next, and then none."""
+    """Expects these frames next, and then none."""
     for frame in [*frames, "none"]:
         yield Call("frames.next", frame)
 
 
 def cut() -> Iterator[Call]:
-    """Frames do not depend on the pieces: the stream is cut at each place, and then comes byte by byte."""
+    """Checks that frames do not depend on the pieces: the stream is cut at each byte, and then sent byte by byte."""
     frames = [frame.hex() for frame in FRAMES]
     for place in range(len(STREAM) + 1):
         yield Call("frames.new 65536", "ok")
@@ -44,7 +44,7 @@ def cut() -> Iterator[Call]:
 
 
 def longest() -> Iterator[Call]:
-    """A frame may be as long as the limit, and comes three times from pieces of some length."""
+    """Checks that a frame may be as long as the limit. It is sent three times, in pieces of some length."""
     frame = (b"d\0\x01\0\0" + (65_537 - 5) * b"a").hex()
     for length in [1, 7, 65_536, 65_537]:
         yield Call("frames.new 65536", "ok")
@@ -58,7 +58,7 @@ def longest() -> Iterator[Call]:
 
 
 def carried() -> Iterator[Call]:
-    """The longest message that a subscriber takes, in a frame after another one."""
+    """Checks the longest message that a subscriber accepts, in a frame after another one."""
     end = 2 ** 64 - 1
     message = (b"I" + 16_777_186 * b"a").hex()
     head = b"d\x01\0\0\0w\0\0\0\0\0\0\0\x40\xff\xff\xff\xff\xff\xff\xff\xff\0\0\0\0\0\0\0\x04".hex()

@@ -1,12 +1,12 @@
-"""Memos at the limits of what tables, rows and filters have: 100 columns, 64 atoms in 32 filters, lists of 100 entries,
-texts of 65,535 bytes."""
+"""Memos at the limits of tables, rows and filters: 100 columns, 64 atoms in 32 filters, lists of 100 entries, texts of
+65,535 bytes."""
 
 from collections.abc import Iterator
 
 from .table import Call
 
-# What a row has in each of the columns c0 to c31, and in each of c68 to c99, and what the two atoms of each filter say of
-# it.
+# The value that a row has in each of the columns c0 to c31, the one that it has in each of c68 to c99, and the values
+# of the two atoms of each filter.
 CASES = [
     (65_535 * "a", "7", ("true", "true")), (65_535 * "a", "1007", ("true", "true")), (65_535 * "a", "8", ("true", "true")),
     (65_535 * "a", "-7", ("true", "false")), (65_535 * "a", "-9223372036854775808", ("true", "false")),
@@ -19,7 +19,8 @@ FILTERS = 32
 
 
 def catalog() -> str:
-    """The filters `c0 IN ('', 'aa..') OR c68 % 1000 IN (0, 1, .., 99)` to `c31 IN .. OR c99 % 1000 IN ..`."""
+    """Returns a catalog with the filters `c0 IN ('', 'aa..') OR c68 % 1000 IN (0, 1, .., 99)` to `c31 IN .. OR c99 %
+    1000 IN ..`."""
     columns = ", ".join(f"c{column} {'text' if column < 68 else 'bigint'}" for column in range(100))
     numbers = ", ".join(map(str, range(100)))
     publications = "".join(
@@ -30,24 +31,24 @@ def catalog() -> str:
 
 
 def row(first: str | None, last: str) -> str:
-    """A row of 100 columns."""
+    """Returns a row of 100 columns."""
     text = "null" if first is None else f"'{first}"
     return " ".join([*(32 * [text]), *(36 * ["null"]), *(32 * [last])])
 
 
 def text_of(said: tuple[str, str]) -> str:
-    """A text of the rows of which the atoms say this; some rows have none."""
+    """Returns a text for the rows for which the atoms have these values; for some rows it is empty."""
     return "" if said == ("null", "null") else " and ".join(said)
 
 
 def joined(said: tuple[str, str]) -> str:
-    """What the filter says, an OR of both atoms."""
+    """Returns the value of the filter, an OR of both atoms."""
     return next(it for it in ("true", "null", "false") if it in said)
 
 
 def calls() -> Iterator[Call]:
-    """A text that is kept is found for all rows of which the atoms say the same, and for no other row: that has its own
-    text, or none."""
+    """Checks that a stored text is found for all rows for which the atoms have the same values, and for no other row,
+    which has its own text or none."""
     yield Call(f"catalog.read {catalog()}", "ok")
     yield Call("memo.new", "ok")
     for number, (first, last, said) in enumerate(CASES):

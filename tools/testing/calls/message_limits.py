@@ -1,4 +1,4 @@
-"""Messages of the longest rows and names, messages that are cut short, and what is told about the largest commits."""
+"""Messages of the longest rows and names, truncated messages, and what is sent for the largest commits."""
 
 import pathlib
 from collections.abc import Iterator
@@ -8,26 +8,26 @@ from .table import NEW, Call, calls_of
 
 MESSAGES = pathlib.Path(__file__).resolve().parent / "messages.calls"
 
-# What calls of `messages.calls` on messages of a server begin with.
+# The beginning of calls in `messages.calls` on a server's messages.
 AGAIN = "decode.again "
 
 
 def server_messages() -> Iterator[str]:
-    """The messages of a server, which are read and spelled again."""
+    """Yields a server's messages, which are decoded and encoded again."""
     for call in calls_of(MESSAGES):
         if call.line == AGAIN + call.answer:
             yield call.answer
 
 
 def cut_short() -> Iterator[Call]:
-    """Each part of a message from its beginning is too short."""
+    """Checks that each proper prefix of a message is too short."""
     for message in server_messages():
         for length in range(0, len(message), 2):
             yield Call((AGAIN + message[:length]).rstrip(), "Short")
 
 
 def rows() -> Iterator[Call]:
-    """A row may have 100 of the longest texts. Its message is appended to another one."""
+    """Checks a row of 100 of the longest texts. Its message is appended to another one."""
     row = " ".join(100 * [f"'{TEXT * 'a'}"])
     cells = 100 * f"740000ffff{TEXT * '61'}"
     message = f"490000403f4e0064{cells}"
@@ -38,7 +38,7 @@ def rows() -> Iterator[Call]:
 
 
 def relations() -> Iterator[Call]:
-    """A table may have 100 columns of the longest names, of which the first is the key."""
+    """Checks a table of 100 columns with the longest names, of which the first is the key."""
     schema, table = long_name("s", 0), long_name("t", 0)
     columns = [long_name("c", number) for number in range(100)]
     declared = ", ".join(f"{column} text" for column in columns)
@@ -55,8 +55,8 @@ def relations() -> Iterator[Call]:
 
 
 def lengths_of_inserts(rows: range) -> str:
-    """How many bytes the messages of inserts of (7, 'a'), (8, 'a') .. into the table `t` have under DEFAULT: Begin, the
-    Relation, the Inserts, and Commit."""
+    """Returns the lengths of the messages for inserts of (7, 'a'), (8, 'a') .. into the table `t` under DEFAULT: Begin,
+    the Relation, the Inserts, and Commit."""
     relation = 1 + 4 + len(b"public\0t\0d") + 2 + (1 + len(b"id\0") + 8) + (1 + len(b"region\0") + 8)
     inserts = [1 + 4 + 1 + 2 + 5 + len(str(row)) + 5 + 1 for row in rows]
     lengths = [21, relation, *inserts, 26]
@@ -64,8 +64,8 @@ def lengths_of_inserts(rows: range) -> str:
 
 
 def large_commits() -> Iterator[Call]:
-    """A commit of 1,000 commands is told in parts: 99 of its rows are below 100. The longest message is an update of
-    the longest texts: eleven bytes, and twice 100 columns of a letter, a length and a text."""
+    """Checks that a commit of 1,000 commands is sent in parts: 99 of its rows are below 100. The longest message is an
+    update of the longest texts: eleven bytes, and twice 100 columns of a letter, a length and a text."""
     yield from sharded(CATALOG.replace("ALTER TABLE t REPLICA IDENTITY FULL;\\n", ""))
     yield Call("book.new 9", "ok")
     inserts = ", ".join(f"INSERT t ({number}, 'a')" for number in range(1, 1_001))

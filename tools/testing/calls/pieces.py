@@ -1,5 +1,5 @@
-"""A subscriber whose stream is cut at each byte, or lost after it: the position is that of the commit once it is whole,
-and a new connection has what the lost one had not."""
+"""A subscriber whose stream is cut after each byte, or whose connection is lost there. Its position is that of the
+commit once the commit is complete, and a new connection gets what the lost one had not delivered."""
 
 from collections.abc import Iterator
 
@@ -10,7 +10,7 @@ START = (
     b"Q\0\0\0\x5aSTART_REPLICATION SLOT \"s0\" LOGICAL 0/0 (proto_version '1', publication_names '\"pa\"')\0").hex()
 
 # CopyBothResponse, and then Begin, Relation, Insert and Commit of the row (7, 'eu') of `public.t`, as XLogData.
-# Positions, clocks and times have bits past the first 32.
+# Positions, clocks and times have bits above the lowest 32.
 HEAD = b"w\0\0\x01\0\0\0\0\x40\0\0\x01\0\0\0\0\x40\x80\0\x01\0\0\0\0\x04"
 
 STREAM = (
@@ -21,7 +21,7 @@ STREAM = (
     b"d\0\0\0\x32" + HEAD + b"I\0\0\x40\0N\0\x02t\0\0\0\x017t\0\0\0\x02eu"
     b"d\0\0\0\x37" + HEAD + b"C\0\0\0\x01\0\0\0\0\x40\0\0\x01\0\0\0\0\x80\x80\0\x01\0\0\0\0\x01")
 
-# Where the commit ends, a clock, and the status that all is flushed up to that end, with the clock.
+# The end of the commit, a clock, and the status that reports everything up to that end as flushed, with the clock.
 END = 0x0100_0000_0080
 
 NOW = 0x8000_0100_0000_0006
@@ -30,23 +30,23 @@ STATUS = (b"d\0\0\0\x26r" + 3 * b"\0\0\x01\0\0\0\0\x80" + b"\x80\0\x01\0\0\0\0\x
 
 
 def opened() -> Iterator[Call]:
-    """A subscriber with a connection."""
+    """Opens a connection of a subscriber."""
     yield Call("subscriber.new s0 pa", "ok")
     yield Call("subscriber.open", "Ok(())")
 
 
 def fed(piece: bytes) -> Call:
-    """A piece that the subscriber takes."""
+    """Feeds the subscriber a piece."""
     return Call(f"subscriber.feed {piece.hex()}".rstrip(), "Ok(())")
 
 
 def position(place: int) -> Call:
-    """Where the subscriber is."""
+    """Expects the subscriber's position."""
     return Call("subscriber.position", str(place))
 
 
 def cut(place: int) -> Iterator[Call]:
-    """The stream in two pieces."""
+    """Sends the stream in two pieces."""
     yield from opened()
     yield Call("subscriber.output", START)
     yield Call(f"subscriber.pass {len(START) // 2}", "ok")
@@ -59,7 +59,7 @@ def cut(place: int) -> Iterator[Call]:
 
 
 def lost(place: int) -> Iterator[Call]:
-    """The first bytes of the stream, and then the stream that the next connection has."""
+    """Sends the first bytes of the stream, and then the stream of the next connection."""
     yield from opened()
     yield fed(STREAM[:place])
     yield Call("subscriber.lose", "ok")

@@ -1,4 +1,4 @@
-"""Names, rows and filters at the limits of those that are read."""
+"""Names, rows and filters at the limits of what is read."""
 
 from collections.abc import Iterator
 
@@ -10,7 +10,7 @@ COLUMNS = "catalog.read CREATE TABLE t (id integer PRIMARY KEY, region text, b b
 
 
 def rows() -> Iterator[Call]:
-    """Rows as they are printed. The last one has 16 MB."""
+    """Checks rows as they are printed. The last one has 16 MB."""
     mixed = "7, NULL, FALSE, '', -9223372036854775807"
     quotes = "'" + TEXT * "''" + "'"
     longest = "'" + TEXT * "a" + "'"
@@ -20,7 +20,7 @@ def rows() -> Iterator[Call]:
 
 
 def copies() -> Iterator[Call]:
-    """Rows that are copied: 1,600 numbers, and 100 texts of some lengths; and a filter of such a text."""
+    """Checks copies of rows: 1,600 numbers, and 100 texts of some lengths; and of a filter with such a text."""
     numbers = range(1_600)
     yield Call("row.copy " + " ".join(map(str, numbers)), f"({', '.join(map(str, numbers))})")
     yield Call("catalog.read CREATE TABLE t (c0 text PRIMARY KEY);", "ok")
@@ -33,7 +33,7 @@ def copies() -> Iterator[Call]:
 
 
 def columns() -> Iterator[Call]:
-    """100 columns of the longest names, and all of them as the key, the last one first."""
+    """Checks 100 columns with the longest names, and all of them as the key, in reverse order."""
     names = [f"{60 * 'c'}{number}" for number in range(100, 200)]
     declared = ", ".join(f"{name} text NOT NULL" for name in names)
     shown = " ".join(f"{name} Text!" for name in names)
@@ -42,7 +42,7 @@ def columns() -> Iterator[Call]:
 
 
 def filters() -> Iterator[str]:
-    """Filters that are true of the row (7, a text of 65,535 bytes, TRUE)."""
+    """Yields filters that are true for the row (7, a text of 65,535 bytes, TRUE)."""
     for before, after in [("NOT ", ""), ("(", ")"), ("(", " IS NOT FALSE)")]:
         yield f"{64 * before}b{64 * after}"
     yield f"id IN ({', '.join(100 * ['7'])})"
@@ -57,7 +57,7 @@ def filters() -> Iterator[str]:
 
 
 def true_filters() -> Iterator[Call]:
-    """What the filters say."""
+    """Checks the values of the filters."""
     yield Call(COLUMNS, "ok")
     for text in filters():
         yield Call(f"filter.read {text});", "ok")
@@ -65,7 +65,7 @@ def true_filters() -> Iterator[Call]:
 
 
 def parts() -> Iterator[Call]:
-    """Large filters are copied, and their parts listed: 64 remainders, and 524,288 atoms under 524,287 ANDs."""
+    """Copies large filters and lists their parts: 64 remainders, and 524,288 atoms under 524,287 ANDs."""
     yield Call(COLUMNS, "ok")
     remainders = " OR ".join(f"id % {divisor} = 0" for divisor in range(1, 65))
     yield Call(f"filter.read {remainders});", "ok")

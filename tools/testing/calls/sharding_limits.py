@@ -1,4 +1,4 @@
-"""Plans, changes, certificates, checks and what is made, at the limits of catalogs and certificates."""
+"""Plans, changes, certificates, checks and made certificates, at the limits of catalogs and certificates."""
 
 from collections.abc import Iterator
 
@@ -10,8 +10,8 @@ ALL = "insert, update, delete, truncate"
 
 
 def plans() -> Iterator[Call]:
-    """64 tables of 100 columns, of which the first has them all as its key; 64 publications, each of every table with a
-    filter; and 32 subscriptions, each to every publication."""
+    """Checks 64 tables of 100 columns, of which the first has them all as its key; 64 publications, each of all tables
+    with a filter; and 32 subscriptions, each to all publications."""
     columns = ", ".join(f"c{column} integer" for column in range(100))
     keys = [", ".join(f"c{column}" for column in range(100)), *(63 * ["c0"])]
     tables = "".join(f"CREATE TABLE t{number} ({columns}, PRIMARY KEY ({key}));\\n" for number, key in enumerate(keys))
@@ -35,8 +35,8 @@ def plans() -> Iterator[Call]:
 
 
 def recorded() -> Iterator[Call]:
-    """What is recorded of a row of 100 columns, the first of which has one of the longest texts, by each identity. The
-    last column changes."""
+    """Checks what is logged of a row of 100 columns under each identity. The first column has one of the longest texts,
+    and the last one changes."""
     columns = [f"c{column}" for column in range(100)]
     declared = ", ".join(f"{column} text NOT NULL" for column in columns)
     table = f"CREATE TABLE t ({declared}, PRIMARY KEY ({', '.join(columns)}));CREATE UNIQUE INDEX i ON t (c99, c0);"
@@ -53,7 +53,7 @@ def recorded() -> Iterator[Call]:
 
 
 def keys() -> Iterator[Call]:
-    """A key of 100 columns, from the last to the first: a text of the longest ones, and the numbers from 98 to 0."""
+    """Checks a key of 100 columns, in reverse order: one of the longest texts, and the numbers from 98 to 0."""
     declared = ", ".join(f"c{column} integer" for column in range(100))
     key = ", ".join(f"c{column}" for column in reversed(range(100)))
     yield Call(f"catalog.read CREATE TABLE t ({declared}, PRIMARY KEY ({key}));", "ok")
@@ -63,7 +63,8 @@ def keys() -> Iterator[Call]:
 
 
 def even(splits: int, leaf: str) -> str:
-    """A certificate of this many splits by atom 0, as even as can be: one node, and three for each split."""
+    """Returns a certificate of this many splits by atom 0, as balanced as possible: one node, and three for each
+    split."""
     if splits == 0:
         return leaf
     first, second = (splits - 1) // 3, splits // 3
@@ -72,7 +73,7 @@ def even(splits: int, leaf: str) -> str:
 
 
 def certificates() -> Iterator[Call]:
-    """A million nodes are read and written again; too many nodes are told before too many splits on a path."""
+    """Reads and writes a million nodes. Too many nodes are reported before too many splits on a path."""
     text = even(333_333, "e 0")
     yield Call(f"certificate.read {text}", text)
     yield Call(f"certificate.limits {text}", "true")
@@ -83,15 +84,15 @@ def certificates() -> Iterator[Call]:
 
 
 def large_filter() -> str:
-    """A filter of 1,000 nodes that each row passes: 499 atoms, 64 of them different, or NOT FALSE. They are `id < 0`
-    and `IS NULL` of the last 63 columns."""
+    """Returns a filter of 1,000 nodes that is true for each row: 499 atoms, 64 of them different, or NOT FALSE. They
+    are `id < 0` and `IS NULL` of the last 63 columns."""
     atoms = ("id < 0" if place % 64 == 0 else f"c{36 + place % 64} IS NULL" for place in range(499))
     return " OR ".join(["NOT FALSE", *atoms])
 
 
 def tables(last: str, publishes: str) -> str:
-    """64 tables of 100 columns, each with a publication; the last one has this replica identity, and its publication
-    publishes these operations."""
+    """Returns 64 tables of 100 columns, each with a publication. The last table has this replica identity, and its
+    publication publishes these operations."""
     columns = ", ".join(["id integer PRIMARY KEY", *(f"c{number} text" for number in range(1, 100))])
     text = ""
     for number in range(64):
@@ -104,14 +105,14 @@ def tables(last: str, publishes: str) -> str:
 
 
 def catalog(last: str, publishes: str) -> str:
-    """Those tables, and 32 subscriptions, each to two of the publications."""
+    """Returns these tables with 32 subscriptions, each to two of the publications."""
     return tables(last, publishes) + "".join(
         f"CREATE SUBSCRIPTION s{number} CONNECTION '' PUBLICATION p{number}, p{number + 32};\\n"
         for number in range(32))
 
 
 def checks() -> Iterator[Call]:
-    """A catalog at the limits is accepted, and refused for the last of what it has."""
+    """Checks that a catalog at the limits is accepted, and that it is refused for a fault of its last objects."""
     owners = [f"o {number % 32}" for number in range(64)]
     yield Call(f"catalog.read {catalog('FULL', ALL)}", "ok")
     yield Call(f"check.certificates {';'.join(owners)}", "ok")
@@ -130,7 +131,8 @@ def checks() -> Iterator[Call]:
 
 
 def nodes() -> Iterator[Call]:
-    """Each node of a certificate at the limits is checked: the last of a million, and one after 64 splits on a path."""
+    """Checks that each node of a certificate at the limits is examined: the last of a million, and one after 64 splits
+    on a path."""
     yield Call(
         "catalog.read CREATE TABLE t (id integer PRIMARY KEY);"
         "CREATE PUBLICATION p FOR TABLE t WHERE (id < 0 OR TRUE);"
@@ -143,7 +145,7 @@ def nodes() -> Iterator[Call]:
 
 
 def shares() -> Iterator[Call]:
-    """The last of 32 shares and the last of 100 columns are looked at."""
+    """Checks that the last of 32 shares and the last of 100 columns are examined."""
     publication = "CREATE PUBLICATION q FOR TABLE t0 WHERE (NOT c99 IS NULL);CREATE PUBLICATION none;"
     named = ["p0", *(30 * ["none"]), "q"]
     subscriptions = "".join(
@@ -157,8 +159,8 @@ def shares() -> Iterator[Call]:
 
 
 def made() -> Iterator[Call]:
-    """A table of 100 columns and 64 atoms, the remainders by 32 each with its subscriber; and 64 tables, each with its
-    owner of 32."""
+    """Makes certificates for a table of 100 columns and 64 atoms whose remainders by 32 each have their own subscriber,
+    and for 64 tables that each have one owner of 32."""
     columns = ", ".join(["id integer PRIMARY KEY", *(f"c{number} integer" for number in range(1, 100))])
     for of_first, sort in [("c99 IS NOT NULL", "certificate"), ("FALSE", "counterexample")]:
         filters = [f"id % 32 = 0 AND (c99 IS NULL OR {of_first})"]

@@ -1,5 +1,5 @@
-"""What the calls on commits and connections share: a table whose rows below 100 go to one subscriber, and the others to
-another; and names and texts at the limits of those that are read."""
+"""What the calls for commits and connections share: a table whose rows below 100 go to one subscriber and the others to
+another, and names and texts at the limits of what is read."""
 
 from collections.abc import Iterator
 
@@ -16,18 +16,19 @@ TEXT = 65_535
 
 
 def sharded(catalog: str = CATALOG, certificates: str = SPLIT) -> Iterator[Call]:
-    """A sharding that is accepted."""
+    """Creates a sharding that is accepted."""
     yield Call(f"catalog.read {catalog}", "ok")
     yield Call(f"check.texts {certificates}", "ok")
 
 
 def long_name(letter: str, number: int) -> str:
-    """A name of 63 bytes."""
+    """Returns a name of 63 bytes."""
     return f"{60 * letter}{number:03}"
 
 
 def wide_book() -> Iterator[Call]:
-    """A book of a table of 100 texts under FULL, whose only commit inserts the longest row, and updates all of it."""
+    """Creates a book of a table of 100 texts under FULL, whose only commit inserts the longest row and updates all of
+    it."""
     columns = ", ".join(["c0 text PRIMARY KEY", *(f"c{number} text" for number in range(1, 100))])
     yield from sharded(
         f"CREATE TABLE t ({columns}); ALTER TABLE t REPLICA IDENTITY FULL; CREATE PUBLICATION pa FOR TABLE t;"
@@ -39,12 +40,12 @@ def wide_book() -> Iterator[Call]:
 
 
 def publications(count: int) -> str:
-    """The names of this many publications."""
+    """Returns the names of this many publications."""
     return ", ".join(long_name("p", number) for number in range(count))
 
 
 def published_book() -> Iterator[Call]:
-    """A book of a table that has 64 publications, all of which one subscription has, with a commit."""
+    """Creates a book, with a commit, of a table that has 64 publications, all of them in one subscription."""
     made = "".join(f"CREATE PUBLICATION {long_name('p', number)} FOR TABLE t;" for number in range(64))
     yield from sharded(
         f"CREATE TABLE t (id integer PRIMARY KEY);{made}CREATE SUBSCRIPTION s0 CONNECTION '' "
@@ -54,6 +55,6 @@ def published_book() -> Iterator[Call]:
 
 
 def start(count: int) -> str:
-    """The command that starts the stream of `s0` with this many of the publications."""
+    """Returns the command that starts the stream of `s0` with this many of the publications."""
     return (
         f"START_REPLICATION SLOT \"s0\" LOGICAL 0/0 (proto_version '1', publication_names '{publications(count)}')")

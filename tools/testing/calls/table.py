@@ -1,14 +1,15 @@
 """Calls with their answers, and tables of them.
 
-A table is a text. A line of it begins with one of these:
+A table is a text file. Each line begins with one of these:
 
-    > CALL       a call that is made
-    < ANSWER     what it has to answer
-    <! ANSWER    what it has to answer where that is a fault of the call's line: `error: ..` or `no such call: ..`
-    = NAME TEXT  what {NAME} is in the lines that follow
+    > CALL       a call
+    < ANSWER     its expected answer
+    <! ANSWER    its expected answer if that is a fault of the call's line: `error: ..` or `no such call: ..`
+    = NAME TEXT  replaces {NAME} by the text in the lines that follow
     # TEXT       a comment
 
-The line `new` clears the desk, as the start of each table does. {9*ab} is nine times ab, in calls and in answers.
+The line `new` clears the desk, as does the start of each table. {9*ab} means ab repeated nine times, in calls and in
+answers.
 """
 
 import pathlib
@@ -34,13 +35,14 @@ NEW = Call("new", "")
 
 
 def expanded(text: str, names: dict[str, str]) -> str:
-    """The text with what names and repetitions stand for."""
+    """Replaces names and repetitions by what they mean."""
     text = NAMED.sub(lambda found: names[found[1]], text)
     return REPEATED.sub(lambda found: int(found[1]) * found[2], text)
 
 
 def calls_of(path: pathlib.Path) -> Iterator[Call]:
-    """The calls of a table. A line that is none, and a fault that is not said to be one, are mistakes of the table."""
+    """Yields the calls of a table. It is an error if a line has no such beginning, or if an answer is a fault and is
+    not marked as one."""
     names: dict[str, str] = {}
     asked: str | None = None
     for number, line in enumerate(path.read_text(encoding="utf-8").split("\n"), 1):

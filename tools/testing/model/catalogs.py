@@ -1,9 +1,9 @@
 """Catalogs as data.
 
-A filter is a tuple: ("const", truth), ("not", f), ("and", f, g), ("or", f, g), ("is", truth, f), or an atom:
-("null", column), ("cmp", column, divisor, operator, literal), ("in", column, divisor, literals),
-("between", column, divisor, low, high), ("distinct", column, divisor, literal). A divisor of 0 is for the column
-itself. The literals of a list ascend, and none is there twice. A truth is True, False or None.
+A filter is a tuple: ("const", truth), ("not", f), ("and", f, g), ("or", f, g), ("is", truth, f), or an atom: ("null",
+column), ("cmp", column, divisor, operator, literal), ("in", column, divisor, literals), ("between", column, divisor,
+low, high), ("distinct", column, divisor, literal). A divisor of 0 means the column itself. The literals of a list are
+in ascending order, without duplicates. A truth is True, False or None.
 """
 
 from dataclasses import dataclass, field
@@ -18,7 +18,7 @@ OPERATIONS = ("insert", "update", "delete", "truncate")
 
 @dataclass(frozen=True)
 class Column:
-    """A column of one of the five types. Those of the key are NOT NULL."""
+    """A column of one of the five types. Key columns are NOT NULL."""
 
     name: str
     kind: str
@@ -27,7 +27,7 @@ class Column:
 
 @dataclass(frozen=True)
 class Index:
-    """A unique index over columns, by their numbers."""
+    """A unique index over columns, which are given by their numbers."""
 
     name: str
     columns: tuple[int, ...]
@@ -35,7 +35,7 @@ class Index:
 
 @dataclass(frozen=True)
 class Table:
-    """A table. Its identity is one of the three words, or the number of an index."""
+    """A table. Its identity is one of three words, or the number of an index."""
 
     schema: str
     name: str
@@ -45,11 +45,11 @@ class Table:
     identity: str | int = FULL
 
     def full_name(self) -> str:
-        """The name as outputs have it."""
+        """Returns the qualified name as outputs have it."""
         return f"{self.schema}.{self.name}"
 
     def identity_columns(self) -> tuple[int, ...]:
-        """The columns that the old values of rows are recorded of."""
+        """Returns the columns whose old values are logged."""
         if self.identity == FULL:
             return tuple(range(len(self.columns)))
         if self.identity == DEFAULT:
@@ -59,7 +59,7 @@ class Table:
 
 @dataclass(frozen=True)
 class Publication:
-    """Tables that are named, each with its filter or None, and schemas, or all tables."""
+    """The named tables, each with its filter or None, and the schemas; or all tables."""
 
     name: str
     entries: tuple[tuple[int, Filter | None], ...] = ()
@@ -70,7 +70,7 @@ class Publication:
 
 @dataclass(frozen=True)
 class Subscription:
-    """Publications by their numbers."""
+    """The numbers of the publications."""
 
     name: str
     publications: tuple[int, ...]
@@ -78,7 +78,7 @@ class Subscription:
 
 @dataclass(frozen=True)
 class Catalog:
-    """All that a catalog's text makes."""
+    """Everything that a catalog's text creates."""
 
     tables: tuple[Table, ...] = ()
     publications: tuple[Publication, ...] = ()

@@ -1,4 +1,4 @@
-"""What `check` answers: how certificates are read, and whether each node of one is right."""
+"""The answers of `check`: how certificates are read, and whether each node of one is right."""
 
 import re
 
@@ -16,13 +16,13 @@ NUMBER = re.compile("0|[1-9][0-9]*", re.A)
 
 
 def reading_fault(text: str) -> str | None:
-    """The fault of a certificate's text, if it is none."""
+    """Returns the fault of a certificate's text, or None."""
     words = text.split(" ")[::-1]
     left = [0]
     nodes = 0
     while left:
         splits = left.pop()
-        # After a space at the end of the text comes an empty word, where one is due.
+        # A space at the end of the text yields an empty word, which counts only if another word is expected.
         if not words or words == [""]:
             return "Ended"
         letter = words.pop()
@@ -44,18 +44,18 @@ def reading_fault(text: str) -> str | None:
 
 
 def nodes_of(text: str) -> list[Node]:
-    """The nodes of a certificate."""
+    """Returns the nodes of a certificate."""
     words = text.split(" ")
     return [(letter, int(number)) for letter, number in zip(words[::2], words[1::2])]
 
 
 def text_of(nodes: list[Node]) -> str:
-    """The text of a certificate."""
+    """Returns the text of a certificate."""
     return " ".join(f"{letter} {number}" for letter, number in nodes)
 
 
 def check_lines(catalog: Catalog, certificates: list[str]) -> tuple[int, str]:
-    """The status and the line of `check`."""
+    """Returns the status and the line of `check`."""
     for number, text in enumerate(certificates, 1):
         fault = reading_fault(text)
         if fault is not None:
@@ -71,7 +71,7 @@ def check_lines(catalog: Catalog, certificates: list[str]) -> tuple[int, str]:
 
 
 def catalog_refusal(catalog: Catalog) -> str | None:
-    """What is wrong whatever the certificates are."""
+    """Returns what is wrong independently of the certificates."""
     numbers = sorted({number for it in catalog.subscriptions for number in it.publications})
     taken = [catalog.publications[number] for number in numbers]
     for publication in taken:
@@ -91,7 +91,7 @@ def catalog_refusal(catalog: Catalog) -> str | None:
 
 
 def table_refusal(catalog: Catalog, table: int, nodes: list[Node]) -> str | None:
-    """The first node that is wrong, and why."""
+    """Returns the first node that is wrong, and why."""
     shares = shares_of(catalog, table)
     found = Walk(catalog.tables[table], shares).first_fault(nodes)
     if found is None:
@@ -102,7 +102,7 @@ def table_refusal(catalog: Catalog, table: int, nodes: list[Node]) -> str | None
 
 
 class Walk:
-    """A table, what its subscribers get of it, and the atoms and terms by their numbers."""
+    """A table, what its subscribers get of it, and its numbered atoms and terms."""
 
     def __init__(self, table: Table, shares: list[str | Filter | None]) -> None:
         self.table = table
@@ -112,7 +112,7 @@ class Walk:
         self.terms = terms_of(*filters)
 
     def first_fault(self, nodes: list[Node]) -> tuple | None:
-        """The fault of the first node that is wrong, with its number, and the second owner's number."""
+        """Returns the first fault, with the number of its node and that of a second owner."""
         paths: list[tuple] = [()]
         for number, (letter, named) in enumerate(nodes):
             path = paths.pop()
@@ -128,7 +128,7 @@ class Walk:
         return None
 
     def leaf_fault(self, letter: str, named: int, known: Known) -> tuple | None:
-        """The fault of a leaf."""
+        """Returns the fault of a leaf."""
         listed = {"o": self.shares, "e": self.terms, "n": self.atoms}[letter]
         if named >= len(listed):
             return ("BadIndex",)
@@ -139,7 +139,7 @@ class Walk:
         return self.owner_fault(named, known)
 
     def owner_fault(self, owner: int, known: Known) -> tuple | None:
-        """Why a subscriber is not the only owner."""
+        """Returns why a subscriber is not the only owner."""
         share = self.shares[owner]
         if share is None or share != WHOLE and known.possible(share) != {True}:
             return ("NotOwner",)

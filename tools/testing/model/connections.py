@@ -1,13 +1,13 @@
-"""A connection of a subscriber: the bytes that were said on it, by their numbers, and how far they came."""
+"""A subscriber's connection: how many bytes have been sent on it and how many have arrived."""
 
 from bisect import bisect_right
 
-# Before the first commit.
+# The position before the first commit.
 FIRST = 64
 
 
 class Bytes:
-    """Frames one after another, each with what it tells, and how many of their bytes came."""
+    """Consecutive frames, each with its content, and how many of their bytes have arrived."""
 
     def __init__(self) -> None:
         self.ends: list[int] = []
@@ -16,25 +16,26 @@ class Bytes:
         self.moved = 0
 
     def say(self, length: int, told: object) -> None:
-        """One more frame."""
+        """Appends a frame."""
         self.length += length
         self.ends.append(self.length)
         self.told.append(told)
 
     def move(self, most: int) -> tuple[int, list[object]]:
-        """The next bytes come, at most this many: how many, and what the frames tell that are whole by them."""
+        """Lets at most this many more bytes arrive. Returns how many did, and the content of the frames that are
+        complete now."""
         before = self.moved
         self.moved = min(self.length, before + most)
         whole = self.told[bisect_right(self.ends, before):bisect_right(self.ends, self.moved)]
         return self.moved - before, whole
 
     def is_within_frame(self) -> bool:
-        """Whether a frame came in part."""
+        """Returns whether only a part of a frame has arrived."""
         return self.moved > 0 and self.moved not in self.ends
 
 
 class Connection:
-    """Both directions. Up come the start and then statuses, down the stream."""
+    """Both directions: the start and the statuses go up, the stream goes down."""
 
     def __init__(self, position: int, start_length: int) -> None:
         self.up = Bytes()
@@ -47,7 +48,7 @@ class Connection:
         self.relations: set[int] = set()
 
     def start(self, position: int, copy_both: int) -> None:
-        """The stream starts at a position."""
+        """Starts the stream at a position."""
         self.started = position
         self.taken = count_of(position)
         self.sent = position or FIRST
@@ -55,10 +56,10 @@ class Connection:
 
 
 def count_of(position: int) -> int:
-    """How many commits a position counts: commit n begins at 64 * n."""
+    """Returns how many commits are before a position: commit n begins at 64 * n."""
     return max(0, (position - 1) // FIRST)
 
 
 def end_of(commit: int) -> int:
-    """Where a commit ends, or the log before the first one."""
+    """Returns the end of a commit, or the position before the first one."""
     return FIRST * commit + FIRST

@@ -1,21 +1,23 @@
-"""Messages as a subscriber reads them, by PostgreSQL's section 55.9 Logical Replication Message Formats.
+"""Messages as a subscriber reads them, according to section 55.9, Logical Replication Message Formats, of PostgreSQL's
+documentation.
 
-A message is read from the left. What fits no rule is answered at once, and what is left over at the end.
+A message is read from left to right. The first byte that violates a rule is reported; bytes that are left over are
+reported at the end.
 """
 
 import functools
 from typing import NamedTuple
 
-# Letters of replica identities: default, nothing, full, an index.
+# The letters of the replica identities: default, nothing, full, index.
 IDENTITIES = b"dnfi"
 
 
 class Fault(Exception):
-    """Why a stream is not followed, in the words of a subscriber's answer."""
+    """Why a stream cannot be followed, in the words of a subscriber's answer."""
 
 
 class Column(NamedTuple):
-    """A column of a Relation. The last number is its type's modifier."""
+    """A column of a Relation. The last number is its type modifier."""
 
     is_flagged: bool
     name: str
@@ -24,13 +26,13 @@ class Column(NamedTuple):
 
 
 class Begin(NamedTuple):
-    """A transaction begins, and where its Commit will be."""
+    """The begin of a transaction, with the position of its Commit."""
 
     lsn: int
 
 
 class Commit(NamedTuple):
-    """A transaction ends."""
+    """The end of a transaction."""
 
     lsn: int
     end: int
@@ -51,7 +53,7 @@ Texts = tuple[str | None, ...]
 
 
 class Change(NamedTuple):
-    """An Insert, an Update or a Delete: what is told about the old row and of the new one."""
+    """An Insert, an Update or a Delete, with what it contains of the old row and of the new one."""
 
     oid: int
     old: Texts | None
@@ -60,7 +62,7 @@ class Change(NamedTuple):
 
 
 class Truncate(NamedTuple):
-    """Tables lose their rows."""
+    """The tables that are emptied."""
 
     oids: tuple[int, ...]
 
@@ -69,42 +71,42 @@ Message = Begin | Commit | Relation | Change | Truncate
 
 
 class Bytes:
-    """The bytes of a message that are not read."""
+    """The bytes of a message that have not been read yet."""
 
     def __init__(self, left: bytes) -> None:
         self.left = left
 
     def take(self, count: int) -> bytes:
-        """This many bytes."""
+        """Reads this many bytes."""
         if len(self.left) < count:
             raise Fault("Msg(Short)")
         taken, self.left = self.left[:count], self.left[count:]
         return taken
 
     def number(self, size: int) -> int:
-        """A number of this many bytes, that is not negative."""
+        """Reads an unsigned number of this many bytes."""
         return int.from_bytes(self.take(size), "big")
 
     def signed(self, size: int) -> int:
-        """A number of this many bytes."""
+        """Reads a signed number of this many bytes."""
         return int.from_bytes(self.take(size), "big", signed=True)
 
     def count(self, size: int) -> int:
-        """How many of something come."""
+        """Reads a count."""
         count = self.signed(size)
         if count < 0:
             raise Fault("Msg(BadCount)")
         return count
 
     def one_of(self, rule: bytes) -> bytes:
-        """A byte that fits a rule."""
+        """Reads a byte that the rule allows."""
         byte = self.take(1)
         if byte not in rule:
             raise unknown(byte)
         return byte
 
     def name(self) -> str:
-        """A text that ends with a zero byte."""
+        """Reads a text that ends with a zero byte."""
         end = self.left.find(b"\0")
         if end < 0:
             raise Fault("Msg(Short)")
@@ -113,12 +115,12 @@ class Bytes:
 
 
 def unknown(byte: bytes) -> Fault:
-    """A byte fits no rule."""
+    """Returns the fault for a byte that violates a rule."""
     return Fault(f"Msg(Unknown({byte[0]}))")
 
 
 def text_of(taken: bytes) -> str:
-    """A text in UTF-8."""
+    """Decodes UTF-8."""
     try:
         return taken.decode("utf-8")
     except UnicodeDecodeError:
@@ -127,7 +129,7 @@ def text_of(taken: bytes) -> str:
 
 @functools.lru_cache(maxsize=64)
 def message_of(body: bytes) -> Message:
-    """The message that these bytes are."""
+    """Reads a whole message."""
     left = Bytes(body)
     letter = left.take(1)
     message = rest_of(letter, left)
@@ -137,7 +139,7 @@ def message_of(body: bytes) -> Message:
 
 
 def rest_of(letter: bytes, left: Bytes) -> Message:
-    """What comes after a message's letter."""
+    """Reads what follows a message's letter."""
     match letter:
         case b"B":
             lsn, _, _ = left.number(8), left.number(8), left.number(4)
@@ -157,20 +159,20 @@ def rest_of(letter: bytes, left: Bytes) -> Message:
 
 
 def relation_of(left: Bytes) -> Relation:
-    """A Relation after its letter."""
+    """Reads a Relation after its letter."""
     oid, schema, name, identity = left.number(4), left.name(), left.name(), left.one_of(IDENTITIES)
     columns = tuple(column_of(left) for _ in range(left.count(2)))
     return Relation(oid, schema, name, identity[0], columns)
 
 
 def column_of(left: Bytes) -> Column:
-    """A column. It is flagged if it is of the identity."""
+    """Reads a column. A flag says whether it belongs to the identity."""
     flags, name, kind, modifier = left.one_of(b"\0\1"), left.name(), left.number(4), left.signed(4)
     return Column(flags == b"\1", name, kind, modifier)
 
 
 def change_of(letter: bytes, left: Bytes) -> Change:
-    """A change after its letter. An old row comes before a new one; an Update may be without one."""
+    """Reads a change after its letter. The old row precedes the new one; an Update may lack it."""
     oid = left.number(4)
     marker = left.one_of({b"I": b"N", b"U": b"KON", b"D": b"KO"}[letter])
     old = None
@@ -183,12 +185,12 @@ def change_of(letter: bytes, left: Bytes) -> Change:
 
 
 def texts_of(left: Bytes) -> Texts:
-    """A row."""
+    """Reads a row."""
     return tuple(value_of(left) for _ in range(left.count(2)))
 
 
 def value_of(left: Bytes) -> str | None:
-    """A value: null, or a text. One that was not sent since it is the same as before is not read."""
+    """Reads a value: null, or a text. A value that is left out because it is unchanged is not supported."""
     match left.one_of(b"nut"):
         case b"n":
             return None

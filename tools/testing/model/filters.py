@@ -1,4 +1,4 @@
-"""What filters say of rows, and what they are made of."""
+"""The values of filters for rows, and the parts of filters."""
 
 import operator
 
@@ -7,14 +7,14 @@ from .catalogs import Filter, Row, Value
 COMPARED = {
     "=": operator.eq, "<>": operator.ne, "<": operator.lt, "<=": operator.le, ">": operator.gt, ">=": operator.ge}
 
-# The heads of filters that are no atoms.
+# The heads of filters that are not atoms.
 CONNECTIVES = ("const", "not", "and", "or", "is")
 
 Truth = bool | None
 
 
 def remainder(number: int, divisor: int) -> int:
-    """The remainder of a division that goes towards zero."""
+    """The remainder of a division that truncates toward zero."""
     rest = abs(number) % abs(divisor)
     return rest if number >= 0 else -rest
 
@@ -39,7 +39,7 @@ def either(left: Truth, right: Truth) -> Truth:
 
 
 def meaning(it: Filter, row: Row) -> Truth:
-    """What a filter says of a row that fits its table."""
+    """Returns the value of a filter for a row that fits its table."""
     head = it[0]
     if head == "and":
         return both(meaning(it[1], row), meaning(it[2], row))
@@ -53,7 +53,7 @@ def meaning(it: Filter, row: Row) -> Truth:
 
 
 def of_value(atom: Filter, value: Value) -> Truth:
-    """What an atom says where its column has a value."""
+    """Returns the value of an atom for a value of its column."""
     if atom[0] == "null":
         return value is None
     if value is None:
@@ -62,7 +62,7 @@ def of_value(atom: Filter, value: Value) -> Truth:
 
 
 def said(atom: Filter, value: Value) -> bool:
-    """What an atom but a test of NULL says of a value of its term."""
+    """Returns the value of an atom, other than a test for NULL, for a value of its term."""
     if atom[0] == "cmp":
         return COMPARED[atom[3]](value, atom[4])
     if atom[0] == "in":
@@ -73,44 +73,44 @@ def said(atom: Filter, value: Value) -> bool:
 
 
 def parts_of(it: Filter) -> tuple[Filter, ...]:
-    """The filters that a connective joins."""
+    """Returns the filters that a connective joins."""
     if it[0] == "const":
         return ()
     return it[2:] if it[0] == "is" else it[1:]
 
 
 def nodes_of(it: Filter) -> int:
-    """How many nodes a filter has."""
+    """Returns the number of a filter's nodes."""
     return 1 + (sum(nodes_of(part) for part in parts_of(it)) if it[0] in CONNECTIVES else 0)
 
 
 def all_atoms(it: Filter) -> list[Filter]:
-    """The atoms in the order in which they are written, each as often as it is there."""
+    """Returns the atoms in the order in which they are written, with duplicates."""
     if it[0] in CONNECTIVES:
         return [atom for part in parts_of(it) for atom in all_atoms(part)]
     return [it]
 
 
 def atoms_of(*filters: Filter) -> list[Filter]:
-    """The atoms by first appearance."""
+    """Returns the atoms in the order of their first appearance."""
     return list(dict.fromkeys(atom for it in filters for atom in all_atoms(it)))
 
 
 def term_of(atom: Filter) -> tuple[int, int]:
-    """The column and the divisor of what an atom speaks of."""
+    """Returns the column and the divisor of an atom."""
     return atom[1], 0 if atom[0] == "null" else atom[2]
 
 
 def terms_of(*filters: Filter) -> list[tuple[int, int]]:
-    """The terms by first appearance."""
+    """Returns the terms in the order of their first appearance."""
     return list(dict.fromkeys(term_of(atom) for atom in atoms_of(*filters)))
 
 
 def columns_of(it: Filter) -> list[int]:
-    """The columns by first appearance."""
+    """Returns the columns in the order of their first appearance."""
     return list(dict.fromkeys(atom[1] for atom in all_atoms(it)))
 
 
 def literals_of(atom: Filter) -> tuple[Value, ...]:
-    """The literals that an atom names."""
+    """Returns the literals that an atom names."""
     return {"null": (), "in": atom[-1], "between": atom[3:]}.get(atom[0], atom[-1:])

@@ -1,4 +1,4 @@
-"""What is known about a row where some atoms are: a path of atoms with their values, from the root on."""
+"""What is known about a row whose atoms have certain values: a path of atoms with their values, from the root on."""
 
 from functools import cache
 
@@ -11,7 +11,7 @@ Term = tuple[int, int]
 
 
 class Known:
-    """What a path says of filters, terms and columns."""
+    """What follows from a path about filters, terms and columns."""
 
     def __init__(self, table: Table, path: Path) -> None:
         self.table = table
@@ -21,7 +21,7 @@ class Known:
             self.values.setdefault(atom, value)
 
     def possible(self, it: Filter) -> set[Truth]:
-        """What a filter may be."""
+        """Returns the values that a filter may have."""
         head = it[0]
         if head == "const":
             return {it[1]}
@@ -38,26 +38,26 @@ class Known:
         return {True, False} if head in ("null", "distinct") else {True, False, None}
 
     def is_null(self, column: int) -> bool:
-        """Whether the path says that the column is null."""
+        """Returns whether the path says that the column is null."""
         return any(
             atom[1] == column and (value is True if atom[0] == "null" else atom[0] != "distinct" and value is None)
             for atom, value in self.path)
 
     def is_not_null(self, column: int) -> bool:
-        """Whether the column is declared NOT NULL, or the path says that it is not null."""
+        """Returns whether the column is declared NOT NULL, or the path says that it is not null."""
         return is_declared(self.table, column) or any(
             atom[1] == column and tells_value(atom, value) for atom, value in self.path)
 
     def is_empty(self, term: Term) -> bool:
-        """Whether no row is here by what is known about a term: its column is both null and not, or it is not null and
-        has no value left."""
+        """Returns whether no row can satisfy what is known about a term: its column is both null and not null, or it is
+        not null and has no value left."""
         column = term[0]
         if not self.is_not_null(column):
             return False
         return self.is_null(column) or not self.has_value(term)
 
     def has_value(self, term: Term) -> bool:
-        """Whether some value of the term meets all that is known about it."""
+        """Returns whether some value of the term satisfies all that is known about it."""
         facts = [
             (atom, value) for atom, value in self.path
             if atom[0] != "null" and term_of(atom) == term and value is not None]
@@ -68,24 +68,24 @@ class Known:
             for candidate in candidates(kind, term[1], literals))
 
     def is_never_null(self, atom: Filter) -> bool:
-        """Whether the path says that an atom is null which never is."""
+        """Returns whether the path says that an atom is null that never is."""
         declared = atom[0] in ("null", "distinct") or is_declared(self.table, atom[1])
         return declared and (atom, None) in self.path
 
 
 def is_declared(table: Table, column: int) -> bool:
-    """Whether a column takes no null."""
+    """Returns whether a column is declared to have no nulls."""
     return table.columns[column].not_null or column in table.key
 
 
 def tells_value(atom: Filter, value: Truth) -> bool:
-    """Whether an atom with a value says that its column is not null."""
+    """Returns whether this value of an atom implies that its column is not null."""
     return value is False if atom[0] in ("null", "distinct") else value is not None
 
 
 @cache
 def candidates(kind: str, divisor: int, literals: frozenset[Value]) -> list[Value]:
-    """Values that speak for all that a term may have, where these literals are told from one another."""
+    """Returns values that represent all values of a term, if nothing but these literals distinguishes values."""
     if kind == "boolean":
         return [False, True]
     if kind == "text":

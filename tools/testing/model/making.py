@@ -8,7 +8,7 @@ from .filters import literals_of, term_of
 from .knowledge import Known, Path, candidates, is_declared
 from .passing import owners
 
-# Where a search is given up.
+# The limits at which a search gives up.
 MOST_NODES = 2_000
 MOST_ROWS = 2_000
 
@@ -25,12 +25,12 @@ class Maker:
         self.nodes: list[Node] = []
 
     def make(self) -> list[Node]:
-        """A certificate."""
+        """Returns a certificate."""
         self.add(())
         return self.nodes
 
     def add(self, path: Path) -> None:
-        """The nodes for the rows that agree with a path."""
+        """Adds the nodes for the rows that satisfy a path."""
         if len(self.nodes) > MOST_NODES:
             raise GaveUp
         known = Known(self.walk.table, path)
@@ -47,7 +47,7 @@ class Maker:
             self.add((*path, (self.walk.atoms[number], value)))
 
     def leaf(self, path: Path, known: Known) -> Node | None:
-        """The leaf for a path, if it is one."""
+        """Returns the leaf for a path, if there is one."""
         if path:
             atom, _ = path[-1]
             if known.is_never_null(atom):
@@ -62,7 +62,7 @@ class Maker:
 
 
 def certificate(table: Table, shares: list[str | Filter | None]) -> list[Node] | None:
-    """A certificate, if the search finds one."""
+    """Returns a certificate, if the search finds one."""
     try:
         return Maker(table, shares).make()
     except GaveUp:
@@ -70,8 +70,8 @@ def certificate(table: Table, shares: list[str | Filter | None]) -> list[Node] |
 
 
 def speaking_rows(table: Table, shares: list[str | Filter | None]) -> list[Row] | None:
-    """Rows that speak for all rows of a table, or None if there would be too many, or where a column is named with
-    its remainders."""
+    """Returns rows that represent all rows of a table, or None if there are too many, or if filters use a column
+    together with its remainders."""
     walk = Walk(table, shares)
     columns = [list(values_of(walk, column)) for column in range(len(table.columns))]
     number = 1
@@ -85,7 +85,7 @@ def speaking_rows(table: Table, shares: list[str | Filter | None]) -> list[Row] 
 
 
 def values_of(walk: Walk, column: int) -> list[Value]:
-    """Values that speak for all that a column may have."""
+    """Returns values that represent all values of a column."""
     found: dict[Value, None] = {} if is_declared(walk.table, column) else {None: None}
     kind = walk.table.columns[column].kind
     atoms = [atom for atom in walk.atoms if atom[0] != "null" and atom[1] == column]
@@ -96,7 +96,7 @@ def values_of(walk: Walk, column: int) -> list[Value]:
 
 
 def counter_row(table: Table, shares: list[str | Filter | None]) -> Row | None | bool:
-    """A row that no subscriber or several get, None if there is none, or False if that is not known."""
+    """Returns a row that no subscriber or several get, None if there is none, or False if that is not known."""
     rows = speaking_rows(table, shares)
     if rows is None:
         return False

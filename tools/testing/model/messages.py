@@ -1,4 +1,4 @@
-"""Messages and frames: the bytes of an Insert, and how long the others are."""
+"""Messages and frames: the bytes of an Insert, and the lengths of the others."""
 
 import struct
 
@@ -7,7 +7,7 @@ from .values import spelled, told_apart
 
 FIRST_OID = 16384
 
-# Around each message: CopyData, its length, the letter, two positions and a clock.
+# What precedes each message: the letter of CopyData, its length, the letter, two positions and a clock.
 XLOG = 1 + 4 + 1 + 8 + 8 + 8
 BEGIN = XLOG + 1 + 8 + 8 + 4
 COMMIT = XLOG + 1 + 1 + 8 + 8 + 8
@@ -17,7 +17,7 @@ COPY_BOTH = 1 + 4 + 1 + 2
 
 
 def tuple_of(row: Row) -> bytes:
-    """A row as messages have it."""
+    """Returns a row as messages contain it."""
     parts = [struct.pack(">H", len(row))]
     for value in row:
         if value is None:
@@ -29,19 +29,19 @@ def tuple_of(row: Row) -> bytes:
 
 
 def insert_message(table: int, row: Row) -> bytes:
-    """The Insert message of a row."""
+    """Returns the Insert message of a row."""
     return b"I" + struct.pack(">I", FIRST_OID + table) + b"N" + tuple_of(row)
 
 
 def relation_length(table: Table) -> int:
-    """How long the frame of a table's Relation is."""
+    """Returns the length of the frame of a table's Relation."""
     names = [table.schema, table.name]
     columns = [1 + len(column.name.encode()) + 1 + 4 + 4 for column in table.columns]
     return XLOG + 1 + 4 + sum(len(name.encode()) + 1 for name in names) + 1 + 2 + sum(columns)
 
 
 def change_length(table: Table, old: Row | None, new: Row | None) -> int:
-    """How long the frame of a change is, of which the subscriber sees these sides."""
+    """Returns the length of the frame of a change of which the subscriber sees these rows."""
     length = XLOG + 1 + 4
     if old is not None:
         part = old_part(table, old, new)
@@ -50,7 +50,8 @@ def change_length(table: Table, old: Row | None, new: Row | None) -> int:
 
 
 def old_part(table: Table, old: Row, new: Row | None) -> Row | None:
-    """What is told about an old row: all of it, or its identity, which an update leaves out where it stays the same."""
+    """Returns what a message contains of an old row: all of it, or its identity, which an update leaves out if it is
+    unchanged."""
     if table.identity == FULL:
         return old
     columns = table.identity_columns()
@@ -60,12 +61,12 @@ def old_part(table: Table, old: Row, new: Row | None) -> Row | None:
 
 
 def truncate_length(tables: list[int]) -> int:
-    """How long the frame of a Truncate is."""
+    """Returns the length of the frame of a Truncate."""
     return XLOG + 1 + 4 + 1 + 4 * len(tables)
 
 
 def start_length(slot: str, publications: list[str], position: int) -> int:
-    """How long the frame is by which a subscriber asks for its stream."""
+    """Returns the length of the frame with which a subscriber asks for its stream."""
     names = ",".join(quoted(name) for name in publications).replace("'", "''")
     text = (
         f"START_REPLICATION SLOT {quoted(slot)} LOGICAL {position_text(position)} "
@@ -74,10 +75,10 @@ def start_length(slot: str, publications: list[str], position: int) -> int:
 
 
 def quoted(name: str) -> str:
-    """A name between quotes."""
+    """Returns a name in double quotes."""
     return '"' + name.replace('"', '""') + '"'
 
 
 def position_text(position: int) -> str:
-    """A position as texts have it: its high and its low half."""
+    """Returns a position as text: its high and its low half."""
     return f"{position >> 32:X}/{position & 0xFFFFFFFF:X}"

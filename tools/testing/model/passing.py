@@ -1,16 +1,16 @@
-"""Which publications carry a table, and which rows pass to whom."""
+"""Which publications carry a table, and which rows each subscriber gets."""
 
 from .catalogs import Catalog, Filter, Publication, Row
 from .filters import meaning
 from .messages import insert_message
 from .values import row_fault
 
-# In place of a filter: a table is carried whole.
+# Used in place of a filter if a table is carried whole.
 WHOLE = "whole"
 
 
 def carried(catalog: Catalog, publication: Publication, table: int) -> str | Filter | None:
-    """How a publication carries a table: WHOLE, by a filter, or not at all."""
+    """Returns how a publication carries a table: WHOLE, by a filter, or not at all."""
     named = [it for number, it in publication.entries if number == table]
     if publication.all_tables or catalog.tables[table].schema in publication.schemas or None in named:
         return WHOLE
@@ -18,7 +18,7 @@ def carried(catalog: Catalog, publication: Publication, table: int) -> str | Fil
 
 
 def share_of(catalog: Catalog, subscriber: int, table: int) -> str | Filter | None:
-    """What a subscriber gets of a table: WHOLE, what one filter lets through, or nothing."""
+    """Returns what a subscriber gets of a table: WHOLE, what one filter passes, or nothing."""
     taken = catalog.subscriptions[subscriber].publications
     found = [it for number in taken if (it := carried(catalog, catalog.publications[number], table)) is not None]
     if not found:
@@ -32,22 +32,22 @@ def share_of(catalog: Catalog, subscriber: int, table: int) -> str | Filter | No
 
 
 def shares_of(catalog: Catalog, table: int) -> list[str | Filter | None]:
-    """What each subscriber gets of a table."""
+    """Returns what each subscriber gets of a table."""
     return [share_of(catalog, number, table) for number in range(len(catalog.subscriptions))]
 
 
 def takes(share: str | Filter | None, row: Row) -> bool:
-    """Whether a row passes."""
+    """Returns whether a share contains a row."""
     return share is not None and (share == WHOLE or meaning(share, row) is True)
 
 
 def owners(shares: list[str | Filter | None], row: Row) -> list[int]:
-    """The subscribers that get a row."""
+    """Returns the subscribers that get a row."""
     return [number for number, share in enumerate(shares) if takes(share, row)]
 
 
 def answers_of(catalog: Catalog, table: int, row: Row) -> list[tuple[str, str]]:
-    """What each publication that carries the table says of a row: all, true, false or null."""
+    """Returns each publication that carries the table, with its answer for a row: all, true, false or null."""
     words = {True: "true", False: "false", None: "null"}
     found = []
     for publication in catalog.publications:
@@ -58,7 +58,7 @@ def answers_of(catalog: Catalog, table: int, row: Row) -> list[tuple[str, str]]:
 
 
 def eval_line(catalog: Catalog, table: int, row: Row, insert: bool) -> str:
-    """The line of `eval` for a row that is written as one."""
+    """Returns the line of `eval` for a row."""
     fault = row_fault(catalog.tables[table], row)
     if fault is not None:
         return f"invalid {fault}"

@@ -3,23 +3,24 @@
 from .catalogs import OPERATIONS, Catalog, Column, Filter, Publication, Subscription, Table, Value
 from .values import written
 
-# How tightly parts of a filter bind: OR least, then AND, NOT, the IS tests, and comparisons and constants most.
+# The precedence of the parts of a filter: OR is the lowest, then AND, NOT and the IS tests; comparisons and constants
+# are the highest.
 OR, AND, NOT, TEST, OPERAND = range(5)
 TRUTHS = {True: "TRUE", False: "FALSE", None: "UNKNOWN"}
 
-# The heads of filters that have a place for NOT.
+# The heads of filters that can have a NOT inside.
 TESTS = ("null", "in", "between", "distinct", "is")
 
 Entry = tuple[int, Filter | None]
 
 
 def text_of(catalog: Catalog) -> str:
-    """The statements, one a line."""
+    """Returns the statements, one per line."""
     return "".join(f"{it};\n" for it in statements(catalog))
 
 
 def statements(catalog: Catalog) -> list[str]:
-    """The statements of a catalog."""
+    """Returns the statements of a catalog."""
     found: list[str] = []
     made = {"public"}
     for table in catalog.tables:
@@ -32,12 +33,12 @@ def statements(catalog: Catalog) -> list[str]:
 
 
 def quoted(name: str) -> str:
-    """A name between quotes."""
+    """Returns a name in double quotes."""
     return '"' + name.replace('"', '""') + '"'
 
 
 def listed(names: list[str]) -> str:
-    """Names between parentheses."""
+    """Returns names in parentheses."""
     return f"({', '.join(quoted(name) for name in names)})"
 
 
@@ -45,12 +46,12 @@ def listed(names: list[str]) -> str:
 
 
 def full_name(table: Table) -> str:
-    """The name with its schema."""
+    """Returns the name with its schema."""
     return f"{quoted(table.schema)}.{quoted(table.name)}"
 
 
 def of_table(table: Table) -> list[str]:
-    """A table, its indexes and its identity."""
+    """Returns the statements for a table, its indexes and its identity."""
     name = full_name(table)
     columns = [of_column(column, number in table.key) for number, column in enumerate(table.columns)]
     key = f"PRIMARY KEY {columns_of(table, table.key)}"
@@ -61,17 +62,17 @@ def of_table(table: Table) -> list[str]:
 
 
 def of_column(column: Column, is_key: bool) -> str:
-    """A column. Those of the key take no null."""
+    """Returns a column. Key columns are NOT NULL."""
     return f"{quoted(column.name)} {column.kind}{' NOT NULL' if column.not_null or is_key else ''}"
 
 
 def columns_of(table: Table, numbers: tuple[int, ...]) -> str:
-    """A list of columns."""
+    """Returns a list of columns."""
     return listed([table.columns[number].name for number in numbers])
 
 
 def identity_of(table: Table) -> str:
-    """A replica identity."""
+    """Returns a replica identity."""
     if isinstance(table.identity, str):
         return table.identity
     return f"USING INDEX {quoted(table.indexes[table.identity].name)}"
@@ -81,7 +82,8 @@ def identity_of(table: Table) -> str:
 
 
 def carried(catalog: Catalog, publication: Publication) -> list[Entry]:
-    """The tables that a publication carries: those that it names, and then those that it carries whole."""
+    """Returns the tables that a publication carries: first those that it names, and then those that it carries
+    whole."""
     whole: list[Entry] = [
         (number, None) for number, table in enumerate(catalog.tables)
         if publication.all_tables or table.schema in publication.schemas]
@@ -89,18 +91,18 @@ def carried(catalog: Catalog, publication: Publication) -> list[Entry]:
 
 
 def comes_twice(entries: list[Entry]) -> bool:
-    """Whether some table comes twice."""
+    """Returns whether some table occurs twice."""
     return len({number for number, _ in entries}) < len(entries)
 
 
 def schemas_of(catalog: Catalog, entries: list[Entry]) -> list[str]:
-    """The schemas of the tables, each once."""
+    """Returns the schemas of the tables, without duplicates."""
     return list(dict.fromkeys(catalog.tables[number].schema for number, _ in entries))
 
 
 def objects_of(catalog: Catalog, entries: list[Entry]) -> list[str]:
-    """The tables of a publication by name. If one comes twice, the last ones are named by their schemas: as many as
-    are every table of some schemas."""
+    """Returns the tables of a publication by name. If one occurs twice, the longest tail of the list that consists of
+    all tables of some schemas is given by these schemas."""
     named = len(entries)
     if comes_twice(entries):
         named = next(at for at in range(len(entries)) if are_schemas(catalog, entries[at:]))
@@ -111,20 +113,20 @@ def objects_of(catalog: Catalog, entries: list[Entry]) -> list[str]:
 
 
 def are_schemas(catalog: Catalog, entries: list[Entry]) -> bool:
-    """Whether these are every table of some schemas, whole and in the order of the tables."""
+    """Returns whether these are all tables of some schemas, whole and in the order of the tables."""
     schemas = schemas_of(catalog, entries)
     every: list[Entry] = [(number, None) for number, table in enumerate(catalog.tables) if table.schema in schemas]
     return entries == every
 
 
 def of_entry(table: Table, condition: Filter | None) -> str:
-    """A table with its filter."""
+    """Returns a table with its filter."""
     where = "" if condition is None else f" WHERE ({of_filter(table, condition)})"
     return f"TABLE {full_name(table)}{where}"
 
 
 def of_publication(catalog: Catalog, publication: Publication) -> str:
-    """A publication."""
+    """Returns a publication."""
     objects = objects_of(catalog, carried(catalog, publication))
     scope = f" FOR {', '.join(objects)}" if objects else ""
     publishes = ", ".join(it for it in OPERATIONS if it in publication.operations)
@@ -132,7 +134,7 @@ def of_publication(catalog: Catalog, publication: Publication) -> str:
 
 
 def of_subscription(catalog: Catalog, subscription: Subscription) -> str:
-    """A subscription."""
+    """Returns a subscription."""
     taken = ", ".join(quoted(catalog.publications[number].name) for number in subscription.publications)
     return f"CREATE SUBSCRIPTION {quoted(subscription.name)} CONNECTION '' PUBLICATION {taken}"
 
@@ -141,13 +143,13 @@ def of_subscription(catalog: Catalog, subscription: Subscription) -> str:
 
 
 def of_filter(table: Table, it: Filter, level: int = OR) -> str:
-    """A filter where parts of a level are due."""
+    """Returns a filter for a place that needs at least this precedence."""
     own, text = unclosed(table, it)
     return f"({text})" if own < level else text
 
 
 def unclosed(table: Table, it: Filter) -> tuple[int, str]:
-    """A filter without parentheses, and how tightly it binds."""
+    """Returns a filter without parentheses, and its precedence."""
     match it:
         case ("or", left, right):
             return OR, f"{of_filter(table, left, OR)} OR {of_filter(table, right, AND)}"
@@ -165,7 +167,7 @@ def unclosed(table: Table, it: Filter) -> tuple[int, str]:
 
 
 def tested(table: Table, it: Filter, negation: str) -> tuple[int, str]:
-    """A test that has a place for NOT."""
+    """Returns a test that can have a NOT inside."""
     match it:
         case ("is", truth, inner):
             return TEST, f"{of_filter(table, inner, OPERAND)} IS{negation} {TRUTHS[truth]}"
@@ -180,11 +182,11 @@ def tested(table: Table, it: Filter, negation: str) -> tuple[int, str]:
 
 
 def term(table: Table, column: int, divisor: int) -> str:
-    """A column, or its remainder."""
+    """Returns a column or its remainder."""
     name = quoted(table.columns[column].name)
     return f"{name} % {divisor}" if divisor else name
 
 
 def of_literal(value: Value) -> str:
-    """A constant."""
+    """Returns a constant."""
     return written(value)

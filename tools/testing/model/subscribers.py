@@ -1,7 +1,7 @@
-"""A subscriber that is fed bytes: what it answers, and what it has then.
+"""A subscriber that is fed bytes: what it answers, and its state afterwards.
 
-The rules are those of PostgreSQL's sections 31.2, 31.5, 55.4 and 55.9 and of docs/DECISIONS.md. A state is never
-changed; what it becomes by a frame is another one.
+The rules are those of sections 31.2, 31.5, 55.4 and 55.9 of PostgreSQL's documentation and of docs/DECISIONS.md. States
+are immutable: a frame yields a new state.
 """
 
 import re
@@ -11,19 +11,19 @@ from .catalogs import Row, Value
 from .decoding import Begin, Change, Commit, Fault, Relation, Texts, Truncate, message_of
 from .values import ENDS, LONGEST_TEXT, order_of, told_apart
 
-# The numbers of the types.
+# The OIDs of the types.
 KINDS = {16: "boolean", 20: "bigint", 21: "smallint", 23: "integer", 25: "text"}
 
-# The greatest length number of a frame, and the least: it counts itself.
+# The greatest and the least value of a frame's length field, which counts itself.
 LONGEST, SHORTEST = 16_777_216, 4
 
 COPY_BOTH = b"\0\0\0"
 
-# Positions, a clock, and a byte that asks for an answer.
+# The letter, two positions or clocks, and a byte that requests a reply.
 KEEPALIVE = 1 + 8 + 8 + 1
 XLOG_HEADER = 1 + 8 + 8 + 8
 
-# The severity, twice, a code and a text. Further fields may come after it.
+# The severity twice, a code and a text. Further fields may follow.
 REFUSAL = re.compile(rb"SERROR\0VERROR\0C(.{5})\0M.*\0\0", re.S)
 
 BOOLEANS = {"t": True, "f": False}
@@ -33,8 +33,8 @@ Table = tuple[Row, ...]
 
 @dataclass(frozen=True)
 class State:
-    """What a subscriber has: a place in the log, Relations by their numbers, and rows. On a connection also whether the
-    stream has started, where the transaction ends that has begun, its rows, and which Relations came."""
+    """A subscriber's position, its Relations by their numbers, and its rows. On a connection, also whether the stream
+    has started, the end of the transaction that has begun, its rows, and which Relations have been sent."""
 
     is_open: bool = False
     has_started: bool = False
@@ -47,22 +47,23 @@ class State:
     staged: frozenset[tuple[int, Table]] = field(default=frozenset())
 
     def opened(self) -> "State":
-        """On a new connection."""
+        """Returns the state on a new connection."""
         return replace(self.shut(), is_open=True, is_asked=False)
 
     def shut(self) -> "State":
-        """Without a connection, and without what was not committed. A fault keeps whether an answer was asked for."""
+        """Returns the state without a connection, and without what was not committed. After a fault it is still known
+        whether a reply was requested."""
         return replace(
             self, is_open=False, has_started=False, begun=None, told=frozenset(), staged=frozenset())
 
     def rows(self, oid: int) -> list[Row]:
-        """The rows of a table, in order."""
+        """Returns the rows of a table, in order."""
         return sorted(dict(self.tables).get(oid, ()), key=order_of)
 
 
 def feed(state: State, text: bytes, at: int = 0) -> tuple[int, str, State]:
-    """Feeds bytes from a place on, where a frame begins, up to a fault. How many came, the answer, and the state after
-    them."""
+    """Feeds bytes, beginning with the frame at this index, until there is a fault. Returns how many bytes were
+    consumed, the answer, and the new state."""
     while at < len(text):
         length = int.from_bytes(text[at + 1:at + 5], "big", signed=True)
         if at + 5 <= len(text) and not SHORTEST <= length <= LONGEST:
@@ -79,7 +80,7 @@ def feed(state: State, text: bytes, at: int = 0) -> tuple[int, str, State]:
 
 
 def after_frame(state: State, kind: bytes, body: bytes) -> tuple[str | None, State]:
-    """A fault, if there is one, and the state after a frame."""
+    """Returns the fault of a frame, if there is one, and the new state."""
     try:
         return None, hear(state, kind, body)
     except Fault as fault:
@@ -87,7 +88,7 @@ def after_frame(state: State, kind: bytes, body: bytes) -> tuple[str | None, Sta
 
 
 def hear(state: State, kind: bytes, body: bytes) -> State:
-    """The state after a frame without a fault."""
+    """Returns the state after a frame without a fault."""
     if not state.has_started:
         if kind == b"E":
             raise refusal(body)
@@ -107,20 +108,20 @@ def hear(state: State, kind: bytes, body: bytes) -> State:
 
 
 def refusal(body: bytes) -> Fault:
-    """The fault that a publisher's refusal of a start is."""
+    """Returns the fault that reports a publisher's refusal of a start."""
     found = REFUSAL.fullmatch(body)
     return Fault("OutOfPlace" if found is None else f"Refused({list(found[1])})")
 
 
 def after_keepalive(state: State, position: int, is_asked: bool) -> State:
-    """The state after a keepalive. Within a transaction its position says nothing."""
+    """Returns the state after a keepalive. Its position is ignored within a transaction."""
     if state.begun is None:
         state = replace(state, position=max(state.position, position))
     return replace(state, is_asked=state.is_asked or is_asked)
 
 
 def apply(state: State, message: object) -> State:
-    """The state after a message."""
+    """Returns the state after a message."""
     match message:
         case Relation():
             return learn(state, message)
@@ -141,7 +142,8 @@ def apply(state: State, message: object) -> State:
 
 
 def learn(state: State, relation: Relation) -> State:
-    """The state after a Relation. It has to be the one that is kept, if one is, also of an earlier connection."""
+    """Returns the state after a Relation. If one is known already, perhaps from an earlier connection, it has to be the
+    same."""
     kept = {it.oid: it for it in state.relations}
     if kept.get(relation.oid, relation) != relation:
         raise Fault("OutOfPlace")
@@ -151,14 +153,14 @@ def learn(state: State, relation: Relation) -> State:
 
 
 def told_relation(state: State, oid: int) -> Relation:
-    """The Relation of a table that came on this connection."""
+    """Returns the Relation of a table that was sent on this connection."""
     if oid not in state.told:
         raise Fault(f"NoRelation({oid})")
     return next(it for it in state.relations if it.oid == oid)
 
 
 def truncate(state: State, message: Truncate) -> State:
-    """The state after tables lose their rows."""
+    """Returns the state after tables are emptied."""
     for oid in message.oids:
         told_relation(state, oid)
     staged = {oid: rows for oid, rows in state.staged if oid not in message.oids}
@@ -166,7 +168,7 @@ def truncate(state: State, message: Truncate) -> State:
 
 
 def change(state: State, message: Change) -> State:
-    """The state after a change of a row. One of a row that is not there is skipped."""
+    """Returns the state after a change of a row. A change of a row that does not exist is skipped."""
     relation = told_relation(state, message.oid)
     old, new = (None if side is None else row_of(relation, side) for side in (message.old, message.new))
     tables = dict(state.staged)
@@ -185,19 +187,19 @@ def change(state: State, message: Change) -> State:
 
 
 def identity_of(relation: Relation, row: Row) -> tuple:
-    """What a row is found by."""
+    """Returns the values by which a row is found."""
     return told_apart(tuple(value for column, value in zip(relation.columns, row) if column.is_flagged))
 
 
 def row_of(relation: Relation, texts: Texts) -> Row:
-    """The row that texts are."""
+    """Converts texts to a row."""
     if len(texts) != len(relation.columns):
         raise Fault("BadValue")
     return tuple(value_of(KINDS[column.kind], text) for column, text in zip(relation.columns, texts))
 
 
 def value_of(kind: str, text: str | None) -> Value:
-    """The value that a text is."""
+    """Converts a text to a value."""
     if text is None:
         return None
     if kind == "boolean" and text in BOOLEANS:

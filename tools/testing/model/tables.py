@@ -1,7 +1,7 @@
-"""Tables of rows, and what commands do to them.
+"""Tables of rows, and how commands change them.
 
-A command is a tuple: ("insert", table, row), ("update", table, key, row), ("delete", table, key) or
-("truncate", tables). A change is (table, old row or None, new row or None), or ("truncate", tables).
+A command is a tuple: ("insert", table, row), ("update", table, key, row), ("delete", table, key) or ("truncate",
+tables). A change is (table, old row or None, new row or None), or ("truncate", tables).
 """
 
 from .catalogs import Catalog, Row, Table
@@ -14,7 +14,8 @@ MOST_COMMANDS = 1_000
 
 
 class Rows:
-    """The rows of a table: by their primary key, and the keys by each unique index, where no column is null."""
+    """The rows of a table by primary key, and for each unique index the keys by its values, of rows in which none of
+    them is null."""
 
     def __init__(self, table: Table) -> None:
         self.table = table
@@ -22,11 +23,11 @@ class Rows:
         self.by_index: list[dict[tuple, tuple]] = [{} for _ in table.indexes]
 
     def key_of(self, row: Row) -> tuple:
-        """A row's primary key."""
+        """Returns a row's primary key."""
         return told_apart(tuple(row[at] for at in self.table.key))
 
     def entries_of(self, row: Row) -> list[tuple | None]:
-        """What a row has in each index."""
+        """Returns a row's values in each index."""
         found = []
         for index in self.table.indexes:
             values = tuple(row[at] for at in index.columns)
@@ -34,7 +35,7 @@ class Rows:
         return found
 
     def put(self, row: Row) -> None:
-        """A row comes."""
+        """Adds a row."""
         key = self.key_of(row)
         self.by_key[key] = row
         for entries, entry in zip(self.by_index, self.entries_of(row)):
@@ -42,14 +43,15 @@ class Rows:
                 entries[entry] = key
 
     def take_out(self, row: Row) -> None:
-        """A row goes."""
+        """Removes a row."""
         del self.by_key[self.key_of(row)]
         for entries, entry in zip(self.by_index, self.entries_of(row)):
             if entry is not None:
                 del entries[entry]
 
     def is_taken(self, row: Row, but: tuple | None) -> bool:
-        """Whether another row than that of a key has the same primary key, or the same values in an index."""
+        """Returns whether a row other than the one with this key has the same primary key, or the same values in an
+        index."""
         key = self.key_of(row)
         if key != but and key in self.by_key:
             return True
@@ -58,12 +60,12 @@ class Rows:
             for entries, entry in zip(self.by_index, self.entries_of(row)))
 
     def in_order(self) -> list[Row]:
-        """The rows in the order of outputs."""
+        """Returns the rows in the order of outputs."""
         return sorted(self.by_key.values(), key=order_of)
 
 
 class Database:
-    """The tables of a publisher, and its log: a list of changes for each commit."""
+    """A publisher's tables, and its log: a list of changes for each commit."""
 
     def __init__(self, catalog: Catalog, limit: int) -> None:
         self.tables = [Rows(table) for table in catalog.tables]
@@ -71,7 +73,7 @@ class Database:
         self.log: list[list[Change]] = []
 
     def commit(self, commands: list[Command]) -> str:
-        """The answer of a commit. All changes are made, or none."""
+        """Returns the answer of a commit. Either all of its changes are made or none."""
         if not commands:
             return "refused EmptyTransaction"
         if len(commands) > MOST_COMMANDS:
@@ -90,7 +92,7 @@ class Database:
         return f"commit {len(self.log)}"
 
     def fault_of(self, command: Command) -> str | None:
-        """The fault of a command on the tables as they are."""
+        """Returns the fault of a command on the present tables."""
         if command[0] == "truncate":
             return None
         rows = self.tables[command[1]]
@@ -104,7 +106,7 @@ class Database:
         return "DuplicateKey" if row is not None and rows.is_taken(row, key) else None
 
     def apply(self, command: Command, changes: list[Change], gone: list[list[Row]]) -> None:
-        """Makes the changes of a command without a fault, and notes them."""
+        """Makes the changes of a command that has no fault, and records them."""
         if command[0] == "truncate":
             named = list(dict.fromkeys(command[1]))
             for at in named:
@@ -119,14 +121,14 @@ class Database:
         changes.append((command[1], old, new))
 
     def replace(self, table: int, old: Row | None, new: Row | None) -> None:
-        """A row goes, and a row comes."""
+        """Replaces a row by another."""
         if old is not None:
             self.tables[table].take_out(old)
         if new is not None:
             self.tables[table].put(new)
 
     def undo(self, changes: list[Change], gone: list[list[Row]]) -> None:
-        """Takes changes back, the last one first."""
+        """Undoes changes, the last one first."""
         for change in reversed(changes):
             if change[0] == "truncate":
                 for at in reversed(change[1]):

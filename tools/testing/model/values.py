@@ -2,13 +2,13 @@
 
 from .catalogs import Row, Table, Value
 
-# An integer is from minus this number on, and below it.
+# An integer is at least minus this number, and below it.
 ENDS = {"smallint": 2**15, "integer": 2**31, "bigint": 2**63}
 LONGEST_TEXT = 65_535
 
 
 def row_fault(table: Table, row: Row) -> str | None:
-    """The first fault of a row, as outputs have it."""
+    """Returns the first fault of a row, as outputs have it."""
     if len(row) != len(table.columns):
         return "Width"
     for number, (column, value) in enumerate(zip(table.columns, row)):
@@ -19,7 +19,7 @@ def row_fault(table: Table, row: Row) -> str | None:
 
 
 def value_fault(kind: str, not_null: bool, value: Value) -> str | None:
-    """The first fault of a value in a column."""
+    """Returns the first fault of a value in a column."""
     if value is None:
         return "NullInNotNull" if not_null else None
     if kind_of(value) != ("integer" if kind in ENDS else kind):
@@ -34,14 +34,14 @@ def value_fault(kind: str, not_null: bool, value: Value) -> str | None:
 
 
 def kind_of(value: Value) -> str:
-    """What kind of value it is, if it is not null."""
+    """Returns the type of a value that is not null."""
     if isinstance(value, bool):
         return "boolean"
     return "integer" if isinstance(value, int) else "text"
 
 
 def written(value: Value) -> str:
-    """A value as rows have it."""
+    """Returns a value as rows have it."""
     if value is None:
         return "NULL"
     if isinstance(value, bool):
@@ -52,22 +52,22 @@ def written(value: Value) -> str:
 
 
 def written_row(row: Row) -> str:
-    """A row as outputs have it."""
+    """Returns a row as outputs have it."""
     return "(" + ", ".join(written(value) for value in row) + ")"
 
 
 def spelled(value: Value) -> bytes:
-    """The text of a value in a message, if it is not null."""
+    """Returns the text of a value in a message, if it is not null."""
     if isinstance(value, bool):
         return b"t" if value else b"f"
     return str(value).encode()
 
 
 def order_of(row: Row) -> tuple:
-    """What rows of a table are sorted by: column by column, null first, numbers by value, texts by their bytes."""
+    """Returns the sort key of rows: column by column, null first, numbers by value, texts by their bytes."""
     return tuple((value is not None, value.encode() if isinstance(value, str) else value or 0) for value in row)
 
 
 def told_apart(values: Row) -> tuple:
-    """What is equal only for equal values: Python takes True and 1 for the same."""
+    """Returns a key that is equal only for equal values: Python considers True and 1 equal."""
     return tuple((type(value), value) for value in values)

@@ -26,12 +26,12 @@ from .values import written_row
 
 Step = tuple
 
-# The greatest number of a script: as many bytes as there are.
+# The greatest number of a script, which means all bytes.
 ALL = 2**63 - 1
 
 
 class Subscriber:
-    """What a subscriber keeps: its position, its rows after the commits that it counts, and its connection."""
+    """A subscriber's position, its rows after the commits up to that position, and its connection."""
 
     def __init__(self, catalog: Catalog, number: int) -> None:
         self.number = number
@@ -45,7 +45,7 @@ class Subscriber:
 
 
 class World:
-    """Answers steps, each by its lines."""
+    """Answers each step with lines."""
 
     def __init__(self, catalog: Catalog, limit: int = 1_000_000) -> None:
         self.catalog = catalog
@@ -55,7 +55,7 @@ class World:
         self.met: Counter[str] = Counter()
 
     def step(self, step: Step) -> list[str]:
-        """The lines of a step."""
+        """Returns the lines of a step."""
         if step[0] == "commit":
             return [self.database.commit(step[1])]
         if step[0] == "view":
@@ -70,7 +70,7 @@ class World:
         return [self.on_connection(subscriber, subscriber.connection, step)]
 
     def on_connection(self, subscriber: Subscriber, connection: Connection, step: Step) -> str:
-        """What happens on a connection that is open."""
+        """Makes a step on an open connection."""
         match step:
             case ("hear", _, most):
                 return f"heard {self.hear(subscriber, connection, most)}"
@@ -92,7 +92,7 @@ class World:
         raise ValueError(step)
 
     def open(self, subscriber: Subscriber) -> str:
-        """The subscriber connects, and asks for its stream from its position on."""
+        """Connects the subscriber, which asks for its stream from its position on."""
         if subscriber.connection is not None:
             return "already open"
         self.note("connections opened at a position", subscriber.position)
@@ -101,7 +101,7 @@ class World:
         return "opened"
 
     def hear(self, subscriber: Subscriber, connection: Connection, most: int) -> int:
-        """The publisher hears bytes. Statuses that want a reply are answered by keepalives."""
+        """Lets the publisher read bytes. It answers statuses that request a reply with keepalives."""
         heard, frames = connection.up.move(most)
         for frame in frames:
             if frame == "start":
@@ -115,7 +115,7 @@ class World:
         return heard
 
     def take(self, subscriber: Subscriber, connection: Connection) -> str:
-        """The publisher takes up the next commit."""
+        """Lets the publisher send the next commit."""
         if connection.started is None:
             return "not started"
         if connection.taken == len(self.database.log):
@@ -133,7 +133,8 @@ class World:
         return f"sent {connection.taken}"
 
     def seen(self, subscriber: Subscriber, changes: list[Change]) -> list[Change]:
-        """What a subscriber sees of changes: a side that does not pass is left out, and so is what has no side then."""
+        """Returns what a subscriber sees of changes. A row that it does not get is left out, and so is a change of
+        which nothing is left."""
         found: list[Change] = []
         for change in changes:
             if change[0] == "truncate":
@@ -148,11 +149,11 @@ class World:
         return found
 
     def passes(self, subscriber: Subscriber, table: int, row: Row | None) -> bool:
-        """Whether there is a row, and the subscriber gets it."""
+        """Returns whether there is a row, and the subscriber gets it."""
         return row is not None and takes(self.shares[table][subscriber.number], row)
 
     def say_change(self, connection: Connection, change: Change) -> None:
-        """A change, and before it the Relations of tables that come for the first time."""
+        """Sends a change, preceded by the Relations of tables that are sent for the first time."""
         truncated = change[0] == "truncate"
         for table in change[1] if truncated else [change[0]]:
             if table not in connection.relations:
@@ -165,21 +166,21 @@ class World:
             connection.down.say(change_length(self.catalog.tables[table], old, new), None)
 
     def keep(self, connection: Connection) -> str:
-        """The publisher says a keepalive."""
+        """Sends a keepalive."""
         if connection.started is None:
             return "not started"
         connection.down.say(KEEPALIVE, connection.sent)
         return "kept"
 
     def deliver(self, subscriber: Subscriber, connection: Connection, most: int) -> int:
-        """Bytes come to the subscriber."""
+        """Lets bytes arrive at the subscriber."""
         delivered, frames = connection.down.move(most)
         subscriber.position = max([subscriber.position, *(frame for frame in frames if frame is not None)])
         self.note("bytes delivered in a piece", delivered)
         return delivered
 
     def pump(self, subscriber: Subscriber, connection: Connection) -> str:
-        """The subscriber gets all that was committed, and says so."""
+        """Lets the subscriber get all that was committed, and report it."""
         self.hear(subscriber, connection, ALL)
         while self.take(subscriber, connection) != "idle":
             pass
@@ -190,7 +191,7 @@ class World:
         return f"at {position_text(subscriber.position)}"
 
     def view(self) -> list[str]:
-        """The publisher's rows, and those of each subscriber."""
+        """Returns the publisher's rows, and those of each subscriber."""
         lines = [f"log {len(self.database.log)}", *self.lines_of(self.database.tables)]
         for subscriber in self.subscribers:
             count = count_of(subscriber.position)
@@ -203,7 +204,7 @@ class World:
         return lines
 
     def lines_of(self, tables: list[Rows]) -> list[str]:
-        """The rows of tables, each with its table's name."""
+        """Returns the rows of tables, each with its table's name."""
         lines = []
         for table, rows in zip(self.catalog.tables, tables):
             name = table.full_name()
@@ -211,7 +212,7 @@ class World:
         return lines
 
     def apply(self, subscriber: Subscriber, count: int) -> None:
-        """Brings the subscriber's shard to what passes of the tables after this many commits."""
+        """Brings the subscriber's shard up to date with what it gets of the tables after this many commits."""
         for changes in self.database.log[subscriber.applied:count]:
             for change in changes:
                 if change[0] == "truncate":
@@ -226,5 +227,5 @@ class World:
         subscriber.applied = count
 
     def note(self, what: str, number: int) -> None:
-        """Keeps the greatest number of a kind."""
+        """Keeps the greatest number seen of a kind."""
         self.met[what] = max(self.met[what], number)
