@@ -1,1 +1,1 @@
-"""Streams of bytes with each byte changed in turn, as a subscriber takes them."""
+"""Streams in which each byte is changed in turn, and how a subscriber takes them."""

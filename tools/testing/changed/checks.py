@@ -1,7 +1,8 @@
-"""Feeds streams to a subscriber with each byte changed in turn, and compares what it answers with the model.
+"""Feeds a subscriber streams in which each byte is changed in turn, and compares its answers with the model.
 
-The program `refused_calls` feeds them: it has a stream on its standard input, and writes for each place and each other
-value of its byte what the changed stream is answered, and then the stream as it was, at once, on a new connection.
+The program `refused_calls` reads a stream from standard input. For each byte and each other value of it, the program
+prints the answer to the changed stream, and then the answer to the unchanged stream, fed in one piece on a new
+connection.
 """
 
 import re
@@ -17,7 +18,7 @@ from tally import Tally
 
 from .streams import OID, STREAMS
 
-# What the changes have to meet, by the names of faults.
+# Faults that the changes have to cause, by name.
 MET = {
     "Ok", "Err Frame BadLength", "Err Frame FrameTooLong", "Err Msg Unknown", "Err Msg Short", "Err Msg Trailing",
     "Err Msg BadText", "Err Msg BadCount", "Err Msg Toast", "Err OutOfPlace", "Err NoRelation", "Err BadValue",
@@ -37,12 +38,12 @@ def check_changed_streams(tally: Tally) -> None:
 
 
 def output_of(stream: bytes) -> bytes:
-    """What the program writes."""
+    """Returns what the program prints."""
     return subprocess.run([program()], input=stream, stdout=subprocess.PIPE, timeout=SECONDS).stdout
 
 
 class Changes:
-    """A stream with each byte changed in turn, and what its changes met."""
+    """A stream whose bytes are changed in turn, and the faults that this has caused."""
 
     def __init__(self, stream: bytes) -> None:
         self.stream = stream
@@ -50,7 +51,7 @@ class Changes:
         self.again: dict[State, str] = {}
 
     def answers(self) -> Iterator[str]:
-        """What the program has to write of each change."""
+        """Yields what the program has to print for each change."""
         begin, state = 0, State().opened()
         for frame in frames_of(self.stream)[0]:
             for place in range(begin, begin + len(frame)):
@@ -59,7 +60,7 @@ class Changes:
             begin += len(frame)
 
     def answers_at(self, begin: int, state: State, place: int) -> Iterator[str]:
-        """The same of the byte at a place, where its frame begins with a state."""
+        """Yields the same for the byte at a place, given the start of its frame and the state there."""
         for value in range(256):
             changed = self.stream[:place] + bytes([value]) + self.stream[place + 1:]
             if changed == self.stream:
@@ -73,14 +74,14 @@ class Changes:
 
 
 def lines(fed: int, told: str, state: State) -> str:
-    """What the program has to write of a connection after it."""
+    """Returns what the program has to print of a connection after it has ended."""
     following = "Ok(())" if state.is_open else "Err(Closed)"
     rows = "".join(f"{written_row(row)}\n" for row in state.rows(OID))
     return f"{fed} {told} {following} {state.position} {str(state.is_asked).lower()}\n{rows}"
 
 
 def first_difference(changes: Changes, output: bytes) -> str | None:
-    """The first change that is answered otherwise than by the model."""
+    """Returns the first change for which the answer differs from the model's."""
     at = 0
     for answer in changes.answers():
         expected = answer.encode()

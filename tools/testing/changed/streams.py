@@ -1,4 +1,4 @@
-"""Streams that a publisher may send, from the first byte on."""
+"""Complete streams that a publisher may send."""
 
 from served.messages import (
     COPY_BOTH_RESPONSE,
@@ -36,8 +36,8 @@ INSERT = bytes.fromhex("""
 
 COLUMNS = [(True, "k", "smallint"), (False, "b", "boolean"), (False, "n", "bigint"), (False, "c", "text")]
 
-# A table is emptied after its first row. Two rows come: one gets another key and is deleted, the other gets other
-# values.
+# A table is truncated after its first row. Then two rows are inserted: one gets another key and is deleted, the other
+# gets other values.
 CHANGES = [
     begin(64, 1),
     relation(OID, "u", "d", COLUMNS),
@@ -56,12 +56,12 @@ REFUSAL = error_response("55006", 'replication slot "s0" is active')
 
 
 def stream_of(messages: list[bytes]) -> bytes:
-    """A stream of these messages, and then a keepalive that wants an answer."""
+    """Returns a stream of these messages, followed by a keepalive that requests a reply."""
     told = b"".join(xlog_data(64, message) for message in messages)
     return COPY_BOTH_RESPONSE + told + frame(b"d", keepalive(256)[5:-1] + b"\1")
 
 
-# Each with its name.
+# The streams by name.
 STREAMS = {
     "an Insert": INSERT,
     "other changes": stream_of(CHANGES),

@@ -1,1 +1,1 @@
-"""Whole runs of the built program, each with a read or a write that fails."""
+"""Whole runs of the built program, in each of which a read or a write fails."""

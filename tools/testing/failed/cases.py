@@ -1,4 +1,4 @@
-"""What the runs ask."""
+"""The arguments and inputs of the runs."""
 
 from collections.abc import Iterator
 from dataclasses import dataclass
@@ -14,7 +14,7 @@ ROWS = f"{HALVES_CATALOG}%%\n(7, 'eu')\n(100, NULL)\n(2147483648, NULL)\n('x', 1
 
 @dataclass(frozen=True)
 class Case:
-    """Words and an input, and how many bytes a read gives at most, and a write takes."""
+    """Arguments and an input, and the greatest number of bytes that a read returns and that a write accepts."""
 
     words: tuple[str, ...]
     text: bytes
@@ -23,7 +23,7 @@ class Case:
 
 
 def cases() -> Iterator[Case]:
-    """All runs but those of `serve` that listen."""
+    """Yields all runs except those in which `serve` listens."""
     yield Case(("eval", "t"), ROWS)
     yield Case(("eval", "t", "--insert"), ROWS)
     yield Case(("eval", "u"), ROWS)

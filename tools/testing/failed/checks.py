@@ -1,4 +1,4 @@
-"""Makes the runs, and says what is wrong with them."""
+"""Makes the runs, and reports what is wrong with them."""
 
 import errno
 import os
@@ -15,22 +15,22 @@ from .publishes import check_publishes
 from .running import READS, WRITES, Answer, Failure, failed_runs, run, run_with
 from .serves import check_serves
 
-# Of this many runs of a case that fail, what is wrong is shown.
+# The number of failing runs of a case that are shown in detail.
 MOST_SHOWN = 3
 
-# The answer where the input cannot be read, and the status where the output cannot be written.
+# The answer if the input cannot be read, and the status if the output cannot be written.
 UNREAD = Answer(3, "input\n")
 UNWRITTEN = 4
 
-# How a read or a write fails, and whether all after it do too. A call that is interrupted is made again; 0 is a write
-# that takes nothing.
+# How a read or a write fails, and whether all later calls do too. An interrupted call is repeated; 0 is a write that
+# accepts nothing.
 READ_ERRORS = [(errno.EIO, False), (errno.EIO, True), (errno.ENOMEM, False), (errno.EINTR, False)]
 WRITE_ERRORS = [
     (errno.EIO, False), (errno.EIO, True), (errno.ENOSPC, True), (errno.EPIPE, True), (0, True), (errno.EINTR, False)]
 
 
 def check_failed_runs(tally: Tally) -> None:
-    """Makes all runs, those with the library where there is a C compiler."""
+    """Makes all runs. Those with the library need a C compiler."""
     if not pathlib.Path(program()).exists():
         return tally.check("the program whose reads and writes fail", f"{program()} is not there", "it is built")
     check_files(tally)
@@ -48,7 +48,7 @@ def check_failed_runs(tally: Tally) -> None:
 
 
 def check_case(tally: Tally, case: Case, library: str) -> Counter[int]:
-    """A run without failures, and those with each read and each write that fails."""
+    """Makes a run without failures, and runs in which each read and each write fails in turn."""
     plain, _ = run(case.words, case.text, {})
     name = f"{' '.join(case.words)} that writes {plain.output[:40]!r}"
     tally.check(f"{name}: the status of a plain run", plain.status in (0, 1, 2, 3), True)
@@ -66,9 +66,9 @@ def check_case(tally: Tally, case: Case, library: str) -> Counter[int]:
 
 
 def is_right(plain: Answer, failure: Failure, found: Answer, has_failed: bool | None) -> bool:
-    """Whether a run is as it should be: as a plain one if no call failed, or if it was interrupted alone; the input is
-    not read where a read failed; and where a write failed, the status says so, and the output is some first bytes. It
-    may be all if the writes after that took the rest."""
+    """Returns whether a run is right: it equals a plain run if no call failed or if calls were only interrupted; a
+    failed read makes the input unreadable; after a failed write, the status says so, and the output is a prefix, or all
+    of it if later writes accepted the rest."""
     if has_failed is None:
         return False
     if not has_failed or failure.error == errno.EINTR:
@@ -80,7 +80,7 @@ def is_right(plain: Answer, failure: Failure, found: Answer, has_failed: bool | 
 
 
 def check_files(tally: Tally) -> None:
-    """Files that cannot be read or written: a folder, a device that is full, and a socket that is closed."""
+    """Tests files that cannot be read or written: a folder, a full device, and a closed socket."""
     with tempfile.TemporaryDirectory() as folder, open("/dev/full", "wb") as full:
         opened = os.open(folder, os.O_RDONLY)
         with tempfile.TemporaryFile() as taken:
@@ -94,7 +94,7 @@ def check_files(tally: Tally) -> None:
 
 
 def closed_socket() -> socket.socket:
-    """A socket whose other end is closed."""
+    """Returns a socket whose other end is closed."""
     one, other = socket.socketpair()
     other.close()
     return one

@@ -10,7 +10,7 @@ from tally import Tally
 
 from .running import MOST_CALLS, READS, WRITES, Answer, Failure, run
 
-# Lines, and what each is answered.
+# Lines, each with its answer.
 TALK = [
     ("COMMIT INSERT t (7, 'eu');", "commit 1"),
     ("COMMIT INSERT t (7, 'eu');", "refused At 1 DuplicateKey"),
@@ -21,12 +21,12 @@ TALK = [
 HEAD = f"{HALVES_CATALOG}%%\n{C}%%\n"
 TEXT = "\n".join([HEAD.removesuffix("\n"), *(line for line, _ in TALK), ""]).encode()
 
-# How many bytes a read gives at most, and a write takes.
+# The greatest number of bytes that a read returns and that a write accepts.
 MOST = {READS: 40, WRITES: 7}
 
 
 def check_publishes(tally: Tally, library: str) -> Counter[int]:
-    """Runs with each read and each write that fails in turn."""
+    """Makes runs in which each read and each write fails in turn."""
     met: Counter[int] = Counter()
     for file, error in (READS, errno.EIO), (READS, errno.EINTR), (WRITES, errno.EPIPE), (WRITES, errno.EINTR):
         faults = []
@@ -43,7 +43,7 @@ def check_publishes(tally: Tally, library: str) -> Counter[int]:
 
 
 def answer_to(given: bytes, port: int) -> Answer:
-    """A run whose input ends after these bytes, or cannot be read any further."""
+    """Returns the answer of a run whose input ends after these bytes, or cannot be read any further."""
     lines = given.split(b"\n")[:-1]
     if lines.count(b"%%") < 2:
         return Answer(3, "input\n")
@@ -53,7 +53,7 @@ def answer_to(given: bytes, port: int) -> Answer:
 
 
 def is_right(failure: Failure, port: int, found: Answer, has_failed: bool) -> bool:
-    """Whether a run is as it should be. A read that fails ends the input."""
+    """Returns whether a run is right. A failed read ends the input."""
     whole = answer_to(TEXT, port)
     if not has_failed or failure.error == errno.EINTR:
         return found == whole
@@ -63,8 +63,8 @@ def is_right(failure: Failure, port: int, found: Answer, has_failed: bool) -> bo
 
 
 def publish(failure: Failure, library: str) -> tuple[int, Answer, bool | None]:
-    """Makes a run, and tells its port and whether the call failed. Another port is tried where somebody else has taken
-    the first one."""
+    """Makes a run. Returns its port, its answer and whether the call failed. Tries another port if the first one is
+    taken."""
     for _ in range(PORTS):
         port = free_port()
         found, has_failed = run(("publish", "--port", str(port)), TEXT, failure.variables(library))

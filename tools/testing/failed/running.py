@@ -1,4 +1,5 @@
-"""Runs in which a read or a write fails, by the library of failing.c or by a file that cannot be read or written."""
+"""Makes runs in which a read or a write fails, either through the library of failing.c or because a file cannot be read
+or written."""
 
 import os
 import subprocess
@@ -7,10 +8,10 @@ from dataclasses import dataclass
 
 from random_cases.running import program
 
-# How long a run may take, on a machine that does much else, too.
+# The time limit of a run in seconds, also on a busy machine.
 SECONDS = 300
 
-# After this many calls no further one fails, though there may be more.
+# No call after this many fails, though there may be more calls.
 MOST_CALLS = 2_000
 
 READS, WRITES = 0, 1
@@ -18,7 +19,7 @@ READS, WRITES = 0, 1
 
 @dataclass(frozen=True)
 class Answer:
-    """A run's status, or None if it took too long, and its output."""
+    """The status of a run, or None if it took too long, and its output."""
 
     status: int | None
     output: str
@@ -26,7 +27,8 @@ class Answer:
 
 @dataclass(frozen=True)
 class Failure:
-    """Which call on which file fails, how, whether all after it do too, and how many bytes each moves at most."""
+    """Which call on which file fails and how, whether all later ones do too, and the greatest number of bytes per
+    call."""
 
     file: int
     call: int
@@ -35,7 +37,7 @@ class Failure:
     most: int
 
     def variables(self, library: str) -> dict[str, str]:
-        """What the library reads of the environment."""
+        """Returns the environment variables that the library reads."""
         more = {"FAILED_AFTER": "1"} if self.and_after else {}
         return more | {
             "LD_PRELOAD": library, "FAILED_FILE": str(self.file), "FAILED_CALL": str(self.call),
@@ -43,7 +45,7 @@ class Failure:
 
 
 def run(words: tuple[str, ...], text: bytes, variables: dict[str, str]) -> tuple[Answer, bool | None]:
-    """Makes a run, and tells whether the call failed, or None if the library does not tell."""
+    """Makes a run. Also returns whether the call failed, or None if the library does not say."""
     try:
         ended = subprocess.run(
             [program(), *words], input=text, stdout=subprocess.PIPE, stderr=subprocess.PIPE, timeout=SECONDS,
@@ -57,7 +59,7 @@ def run(words: tuple[str, ...], text: bytes, variables: dict[str, str]) -> tuple
 def failed_runs(
         words: tuple[str, ...], text: bytes, library: str, file: int, error: int, and_after: bool, most: int,
 ) -> Iterator[tuple[Failure, Answer, bool | None]]:
-    """Runs with each call on a file that fails in turn, up to one in which none does."""
+    """Makes runs in which each call on a file fails in turn, up to one in which none does."""
     for call in range(1, MOST_CALLS):
         failure = Failure(file, call, error, and_after, most)
         found, has_failed = run(words, text, failure.variables(library))
@@ -67,7 +69,7 @@ def failed_runs(
 
 
 def run_with(words: tuple[str, ...], given: object, taken: object) -> int | None:
-    """The status of a run with other files as its standard input and output."""
+    """Returns the status of a run with other files as its standard input and output."""
     try:
         return subprocess.run(
             [program(), *words], stdin=given, stdout=taken, stderr=subprocess.DEVNULL, timeout=SECONDS).returncode

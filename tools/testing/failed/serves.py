@@ -17,12 +17,12 @@ from tally import Tally
 
 from .running import MOST_CALLS, READS, SECONDS, WRITES, Answer, Failure
 
-# How many bytes a read gives at most, and a write takes.
+# The greatest number of bytes that a read returns and that a write accepts.
 MOST = {READS: 40, WRITES: 7}
 
 
 def check_serves(tally: Tally, library: str) -> Counter[int]:
-    """Runs with each read and each write that fails in turn."""
+    """Makes runs in which each read and each write fails in turn."""
     met: Counter[int] = Counter()
     for file, error in (READS, errno.EIO), (READS, errno.EINTR), (WRITES, errno.EPIPE), (WRITES, errno.EINTR):
         faults = []
@@ -39,7 +39,7 @@ def check_serves(tally: Tally, library: str) -> Counter[int]:
 
 
 def is_right(failure: Failure, port: int, found: Answer, has_failed: bool) -> bool:
-    """Whether a run is as it should be."""
+    """Returns whether a run is right."""
     whole = f"listening {port}\nclosed 2 2\n"
     if not has_failed or failure.error == errno.EINTR:
         return found == Answer(0, whole)
@@ -49,8 +49,8 @@ def is_right(failure: Failure, port: int, found: Answer, has_failed: bool) -> bo
 
 
 def serve(failure: Failure, library: str) -> tuple[int, Answer, bool]:
-    """Makes a run, and tells its port and whether the call failed. Another port is tried where somebody else has taken
-    the first one."""
+    """Makes a run. Returns its port, its answer and whether the call failed. Tries another port if the first one is
+    taken."""
     for _ in range(PORTS):
         port = free_port()
         found, has_failed = serve_at(port, failure, library)
@@ -60,7 +60,7 @@ def serve(failure: Failure, library: str) -> tuple[int, Answer, bool]:
 
 
 def serve_at(port: int, failure: Failure, library: str) -> tuple[Answer, bool]:
-    """Makes a run at a port, with two clients that end at once."""
+    """Makes a run on a port, with two clients that end at once."""
     with tempfile.TemporaryFile() as given, tempfile.TemporaryFile() as errors:
         given.write(halves(TWO_COMMITS).input().encode())
         given.seek(0)
@@ -76,7 +76,7 @@ def serve_at(port: int, failure: Failure, library: str) -> tuple[Answer, bool]:
             status = started.wait()
             late.cancel()
         errors.seek(0)
-        # Lines of the program go before that of the library.
+        # The program's lines precede the library's line.
         return Answer(status, output.decode(errors="backslashreplace")), errors.read().splitlines()[-1:] == [b"failed"]
 
 

@@ -1,1 +1,1 @@
-"""Whole runs of the built program, each with one of its requests for memory refused, or with that one and all after."""
+"""Whole runs of the built program, in each of which one request for memory is refused, or one and all after it."""

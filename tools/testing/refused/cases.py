@@ -1,4 +1,4 @@
-"""What the runs ask, and what they may answer where memory is refused."""
+"""The arguments and inputs of the runs, and the answers that are allowed if memory is refused."""
 
 import pathlib
 from collections.abc import Iterator
@@ -21,15 +21,15 @@ EXAMPLES = pathlib.Path(__file__).resolve().parent.parent.parent.parent / "examp
 
 @dataclass(frozen=True)
 class Lines:
-    """A run whose lines say all that it does."""
+    """A run whose lines show all that it does."""
 
     name: str
     words: tuple[str, ...]
     text: bytes
 
     def fault(self, plain: Answer, found: Answer) -> str | None:
-        """What is wrong with a run that was refused memory: it has to write all that a plain run writes, or its first
-        lines, but not all, and then that memory ran out."""
+        """Returns what is wrong with a run that was refused memory. It has to print all that a plain run prints, or a
+        proper prefix of those lines followed by the message that memory ran out."""
         if (found.status, found.output) == (plain.status, plain.output):
             return None
         first = found.output.removesuffix(OUT_OF_MEMORY)
@@ -52,8 +52,8 @@ class Script:
     steps: list[Step]
 
     def fault(self, plain: Answer, found: Answer) -> str | None:
-        """What is wrong with a run that was refused memory: each step has to have the lines of a world that memory was
-        refused to, or the lines end after some steps, and then comes that memory ran out."""
+        """Returns what is wrong with a run that was refused memory. Each step has to print the lines of a world in
+        which memory was refused, or the output has to end after some steps with the message that memory ran out."""
         lines = found.output.split("\n")[:-1]
         ended = found.status == NO_MEMORY
         if ended and lines[-1:] != [OUT_OF_MEMORY.strip()] or found.status not in (0, NO_MEMORY):
@@ -71,7 +71,8 @@ class Script:
         return None if not ended and self.is_end(places, lines, found) else "another number of lines"
 
     def is_end(self, places: list[Place], lines: list[str], found: Answer) -> bool:
-        """Whether all lines are those of the steps so far, and no more of them were refused than the library tells."""
+        """Returns whether all lines are those of the steps so far, with no more refused steps than requests that the
+        library refused."""
         most = found.refused - (found.status == NO_MEMORY)
         return any(place.line == len(lines) and place.refused <= most for place in places)
 
@@ -80,18 +81,18 @@ Case = Lines | Script
 
 
 def example(name: str) -> bytes:
-    """An example's text."""
+    """Returns an example's text."""
     return (EXAMPLES / name).read_bytes()
 
 
 def with_certificates(catalog: str) -> bytes:
-    """An input of `check`."""
+    """Returns an input of `check`."""
     _, certificates = pgshard("make", text=catalog, seconds=SECONDS)
     return parts(catalog, certificates)
 
 
 def cases() -> Iterator[Case]:
-    """All runs but those of `serve`."""
+    """Yields all runs except those of `serve`."""
     shop = example("shop.sql")
     yield Lines("check of a shop", ("check",), with_certificates(shop.decode()))
     yield Lines("check of three tables", ("check",), with_certificates(catalog_text()))

@@ -1,4 +1,4 @@
-"""Makes the runs, and says what is wrong with them."""
+"""Makes the runs, and reports what is wrong with them."""
 
 import pathlib
 import tempfile
@@ -15,15 +15,15 @@ from .publishes import refused_threads as threads_of_publish
 from .running import NO_MEMORY, Answer, Refusal, refused_runs, run
 from .serves import LONG_IDLE_SECONDS, SHOP, Serving, refused_serves, refused_threads
 
-# How a run ends to which nothing is refused: it does not give up.
+# The statuses of a run that does not give up, as when nothing is refused.
 ENDED_STATUSES = (0, 1, 2, 3)
 
-# Of this many runs of a case that fail, what is wrong is shown.
+# The number of failing runs of a case that are shown in detail.
 MOST_SHOWN = 3
 
 
 def check_refused_runs(tally: Tally) -> None:
-    """Makes all runs, where there is a C compiler."""
+    """Makes all runs, if there is a C compiler."""
     if not pathlib.Path(program()).exists():
         return tally.check("the program that is refused memory", f"{program()} is not there", "it is built")
     with tempfile.TemporaryDirectory() as folder:
@@ -35,7 +35,7 @@ def check_refused_runs(tally: Tally) -> None:
 
 
 def check_all(tally: Tally, library: str) -> None:
-    """Makes all runs with the library that refuses."""
+    """Makes all runs with the library that refuses requests."""
     met: Counter[str] = Counter()
     for case in cases():
         met += check_case(tally, case, library)
@@ -50,7 +50,7 @@ def check_all(tally: Tally, library: str) -> None:
 
 
 def check_case(tally: Tally, case: Case, library: str) -> Counter[str]:
-    """A run without refusals, and those with them. What they met."""
+    """Makes a run without refusals, and the runs with them. Returns how they ended."""
     plain = run(case.words, case.text, Refusal(0, False).variables(library))
     tally.check(f"{case.name}: a plain run", (plain.refused, case.fault(plain, plain)), (0, None))
     tally.check(f"{case.name}: the status of a plain run", plain.status in ENDED_STATUSES, True)
@@ -66,7 +66,7 @@ def check_case(tally: Tally, case: Case, library: str) -> Counter[str]:
 
 
 def fault_of(case: Case, plain: Answer, found: Answer) -> str | None:
-    """What is wrong with a run."""
+    """Returns what is wrong with a run."""
     if found.refused is None:
         return f"status {found.status}, and no count of what was refused"
     if found.refused == 0:
@@ -75,7 +75,7 @@ def fault_of(case: Case, plain: Answer, found: Answer) -> str | None:
 
 
 def check_serving(tally: Tally, serving: Serving) -> Counter[str]:
-    """The same for `serve`. A client may leave before it has all, also where nothing was refused."""
+    """Does the same for `serve`. A client may leave before it has everything, even if nothing was refused."""
     plain = serving.run(Refusal(0, False), LONG_IDLE_SECONDS)
     tally.check("serve: a plain run", (serving.fault(plain), serving.is_whole(plain)), (None, True))
     met: Counter[str] = Counter()
@@ -90,7 +90,7 @@ def check_serving(tally: Tally, serving: Serving) -> Counter[str]:
 
 
 def check_threads(tally: Tally, serving: Serving) -> None:
-    """`serve` with threads refused: where it doesn't say that memory ran out, each client gets all."""
+    """Runs `serve` with refused threads: unless it reports that memory ran out, each client gets everything."""
     faults = []
     for refusal, found in refused_threads(serving):
         fault = serving.fault(found)
@@ -102,7 +102,7 @@ def check_threads(tally: Tally, serving: Serving) -> None:
 
 
 def check_publishing(tally: Tally, publishing: Publishing) -> Counter[str]:
-    """The same for `publish`: a client may be ended for lack of memory, and a commit refused."""
+    """Does the same for `publish`: a client may be ended for lack of memory, and a commit may be refused."""
     plain = publishing.run(Refusal(0, False), LONG_IDLE_SECONDS)
     tally.check("publish: a plain run", (fault_of_publish(plain), is_whole(plain)), (None, True))
     met: Counter[str] = Counter()

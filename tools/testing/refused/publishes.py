@@ -20,20 +20,20 @@ from served.whole import whole_stream
 from .running import AT_A_TIME, NO_MEMORY, OUT_OF_MEMORY, SECONDS, Answer, Refusal, count_of, refused_in_turn
 from .serves import IDLE_SECONDS, is_first_part, sent_to
 
-# A commit of one row each, for each subscriber in turn.
+# Commits of one row each, for the subscribers in turn.
 COMMITS = [[Insert("t", (number + 100 * (number % 2), "x"))] for number in range(8)]
 SUBSCRIBERS = S0, S1
 TEXT = "\n".join(
     [f"{HALVES_CATALOG}%%", f"{C}%%", *(f"COMMIT {command_text(it)};" for [it] in COMMITS), ""]).encode()
 
-# How far apart the requests are that are refused, and those from which on all are.
+# The distance between refused requests, and between requests from which on all are refused.
 STRIDE = 7
 STRIDE_AFTER = 29
 
-# Which threads are refused: those of the session, of the keepalives, of some places and of clients.
+# Which threads are refused: those of the session, of the keepalives, of some connection slots and of clients.
 THREADS = [1, 2, 3, 4, 20, 60, *range(64, 76)]
 
-# How long a client waits for more where threads are refused.
+# How long a client waits for more if threads are refused, in seconds.
 THREADS_IDLE_SECONDS = 1
 
 LISTENING = re.compile(r"listening \d+\n")
@@ -62,7 +62,7 @@ class Publishing:
                     words, stdin=subprocess.PIPE, stdout=subprocess.PIPE, stderr=errors, env=variables) as started:
                 late = threading.Timer(SECONDS, started.kill)
                 late.start()
-                # It may have ended before it has read all.
+                # The program may have ended before it has read everything.
                 with contextlib.suppress(BrokenPipeError):
                     started.stdin.write(TEXT)
                     started.stdin.flush()
@@ -74,21 +74,21 @@ class Publishing:
                 status = started.wait()
                 late.cancel()
             errors.seek(0)
-            # Lines of the program go before that of the library.
+            # The program's lines precede the library's line.
             told = b"".join(errors.read().splitlines(keepends=True)[-1:])
             return Published(Answer(status, (first + rest).decode(errors="backslashreplace"), count_of(told)), got)
 
 
 def clients(port: int, idle: float) -> dict[str, bytes]:
-    """What the clients get, side by side."""
+    """Returns what the clients get, which run concurrently."""
     with ThreadPoolExecutor(len(SUBSCRIBERS)) as pool:
-        # Where no thread serves them, nobody ends their connections before the input ends.
+        # If no thread serves the clients, their connections are not ended before the input ends.
         found = pool.map(lambda subscriber: sent_to(port, whole_publisher(), subscriber, idle, idle), SUBSCRIBERS)
         return {subscriber.slot: sent for subscriber, sent in zip(SUBSCRIBERS, found)}
 
 
 def whole_publisher() -> Publisher:
-    """A publisher that has made all commits."""
+    """Returns a publisher that has made all commits."""
     made = Publisher((TABLE,))
     for commands in COMMITS:
         made.commit(commands)
@@ -96,7 +96,8 @@ def whole_publisher() -> Publisher:
 
 
 def publisher_of(answers: list[str], unanswered: int = 0) -> Publisher | None:
-    """The publisher that gives these answers, and has made some commits more; none if an answer is wrong."""
+    """Returns the publisher that gives these answers and has then made some more commits, or None if an answer is
+    wrong."""
     made = Publisher((TABLE,))
     for commands, answer in zip(COMMITS, answers):
         if answer == f"commit {len(made.log) + 1}\n":
@@ -109,7 +110,7 @@ def publisher_of(answers: list[str], unanswered: int = 0) -> Publisher | None:
 
 
 def fault_of(found: Published) -> str | None:
-    """What is wrong with a run, which may have been refused memory."""
+    """Returns what is wrong with a run, which may have been refused memory."""
     answer = found.answer
     if answer.refused is None or answer.status not in (0, NO_MEMORY):
         return f"status {answer.status}, {answer.output!r}, {answer.refused} refused"
@@ -132,8 +133,9 @@ def fault_of(found: Published) -> str | None:
 
 
 def without_keepalives(got: bytes, publisher: Publisher, subscriber: Subscriber) -> bytes:
-    """What a client got, without its keepalives. A publisher whose input has ended asks for one every 50 ms while a
-    client has not confirmed all, and one goes out if its thread has not yet sent the last commits by then."""
+    """Returns what a client got, without keepalives. After its input has ended, a publisher requests a reply every 50
+    ms until a client has confirmed everything; such a keepalive goes out if the client's thread has not yet sent the
+    last commits by then."""
     frames, left = messages.frames_of(got)
     kept: list[bytes] = []
     for frame in frames:
@@ -145,8 +147,8 @@ def without_keepalives(got: bytes, publisher: Publisher, subscriber: Subscriber)
 
 
 def keepalives_after(frames: list[bytes], publisher: Publisher, subscriber: Subscriber) -> list[bytes]:
-    """The keepalives that may come after these frames: between two transactions, each says that the stream is at a
-    position from the end of the one to the beginning of the other."""
+    """Returns the keepalives that may come after these frames. Between two transactions, each gives a position from the
+    end of the first to the beginning of the second."""
     is_between = frames == [messages.COPY_BOTH_RESPONSE] or frames and messages.is_commit(frames[-1])
     first = messages.end_in(frames, 64)
     begins = [listed[0][0] for listed in publisher.transactions(subscriber, first)]
@@ -155,8 +157,8 @@ def keepalives_after(frames: list[bytes], publisher: Publisher, subscriber: Subs
 
 
 def is_closed(last: str, answers: list[str], publisher: Publisher, got: dict[str, bytes]) -> bool:
-    """Whether the last line says how many commits there are, of all the lines, and as many connections as clients got
-    something, or more, but not too many."""
+    """Returns whether the last line gives the number of commits, as all lines do, and as many connections as there were
+    clients that got something, or a few more."""
     closed = CLOSED.fullmatch(last)
     served = sum(bool(sent) for sent in got.values())
     return closed is not None and len(answers) == len(COMMITS) and int(closed[1]) == len(publisher.log) and (
@@ -164,7 +166,7 @@ def is_closed(last: str, answers: list[str], publisher: Publisher, got: dict[str
 
 
 def is_whole(found: Published) -> bool:
-    """Whether all was made, and the clients got all."""
+    """Returns whether everything was done, and the clients got everything."""
     publisher = whole_publisher()
     return found.answer.output.endswith(f"commit {len(COMMITS)}\nclosed {len(COMMITS)} {len(SUBSCRIBERS)}\n") and all(
         messages.without_times(without_keepalives(found.got[it.slot], publisher, it)) == whole_stream(publisher, it)
@@ -172,12 +174,13 @@ def is_whole(found: Published) -> bool:
 
 
 def refused_publishes(publishing: Publishing) -> Iterator[tuple[Refusal, Published]]:
-    """Runs with some of the requests refused, up to runs that meet no refusal; and the same with all after them."""
+    """Makes runs in which some requests are refused, up to runs that meet no refusal; and the same with all later
+    requests refused."""
     return refused_in_turn(publishing.run, STRIDE, STRIDE_AFTER)
 
 
 def refused_threads(publishing: Publishing) -> Iterator[tuple[Refusal, Published]]:
-    """Runs with some threads refused, and with all after them."""
+    """Makes runs in which some threads are refused, and others in which all later ones are refused too."""
     refusals = [Refusal(number, and_after, "THREAD") for number in THREADS for and_after in (False, True)]
     with ThreadPoolExecutor(AT_A_TIME) as pool:
         yield from zip(refusals, pool.map(lambda it: publishing.run(it, THREADS_IDLE_SECONDS), refusals))

@@ -1,4 +1,4 @@
-"""Runs of the built program in which memory is refused."""
+"""Runs the built program while memory is refused."""
 
 import os
 import re
@@ -10,24 +10,24 @@ from typing import Protocol, TypeVar
 
 from random_cases.running import program
 
-# How long a run may take, on a machine that does much else, too. One of `publish` in which no place is begun sleeps
-# 10,000 times for a millisecond, and each of these sleeps may be several times as long.
+# The time limit of a run in seconds, also on a busy machine. A run of `publish` in which no connection slot can be
+# started sleeps 10,000 times for a millisecond, and each sleep may take several times as long.
 SECONDS = 300
 
-# The last line of a run that memory ran out for, and its status.
+# The last line and the status of a run for which memory ran out.
 OUT_OF_MEMORY = "out of memory\n"
 NO_MEMORY = 5
 
-# After this many requests no further one is refused, though there may be more.
+# No request after this many is refused, though there may be more requests.
 MOST_REQUESTS = 20_000
 
-# After so many runs that do not tell how many requests were refused, no more are made.
+# After this many runs whose number of refused requests is unknown, no more are made.
 MOST_UNTOLD = 5
 
-# How far apart the requests are from which on all are refused.
+# The distance between requests from which on all are refused.
 STRIDE_AFTER = 5
 
-# How many runs with clients there are at a time, which mostly wait.
+# How many runs with clients, which mostly wait, are made at a time.
 AT_A_TIME = 4
 
 COUNT = re.compile("([0-9]+) refused\n")
@@ -35,8 +35,8 @@ COUNT = re.compile("([0-9]+) refused\n")
 
 @dataclass(frozen=True)
 class Answer:
-    """A run's status, or None if it took too long, its output, and how many requests were refused, or None if
-    that is not told."""
+    """A run's status, or None if it took too long; its output; and the number of refused requests, or None if it is
+    unknown."""
 
     status: int | None
     output: str
@@ -45,14 +45,15 @@ class Answer:
 
 @dataclass(frozen=True)
 class Refusal:
-    """Which requests for memory are refused, or for threads: that of a number from 1, or that one and all after it."""
+    """Which requests for memory or for threads are refused: the one with this number, from 1, or that one and all after
+    it."""
 
     number: int
     and_after: bool
     kind: str = "REQUEST"
 
     def variables(self, library: str) -> dict[str, str]:
-        """What the library reads of the environment."""
+        """Returns the environment variables that the library reads."""
         more = {"REFUSED_AFTER": "1"} if self.and_after else {}
         return {"LD_PRELOAD": library, f"REFUSED_{self.kind}": str(self.number)} | more
 
@@ -61,19 +62,19 @@ class Refusal:
 
 
 class Ran(Protocol):
-    """What came of a run with clients."""
+    """The result of a run with clients."""
 
     @property
     def answer(self) -> Answer:
-        """What the program answered."""
+        """Returns the program's answer."""
 
 
 Found = TypeVar("Found", bound=Ran)
 
 
 def refused_in_turn(run: Callable[[Refusal], Found], stride: int, stride_after: int) -> Iterator[tuple[Refusal, Found]]:
-    """Runs with some of the requests refused, several at a time, up to runs that meet no refusal; and the same with all
-    after them. Strides are from one of these requests to the next."""
+    """Makes runs in which some requests are refused, several at a time, up to runs that meet no refusal; and the same
+    with all later requests refused. A stride is the distance from one of these requests to the next."""
     for and_after, step in (False, stride), (True, stride_after):
         first = 1
         with ThreadPoolExecutor(AT_A_TIME) as pool:
@@ -99,14 +100,14 @@ def run(words: tuple[str, ...], text: bytes, variables: dict[str, str]) -> Answe
 
 
 def count_of(errors: bytes) -> int | None:
-    """How many requests the library says were refused."""
+    """Returns how many requests were refused according to the library."""
     told = COUNT.fullmatch(errors.decode(errors="replace"))
     return int(told[1]) if told else None
 
 
 def refused_runs(words: tuple[str, ...], text: bytes, library: str) -> Iterator[tuple[Refusal, Answer]]:
-    """Runs with each request refused in turn, up to one that meets no refusal; and the same with all after it, too, for
-    some of the requests."""
+    """Makes runs in which each request is refused in turn, up to one that meets no refusal; and for some requests also
+    runs with all later ones refused."""
     for and_after, stride in (False, 1), (True, STRIDE_AFTER):
         untold = 0
         for number in range(1, MOST_REQUESTS, stride):

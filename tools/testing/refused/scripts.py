@@ -33,7 +33,7 @@ CATALOG = Catalog(TABLES, (LOW, HIGH, NOWHERE), (Subscription("london", (0,)), S
 
 VIEW: Step = ("view",)
 
-# Each subscriber connects, if it is not connected, and gets all that was committed.
+# Each subscriber connects, unless it is connected, and gets all that was committed.
 PUMPS: list[Step] = [("open", 0), ("pump", 0), ("open", 1), ("pump", 1), VIEW]
 
 FIRST_ROWS: Step = ("commit", [
@@ -54,7 +54,7 @@ FAULTY: list[Step] = [
     ("commit", []),
 ]
 
-# The stream comes in pieces: a status that wants a reply, and a connection that is lost within a frame.
+# The stream comes in pieces, with a status that requests a reply, and a connection that is lost within a frame.
 PIECES: list[Step] = [
     ("open", 0), ("hear", 0, 50), ("hear", 0, ALL), ("take", 0), ("keep", 0, True), ("deliver", 0, 100),
     ("report", 0, True), ("hear", 0, ALL), ("deliver", 0, 133), ("deliver", 0, ALL), ("report", 0, False),
@@ -69,17 +69,17 @@ STEPS: list[Step] = [
 
 
 def catalog_text() -> str:
-    """The catalog's text."""
+    """Returns the catalog's text."""
     return CatalogText(CATALOG, random.Random(1), False).text()
 
 
 def script_text(steps: list[Step]) -> str:
-    """A script's text."""
+    """Returns a script's text."""
     return ScriptText(CATALOG, random.Random(1), False).text(steps)
 
 
 def script_input(steps: list[Step]) -> bytes:
-    """The input of `simulate`, with the certificates that `make` finds."""
+    """Returns the input of `simulate`, with the certificates that `make` finds."""
     catalog = catalog_text()
     _, certificates = pgshard("make", text=catalog, seconds=SECONDS)
     return parts(catalog, certificates, script_text(steps))

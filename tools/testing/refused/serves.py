@@ -20,33 +20,34 @@ from served.whole import whole_stream
 
 from .running import NO_MEMORY, OUT_OF_MEMORY, SECONDS, Answer, Refusal, count_of, refused_in_turn
 
-# Commits of every kind.
+# Commits of all kinds.
 SHOP = Sharding(CATALOG, TABLES, (LONDON, TOKYO), COMMITS[:9])
 
-# How long a client waits for more before it leaves: after a refusal it may not get all, and is not told.
+# How long a client waits for more before it leaves, in seconds: after a refusal it may not get everything, and is not
+# told.
 IDLE_SECONDS = 0.15
 
-# How far apart the requests are that are refused, and those from which on all are.
+# The distance between refused requests, and between requests from which on all are refused.
 STRIDE = 4
 STRIDE_AFTER = 16
 
-# After this many threads no further one is refused, though there may be more.
+# No thread after this many is refused, though there may be more threads.
 MOST_THREADS = 20
 
-# How long a client waits that is to get all, or to be told.
+# How long a client waits that should get everything or be told, in seconds.
 LONG_IDLE_SECONDS = 60
 
 
 @dataclass
 class Served:
-    """A run, and what each client got, with no clocks and no times."""
+    """A run, and what each client got, without clocks and times."""
 
     answer: Answer
     got: dict[str, bytes] = field(default_factory=dict)
 
 
 class Serving:
-    """A sharding that is served to a client for each subscriber."""
+    """A sharding that is served to one client for each subscriber."""
 
     def __init__(self, sharding: Sharding, library: str) -> None:
         self.text = sharding.input().encode()
@@ -55,7 +56,7 @@ class Serving:
         self.library = library
 
     def run(self, refusal: Refusal, idle: float = IDLE_SECONDS) -> Served:
-        """Makes a run. Another port is tried where somebody else has taken the first one."""
+        """Makes a run. Tries another port if the first one is taken."""
         for _ in range(PORTS):
             found = self.run_at(free_port(), refusal, idle)
             if (found.answer.status, found.answer.output) != (NO_PORT, ""):
@@ -63,7 +64,7 @@ class Serving:
         return found
 
     def run_at(self, port: int, refusal: Refusal, idle: float) -> Served:
-        """Makes a run at a port."""
+        """Makes a run on a port."""
         with tempfile.TemporaryFile() as given, tempfile.TemporaryFile() as errors:
             given.write(self.text)
             given.seek(0)
@@ -79,18 +80,18 @@ class Serving:
                 late.cancel()
             errors.seek(0)
             output = (first + rest).decode(errors="backslashreplace").replace(f" {port}\n", " PORT\n")
-            # Lines of the program go before that of the library.
+            # The program's lines precede the library's line.
             told = b"".join(errors.read().splitlines(keepends=True)[-1:])
             return Served(Answer(status, output, count_of(told)), got)
 
     def clients(self, port: int, idle: float) -> dict[str, bytes]:
-        """What the clients get, side by side."""
+        """Returns what the clients get, which run concurrently."""
         with ThreadPoolExecutor(len(self.subscribers)) as pool:
             found = pool.map(lambda subscriber: sent_to(port, self.publisher, subscriber, idle), self.subscribers)
             return {subscriber.slot: sent for subscriber, sent in zip(self.subscribers, found)}
 
     def fault(self, found: Served) -> str | None:
-        """What is wrong with a run, which may have been refused memory."""
+        """Returns what is wrong with a run, which may have been refused memory."""
         answer = found.answer
         if answer.refused is None or answer.status not in (0, NO_MEMORY):
             return f"status {answer.status}, {answer.output!r}, {answer.refused} refused"
@@ -105,15 +106,15 @@ class Serving:
         return None
 
     def is_whole(self, found: Served) -> bool:
-        """Whether the clients got all."""
+        """Returns whether the clients got everything."""
         return all(
             messages.without_times(found.got[it.slot]) == whole_stream(self.publisher, it) for it in self.subscribers)
 
 
 def sent_to(
         port: int, publisher: Publisher, subscriber: Subscriber, idle: float, patience: float = SECONDS) -> bytes:
-    """What a client gets that leaves once it has its stream, or nothing more has come for a while. It waits so long for
-    the end of the connection."""
+    """Returns what a client gets that leaves when it has its stream, or when nothing more has come for a while. It
+    waits as long for the end of the connection."""
     found = b""
     with contextlib.suppress(OSError), client(port) as made:
         made.start(subscriber)
@@ -126,8 +127,8 @@ def sent_to(
 
 
 def is_first_part(sent: bytes, publisher: Publisher, subscriber: Subscriber) -> bool:
-    """Whether a client got the first bytes of its stream, and after some whole frames perhaps the end of it. Of a frame
-    that came in part only the kind and the length are looked at."""
+    """Returns whether a client got a prefix of its stream, and possibly the end of the stream after some whole frames.
+    Of a partial frame, only the kind and the length are compared."""
     frames, left = messages.frames_of(sent)
     expected, _ = messages.frames_of(publisher.stream(subscriber))
     if frames[-1:] == [messages.COPY_DONE] and not left:
@@ -139,12 +140,14 @@ def is_first_part(sent: bytes, publisher: Publisher, subscriber: Subscriber) -> 
 
 
 def refused_serves(serving: Serving) -> Iterator[tuple[Refusal, Served]]:
-    """Runs with some of the requests refused, up to runs that meet no refusal; and the same with all after them."""
+    """Makes runs in which some requests are refused, up to runs that meet no refusal; and the same with all later
+    requests refused."""
     return refused_in_turn(serving.run, STRIDE, STRIDE_AFTER)
 
 
 def refused_threads(serving: Serving) -> Iterator[tuple[Refusal, Served]]:
-    """Runs with each thread refused in turn, up to one that meets no refusal; and the same with all after it."""
+    """Makes runs in which each thread is refused in turn, up to one that meets no refusal; and the same with all later
+    threads refused."""
     for and_after in False, True:
         for number in range(1, MOST_THREADS):
             refusal = Refusal(number, and_after, "THREAD")

@@ -1,8 +1,9 @@
-"""What `simulate` may answer where memory is refused: the model's worlds that its lines leave possible.
+"""The answers that `simulate` may give if memory is refused: the model's worlds that agree with its lines so far.
 
-A commit that is refused memory changes nothing. Any other step that is loses its connection, after some of the bytes
-that it would have moved; so the subscriber's position, and what the publisher was told of it, are those of before or
-those after one of the frames. Each of these is a world of its own, and later lines have to be those of one of them.
+A commit that is refused memory changes nothing. Any other step that is refused memory loses its connection, after some
+of the bytes that it would have moved. So the subscriber's position, and the confirmation that the publisher has
+received, are those before the step or those after one of the frames. Each of these is a world of its own, and later
+lines have to be those of one of them.
 """
 
 import copy
@@ -11,11 +12,11 @@ from dataclasses import dataclass
 
 from model.worlds import Step, Subscriber, World
 
-# Lines of steps that were refused memory.
+# The lines of steps that were refused memory.
 REFUSED = {"commit": "refused OutOfMemory"}
 LOST = "out of memory"
 
-# Answers that out of memory never replaces.
+# Answers that are never replaced by out of memory.
 NEEDS_NONE = {
     "refused EmptyTransaction", "refused TooManyCommands", "refused LogFull", "no subscriber", "already open",
     "not open", "not started", "idle", "lost",
@@ -32,18 +33,18 @@ class Place:
 
 
 def follow(places: list[Place], step: Step, lines: list[str]) -> list[Place]:
-    """The worlds after a step that the lines leave possible."""
+    """Returns the worlds after a step that agree with the lines."""
     return [after for place in places for after in after_step(place, step, lines)]
 
 
 def after_step(place: Place, step: Step, lines: list[str]) -> Iterator[Place]:
-    """The worlds after a step in one world."""
+    """Yields the worlds after a step in one world."""
     refusal = REFUSED.get(step[0], LOST)
     if step[0] != "view" and lines[place.line:place.line + 1] == [refusal]:
         for world in after_refusal(place.world, step):
             yield Place(world, place.line + 1, place.refused + 1)
         return
-    # A text of a row may have a newline.
+    # A text in a row may contain a newline.
     answer = "\n".join(place.world.step(step)).split("\n")
     end = place.line + len(answer)
     if lines[place.line:end] == answer and (step[0] != "view" or divides(place.world)):
@@ -51,7 +52,7 @@ def after_step(place: Place, step: Step, lines: list[str]) -> Iterator[Place]:
 
 
 def after_refusal(world: World, step: Step) -> Iterator[World]:
-    """The worlds after a step that is refused memory. There is none if the step needs no memory."""
+    """Yields the worlds after a step that is refused memory. There are none if the step needs no memory."""
     made = copy.deepcopy(world)
     if made.step(step)[0] in NEEDS_NONE:
         return
@@ -69,19 +70,19 @@ def after_refusal(world: World, step: Step) -> Iterator[World]:
 
 
 def positions(before: Subscriber, after: Subscriber) -> set[int]:
-    """Where a subscriber may be, within a step that brings it from one state to another."""
+    """Returns the positions that a subscriber may have within a step that takes it from one state to another."""
     told = {it for it in after.connection.down.told if it is not None}
     return {before.position} | {it for it in told if before.position < it <= after.position}
 
 
 def confirmations(before: Subscriber, after: Subscriber) -> set[int]:
-    """What the publisher may have been told of a subscriber, within a step."""
+    """Returns the positions that the subscriber may have confirmed to the publisher within a step."""
     told = {it[0] for it in after.connection.up.told if it != "start"}
     return {before.confirmed} | {it for it in told if before.confirmed < it <= after.confirmed}
 
 
 def divides(world: World) -> bool:
-    """Whether the subscribers divide the publisher's rows, if all have applied all commits."""
+    """Returns whether the subscribers' rows are a division of the publisher's rows, if all have applied all commits."""
     length = len(world.database.log)
     if any(subscriber.applied != length for subscriber in world.subscribers):
         return True

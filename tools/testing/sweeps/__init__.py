@@ -1,1 +1,2 @@
-"""Runs of pgshard with each value of each dimension of an input, not only the ends, beside the model."""
+"""Compares runs of pgshard with the model for every value of each dimension of an input, not only for the least and the
+greatest."""

@@ -1,4 +1,4 @@
-"""The case of a row of dimensions: a sound sharding and a script, with what each subcommand has to answer."""
+"""The case for a row of dimensions: a sound sharding and a script, with the expected answer of each subcommand."""
 
 import random
 from collections import Counter
@@ -24,22 +24,23 @@ LEAST, GREATEST = -2**63 + 1, 2**63 - 1
 
 
 class Plain(random.Random):
-    """Chooses the plain form wherever a text may have another one."""
+    """Always chooses the plain form of a text."""
 
     def random(self) -> float:
-        """A share that is greater than that of any other form."""
+        """A number that is greater than the probability of any other form."""
         return 0.999
 
 
 class NestedText(CatalogText):
-    """Writes a catalog, with this many levels of parentheses and NOT in each filter, of which WHERE has the first."""
+    """Prints a catalog with this many levels of parentheses and NOT in each filter. The parentheses of WHERE are the
+    first level."""
 
     def __init__(self, catalog: Catalog, nesting: int) -> None:
         super().__init__(catalog, Plain(), False)
         self.nesting = nesting
 
     def entry(self, number: int, filter: Filter | None) -> list[str]:
-        """A table of a publication."""
+        """Returns the words for a table of a publication."""
         table = self.catalog.tables[number]
         found = ["TABLE", *self.table_name(table)]
         if filter is None:
@@ -50,7 +51,7 @@ class NestedText(CatalogText):
 
 
 class SweepCase:
-    """A case, of which the model says all answers."""
+    """A case for which the model gives all answers."""
 
     def __init__(self, row: Row) -> None:
         self.row = row
@@ -61,11 +62,11 @@ class SweepCase:
         self.compared = 0
 
     def lines(self) -> int:
-        """How many lines were compared."""
+        """Returns how many lines were compared."""
         return self.compared
 
     def check(self, run: Runner) -> Iterator[str]:
-        """Makes the runs, and tells what is wrong."""
+        """Makes the runs, and yields what is wrong."""
         made = run(("make",), self.text.encode())
         if made.status != 0 or made.output.count("\n") != len(self.catalog.tables):
             yield f"make: status {made.status}, {shown(made.output)}"
@@ -85,18 +86,18 @@ class SweepCase:
             yield from self.compare(run, ("eval", self.named(), *more), parts(self.text, texts), lines)
 
     def named(self) -> str:
-        """The first table's name on a command line, with its schema."""
+        """Returns the first table's qualified name, as written on a command line."""
         return f"public.{self.catalog.tables[0].name}"
 
     def certificates(self) -> Iterator[list[tuple[str, int]]]:
-        """The model's certificates."""
+        """Returns the model's certificates."""
         for number, table in enumerate(self.catalog.tables):
             nodes = certificate(table, shares_of(self.catalog, number))
             assert nodes is not None
             yield nodes
 
     def compare(self, run: Runner, words: tuple[str, ...], text: bytes, expected: str) -> Iterator[str]:
-        """One run that ends with status 0."""
+        """Makes one run, which should end with status 0."""
         answer = run(words, text)
         self.compared += expected.count("\n")
         if answer.status != 0:
@@ -105,12 +106,13 @@ class SweepCase:
 
 
 def name_of(row: Row) -> str:
-    """A name of this many bytes, all of one character."""
+    """Returns a name of this many bytes, all the same character."""
     return chr(row["character"]) * row["name"]
 
 
 def catalog_of(row: Row) -> Catalog:
-    """A table of so many columns that up to three publications share, and others that one publication each carries."""
+    """Returns a catalog with a table of this many columns, which up to three publications share, and other tables, each
+    of which one publication carries."""
     name = name_of(row)
     columns = [Column("id", "bigint", True), Column(name if name != "id" else "note", "text", False)]
     columns += [Column(f"column {at}", "integer", False) for at in range(row["columns"])]
@@ -129,7 +131,8 @@ def catalog_of(row: Row) -> Catalog:
 
 
 def conditions_of(row: Row) -> list[Filter | None]:
-    """Which rows each of the first publications carries: those in a list, those below a number, and the others."""
+    """Returns the rows that each of the first publications carries: those in a list, those below a number, and the
+    others."""
     listed: Filter = ("in", 0, 0, tuple(keys_of(row, row["list"])))
     if row["publications"] == 1:
         return [None]
@@ -140,13 +143,13 @@ def conditions_of(row: Row) -> list[Filter | None]:
 
 
 def keys_of(row: Row, count: int) -> list[int]:
-    """This many numbers around the number of a row."""
+    """Returns this many numbers around the number of a row."""
     begin = min(max(row["number"] - count // 2, LEAST), GREATEST - count + 1)
     return list(range(begin, begin + count))
 
 
 def rows_of(row: Row) -> list[Values]:
-    """Rows around the number, of which the first has a text of the length, and the others shorter ones."""
+    """Returns rows around the number. The first has a text of the given length, and the others have shorter ones."""
     found = []
     for at, key in enumerate(keys_of(row, row["commands"])):
         text = chr(row["character"]) * max(row["text"] - at, 0)
@@ -156,7 +159,8 @@ def rows_of(row: Row) -> list[Values]:
 
 
 def steps_of(row: Row, rows: list[Values]) -> list[Step]:
-    """All rows in one commit; commits of some until the log is full, and one more; and then what subscribers have."""
+    """Returns a script that commits all rows at once, then some rows at a time until the log is full, and one more
+    commit; and then shows what the subscribers have."""
     last = row["subscriptions"] - 1
     first: list[Step] = [("open", 0), ("commit", [("insert", 0, values) for values in rows])]
     commits: list[Step] = [("commit", commands_of(rows, at)) for at in range(row["limit"])]
@@ -165,7 +169,7 @@ def steps_of(row: Row, rows: list[Values]) -> list[Step]:
 
 
 def commands_of(rows: list[Values], at: int) -> list[Command]:
-    """Some commands on rows that are there: each is changed to what it is, or goes and comes again."""
+    """Returns commands on existing rows: each is updated to the same values, or deleted and inserted again."""
     values = rows[at % len(rows)]
     if at % 2:
         return [("update", 0, values[:1], values)]

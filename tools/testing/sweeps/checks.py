@@ -1,4 +1,4 @@
-"""Makes all cases by as many processes as there are processors."""
+"""Runs all cases, in as many processes as there are processors."""
 
 import time
 
@@ -12,15 +12,16 @@ from .closes import wrong_closes
 from .dimensions import Row, missing_pairs, missing_values, rows
 from .lines import cases
 
-# Of so many cases that fail, what is wrong is shown.
+# The number of failing cases that are shown in detail.
 MOST_SHOWN = 10
 
-# A case that is made of a row of dimensions, or one in which a dimension goes through all its values.
+# A case made from a row of dimensions, or one in which a dimension goes through all its values.
 Given = Row | Case
 
 
 def check_sweeps(tally: Tally) -> None:
-    """That the cases have each value and each pair of bands, and then the cases, and the logs at `close`."""
+    """Checks that the cases cover each value and each pair of bands, and then runs the cases, and the logs with
+    `close`."""
     begun, listed = time.monotonic(), rows()
     tally.check("values that no case has", missing_values(listed), [])
     tally.check("pairs of bands that no case has", missing_pairs(listed), [])
@@ -37,7 +38,7 @@ def check_sweeps(tally: Tally) -> None:
 
 
 def result(given: Given) -> tuple[str, list[str], int, int]:
-    """Makes a case."""
+    """Runs a case."""
     case = given if isinstance(given, Case) else SweepCase(given)
     watched = Watched(None, False)
     faults = [*case.check(watched.run)]

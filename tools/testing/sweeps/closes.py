@@ -1,4 +1,4 @@
-"""`serve` with logs of 0 to 100 commits, of which `close` makes each again."""
+"""Runs `serve` with logs of 0 to 100 commits, which are replayed at `close`."""
 
 import os
 from concurrent.futures import ThreadPoolExecutor
@@ -14,7 +14,7 @@ MOST_COMMITS = 100
 
 
 def ended(commits: int) -> tuple[int, str]:
-    """A number of commits, and what `serve` says of its log after one connection that asks for nothing."""
+    """Returns a number of commits, and what `serve` prints about its log after a connection that requests nothing."""
     script = "".join(f"COMMIT INSERT t ({key});\n" for key in range(commits))
     try:
         with serving(f"{CATALOG}%%\no 0\n%%\n{script}", "--connections", "1") as (program, port):
@@ -26,7 +26,7 @@ def ended(commits: int) -> tuple[int, str]:
 
 
 def wrong_closes() -> list[tuple[int, str]]:
-    """The numbers of commits of which `serve` says something else, with what it says."""
+    """Returns the numbers of commits for which `serve` prints something else, with what it prints."""
     with ThreadPoolExecutor(len(os.sched_getaffinity(0))) as threads:
         found = list(threads.map(ended, range(MOST_COMMITS + 1)))
     return [(commits, said) for commits, said in found if said != f"0 closed {commits} 1\n"]

@@ -1,8 +1,8 @@
-"""The dimensions of an input with all their values, and a set of cases that has each value of each dimension.
+"""The dimensions of an input with all their values, and a set of cases that covers each value of each dimension.
 
-A case has a value of each dimension. All pairs of values of two dimensions would be far too many cases: texts and
-numbers alone have 140,000. So the values of a dimension are divided into six bands, and the cases have each pair of
-bands of each two dimensions.
+A case has one value of each dimension. All pairs of values of two dimensions would be far too many: texts and numbers
+alone have 140,000. Therefore, the values of each dimension are divided into six bands, and the cases cover each pair of
+bands of any two dimensions.
 """
 
 import itertools
@@ -16,9 +16,8 @@ Row = dict[str, int]
 
 
 def numbers() -> list[int]:
-    """Powers of two and of ten, their neighbours, and the same below zero, as far as numbers are read: the least of
-    bigint
-    is not, as docs/OUTPUT.md says."""
+    """Returns the powers of two and of ten, their neighbors, and the same negated, as far as they can be read: the
+    least bigint cannot, as docs/OUTPUT.md says."""
     powers = [2**exponent for exponent in range(64)] + [10**exponent for exponent in range(19)]
     near = {sign * power + more for power in powers for sign in (1, -1) for more in (-1, 0, 1)}
     return sorted(number for number in near if -2**63 < number < 2**63)
@@ -41,9 +40,8 @@ DIMENSIONS: dict[str, Sequence[int]] = {
 
 
 def rows() -> list[Row]:
-    """The cases: each dimension goes through its values in an order by chance, and then again, to the longest one's
-    end.
-    No subscription is without a publication of its own."""
+    """Returns the cases. Each dimension goes through its values in random order, and then again, until the longest
+    dimension ends. Each subscription has a publication of its own."""
     chance = random.Random(SEED)
     columns = {name: in_turn(chance, list(values), len(DIMENSIONS["number"])) for name, values in DIMENSIONS.items()}
     found = [{name: column[at] for name, column in columns.items()} for at in range(len(DIMENSIONS["number"]))]
@@ -53,7 +51,7 @@ def rows() -> list[Row]:
 
 
 def in_turn(chance: random.Random, values: list[int], count: int) -> list[int]:
-    """This many values: all in an order by chance, and again in another."""
+    """Returns this many values: all of them in random order, and then again in another order."""
     found: list[int] = []
     while len(found) < count:
         found += chance.sample(values, len(values))
@@ -61,18 +59,18 @@ def in_turn(chance: random.Random, values: list[int], count: int) -> list[int]:
 
 
 def band(name: str, value: int) -> int:
-    """The band of a value of a dimension."""
+    """Returns the band of a value of a dimension."""
     values = DIMENSIONS[name]
     return values.index(value) * BANDS // len(values)
 
 
 def missing_values(found: list[Row]) -> list[tuple[str, int]]:
-    """Values that no case has."""
+    """Returns values that no case has."""
     return [(name, value) for name, values in DIMENSIONS.items() for value in set(values) - {row[name] for row in found}]
 
 
 def missing_pairs(found: list[Row]) -> list[tuple[str, int, str, int]]:
-    """Pairs of bands that no case has, but for subscriptions of more than the publications."""
+    """Returns pairs of bands that no case has, except those with more subscriptions than publications."""
     met = {
         (one, band(one, row[one]), other, band(other, row[other]))
         for row in found for one, other in itertools.combinations(DIMENSIONS, 2)}
@@ -83,7 +81,7 @@ def missing_pairs(found: list[Row]) -> list[tuple[str, int, str, int]]:
 
 
 def is_possible(one: str, first: int, other: str, second: int) -> bool:
-    """Whether a pair of bands can be."""
+    """Returns whether a pair of bands is possible."""
     if (one, other) != ("publications", "subscriptions"):
         return True
     most = max(value for value in DIMENSIONS[one] if band(one, value) == first)

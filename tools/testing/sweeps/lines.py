@@ -1,4 +1,4 @@
-"""Runs in which one dimension goes through all its values in one input."""
+"""Runs in which one dimension goes through all its values within one input."""
 
 import string
 from collections.abc import Iterator
@@ -14,7 +14,7 @@ from random_cases.scripts import ScriptText
 from .case import Plain
 from .dimensions import numbers
 
-# Lines of outputs have each length from that of a row with an empty text on, up to over 2,100 bytes.
+# Output lines have every length from that of a row with an empty text to over 2,100 bytes.
 TEXTS = 2_101
 SIZES = 50
 MOST_PUBLICATIONS = 64
@@ -22,7 +22,7 @@ PRINTABLE = [chr(code) for code in range(32, 127)]
 
 
 def cases() -> Iterator[Case]:
-    """All of these."""
+    """Yields all cases."""
     for at in range(0, TEXTS, SIZES):
         yield lengths(range(at, min(at + SIZES, TEXTS)))
     yield from names()
@@ -31,12 +31,12 @@ def cases() -> Iterator[Case]:
 
 
 def text_of(catalog: Catalog) -> str:
-    """The text of a catalog in its plain form."""
+    """Returns the plain form of a catalog's text."""
     return CatalogText(catalog, Plain(), False).text()
 
 
 def lengths(sizes: range) -> Case:
-    """A view of rows with texts of these lengths."""
+    """Returns a view of rows with texts of these lengths."""
     table = Table("public", "t", (Column("id", "text", True),), (0,))
     catalog = Catalog((table,), (Publication("p", ((0, None),)),), (Subscription("s", (0,)),))
     rows: list[Row] = [(string.ascii_lowercase[size % 26] * size,) for size in sizes]
@@ -48,14 +48,15 @@ def lengths(sizes: range) -> Case:
 
 
 def evaluated(catalog: Catalog, rows: list[Row], *more: str) -> Case:
-    """What the publications of the first table say of rows."""
+    """Returns a case that evaluates the publications of the first table for rows."""
     texts = "".join(f"{written_row(row)}\n" for row in rows)
     output = "".join(f"{eval_line(catalog, 0, row, bool(more))}\n" for row in rows)
     return Case(("eval", f"public.{catalog.tables[0].name}", *more), parts(text_of(catalog), texts), 0, output)
 
 
 def names() -> Iterator[Case]:
-    """A publication, a table and a column whose names have 1 to 63 bytes, with lines from 6 bytes on."""
+    """Yields cases with a publication, a table and a column whose names have 1 to 63 bytes; the lines have 6 bytes or
+    more."""
     for size in range(1, 64):
         name = "n" * size
         table = Table("public", name, (Column(name, "integer", True),), (0,))
@@ -63,7 +64,7 @@ def names() -> Iterator[Case]:
 
 
 def constants() -> Iterator[Case]:
-    """All numbers as constants of filters, each on all numbers as values."""
+    """Yields cases with each number as a constant of a filter, and each number as a value."""
     listed = numbers()
     table = Table("public", "t", (Column("id", "bigint", True),), (0,))
     for at in range(0, len(listed), MOST_PUBLICATIONS):
@@ -75,7 +76,7 @@ def constants() -> Iterator[Case]:
 
 
 def characters() -> Iterator[Case]:
-    """Every printable character as a column's name, in a filter on it, and as a text."""
+    """Yields cases with every printable character as a column's name, in a filter on that column, and as a text."""
     for at in range(0, len(PRINTABLE), MOST_PUBLICATIONS):
         some = PRINTABLE[at:at + MOST_PUBLICATIONS]
         table = Table("public", "t", tuple(Column(name, "text", True) for name in some), (0,))

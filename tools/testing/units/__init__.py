@@ -1,1 +1,1 @@
-"""Tests of the modules of judge that decide something, each by itself. unittest runs them, without a server."""
+"""Tests of single modules of judge. unittest runs them, without a server."""

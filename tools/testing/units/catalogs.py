@@ -1,4 +1,4 @@
-"""Catalogs of servers for tests, in the form that reading.sql prints."""
+"""Server catalogs for tests, in the form that reading.sql prints."""
 
 from typing import Any
 
@@ -9,7 +9,7 @@ ALL = ["insert", "update", "delete", "truncate"]
 
 
 def column(number: int, name: str, **others: Any) -> dict[str, Any]:
-    """An integer column, unless something else is said."""
+    """Returns a column, by default of type integer."""
     return {
         "number": number, "name": name, "quoted": name, "not_null": False, "type": "int4", "modifier": -1,
         "written": "integer", "kind": "b", "base": None, "label": None, "labels": None, "generated": False,
@@ -18,7 +18,7 @@ def column(number: int, name: str, **others: Any) -> dict[str, Any]:
 
 
 def table(oid: int, name: str, **others: Any) -> dict[str, Any]:
-    """A table with the columns id, its key, and region."""
+    """Returns a table with the columns id, its key, and region."""
     return {
         "oid": oid, "schema": "public", "name": name, "quoted": f"public.{name}", "kind": "r", "is_unlogged": False,
         "is_publishable": True, "is_locked": False, "has_row_security": False, "ancestors": [], "identity": "d",
@@ -28,33 +28,33 @@ def table(oid: int, name: str, **others: Any) -> dict[str, Any]:
 
 
 def entry(oid: int, filter: str | None = None, numbers: list[int] | None = None) -> dict[str, Any]:
-    """A table of a publication."""
+    """Returns a table of a publication."""
     return {"oid": oid, "filter": filter, "numbers": numbers}
 
 
 def publication(name: str, *entries: dict[str, Any], **others: Any) -> dict[str, Any]:
-    """A publication of some tables, with all operations."""
+    """Returns a publication of some tables, with all operations."""
     return {
         "name": name, "quoted": name, "all": False, "via_root": False, "operations": ALL, "entries": list(entries),
         "schemas": [], "generated": None} | others
 
 
 def database(tables: list[dict[str, Any]], publications: list[dict[str, Any]], **others: Any) -> Database:
-    """A database of version 15.18."""
+    """Returns a database of version 15.18."""
     return Database({
         "version": 150018, "database": "shop", "tables": tables, "unpublished": [], "publications": publications,
         "slots": [], "walsenders": []} | others)
 
 
 class Nothing(dict):
-    """An answer of the server that has no rows for what else is asked."""
+    """An answer of the server that has no rows for any other query."""
 
     def __missing__(self, key: str) -> list[Any]:
         return []
 
 
 class Meanings(meanings.Meanings):
-    """What a server says of the comparisons of integers, by their OIDs there, and of nothing else."""
+    """What a server reports about comparisons of integers, with its OIDs, and about nothing else."""
 
     def __init__(self) -> None:
         super().__init__(None, database([], []))

@@ -1,4 +1,4 @@
-"""Runs these tests by a Python that has pglast, which some of the modules need, and mypy over the modules."""
+"""Runs these tests with a Python that has pglast, which some of the modules need, and mypy on the modules."""
 
 import os
 import pathlib
@@ -9,12 +9,12 @@ from tally import Tally
 
 FOLDER = pathlib.Path(__file__).resolve().parent
 
-# What is installed of tools/
+# The installed parts of tools/.
 INSTALLED = ["pgshard_tools", "judge"]
 
 
 def check_types(tally: Tally) -> None:
-    """All modules that are installed are strict."""
+    """Checks all installed modules with mypy --strict."""
     python = python_with("mypy")
     assert python is not None
     answer = subprocess.run(
@@ -24,7 +24,7 @@ def check_types(tally: Tally) -> None:
 
 
 def check_units(tally: Tally) -> None:
-    """Each file of tests is one check."""
+    """Runs each file of tests as one check."""
     python = python_with("pglast")
     assert python is not None
     environment = os.environ | {"PYTHONDONTWRITEBYTECODE": "1", "PYTHONPATH": str(FOLDER.parent.parent)}

@@ -1,4 +1,4 @@
-"""How the attack reads a slot's messages, and what it draws."""
+"""Tests how the attack reads a slot's messages, and what it generates."""
 
 import random
 import struct
@@ -14,13 +14,13 @@ BY_NAME = {it.name: it for it in KINDS}
 
 
 def relation(oid: int, *columns: str) -> bytes:
-    """A Relation, as section 55.9 has it: each column with its flags, its name, its type and its modifier."""
+    """Returns a Relation message according to section 55.9: each column with its flags, name, type and modifier."""
     listed = b"".join(b"\0" + it.encode() + b"\0" + struct.pack("!Ii", 25, -1) for it in columns)
     return b"R" + struct.pack("!I", oid) + b"shop\0orders\0f" + struct.pack("!h", len(columns)) + listed
 
 
 def row(*values: str | None) -> bytes:
-    """A TupleData: each column is null, or a text with its length; a star is a value that is not sent."""
+    """Returns a TupleData: each column is null, or a text with its length; a star means a value that is not sent."""
     found = struct.pack("!h", len(values))
     for value in values:
         if value is None or value == "*":

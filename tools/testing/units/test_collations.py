@@ -1,4 +1,5 @@
-"""Texts of several collations in the trees of a server: each is what PostgreSQL 15 has of the expression beside it."""
+"""Tests texts of several collations in the server's expression trees. Each tree is what PostgreSQL 15 has for the
+expression given with it."""
 
 import pathlib
 import sys

@@ -1,4 +1,4 @@
-"""Comparisons of operands, beside the values that PostgreSQL's documentation gives them, with NULL as None."""
+"""Tests comparisons of operands against the values that PostgreSQL's documentation gives, with NULL as None."""
 
 import itertools
 import unittest
@@ -17,7 +17,7 @@ OPERATORS = {
 
 
 def value(formula: Formula, row: dict[str, int | None]) -> bool | None:
-    """The truth value of a formula by the logic of three values."""
+    """Returns the truth value of a formula in three-valued logic."""
     match formula:
         case Const():
             return formula.value
@@ -43,7 +43,7 @@ def value(formula: Formula, row: dict[str, int | None]) -> bool | None:
 
 
 def plain(op: str, one: int | None, other: int | None) -> bool | None:
-    """An operator that is strict."""
+    """Applies a strict operator."""
     return None if one is None or other is None else OPERATORS[op](one, other)
 
 
@@ -90,7 +90,7 @@ class Comparisons(unittest.TestCase):
         self.check(found, lambda a, b, c: plain("<", b if a == 1 else c, 1))
 
     def test_rows(self) -> None:
-        """The first pair that is not equal or has a NULL decides."""
+        """The first pair that is unequal or contains a NULL decides."""
         for op in "<", "<=", ">", ">=":
             found = comparing.rows("", op, [(REFS["a"], REFS["b"]), (REFS["b"], REFS["c"])], IsNull)
 

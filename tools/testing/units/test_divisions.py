@@ -1,4 +1,4 @@
-"""Pieces of a table by who gets them, beside each row of small tables, one by one."""
+"""Tests how a table is divided into pieces by who gets the rows, against each row of small tables."""
 
 import itertools
 import random
@@ -17,14 +17,14 @@ HIGHEST = 6
 
 
 def coding(name: str, not_null: bool) -> Coding:
-    """A column of a few numbers."""
+    """Returns a column with a few numbers."""
     found = Integers(Subject(name, "int4", (name,), is_column=True))
     found.low, found.high, found.name, found.not_null = 0, HIGHEST, name, not_null
     return found
 
 
 def value_of(part: Formula, row: dict[Any, int | None]) -> bool | None:
-    """The value of a formula at a row, by the logic of three values."""
+    """Returns the value of a formula for a row in three-valued logic."""
     match part:
         case Const():
             return part.value
@@ -48,7 +48,7 @@ def value_of(part: Formula, row: dict[Any, int | None]) -> bool | None:
 
 
 def code_of(coded: Any, row: dict[Any, int | None]) -> int | None:
-    """The code of a column, or of a remainder of one."""
+    """Returns the code of a column or of its remainder."""
     if not isinstance(coded, Remainders):
         return row[coded]
     number = row[coded.base]
@@ -56,7 +56,7 @@ def code_of(coded: Any, row: dict[Any, int | None]) -> int | None:
 
 
 def formula(chance: random.Random, codings: list[Any], depth: int) -> Formula:
-    """A formula by chance."""
+    """Returns a random formula."""
     if depth == 0:
         coded = chance.choice(codings)
         if chance.random() < 0.2:
@@ -69,13 +69,13 @@ def formula(chance: random.Random, codings: list[Any], depth: int) -> Formula:
 
 
 def rows_of(codings: list[Coding]) -> list[dict[Any, int | None]]:
-    """All rows."""
+    """Returns all rows."""
     choices = [[*range(it.low, it.high + 1), *([] if it.not_null else [None])] for it in codings]
     return [dict(zip(codings, values)) for values in itertools.product(*choices)]
 
 
 def is_in(codes: Any, row: dict[Any, int | None]) -> bool:
-    """Whether a row is in a region."""
+    """Returns whether a row is in a region."""
     for coded, (found, may_be_null) in codes.items():
         number = code_of(coded, row)
         known = codes[getattr(coded, "base", coded)]
@@ -85,7 +85,7 @@ def is_in(codes: Any, row: dict[Any, int | None]) -> bool:
 
 
 class Divisions(unittest.TestCase):
-    """Each row of a table that the constraints allow is in one piece, which has those who get it."""
+    """Each row that the constraints allow is in one piece, which gives the subscribers that get it."""
 
     def test_tables(self) -> None:
         for seed in range(TABLES):
@@ -112,7 +112,7 @@ class Divisions(unittest.TestCase):
             self.check_parts(division, row)
 
     def check_parts(self, division: Division, row: dict[Any, int | None]) -> None:
-        """The row is in one of the parts that an operator reads, too."""
+        """Checks that the row is also in one of the parts that are shown to an operator."""
         parts = [part for piece in division.pieces if is_in(piece.codes, row) for part, _ in division.parts(piece)]
         self.assertEqual(sum(is_in(it, row) for it in parts), 1)
 

@@ -1,4 +1,5 @@
-"""What is asked of the server, which is played here by rules in Python, and how rows at which it fails are found."""
+"""Tests what the server is asked, and how rows for which it fails are found. The server is simulated by rules in
+Python."""
 
 import json
 import random
@@ -13,7 +14,7 @@ from units.catalogs import Meanings, column, database, entry, publication, table
 
 
 class Session:
-    """A server that fails where one of the rows of a question has a bad number."""
+    """A server that fails if one of the rows of a query has a bad number."""
 
     def __init__(self, *bad):
         self.bad, self.asked = set(bad), []
@@ -48,7 +49,7 @@ class Failures(unittest.TestCase):
         found = list(evaluating.asked(session, questions(), rows, range(400), ["true"]))
         self.assertEqual(len(session.asked), evaluating.MOST_QUESTIONS)
         self.assertTrue(all(answer is None for _, answer in found))
-        # The rows of which the server was not asked count as rows that are not taken.
+        # Rows about which the server was not asked count as not taken.
         outcomes = evaluating.outcomes(Session(*range(400)), questions(), rows)
         self.assertTrue(all(not it.is_accepted or it.is_failing for it in outcomes))
 

@@ -1,4 +1,4 @@
-"""What is read of a file of --intent, and what it changes."""
+"""Tests how a file of --intent is read, and what it changes."""
 
 import pathlib
 import sys

@@ -1,4 +1,4 @@
-"""Sets of numbers as ranges, beside sets of Python."""
+"""Tests sets of numbers that are stored as ranges against Python's sets."""
 
 import random
 import unittest
@@ -32,7 +32,7 @@ class Sets(unittest.TestCase):
                 self.assertEqual(set(ranges.numbers_of(found)), {it for it in range(-8, 9) if holds(it)}, (op, number))
 
     def test_remainder(self) -> None:
-        """Toward zero, as in SELECT -7 % 3."""
+        """Division truncates toward zero, as in SELECT -7 % 3."""
         self.assertEqual([ranges.remainder(it, 3) for it in (-7, -6, -1, 0, 1, 7)], [-1, 0, -1, 0, 1, 1])
 
 

@@ -1,4 +1,5 @@
-"""Why the server refuses updates and deletes, and ends streams: CheckCmdReplicaIdentity and pgoutput of version 15."""
+"""Tests why the server refuses updates and deletes, and ends streams, according to CheckCmdReplicaIdentity and pgoutput
+of version 15."""
 
 import unittest
 
@@ -9,7 +10,7 @@ from units.catalogs import column, database, entry, publication, table
 
 
 def refused(tables, publications, *taken, version=150018, missing=()):
-    """The first words of each reason that matter, for the first table."""
+    """Returns the first words of each relevant reason, for the first table."""
     db = database(tables, publications, version=version)
     subscriber = Subscriber("s", list(taken), missing=list(missing))
     return refusals_of(db, shares_of_all(db, [subscriber])[0])

@@ -1,4 +1,4 @@
-"""Which publications carry a table's rows, and who takes them."""
+"""Tests which publications carry a table's rows, and who gets them."""
 
 import unittest
 
@@ -57,7 +57,7 @@ class Trees(unittest.TestCase):
         below = UNLOGGED | {"ancestors": [5, 1]}
         shares = found([part, below], [publication("p", entry(5), via_root=True)], s=["p"])
         self.assertEqual((list(shares), shares["log_gone"].takers), (["log_gone"], {"s": []}))
-        # Its own publication publishes nothing of it.
+        # The table's own publication publishes nothing of it.
         shares = found([part, LOW, below], [publication("p", entry(2), entry(4))], s=["p"])
         self.assertEqual(list(shares), ["log_low"])
 

@@ -1,4 +1,4 @@
-"""Arithmetic of one column, beside the same arithmetic of small numbers one by one, in Python's own integers."""
+"""Tests arithmetic of one column against the same arithmetic of small numbers, one by one, in Python's integers."""
 
 import itertools
 import unittest
@@ -8,7 +8,7 @@ from pgshard_tools.judging.formulas import And, Compare, Const, Formula, Is, Mas
 from pgshard_tools.judging.ranges import numbers_of, of_numbers
 from pgshard_tools.judging.steps import Absolute, Add, Mask, Modulo, Quotient, Shift, Times
 
-# A column of numbers that are gone through; judge thinks of all that a smallint has.
+# The numbers of a column that are tried; judge considers all values of a smallint.
 NUMBERS = range(-70, 71)
 SUBJECT = Subject(sql="c", type="int2", columns=("c",), is_column=True)
 EACH = [Add(3), Add(-5), Times(2), Times(-1), Times(-3), Times(0), Absolute(), Quotient(4), Quotient(-3), Shift(2),
@@ -20,7 +20,8 @@ def toward_zero(one: int, other: int) -> int:
 
 
 def result(listed: list[steps.Step], number: int) -> int:
-    """What PostgreSQL's documentation says of each operator: / and % go toward zero, >> keeps the sign."""
+    """Computes the result as PostgreSQL's documentation defines each operator: / and % truncate toward zero, >> keeps
+    the sign."""
     for step in listed:
         match step:
             case Add(other):
@@ -42,7 +43,7 @@ def result(listed: list[steps.Step], number: int) -> int:
 
 
 def holds(formula: Formula, number: int) -> bool:
-    """Whether a formula is true of a number of the column."""
+    """Returns whether a formula is true for a number of the column."""
     match formula:
         case Const():
             return bool(formula.value)
@@ -77,14 +78,14 @@ class Members(unittest.TestCase):
             self.assertEqual(wrong, [], (listed, wanted))
 
     def test_steps(self) -> None:
-        """All pairs, and some threes."""
+        """Tests all pairs of steps, and some triples."""
         threes = list(itertools.product(EACH, repeat=3))
         for listed in [*itertools.product(EACH, repeat=1), *itertools.product(EACH, repeat=2), *threes[::11]]:
             with self.subTest(listed):
                 self.check(list(listed))
 
     def test_without_going_through_remainders(self) -> None:
-        """The same by the rules for great moduli."""
+        """Tests the same by the rules for large moduli."""
         most, members.MOST_REMAINDERS = members.MOST_REMAINDERS, 2
         try:
             for listed in itertools.product(EACH, repeat=2):
@@ -99,7 +100,7 @@ class Members(unittest.TestCase):
             self.assertTrue(all(low <= result(list(listed), it) <= high for it in NUMBERS), listed)
 
     def test_modulus(self) -> None:
-        """Numbers with one remainder have one result."""
+        """Numbers with the same remainder have the same result."""
         for listed in itertools.product(EACH, repeat=2):
             modulus = steps.modulus_of(listed)
             if modulus is not None:

@@ -1,4 +1,4 @@
-"""Who subscribes, by what is known about it."""
+"""Tests who the subscribers are, depending on what is known about them."""
 
 import unittest
 from unittest import mock

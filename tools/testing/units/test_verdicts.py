@@ -1,4 +1,4 @@
-"""The verdict of a table, by what pgshard and the server answer; both are played here."""
+"""Tests the verdict of a table, given the answers of pgshard and the server, both of which are simulated here."""
 
 import subprocess
 import time
@@ -22,7 +22,7 @@ TWO = [publication("low", entry(1, "(id < 5)")), publication("high", entry(1, "(
 
 
 class Session:
-    """A server that sorts texts by their bytes, and fails at each question."""
+    """A server that sorts texts by their bytes, and fails for each query."""
 
     def ask(self, query):
         return ""
@@ -44,7 +44,7 @@ def verdict_of(made, last="accepted\n", confirmed=None, tables=(TABLE,), publica
 
 
 class Foreign(unittest.TestCase):
-    """A partition of a tree, of which no row is inside its bounds, where other rows reach nobody."""
+    """A partition that has no row within its bounds, but other rows, which go to nobody."""
 
     def verdict_of(self, kind):
         root = table(1, "log", kind="p", identity_numbers=None)
@@ -151,7 +151,8 @@ class Partitions(unittest.TestCase):
 
 class Witnesses(unittest.TestCase):
     def search(self, outcome, made="unknown public.t\n"):
-        """The verdict of a table where pgshard knows nothing, and the server says this of each row."""
+        """Returns the verdict of a table about which pgshard knows nothing, and for each of whose rows the server
+        answers this."""
         everything = mock.patch.object(evaluating, "outcomes", side_effect=lambda s, q, listed: [outcome] * len(listed))
         values = mock.patch("pgshard_tools.judging.witnesses.taken_values", side_effect=lambda session, column, listed: listed)
         with everything, values:

@@ -1,4 +1,4 @@
-"""The commands of clients, as their sources write them, and the names that SplitIdentifierString reads."""
+"""Tests the commands of clients, as their sources write them, and the names that SplitIdentifierString reads."""
 
 import unittest
 

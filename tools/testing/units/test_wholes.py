@@ -1,11 +1,11 @@
-"""Values as whole numbers in the order of the server, and prefixes in the order of bytes."""
+"""Tests values as whole numbers in the server's order, and prefixes in byte order."""
 
 import unittest
 
 from pgshard_tools.judging import moments, prefixes, wholes
 from pgshard_tools.judging.points import DAY
 
-# In the order that a PostgreSQL 15 server has them, each once.
+# Addresses in the order of a PostgreSQL 15 server, without duplicates.
 ADDRESSES = [
     "0.0.0.0/0", "255.255.255.255/0", "0.0.0.0", "9.255.255.255", "10.0.0.0/8", "10.0.0.1/8", "10.255.255.255/8", "10.0.0.0/9",
     "10.0.0.0", "10.1.2.2/31", "10.1.2.3/31", "10.1.2.2", "10.1.2.3", "10.128.0.0/9", "10.255.255.255", "11.0.0.0/8", "11.0.0.0",
@@ -20,7 +20,7 @@ class Wholes(unittest.TestCase):
             self.assertEqual(numbers, sorted(set(numbers)))
 
     def test_texts(self) -> None:
-        """What is written of a value is that value."""
+        """The text of a value is read as that value."""
         listed = [("inet", it) for it in ADDRESSES] + [("interval", it) for it in SPANS]
         for type, text in [*listed, ("macaddr", "08:00:2b:01:02:03"), ("pg_lsn", "16/B374D848"), ("cidr", "10.0.0.0/8")]:
             point = wholes.point_of(type, text)
@@ -31,7 +31,7 @@ class Wholes(unittest.TestCase):
             self.assertRaises(ValueError, wholes.point_of, "interval", text)
 
     def test_networks(self) -> None:
-        """The addresses that a network contains, itself or not, are from one to before another."""
+        """The addresses that a network contains, with or without the network itself, form one interval."""
         for net, with_itself, inside in (
                 ("10.0.0.0/8", True, ADDRESSES[4:15]), ("10.0.0.1/8", False, ADDRESSES[7:15]), ("10.1.2.3", True, ["10.1.2.3"]),
                 ("10.1.2.3", False, []), ("0.0.0.0/0", True, ADDRESSES[:18]), ("::/0", True, ADDRESSES[18:])):
@@ -43,13 +43,13 @@ class Wholes(unittest.TestCase):
 
 class Prefixes(unittest.TestCase):
     def test_next(self) -> None:
-        """The first text after all that begin with another."""
+        """The first text after all texts with a given prefix."""
         for prefix, following in (("a", "b"), ("ab", "ac"), ("a\x7f", "a\x80"), ("a\U0010FFFF", "b"), ("\ud7ff", "\ue000"),
                                   ("\U0010FFFF", None), ("\uffff", "\U00010000")):
             self.assertEqual(prefixes.next_text(prefix), following)
 
     def test_patterns(self) -> None:
-        """What a pattern begins with, and whether anything may follow."""
+        """The prefix of a pattern, and whether any text may follow."""
         for pattern, found in (("a%", ("a", True)), ("a", ("a", False)), ("%", ("", True)), ("", ("", False)), ("a%%", ("a", True)),
                                ("a\\%", ("a%", False)), ("a\\%%", ("a%", True)), ("a\\\\%", ("a\\", True)), ("%a", None), ("a_", None),
                                ("a%b", None), ("a\\", None)):
