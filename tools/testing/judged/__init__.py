@@ -1,1 +1,2 @@
-"""Tests of what judge rewrites, and of what it says of databases whose truth was worked out by hand."""
+"""Tests of what judge rewrites, and of what it says about databases for which the right answers were worked out by
+hand."""

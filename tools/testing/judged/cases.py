@@ -1,20 +1,20 @@
-"""What a database is, and what is true of it."""
+"""The form of a database case and of its right answers."""
 
 from dataclasses import dataclass, field
 
 
 @dataclass
 class Case:
-    """A database, the words for judge, and for each table what is true of it. `told` has parts of the lines."""
+    """A database, judge's arguments, and the right answer for each table. `told` has parts of judge's lines."""
 
     name: str
     setup: str
     truth: dict
     words: list = field(default_factory=list)
     told: list = field(default_factory=list)
-    # Tables whose row the server may refuse, as judge tells beside it.
+    # Tables whose row the server may refuse, which judge then says too.
     refusing: list = field(default_factory=list)
-    # Of a table that is sound, the regions of --explain, and rows for it, each of which is in one region.
+    # For sound tables: the regions of --explain, and rows, each of which is in one region.
     regions: dict = field(default_factory=dict)
     rows: dict = field(default_factory=dict)
     # Statements that the server refuses afterwards, each with a part of its message.

@@ -1,4 +1,4 @@
-"""How many rows judge says that there are, beside numbers that are worked out by hand."""
+"""Tests judge's row counts against numbers worked out by hand."""
 
 import json
 import subprocess
@@ -40,14 +40,14 @@ SETUP = """
     GRANT SELECT ON hidden TO counter;
 """
 WORDS = ["-v", "subscriptions=p=p,r q=q", "--copied", "rates", "--rows", "2"]
-# What is counted of each table: all rows, those for nobody, for several, and for each subscriber.
+# The counts of each table: all rows, those for nobody, those for several subscribers, and those for each subscriber.
 COUNTS = {
-    # 100 of 1,000 have a NULL, and 90 of 501 to 600 have none.
+    # Of 1,000 rows, 100 have a NULL, and of rows 501 to 600, 90 have none.
     "public.orders": (1000, 100, 90, {"p": 540, "q": 450}),
     "public.rates": (20, 0, 8, {"p": 8, "q": 20}),
     "public.notes": (3, 1, 0, {"p": 2, "q": 0}),
     "public.parents": (5, 2, 0, {"p": 3, "q": 0}),
-    # The server sends nothing of the partition that is unlogged.
+    # The server sends nothing of the unlogged partition.
     "public.events": (150, 60, 0, {"p": 90, "q": 0}),
     "public.hidden": (7, 0, 0, {"p": 7, "q": 0}),
 }
@@ -63,7 +63,7 @@ DENIED = "; try it as a role that may read all rows of the table\n"
 
 
 def check_counts(tally: Tally, server: Server) -> None:
-    """All of these."""
+    """Tests all counts."""
     server.create("counted", SETUP)
     words = server.words("counted")
     found, status = judge(*words, *WORDS, "--json").rsplit("status ", 1)
@@ -85,7 +85,7 @@ def check_counts(tally: Tally, server: Server) -> None:
 
 
 def check_tables(tally: Tally, tables: dict[str, dict[str, Any]]) -> None:
-    """The numbers as JSON."""
+    """Checks the numbers in JSON."""
     for name, (rows, nobody, several, each) in COUNTS.items():
         counts = tables[name].get("counts", {})
         tally.check(f"the counts of {name}", [counts.get(it) for it in ("rows", "nobody", "several", "each")],
@@ -98,7 +98,7 @@ def check_tables(tally: Tally, tables: dict[str, dict[str, Any]]) -> None:
 
 
 def check_lock(tally: Tally, server: Server) -> None:
-    """A table that another session has locked."""
+    """Tests a table that another session has locked."""
     words = ["psql", "-X", "-q", "-A", "-t", *server.words("counted")]
     holder = subprocess.Popen(
         words, stdin=subprocess.PIPE, stdout=subprocess.PIPE, encoding="utf-8", env=environment())

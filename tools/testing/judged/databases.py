@@ -1,6 +1,6 @@
-"""Databases as people have them, with the truth of each table worked out by hand.
+"""Databases as people have them, with the right answer for each table worked out by hand.
 
-What is expected of a table is `sound`, `refused`, `not read`, `not decided`, or `not sound:` and who gets the row.
+The expected answer is `sound`, `refused`, `not read`, `not decided`, or `not sound:` and who gets the row.
 """
 
 from judged.cases import Case
@@ -25,7 +25,7 @@ DATABASES = [
             ("placed < '2023-01-01'", "early"), ("placed BETWEEN '2023-01-01' AND '2023-12-31'", "middle"),
             ("placed >= '2024-01-01'", "late")]},
         rows={"orders": "SELECT gen_random_uuid(), date '2022-12-25' + n FROM generate_series(0, 400) AS n"}),
-    # Moments are finer than days: 23:59:59 to 0:00 is a gap, and NULL is in no month.
+    # Timestamps are finer than days: 23:59:59 to 0:00 is a gap, and NULL is in no month.
     Case("months_of_moments", """
         CREATE TABLE events (id bigint PRIMARY KEY, at timestamptz NOT NULL);
         CREATE TABLE visits (id bigint PRIMARY KEY, at timestamptz);
@@ -40,7 +40,7 @@ DATABASES = [
             visits WHERE (at >= '2024-06-01 00:00:00+00'), calls WHERE (at >= '2024-06-01 00:00:00'),
             days WHERE (at >= '2024-06-01');
     """, {"events": "not sound:", "visits": "not sound:", "calls": "sound", "days": "sound"}),
-    # The last moment that the server reads is rounded to a later one, which each column takes, and no arithmetic.
+    # The last timestamp that the server reads is rounded up to one that a column can hold, but no arithmetic takes.
     Case("last_moment", """
         CREATE TABLE calls (id bigint PRIMARY KEY, at timestamp(0) NOT NULL);
         CREATE TABLE days (id bigint PRIMARY KEY, at timestamp NOT NULL);
@@ -78,7 +78,7 @@ DATABASES = [
                ("SELECT timestamp '294276-12-31 00:00:00' + interval '1 day -24:00'", "timestamp out of range"),
                ("SELECT '294276-12-31 23:59:59.999999+00'::timestamptz(0) AT TIME ZONE 'UTC'", "timestamp out of range")],
         regions={"finite": []}, rows={"finite": "VALUES (1, '294276-12-31 23:59:59.999999'::timestamp(0)), (2, '2024-01-01')"}),
-    # Cents: no numeric(12,2) is between 99.99 and 100, but a numeric without a scale is. NaN is above all.
+    # Cents: no numeric(12,2) is between 99.99 and 100, but an unlimited numeric is. NaN is greater than all numbers.
     Case("prices", """
         CREATE TABLE goods (id integer PRIMARY KEY, price numeric(12,2) NOT NULL);
         CREATE TABLE rates (id integer PRIMARY KEY, rate numeric NOT NULL);
@@ -90,7 +90,7 @@ DATABASES = [
         CREATE PUBLICATION dear FOR TABLE goods WHERE (price >= 100), rates WHERE (rate >= 100),
             tops WHERE (price BETWEEN 100 AND 9999.99);
     """, {"goods": "sound", "rates": "not sound:", "tops": "not sound:"}, told=["price = 'NaN'"]),
-    # Filters that order texts otherwise than their columns do: 'B' is before 'a' in C, and after it in English.
+    # Filters that order texts differently from their columns: 'B' is before 'a' in C, and after it in English.
     Case("another_order", """
         CREATE TABLE names (id integer PRIMARY KEY, name text COLLATE "en-x-icu" NOT NULL);
         CREATE TABLE pairs (id integer PRIMARY KEY, one text COLLATE "en-x-icu" NOT NULL,
@@ -102,7 +102,7 @@ DATABASES = [
             pairs WHERE (one >= other COLLATE "C");
     """, {"names": "sound", "pairs": "sound"},
         regions={
-            # The default of the database is C.
+            # The database's default is C.
             "names": [("name COLLATE \"C\" < 'aB'", "low"), ("name COLLATE \"C\" >= 'aB'", "high")],
             "pairs": [('one < other COLLATE "C"', "low"), ('one >= other COLLATE "C"', "high")]},
         rows={"names": "SELECT n, ('{B,a,aB,ab,A,b}'::text[])[n] FROM generate_series(1, 6) AS n",
@@ -120,7 +120,7 @@ DATABASES = [
             tenants WHERE (id = 'c0eebc99-9c0b-4ef8-bb6d-6bb9bd380a11');
     """, {"halves": "sound", "holes": "not sound:", "tenants": "not sound:"},
         told=["the row ('80000000-0000-0000-0000-000000000000')", "the row ('00000000-0000-0000-0000-000000000000')"]),
-    # The blanks of a char do not count, so 'D' and 'D ' are one country.
+    # Trailing blanks of a char are ignored, so 'D' and 'D ' are the same country.
     Case("countries", """
         CREATE TABLE people (id integer PRIMARY KEY, country char(2) NOT NULL);
         CREATE TABLE twice (id integer PRIMARY KEY, country char(2) NOT NULL);
@@ -131,7 +131,7 @@ DATABASES = [
     """, {"people": "sound", "twice": "not sound: germany others"}, told=["country = 'D'"],
         regions={"people": [("country IN ('AT', 'DE')", "germany"), ("country NOT IN ('AT', 'DE')", "others")]},
         rows={"people": "SELECT n, (ARRAY['DE', 'AT', 'D', '', 'XX'])[n] FROM generate_series(1, 5) AS n"}),
-    # Remainders have the sign of the number, so -1 has none of 0, 1 and 2; the bits of -1 are those of 3.
+    # Remainders have the dividend's sign, so that of -1 is none of 0, 1 and 2; the low bits of -1 are those of 3.
     Case("remainders", """
         CREATE TABLE plain (id bigint PRIMARY KEY);
         CREATE TABLE positive (id bigint PRIMARY KEY CHECK (id > 0));
@@ -144,7 +144,7 @@ DATABASES = [
         CREATE PUBLICATION p2 FOR TABLE plain WHERE (mod(id, 3) = 2), positive WHERE (mod(id, 3) = 2),
             bits WHERE (id & 3 >= 2), absolute WHERE (abs(id % 3) = 2);
     """, {"plain": "not sound:", "positive": "sound", "bits": "sound", "absolute": "sound"}),
-    # The sign is asked for beside the remainder: below zero all goes to the archive.
+    # The sign is tested besides the remainder: all rows below zero go to the archive.
     Case("signs", """
         CREATE TABLE rows (id bigint PRIMARY KEY);
         CREATE TABLE zeros (id bigint PRIMARY KEY);
@@ -158,7 +158,7 @@ DATABASES = [
             ("id < 0", "archive"), ("id >= 0 AND id % 4 = 0", "p0"), ("id >= 0 AND id % 4 = 1", "p1"),
             ("id >= 0 AND id % 4 = 2", "p2"), ("id >= 0 AND id % 4 = 3", "p3")]},
         rows={"rows": "SELECT n FROM generate_series(-20, 20) AS n"}),
-    # One shard of four was split in two by the remainder by eight; in `wrong` the number 7 is left out.
+    # One of four shards was split in two by the remainder modulo eight; `wrong` leaves out the number 7.
     Case("split_shard", """
         CREATE TABLE rows (id bigint PRIMARY KEY, CONSTRAINT is_positive CHECK (id > 0));
         CREATE TABLE wrong (id bigint PRIMARY KEY CHECK (id > 0));
@@ -168,7 +168,7 @@ DATABASES = [
         CREATE PUBLICATION p3 FOR TABLE rows WHERE (id % 8 = 3), wrong WHERE (id % 8 = 3);
         CREATE PUBLICATION p7 FOR TABLE rows WHERE (id % 8 = 7), wrong WHERE (id % 8 = 7 AND id <> 7);
     """, {"rows": "sound", "wrong": "not sound:"}, told=["the row (7)"]),
-    # NULL of types that are compared with nothing.
+    # NULLs of types that are not compared.
     Case("nulls", """
         CREATE TABLE jobs (id bigint PRIMARY KEY, result jsonb, tags text[], took interval);
         CREATE TABLE lost (id bigint PRIMARY KEY, result jsonb, took interval);
@@ -178,8 +178,7 @@ DATABASES = [
     """, {"jobs": "sound", "lost": "not sound:"},
         regions={"jobs": [("result IS NOT NULL", "done"), ("result IS NULL", "open")]},
         rows={"jobs": "SELECT n, CASE WHEN n % 2 = 0 THEN '{}'::jsonb END FROM generate_series(1, 9) AS n"}),
-    # A shard by a hash: its remainder may be negative, and the server knows a name of such a hash. A name of one hash
-    # alone is not found.
+    # Shards by a hash, whose remainder may be negative. The server finds a name for a remainder, but not for a hash.
     Case("hashes", """
         CREATE TABLE users (name text PRIMARY KEY);
         CREATE TABLE lost (name text PRIMARY KEY);
@@ -191,7 +190,7 @@ DATABASES = [
         CREATE PUBLICATION p2 FOR TABLE users WHERE (abs(hashtext(name) % 3) = 2), lost WHERE (hashtext(name) % 3 = 2);
     """, {"users": "sound", "lost": "not sound:", "rare": "not decided"},
         told=["of hashtext(name) nothing is known but the type"]),
-    # Functions of texts: the same function on both sides is a proof, and so is coalesce, which is read as it is.
+    # Functions of texts: with the same function on both sides, there is a proof. coalesce is read as it is.
     Case("functions", """
         CREATE TABLE mails (address text PRIMARY KEY);
         CREATE TABLE regions (id integer PRIMARY KEY, region text);
@@ -208,7 +207,7 @@ DATABASES = [
             paths WHERE (path NOT LIKE '/a%'), maybe WHERE (path NOT LIKE '/a%'), bodies WHERE (body ->> 'r' <> 'eu');
         CREATE PUBLICATION three FOR TABLE bodies WHERE ((body ->> 'r') IS NULL);
     """, {"mails": "sound", "regions": "sound", "paths": "sound", "maybe": "not sound:", "bodies": "sound"}),
-    # Texts in order: z itself is in no range of `gap`, and 'm' in both of `twice`.
+    # Texts in order: z itself is in no range of `gap`, and 'm' is in both ranges of `twice`.
     Case("ranges_of_texts", """
         CREATE TABLE names (name text PRIMARY KEY);
         CREATE TABLE gap (name text PRIMARY KEY);
@@ -224,13 +223,13 @@ DATABASES = [
         regions={"names": [
             ("name < 'h'", "a"), ("name >= 'h' AND name < 'q'", "h"), ("name >= 'q'", "q")]},
         rows={"names": "SELECT chr(n) FROM generate_series(32, 126) AS n"}),
-    # The least number of each type is a value like the others.
+    # The least number of each type is a value like any other.
     Case("least_numbers", """
         CREATE TABLE small (id smallint PRIMARY KEY);
         CREATE TABLE large (id bigint PRIMARY KEY);
         CREATE PUBLICATION one FOR TABLE small WHERE (id > -32768), large WHERE (id >= -9223372036854775807);
     """, {"small": "not sound:", "large": "not sound:"}, told=["the row (-32768)", "the row (-9223372036854775808)"]),
-    # Two columns of one row, which are ordered one way or the other, or one is NULL.
+    # Two columns of a row: one is less than the other, or one is NULL.
     Case("two_columns", """
         CREATE TABLE spans (id integer PRIMARY KEY, low integer NOT NULL, high integer NOT NULL);
         CREATE TABLE plans (id integer PRIMARY KEY, due date, done date);
@@ -249,7 +248,7 @@ DATABASES = [
         rows={"plans": """
             SELECT 4 * n + m, nullif(date '2024-01-01' + n, '2024-01-03'), nullif(date '2024-01-01' + m, '2024-01-03')
             FROM generate_series(0, 3) AS n, generate_series(0, 3) AS m"""}),
-    # A partitioned table that is published by its root is one table.
+    # A partitioned table that is published via its root is one table.
     Case("by_the_root", """
         CREATE TABLE log (id bigint, day date NOT NULL, PRIMARY KEY (id, day)) PARTITION BY RANGE (day);
         CREATE TABLE log_2023 PARTITION OF log FOR VALUES FROM ('2023-01-01') TO ('2024-01-01');
@@ -265,7 +264,8 @@ DATABASES = [
         CREATE PUBLICATION spring FOR TABLE log_2023 WHERE (day BETWEEN '2023-01-01' AND '2023-06-30'), log_rest;
         CREATE PUBLICATION autumn FOR TABLE log_2023 WHERE (day BETWEEN '2023-07-01' AND '2023-12-31');
     """, {"log_2023": "sound", "log_rest": "sound"}),
-    # By the root for some and by a partition for others: even rows of 2023 go to both, odd ones of the rest to none.
+    # Via the root for one subscriber and by a partition for the other: even rows of 2023 go to both, odd ones of the
+    # rest to none.
     Case("both_ways", """
         CREATE TABLE log (id bigint, day date NOT NULL, PRIMARY KEY (id, day)) PARTITION BY RANGE (day);
         CREATE TABLE log_2023 PARTITION OF log FOR VALUES FROM ('2023-01-01') TO ('2024-01-01');
@@ -273,7 +273,7 @@ DATABASES = [
         CREATE PUBLICATION even FOR TABLE log WHERE (id % 2 = 0) WITH (publish_via_partition_root);
         CREATE PUBLICATION year FOR TABLE log_2023;
     """, {"log_2023": "not sound: even year", "log_rest": "not sound:"}),
-    # One subscriber of both: the rows of 2023 are sent as those of the root, so the filter of the root is what counts.
+    # One subscriber to both: the rows of 2023 are sent as those of the root, so only the root's filter counts.
     Case("both_ways_to_one", """
         CREATE TABLE log (id bigint, day date NOT NULL, PRIMARY KEY (id, day)) PARTITION BY RANGE (day);
         CREATE TABLE log_2023 PARTITION OF log FOR VALUES FROM ('2023-01-01') TO ('2024-01-01');
@@ -282,7 +282,7 @@ DATABASES = [
         CREATE PUBLICATION odd FOR TABLE log WHERE (id % 2 <> 0) WITH (publish_via_partition_root);
         CREATE PUBLICATION year FOR TABLE log_2023;
     """, {"log_2023": "not sound:", "log_rest": "not sound:"}, words=["-v", "subscriptions=one=even,year"]),
-    # No key at all, under FULL and without.
+    # No key at all, under FULL and otherwise.
     Case("keyless", """
         CREATE TABLE kept (kind integer NOT NULL, note text);
         CREATE TABLE refused (kind integer NOT NULL, note text);
@@ -290,14 +290,14 @@ DATABASES = [
         CREATE PUBLICATION one FOR TABLE kept WHERE (kind = 1), refused WHERE (kind = 1);
         CREATE PUBLICATION other FOR TABLE kept WHERE (kind <> 1), refused WHERE (kind <> 1);
     """, {"kept": "sound", "refused": "refused"}),
-    # A list of columns says nothing of rows, but the identity has to be in it.
+    # A column list says nothing about rows, but it has to contain the identity.
     Case("column_lists", """
         CREATE TABLE good (id integer PRIMARY KEY, a text, b text);
         CREATE TABLE bad (id integer PRIMARY KEY, a text, b text);
         CREATE PUBLICATION low FOR TABLE good (id, a) WHERE (id < 5), bad (a);
         CREATE PUBLICATION high FOR TABLE good (id, a) WHERE (id >= 5);
     """, {"good": "sound", "bad": "refused"}, told=["the column list of publication low lacks column id"]),
-    # What a CHECK allows is split; a CHECK that is not validated allows all.
+    # Only rows that a CHECK allows have to be divided; a CHECK that is not validated allows all rows.
     Case("checks", """
         CREATE TABLE orders (id integer PRIMARY KEY, status varchar(10) NOT NULL
             CONSTRAINT known CHECK (status IN ('new', 'paid', 'sent')));
@@ -312,7 +312,7 @@ DATABASES = [
             late WHERE (status = 'sent');
     """, {"orders": "sound", "open": "not sound:", "late": "not sound:"}, refusing=["late"],
         told=["status = NULL", "CHECK known is NOT VALID"]),
-    # A CHECK that is not validated is met by new rows; a column whose value nobody names has one.
+    # New rows satisfy a CHECK that is not validated; a NOT NULL column whose value no filter names is given one.
     Case("not_valid", """
         CREATE TABLE moved (id integer PRIMARY KEY, kind integer, way lseg NOT NULL, area polygon NOT NULL);
         ALTER TABLE moved ADD CONSTRAINT known CHECK (kind IS NOT NULL) NOT VALID,
@@ -321,7 +321,7 @@ DATABASES = [
         CREATE PUBLICATION one FOR TABLE moved WHERE (kind < 5);
         CREATE PUBLICATION other FOR TABLE moved WHERE (kind >= 5);
     """, {"moved": "not sound:"}, refusing=["moved"], told=["kind = NULL", "but CHECK known is NOT VALID"]),
-    # Where the server does not evaluate a part of a filter, a condition of --explain has no such part.
+    # If the server does not evaluate a part of a filter, no condition of --explain contains that part.
     Case("guarded", """
         CREATE TABLE parts (id integer PRIMARY KEY, size smallint);
         ALTER TABLE parts REPLICA IDENTITY FULL;
@@ -329,7 +329,7 @@ DATABASES = [
         CREATE PUBLICATION other FOR TABLE parts WHERE ((CASE WHEN size <> 0 THEN 255 / size ELSE 0 END < 0) IS NOT TRUE);
     """, {"parts": "sound"}, words=["--explain"],
         told=["parts: sound (who gets which rows is not explained, since 255 / size fails at some rows)"]),
-    # A price is positive, and an amount has its own CHECK: the row has to meet both.
+    # A price is positive, and an amount has its own CHECK: the row has to satisfy both.
     Case("checks_beside", """
         CREATE TABLE goods (id integer PRIMARY KEY CHECK (id > 100), kind integer,
             price numeric(8,2) NOT NULL CHECK (price > 0), amount integer NOT NULL CHECK (amount BETWEEN 10 AND 20));
@@ -337,7 +337,7 @@ DATABASES = [
         CREATE PUBLICATION one FOR TABLE goods WHERE (kind < 5);
         CREATE PUBLICATION other FOR TABLE goods WHERE (kind >= 5);
     """, {"goods": "not sound:"}, told=["kind = NULL"]),
-    # What judge does not read may refuse the row, and it says so.
+    # A constraint that judge does not read may refuse the row, and judge says so.
     Case("not_read_beside", """
         CREATE TABLE regions (id integer PRIMARY KEY);
         CREATE TABLE shops (id integer PRIMARY KEY, region integer NOT NULL REFERENCES regions, tripled integer
@@ -358,7 +358,7 @@ DATABASES = [
         refusing=["shops", "stamped"],
         told=["foreign key shops_region_fkey on region is not read", "trigger stamping is not read",
               "column rounded is generated, and nothing is read of its expression"]),
-    # A small table for all, and one of which only some rows are published.
+    # A small table for all subscribers, and one of which only some rows are published.
     Case("on_purpose", """
         CREATE TABLE rates (currency char(3) PRIMARY KEY, rate numeric);
         CREATE TABLE drafts (id integer PRIMARY KEY, state integer);
@@ -370,7 +370,7 @@ DATABASES = [
     """, {"rates": "sound", "drafts": "sound", "twice": "not sound: one two", "few": "not sound: one"},
         words=["--copied", "rates", "--copied", "few", "--partial", "drafts", "--partial", "public.twice"],
         told=["it is to be copied to all subscribers, and two does not get this row"]),
-    # A form that is not read silences its own table alone.
+    # A form that is not read affects only its own table.
     Case("not_read", """
         CREATE TABLE one (id integer PRIMARY KEY, note text);
         CREATE TABLE two (id integer PRIMARY KEY);
@@ -383,7 +383,7 @@ DATABASES = [
     """, {"one": "not read", "two": "sound", "three": "sound"},
         told=["publication p publishes public.one where (quote_ident(note) = 'aa'::text), and judge does not read "
               "quote_ident(note)", "quote_ident(text) is not in judge's table of functions"]),
-    # Ranges of tenants in two schemas; the ranges of one meet at 200.
+    # Ranges of tenants in two schemas; the ranges of one schema overlap at 200.
     Case("tenants", """
         CREATE SCHEMA app;
         CREATE TABLE app.accounts (tenant integer, id bigint, PRIMARY KEY (tenant, id));
@@ -396,7 +396,7 @@ DATABASES = [
         words=["-v", "subscriptions=london=low,middle tokyo=high"], told=["tenant = 200"],
         regions={"app.accounts": [("tenant < 200", "london"), ("tenant >= 200", "tokyo")]},
         rows={"app.accounts": "SELECT n, 1 FROM generate_series(-5, 300) AS n"}),
-    # What pgshard's own name server and mail tables look like, as PowerDNS and Roundcube make them.
+    # Tables of a name server and a mail program, as PowerDNS and Roundcube create them.
     Case("name_server", """
         CREATE TABLE domains (id serial PRIMARY KEY, name varchar(255) NOT NULL, master varchar(128), last_check int,
             type text NOT NULL, notified_serial bigint, account varchar(40),
@@ -408,24 +408,24 @@ DATABASES = [
         CREATE PUBLICATION even FOR TABLE domains WHERE (id % 2 = 0), records WHERE (domain_id % 2 = 0);
         CREATE PUBLICATION odd FOR TABLE domains WHERE (id % 2 <> 0), records WHERE (domain_id % 2 <> 0);
     """, {"domains": "sound", "records": "not sound:"}, told=["domain_id = NULL"]),
-    # Twenty ranges of one column, each of which the server writes as two comparisons.
+    # Twenty ranges of one column, each of which the server prints as two comparisons.
     Case("twenty_ranges", "CREATE TABLE cells (id integer PRIMARY KEY);\n" + "\n".join(
         f"CREATE PUBLICATION p{n} FOR TABLE cells WHERE (id >= {n * 100} AND id < {n * 100 + 100});" for n in range(20)
     ) + "CREATE PUBLICATION rest FOR TABLE cells WHERE (id < 0 OR id >= 2000);", {"cells": "sound"}),
-    # One more subscriber than pgshard reads, of a table; the other table has only two.
+    # A table with one more subscriber than pgshard reads; the other table has only two.
     Case("past_a_limit", """
         CREATE TABLE cells (id integer PRIMARY KEY); CREATE TABLE two (id integer PRIMARY KEY);
     """ + "\n".join(f"CREATE PUBLICATION p{n} FOR TABLE cells WHERE (abs(id % 33) = {n});" for n in range(33)) + """
         ALTER PUBLICATION p0 ADD TABLE two WHERE (id % 2 = 0);
         ALTER PUBLICATION p1 ADD TABLE two WHERE (id % 2 <> 0);
     """, {"cells": "not decided", "two": "sound"}, told=["32 subscriptions"]),
-    # Seventy pieces with holes between them are past the limit of conditions.
+    # Seventy pieces with gaps between them exceed the limit of conditions.
     Case("seventy_pieces", "CREATE TABLE cells (id integer PRIMARY KEY);\n" + "".join(
         f"CREATE PUBLICATION p{place} FOR TABLE cells WHERE (({pieces}) IS {test} TRUE);\n"
         for place, (pieces, test) in enumerate(
             (" OR ".join(f"id BETWEEN {10 * n} AND {10 * n + 5}" for n in range(70)), test) for test in ("", "NOT"))),
         {"cells": "not decided"}, told=["64 different conditions"]),
-    # The server gives an identity and a generated column their values; a domain's values are not known.
+    # The server computes the values of an identity column and a generated column; the values of a domain are not known.
     Case("given_values", """
         CREATE DOMAIN code AS text CHECK (VALUE ~ '^[A-Z]{3}$');
         CREATE TABLE items (id bigint GENERATED ALWAYS AS IDENTITY PRIMARY KEY, kind integer, twice integer
@@ -439,7 +439,7 @@ DATABASES = [
     """, {"items": "not sound:", "parts": "not sound:", "coded": "not sound:"}, refusing=["coded"],
         told=["the row (DEFAULT, NULL, DEFAULT)", "OVERRIDING SYSTEM VALUE",
               "judge knows no value of the type of column code"]),
-    # A generated column over a type of the database's own: no row is told with a value that it may never have.
+    # A generated column over a type of the database: no row is shown with a value that the column may never have.
     Case("generated_of_enum", """
         CREATE TYPE mood AS ENUM ('fine', 'so', 'sad');
         CREATE TABLE moods (id integer PRIMARY KEY, mood mood NOT NULL, half integer GENERATED ALWAYS AS
@@ -448,7 +448,7 @@ DATABASES = [
         CREATE PUBLICATION one FOR TABLE moods WHERE (half = 1);
         CREATE PUBLICATION two FOR TABLE moods WHERE (half = 2);
     """, {"moods": "sound"}),
-    # A constraint that is not read, of the server's functions and of the database's own.
+    # Constraints that are not read, with the server's functions and with functions of the database.
     Case("unread_checks", """
         CREATE FUNCTION is_even(number integer) RETURNS boolean IMMUTABLE LANGUAGE sql AS 'SELECT number % 2 = 0';
         CREATE TABLE own (id integer PRIMARY KEY, kind integer CONSTRAINT even CHECK (is_even(kind)));
@@ -462,7 +462,7 @@ DATABASES = [
     """, {"own": "not sound:", "sum": "not sound:", "never": "not decided"}, refusing=["own"],
         told=["CHECK even is not read, since it has public.is_even(kind)", "kind = NULL",
               "CHECK small is not read, since it has int4mul(kind, 1), and refuses the rows that were tried"]),
-    # IS DISTINCT FROM and NULLIF by another =, which their texts do not name: nobody asks the server of these texts.
+    # IS DISTINCT FROM and NULLIF with another = operator, which their texts do not show: the server is not asked.
     Case("other_equality", """
         CREATE SCHEMA others;
         CREATE OPERATOR others.= (LEFTARG = text, RIGHTARG = text, FUNCTION = textne);
@@ -486,7 +486,7 @@ DATABASES = [
         CREATE PUBLICATION low FOR TABLE rows WHERE (id < 0);
         CREATE PUBLICATION high FOR TABLE rows WHERE (id >= 0) WITH (publish = 'insert, update');
     """, {"rows": "refused"}, told=["publication high, which has a subscriber, does not publish delete"]),
-    # A condition by cases, and truth values that are compared.
+    # A condition with CASE, and boolean values that are compared.
     Case("cases", """
         CREATE TABLE jobs (id integer PRIMARY KEY, kind text NOT NULL, urgent boolean NOT NULL, prio integer);
         ALTER TABLE jobs REPLICA IDENTITY FULL;

@@ -1,4 +1,5 @@
-"""What judge says of each database, and whether the server takes each row that is called NOT SOUND, and who gets it."""
+"""Tests judge's answers for each database, whether the server accepts each row that is reported as NOT SOUND, and who
+gets that row."""
 
 import json
 import os
@@ -11,12 +12,12 @@ from judged.published import PUBLISHED
 from programs import PGSHARD, TOOLS, judge, patience
 from server import PROGRAMS, environment
 
-# Of this many regions of a table the row is inserted.
+# The number of a table's regions whose row is inserted.
 MOST_FAULTS = 4
 
 
 def check_databases(tally, server):
-    """All databases."""
+    """Tests all databases."""
     cases = [*DATABASES, *PUBLISHED, *MEANINGS]
     for case in cases:
         server.create(case.name, case.setup)
@@ -27,13 +28,13 @@ def check_databases(tally, server):
 
 
 def answers_of(server, case):
-    """What judge says of a case: as JSON, its status, and as lines where some of them are looked at."""
+    """Returns judge's answers for a case: as JSON, the status, and as lines if some of them are compared."""
     report, status = report_of(server, case.name, [*case.words, *(["--explain"] if case.regions else [])])
     return report, status, judge(*server.words(case.name), *case.words) if case.told else ""
 
 
 def report_of(server, database, words):
-    """What judge says, as JSON."""
+    """Returns judge's answers as JSON."""
     answer = subprocess.run(
         [TOOLS / "judge", "--json", *patience(words), *server.words(database), *words],
         stdout=subprocess.PIPE, encoding="utf-8", env=environment() | {"PGSHARD": PGSHARD})
@@ -41,7 +42,7 @@ def report_of(server, database, words):
 
 
 def check_case(tally, server, case, report, status, lines):
-    """One database: the answers, what is told beside them, the status, and the rows."""
+    """Tests a database: the answers, additional lines, the status, and the rows."""
     found = {it["table"].removeprefix("public."): answer_of(it) for it in report["tables"]}
     tally.check(f"{case.name}: what is said of each table", found, case.truth)
     tally.check(f"{case.name}: the status", status, status_of(case.truth))
@@ -61,7 +62,7 @@ def check_case(tally, server, case, report, status, lines):
 
 
 def check_regions(tally, server, case, table, report):
-    """The regions as they are expected, in any order. Each of some rows is in one region, whose subscriber gets it."""
+    """Checks the regions, in any order. Each of some rows has to be in one region, whose subscriber gets it."""
     name = table["table"]
     found = [(it["rows"], it["subscriber"]) for it in table["regions"]]
     expected = case.regions[name.removeprefix("public.")]
@@ -92,7 +93,7 @@ def status_of(truth):
 
 
 def check_row(tally, server, case, report, name, row, goes_to):
-    """Inserts the row, and looks at what the server sends of it under each subscriber's publications."""
+    """Inserts the row, and checks what the server sends of it under each subscriber's publications."""
     columns = ", ".join(f'"{column}"' for column in row)
     server.psql(case.name, "SELECT FROM pg_create_logical_replication_slot('judged', 'pgoutput');")
     server.psql(case.name, f"""
@@ -105,7 +106,7 @@ def check_row(tally, server, case, report, name, row, goes_to):
 
 
 def is_sent(server, database, publications):
-    """Whether the server sends an Insert message to one who takes some publications."""
+    """Returns whether the server sends an Insert message to a subscriber of these publications."""
     names = ",".join(f'"{it}"' for it in publications)
     return server.psql(database, f"""
         SELECT count(*) FROM pg_logical_slot_peek_binary_changes(
@@ -115,7 +116,7 @@ def is_sent(server, database, publications):
 
 
 def filters_of(server, database, table, publications):
-    """What the server itself says of a table's filters in some publications, as one condition."""
+    """Returns the server's own text of a table's filters in some publications, as one condition."""
     listed = ", ".join(f"'{it}'" for it in publications)
     texts = server.psql(database, f"""
         SELECT coalesce(json_agg(coalesce(rowfilter, 'true')), '[]') FROM pg_publication_tables
@@ -125,7 +126,8 @@ def filters_of(server, database, table, publications):
 
 
 def check_pgbench(tally, server):
-    """The tables that pgbench makes, split by account; the history has no key, and its account may be NULL."""
+    """Tests the tables that pgbench creates, split by account. The history table has no key, and its account may be
+    NULL."""
     server.psql("postgres", "CREATE DATABASE bench;")
     words = [PROGRAMS / "pgbench", "-i", "-q", *server.words("bench")[:-2], "bench"]
     subprocess.run([str(word) for word in words], check=True, stderr=subprocess.DEVNULL, env=environment())

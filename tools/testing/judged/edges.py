@@ -1,4 +1,4 @@
-"""Of types of the server their edges, with nulls, and with empty and infinite values, as SQL writes them."""
+"""The extreme values of the server's types, with nulls and with empty and infinite values, in SQL."""
 
 TEXTS = ["''", "' '", "'a'", "'A'", "'abc'", "'é'", "'%'", "'\\'", "'ﬀ'", "'İ'", "repeat('x', 5000)", "E'\\n\\t'", "'b,c'",
          "'aaaa'", "'€𝄞'", "'a\"b c'", "'select'"]
@@ -49,7 +49,7 @@ EDGES: dict[str, list[str]] = {
 }
 EDGES["timestamptz"] = [f"{it[:-1]} +00'" if "infinity" not in it else it for it in EDGES["timestamp"] if "BC" not in it]
 EDGES["timestamptz"] += ["'4714-11-24 00:00:00+00 BC'", "'294276-12-31 23:59:59.999999+00'::timestamptz(0)"]
-# The last timestamp of all comes by rounding alone.
+# The last timestamp of all can only be obtained by rounding.
 EDGES["timestamp"] += ["'294276-12-31 23:59:59.999999'::timestamp(0)"]
 ARRAYS = [f"{text}::{type}[]" for type in ("int4", "text", "numeric", "date", "uuid") for text in ("NULL", "'{}'", "'{NULL}'")]
 ARRAYS += ["'{1,2}'::int4[]", "'{{1,2},{3,NULL}}'::int4[]", "'[5:6]={1,2}'::int4[]", "'{a,NULL}'::text[]",
@@ -59,9 +59,9 @@ RANGES = [f"{text}::{type}" for type in ("int4range", "int8range", "numrange", "
 RANGES += ["'[1,1]'::int4range", "'[-2147483648,2147483647)'::int4range", "'(,5]'::int4range", "'[5,)'::int4range",
            "'[-infinity,infinity]'::daterange", "'[,infinity]'::tsrange", "'[0,NaN]'::numrange",
            "'[4714-11-24 BC,5874897-12-31)'::daterange", "'[-9223372036854775808,)'::int8range"]
-# Ranges with their elements.
+# Ranges with their element types.
 OF_ELEMENTS = {"int4range": "int4", "numrange": "numeric", "daterange": "date", "tsrange": "timestamp"}
-# What arguments within a limit are.
+# Arguments that are kept within a limit.
 LIMITED = {
     "number": ["-2147483648", "-1", "0", "1", "2", "2147483647"], "length": ["0", "1", "2147483647"],
     "field": ["-2147483648", "-1", "1", "2", "2147483647"], "short": ["-2147483648", "-1", "0", "1", "2", "1000"],

@@ -1,6 +1,6 @@
-"""Prints for each table of a database, by judge's own rewriting, catalogs with its filters and its rows, as JSON.
+"""For each table of a database, prints catalogs with its filters and rows as judge rewrites them, in JSON.
 
-It is run by a Python that has pglast, with the words by which psql connects.
+It is run by a Python that has pglast, with the arguments with which psql connects.
 """
 
 import json
@@ -16,7 +16,7 @@ from pgshard_tools.judging.rewriting import rewritten
 from pgshard_tools.judging.session import Session
 from pgshard_tools.judging.terms import Reader
 
-# Filters in one catalog: they have at most 64 conditions together.
+# Filters per catalog: together they may have at most 64 conditions.
 FILTERS = 4
 
 

@@ -1,4 +1,5 @@
-"""Databases with tables that are not sound, and all regions that reach nobody or several, worked out by hand."""
+"""Databases with tables that are not sound, and all regions that reach nobody or several subscribers, worked out by
+hand."""
 
 from dataclasses import dataclass, field
 
@@ -7,26 +8,26 @@ NOBODY: list[str] = []
 
 @dataclass
 class Faulty:
-    """A database, words for judge, the regions of each table, and rows to fill it with."""
+    """A database, judge's arguments, the regions of each table, and the rows to fill it with."""
 
     name: str
     setup: str
     regions: dict[str, list[tuple[str, list[str]]]]
     rows: dict[str, str]
     words: list[str] = field(default_factory=list)
-    # Parts of what is said as lines.
+    # Parts of judge's lines.
     told: list[str] = field(default_factory=list)
-    # Regions for which no row is found.
+    # The number of regions for which no row is found.
     without_row: int = 0
 
 
 def fields(column: str, first: int) -> str:
-    """Each second interval of a column."""
+    """Returns every second interval of a column."""
     return " OR ".join(f"{column} BETWEEN {it * 5} AND {it * 5 + 3}" for it in range(first, 16, 2))
 
 
 FAULTY = [
-    # Remainders have the sign of the number, and the overlap is an interval.
+    # Remainders have the sign of the dividend, and the overlap is an interval.
     Faulty("remainders", """
         CREATE TABLE tenants (id integer PRIMARY KEY, tenant_id integer);
         CREATE TABLE orders (id integer PRIMARY KEY, region text);
@@ -42,7 +43,7 @@ FAULTY = [
         told=["    tenant_id % 4 IN (-3, -2, -1) -> nobody, as (0, -1)\n"
               "    tenant_id IS NULL -> nobody, as (0, NULL)\n",
               "    region IS NULL -> nobody, as (0, NULL)\n", " -> p and q, as (100, ''"]),
-    # What a CHECK constraint refuses is in no gap: no number is negative, and no size is past 9.
+    # Values that a CHECK constraint refuses are not a gap: no number is negative, and no size is above 9.
     Faulty("checks", """
         CREATE TABLE t (id integer PRIMARY KEY, owner integer NOT NULL CHECK (owner >= 0),
                         size integer NOT NULL CHECK (size BETWEEN 1 AND 9));
@@ -51,7 +52,7 @@ FAULTY = [
         CREATE PUBLICATION q FOR TABLE t WHERE (owner % 3 = 1 AND size >= 3);
     """, {"t": [("size >= 3 AND owner % 3 = 2", NOBODY)]},
         {"t": "SELECT a * 10 + b, a, b FROM generate_series(0, 9) AS a, generate_series(1, 9) AS b"}),
-    # Texts of a list, and all others.
+    # Texts of a list, and all other texts.
     Faulty("labels", """
         CREATE TABLE cities (id integer PRIMARY KEY, region text NOT NULL);
         CREATE TABLE orders (id integer PRIMARY KEY, state text, urgent boolean);
@@ -65,7 +66,7 @@ FAULTY = [
         {"cities": "SELECT n, (ARRAY['eu', 'uk', 'us', 'jp', '', 'EU'])[n % 6 + 1] FROM generate_series(0, 11) AS n",
          "orders": "SELECT n, (ARRAY['new', 'paid', 'sent', 'lost', NULL])[n % 5 + 1], "
                    "(ARRAY[true, false, NULL])[n % 3 + 1] FROM generate_series(0, 29) AS n"}),
-    # Days, moments, and NaN, which is above all numbers.
+    # Days, timestamps, and NaN, which is greater than all numbers.
     Faulty("moments", """
         CREATE TABLE days (id integer PRIMARY KEY, day date NOT NULL);
         CREATE TABLE moments (id integer PRIMARY KEY, at timestamptz NOT NULL);
@@ -83,7 +84,7 @@ FAULTY = [
                     "FROM generate_series(0, 4) AS n",
          "prices": "SELECT n, (ARRAY[-1, 99.99, 100, 1e9, 'NaN', 'Infinity', '-Infinity']::numeric[])[n] "
                    "FROM generate_series(1, 7) AS n"}),
-    # Two columns, each with a gap of its own beside the other.
+    # Two columns, each with a gap of its own.
     Faulty("grids", """
         CREATE TABLE t (id integer PRIMARY KEY, a integer, b integer NOT NULL);
         ALTER TABLE t REPLICA IDENTITY FULL;
@@ -93,7 +94,7 @@ FAULTY = [
     """, {"t": [("a < 5 AND b >= 5", NOBODY), ("a >= 5 AND b < 3", NOBODY), ("a IS NULL", NOBODY),
                 ("a < 5 AND b = 4", ["p", "r"]), ("a BETWEEN 5 AND 9 AND b = 4", ["q", "r"])]},
         {"t": "SELECT a * 20 + b, nullif(a, 13), b FROM generate_series(0, 13) AS a, generate_series(0, 9) AS b"}),
-    # A function of which nothing is known, the order of two columns, and bits.
+    # A function about which nothing is known, the order of two columns, and bits.
     Faulty("expressions", """
         CREATE TABLE names (id integer PRIMARY KEY, name text);
         CREATE TABLE spans (id integer PRIMARY KEY, low integer NOT NULL, high integer NOT NULL);
@@ -110,7 +111,7 @@ FAULTY = [
         {"names": "SELECT n, (ARRAY['a', 'A', 'b', '', NULL])[n] FROM generate_series(1, 5) AS n",
          "spans": "SELECT a * 5 + b, a, b FROM generate_series(0, 4) AS a, generate_series(0, 4) AS b",
          "flags": "SELECT n, n - 9 FROM generate_series(0, 20) AS n"}),
-    # What is copied to all, and what is published in part.
+    # A table that is copied to all subscribers, and one that is published in part.
     Faulty("purposes", """
         CREATE TABLE rates (id integer PRIMARY KEY);
         CREATE TABLE drafts (id integer PRIMARY KEY);
@@ -120,7 +121,7 @@ FAULTY = [
         {"rates": "SELECT n FROM generate_series(-5, 15) AS n", "drafts": "SELECT n FROM generate_series(-5, 25) AS n"},
         words=["--copied", "rates", "--partial", "drafts"],
         told=["    id < 1 -> p, not q, as (0)\n    id >= 10 -> q, not p, as (10)\n"]),
-    # The bounds of partitions, which leave no row below 0.
+    # The bounds of partitions, which allow no row below 0.
     Faulty("partitions", """
         CREATE TABLE events (id integer NOT NULL, day integer NOT NULL, PRIMARY KEY (id, day)) PARTITION BY RANGE (day);
         CREATE TABLE first PARTITION OF events FOR VALUES FROM (0) TO (100);
@@ -129,7 +130,7 @@ FAULTY = [
         CREATE PUBLICATION q FOR TABLE events WHERE (day BETWEEN 40 AND 150) WITH (publish_via_partition_root = true);
     """, {"events": [("day >= 151", NOBODY), ("day BETWEEN 40 AND 49", ["p", "q"])]},
         {"events": "SELECT n, n FROM generate_series(0, 199) AS n"}),
-    # Half of 60 tenants, each in a region of its own, are in two filters.
+    # Of 60 tenants, half, each in a region of its own, are in two filters.
     Faulty("many", f"""
         CREATE TABLE t (id integer PRIMARY KEY, tenant integer NOT NULL);
         ALTER TABLE t REPLICA IDENTITY FULL;
@@ -139,7 +140,7 @@ FAULTY = [
     """, {"t": [(f"tenant BETWEEN {n * 10} AND {n * 10 + 4}", ["p", "q"]) for n in range(30)]},
         {"t": "SELECT n, n FROM generate_series(-3, 320) AS n"},
         told=["    and 10 more such regions, of which --json lists 10\n"]),
-    # The dark fields of a board.
+    # The dark squares of a board.
     Faulty("board", f"""
         CREATE TABLE t (id integer PRIMARY KEY, a integer NOT NULL, b integer NOT NULL);
         ALTER TABLE t REPLICA IDENTITY FULL;

@@ -1,4 +1,4 @@
-"""The regions of tables that are not sound, beside where the server sends rows."""
+"""Tests the regions of tables that are not sound, against where the server sends rows."""
 
 import json
 from collections.abc import Sequence
@@ -10,12 +10,12 @@ from programs import judge
 from server import Server
 from tally import Tally
 
-# Of this many regions of a table the row is inserted.
+# The number of a table's regions whose row is inserted.
 MOST_ROWS = 12
 
 
 def check_faulty(tally: Tally, server: Server) -> None:
-    """All databases."""
+    """Tests all databases."""
     for case in FAULTY:
         server.create(database_of(case), case.setup)
         report, _ = report_of(server, database_of(case), case.words)
@@ -28,7 +28,7 @@ def check_faulty(tally: Tally, server: Server) -> None:
 
 def check_table(tally: Tally, server: Server, case: Faulty, table: dict[str, Any],
                 subscribers: Sequence[dict[str, Any]]) -> None:
-    """The regions as they are expected, a row in each, and each of some rows in one, if it shows a fault."""
+    """Checks the regions, a row in each, and that each of some other rows is in one region if it shows a fault."""
     name = table["table"].removeprefix("public.")
     faults = table.get("faults", [])
     found = [(it["rows"], it["goes_to"]) for it in faults]
@@ -45,7 +45,7 @@ def check_table(tally: Tally, server: Server, case: Faulty, table: dict[str, Any
 
 
 def row_goes(server: Server, case: Faulty, table: str, fault: dict[str, Any], takers: dict[str, str]) -> list[Any]:
-    """Whether a row is in its region, and who gets it."""
+    """Returns whether a row is in its region, and who gets it."""
     row = fault["row"] or {}
     found = json.loads(server.psql(database_of(case), f"""
         BEGIN;
@@ -58,20 +58,20 @@ def row_goes(server: Server, case: Faulty, table: str, fault: dict[str, Any], ta
 
 def answers_of(server: Server, case: Faulty, table: str, faults: Sequence[dict[str, Any]],
                takers: dict[str, str]) -> list[list[Any]]:
-    """For each row the regions that it is in, who gets it, and the row."""
+    """Returns for each row the regions that contain it, who gets it, and the row."""
     lines = server.psql(database_of(case), f"SELECT {answer_text(faults, takers)} FROM {table} AS t;")
     return [json.loads(line) for line in lines.split("\n")]
 
 
 def answer_text(faults: Sequence[dict[str, Any]], takers: dict[str, str]) -> str:
-    """An expression for what is asked of each row."""
+    """Returns an SQL expression for the query about each row."""
     regions = ", ".join(f"({it['rows'].replace('all rows', 'true')}) IS TRUE" for it in faults)
     names = ", ".join(f"CASE WHEN {text} THEN '{name}' END" for name, text in takers.items())
     return (f"json_build_array(ARRAY[{regions}]::boolean[], array_remove(ARRAY[{names}], NULL), to_json(t))")
 
 
 def is_right(answer: list[Any], faults: Sequence[dict[str, Any]], takers: dict[str, str], purpose: str) -> bool:
-    """Whether a row is in one region of those who get it, if it shows a fault, and otherwise in none."""
+    """Returns whether a row that shows a fault is in one region, of those who get it, and any other row in none."""
     regions, names = answer[:2]
     shown = [sorted(fault["goes_to"]) for fault, is_in in zip(faults, regions) if is_in]
     is_fault = {"partial": len(names) > 1, "copied": len(names) < len(takers)}.get(purpose, len(names) != 1)
@@ -79,5 +79,5 @@ def is_right(answer: list[Any], faults: Sequence[dict[str, Any]], takers: dict[s
 
 
 def database_of(case: Faulty) -> str:
-    """Its name on the server."""
+    """Returns the database's name on the server."""
     return f"faulty_{case.name}"

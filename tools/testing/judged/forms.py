@@ -1,21 +1,21 @@
-"""Filters of each form that judge rewrites, over columns of each type, with rows at the edges of the type."""
+"""Filters of each form that judge rewrites, over columns of each type, with rows at the limits of the type."""
 
 from dataclasses import dataclass
 
 
 @dataclass
 class Group:
-    """A table, its rows as SQL writes them, and filters of it."""
+    """A table, its rows in SQL, and filters on it."""
 
     columns: str
     rows: list[str]
     filters: list[str]
-    # A query whose rows are there, too.
+    # A query that adds rows.
     filling: str = ""
 
 
 def values(*columns: list[str]) -> list[str]:
-    """Rows with all values of the first column beside the first of the others, and so on."""
+    """Returns rows in which each column in turn has all of its values, while the others have their first one."""
     found = []
     for place, listed in enumerate(columns):
         for value in listed:
@@ -129,19 +129,19 @@ GROUPS = [
     ]),
 ]
 
-# What is NULL where: each kind of node, over 10,000 rows in which each column is often NULL.
+# When expressions are NULL: each kind of node, over 10,000 rows in which each column is often NULL.
 NULLS = Group("a integer, b integer, c smallint, t text, u text, l integer[], o boolean, p boolean", [], [
-    # Operators and functions that are strict.
+    # Strict operators and functions.
     "a = b", "a < b", "a + 1 > b", "a - b >= 0", "a * 2 = 2", "a % 3 = 1", "-a = 2", "abs(a) > 1", "~a < 0", "a & 1 = 0",
     "a = NULL", "t = u", "t < 'b'", "t || u = 'ab'", "length(t) > length(u)", "lower(t) = 'a'", "left(t, a) = ''",
     "t LIKE 'a%'", "o = p", "o::integer = 1", "a::bigint > b",
-    # ANY and ALL, over lists with and without NULL, and over lists that are columns.
+    # ANY and ALL, over lists with and without NULL, and over array columns.
     "a = ANY (ARRAY[1, 2, NULL])", "a <> ALL (ARRAY[1, NULL])", "a IN (1, 2)", "a NOT IN (1, NULL)",
     "a = ANY ('{}'::integer[])", "a <> ALL ('{}'::integer[])", "NOT (a = ANY ('{}'::integer[]))",
     "a = ANY (ARRAY[b, 1])", "a < ALL (ARRAY[b, c::integer])", "a > ANY (ARRAY[b, NULL])", "a = ANY (NULL::integer[])",
     "1 = ANY (l)", "a = ANY (l)", "a <> ALL (l)", "NOT (a = ANY (l))", "(a = ANY (l)) IS NULL",
     "t LIKE ANY (ARRAY['a%', NULL])", "t LIKE ALL (ARRAY['a%', '%b'])", "o = ANY (ARRAY[true, NULL])",
-    # Rows.
+    # Row comparisons.
     "(a, b) < (1, 2)", "(a, b) >= (b, a)", "(a, b, c) <= (1, 1, 1)", "(a, b) > (0, c)", "(a, b) = (1, 2)",
     "(a, t) <> (1, 'a')", "(1, a) < (1, b)", "(a, t) < (1, 'b')",
     # CASE, coalesce, nullif, greatest and least.
@@ -151,7 +151,7 @@ NULLS = Group("a integer, b integer, c smallint, t text, u text, l integer[], o 
     "nullif(a, b) = 1", "nullif(a, 1) IS NULL", "nullif(t, 'a') < 'b'", "nullif(a, NULL) = 1",
     "greatest(a, b) > 1", "greatest(a, b, 0) = 0", "least(a, b) < 0", "least(a, b) <= c", "greatest(a, NULL) <> 1",
     "least(a, 2, b) = 2", "greatest(a, b) IS NULL", "greatest(a, b) = least(b, c::integer)", "least(t, u) = 'a'",
-    # Logic, and tests that are never NULL.
+    # Boolean operators, and tests that are never NULL.
     "o AND p", "o OR p", "NOT o", "a BETWEEN 0 AND 1 AND o", "(o OR p) OR a = 1", "o AND (p AND a = 1)",
     "a NOT BETWEEN 0 AND 1 OR b = 1 OR c BETWEEN 0 AND 1", "((o AND p) AND a = 1) AND b = 1", "o OR p AND a = 1", "o OR (a = 1)", "(o AND p) IS UNKNOWN", "o IS NOT TRUE", "(a = b) IS FALSE",
     "a IS DISTINCT FROM b", "a IS NOT DISTINCT FROM b", "t IS DISTINCT FROM 'a'", "a IS NULL", "l IS NOT NULL",
@@ -164,7 +164,7 @@ NULLS = Group("a integer, b integer, c smallint, t text, u text, l integer[], o 
         (ARRAY[true, false, NULL])[ceil(random() * 3)], (ARRAY[true, false, NULL])[ceil(random() * 3)]
     FROM setseed(0.4), generate_series(1, 10000)
 """)
-# Arithmetic of one column, step by step, of numbers that make none of it fail; bits of any mask.
+# Arithmetic of one column, step by step, on numbers for which none of it fails; and bits of any mask.
 NUMBERS = Group("i integer, b bigint, s smallint", [
     *values(["NULL", "0", "1", "-1", "7", "-7", "1000", "-1000", "4095", "4096", "-4096", "16777216", "-16777217",
              "1073741823", "-1073741824", "715827882", "-715827882"],

@@ -1,4 +1,5 @@
-"""Each form that judge rewrites: its values by the server, and by pgshard of the rewritten filter and the coded row."""
+"""Tests each form that judge rewrites: its value by the server, and by pgshard for the rewritten filter and the encoded
+row."""
 
 import json
 import os
@@ -18,7 +19,7 @@ GROUPS = [*REWRITTEN, *DERIVED]
 
 
 def check_forms(tally, server):
-    """All groups of forms in one database."""
+    """Tests all groups of forms in one database."""
     server.create(DATABASE, setup())
     answer = subprocess.run(
         [python_with("pglast"), FOLDER / "encode.py", *server.words(DATABASE)],
@@ -50,14 +51,15 @@ def setup():
 
 
 def values_of(server, found):
-    """What the server says of the filters of one catalog and of its rows, and the status and the output of pgshard."""
+    """Returns the server's values of the filters of one catalog for its rows, and the status and the output of
+    pgshard."""
     values = ", ".join(f"coalesce(({it})::text, 'null')" for it in found["filters"].values())
     lines = server.psql(DATABASE, f"SELECT concat_ws(' ', {values}) FROM {found['table']} ORDER BY row_number;")
     return lines, *pgshard("eval", found["table"], text="\n".join([found["catalog"] + "%%", *found["rows"], ""]))
 
 
 def check_catalog(tally, found, lines, status, output):
-    """The filters of one catalog."""
+    """Checks the filters of one catalog."""
     names = list(found["filters"])
     by_server = [line.split() for line in lines.split("\n")]
     tally.check(f"pgshard reads the filters of {found['table']}", output[:300] if status else "", "")
@@ -71,7 +73,8 @@ def check_catalog(tally, found, lines, status, output):
         ours = [values.get(name) for values in by_name]
         theirs = [values[place] for values in by_server]
         if name in found["has_null"]:
-            # NULL is no word of a catalog: such a filter is rewritten to one that is true of the same rows.
+            # A catalog cannot contain a constant NULL: such a filter is rewritten to one that is true for the same
+            # rows.
             ours, theirs = ([it == "true" for it in listed] for listed in (ours, theirs))
         unlike = [row for row, one, other in zip(found["rows"], ours, theirs) if one != other][:3]
         what = f"rows of which {found['filters'][name]} has another value by pgshard"

@@ -1,4 +1,5 @@
-"""Filters whose functions are derived: a comparison of the result is one of the column itself. Rows at all edges."""
+"""Filters with functions that judge derives: a comparison of the result becomes a comparison of the column itself. The
+rows have all extreme values."""
 
 from judged.forms import DATES, LARGE, MIDDLE, SMALL, TEXTS, TIMES, Group, pairs, values
 
@@ -8,7 +9,7 @@ STAMPS = [*TIMES, "'4713-01-01 00:00:00 BC'", "'4714-12-31 23:59:59.999999 BC'",
           "'0001-01-01 00:00:00'", "'2023-12-25 00:00:00'", "'2024-01-07 23:59:59.999999'", "'2024-01-31 23:59:59.999999'",
           "'2024-02-01 00:00:00'", "'2024-03-31 23:59:59'", "'2024-04-01 00:00:00'", "'2024-12-31 23:59:59.999999'",
           "'2025-01-01 00:00:00'", "'2024-01-01 09:59:59.999999'", "'2024-01-01 10:00:00'"]
-# What the last timestamp that the server reads is rounded to.
+# The value to which the last timestamp that the server reads is rounded.
 LAST, LAST_IN_UTC = "'294276-12-31 23:59:59.999999'::timestamp(0)", "'294276-12-31 23:59:59.999999+00'::timestamptz(0)"
 ADDRESSES = ["NULL", "'0.0.0.0'", "'0.0.0.0/0'", "'10.0.0.0'", "'10.0.0.0/8'", "'10.0.0.1/8'", "'10.255.255.255'",
              "'10.255.255.255/8'", "'10.0.0.0/9'", "'10.128.0.0/9'", "'9.255.255.255'", "'11.0.0.0/8'", "'11.0.0.0'",

@@ -1,4 +1,4 @@
-"""Judge with a file of intentions, as docs/JUDGING.md shows it."""
+"""Tests judge with a file of intentions, as shown in docs/JUDGING.md."""
 
 import pathlib
 import tempfile
@@ -72,7 +72,7 @@ tables: 5 judged, 0 sound
 
 
 def check_intents(tally: Tally, server: Server) -> None:
-    """What is meant, what would allow what is refused, and files that are refused."""
+    """Tests what is intended, what would allow what is refused, and files that are refused."""
     server.create(DATABASE, SETUP)
     document = (TOOLS.parent / "docs" / "JUDGING.md").read_text()
     tally.check("the file of intentions in docs/JUDGING.md", INTENT in document, True)
@@ -92,7 +92,7 @@ def check_intents(tally: Tally, server: Server) -> None:
 
 
 def said(server: Server, intent: str, *words: str) -> str:
-    """What judge says by a file; its folder is left out of what is said."""
+    """Returns what judge says with an intent file, whose folder is removed from the text."""
     with tempfile.TemporaryDirectory() as folder:
         path = pathlib.Path(folder) / "pgshard.toml"
         path.write_text(intent)

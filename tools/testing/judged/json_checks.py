@@ -1,4 +1,4 @@
-"""What judge prints as JSON, by docs/judge.schema.json, which a library for JSON Schema reads."""
+"""Tests judge's JSON against docs/judge.schema.json, with a library for JSON Schema."""
 
 import json
 import pathlib
@@ -24,7 +24,7 @@ SETUP = """
     INSERT INTO gaps SELECT generate_series(1, 9);
     SELECT FROM pg_create_logical_replication_slot('json_slot', 'pgoutput');
 """
-# By a Python with the library: each text of a list, whether it is as the schema says.
+# Is run by a Python that has the library: for each text of a list, prints its faults according to the schema.
 VALIDATE = """
 import json, sys, jsonschema
 schema, *files = sys.argv[1:]
@@ -40,7 +40,7 @@ TABLE: dict[str, Any] = {"table": "t", "answer": "sound"}
 ANSWER: dict[str, Any] = {
     "database": "d", "status": 0, "subscribers": [], "subscribers_known": None, "tables": [TABLE], "unpublished": []}
 ROW = {"answer": "not sound", "row": {"id": "1"}, "goes_to": [], "columns": []}
-# Objects that judge does not print.
+# Objects that judge never prints.
 WRONG: list[Any] = [
     [], {}, {"status": 4}, {"error": "x", "status": 0}, ANSWER | {"status": 99}, ANSWER | {"tables": [{"table": "t"}]},
     ANSWER | {"error": "x"}, {"status": 0, "databases": [{key: it for key, it in ANSWER.items() if key != "database"}]},
@@ -52,7 +52,7 @@ WRONG: list[Any] = [
 
 
 def check_json(tally: Tally, server: Server) -> None:
-    """Answers of all kinds match the schema, and others do not."""
+    """Checks that answers of all kinds match the schema, and that other objects do not."""
     server.create(DATABASE, SETUP)
     words = server.words(DATABASE)
     with tempfile.TemporaryDirectory() as name:
@@ -70,7 +70,7 @@ def check_json(tally: Tally, server: Server) -> None:
 
 
 def answers(folder: pathlib.Path, words: list[str]) -> list[str]:
-    """What judge prints in several runs."""
+    """Returns what judge prints in several runs."""
     catalog, migration = folder / "catalog.sql", folder / "migration.sql"
     catalog.write_text("CREATE TABLE t (id integer PRIMARY KEY); CREATE PUBLICATION p FOR TABLE t; "
                        "CREATE SUBSCRIPTION s CONNECTION '' PUBLICATION p;")
@@ -86,7 +86,7 @@ def answers(folder: pathlib.Path, words: list[str]) -> list[str]:
 
 
 def validated(folder: pathlib.Path, texts: list[str]) -> list[list[str]]:
-    """The faults of each text."""
+    """Returns the faults of each text."""
     python = python_with("jsonschema")
     assert python is not None
     files = []

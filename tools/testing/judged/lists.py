@@ -1,8 +1,8 @@
-"""Lists as SQL writes them."""
+"""Lists in SQL."""
 
 
 def parts_of(text: str) -> list[str]:
-    """The parts of a list, which commas divide that are not in parentheses."""
+    """Returns the parts of a list, which are separated by commas outside parentheses."""
     found, depth, begin = [], 0, 0
     for at, letter in enumerate([*text, ","]):
         depth += (letter == "(") - (letter == ")")

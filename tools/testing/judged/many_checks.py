@@ -1,4 +1,4 @@
-"""Judge of every database of a server, and judge again and again, as docs/JUDGING.md shows it."""
+"""Tests judge for every database of a server, and judge --watch, as shown in docs/JUDGING.md."""
 
 import json
 import re
@@ -35,7 +35,7 @@ database staff's:
 NAGIOS = ("PGSHARD CRITICAL - shop: 1 table, 1 sound; staff's: 1 table, 0 sound; NOT SOUND: public.people | "
           "databases=2 tables=2 sound=1 not_sound=1 refused=0 not_decided=0 not_read=0 failing=0 not_published=0 "
           "findings=0\nstatus 2\n")
-# What is done to the shop, and what is said about it then.
+# Changes to the shop, each with what judge then prints.
 CHANGES = [
     ("DROP PUBLICATION nowhere", """\
 TIME public.orders: sound -> NOT SOUND
@@ -59,7 +59,7 @@ TIME public.more: not published -> sound
 """),
     ("DROP TABLE more", "TIME public.more: sound -> not published\n"),
 ]
-# What may be said in place of the last line: judge may look while the table is being dropped.
+# May be printed instead of the last line: judge may look while the table is being dropped.
 LOCKED = """\
 TIME public.more: sound -> not decided
     public.more: not decided: another session holds or awaits an ACCESS EXCLUSIVE lock on it
@@ -68,7 +68,7 @@ TIME public.more: not decided -> not published
 
 
 def check_many(tally: Tally) -> None:
-    """A server with some databases."""
+    """Runs a server with some databases."""
     with server() as started:
         started.psql("postgres", "CREATE DATABASE closed; ALTER DATABASE closed ALLOW_CONNECTIONS false;")
         started.create("shop", SHOP)
@@ -83,7 +83,7 @@ def check_many(tally: Tally) -> None:
 
 
 def check_databases(tally: Tally, started: Server) -> None:
-    """All forms of answers."""
+    """Tests all output formats."""
     words = ["--databases", "-h", started.folder, "-U", "postgres"]
     tally.check("--databases", judge(*words), f"{DATABASES}status 1\n")
     tally.check("--databases --nagios", judge(*words, "--nagios"), NAGIOS)
@@ -103,7 +103,7 @@ def check_databases(tally: Tally, started: Server) -> None:
 
 
 def check_connections(tally: Tally, started: Server) -> None:
-    """The other ways to say where the server is; and a database that no longer takes connections."""
+    """Tests the other ways to specify the server, and a database that no longer accepts connections."""
     folder = started.folder
     for given in f"host={folder} user=postgres dbname=shop", f"postgresql://postgres@/shop?host={folder}":
         found = judge("--databases", "-d", given)
@@ -116,7 +116,8 @@ def check_connections(tally: Tally, started: Server) -> None:
 
 
 def check_watch(tally: Tally, started: Server) -> None:
-    """What is said first, and of each change; the status at the end is that of the last time."""
+    """Tests what is printed first, what is printed for each change, and that the final status is that of the last
+    answer."""
     process = watching(started, "--watch", "0.2")
     tally.check("--watch at first", lines_of(process, 3), f"public.orders: sound\n{EACH}\ntables: 1 judged, 1 sound\n")
     for statement, said in CHANGES:
@@ -139,15 +140,15 @@ def check_watch(tally: Tally, started: Server) -> None:
 
 
 def watching(started: Server, *words: str) -> "subprocess.Popen[str]":
-    """A judge that goes on."""
+    """Starts judge --watch."""
     return subprocess.Popen(
         [str(it) for it in (TOOLS / "judge", *started.words("shop"), "--seconds", "300", *words)],
         stdout=subprocess.PIPE, encoding="utf-8", env=environment() | {"PGSHARD": PGSHARD}, start_new_session=True)
 
 
 def change_of(process: "subprocess.Popen[str]", said: str) -> str:
-    """The next lines that it prints, with no times, as many as are to be said. Those of a table that is locked are left
-    out."""
+    """Returns the next lines that judge prints, without times, as many as are expected. Lines for a locked table are
+    left out."""
     found = timeless(lines_of(process, said.count("\n")))
     if LOCKED.startswith(found):
         found += timeless(lines_of(process, LOCKED.count("\n") - found.count("\n")))
@@ -155,11 +156,11 @@ def change_of(process: "subprocess.Popen[str]", said: str) -> str:
 
 
 def timeless(lines: str) -> str:
-    """Lines with no times."""
+    """Returns lines without times."""
     return re.sub(r"(?m)^\d{4}-\d\d-\d\dT\d\d:\d\d:\d\dZ", "TIME", lines)
 
 
 def lines_of(process: "subprocess.Popen[str]", count: int) -> str:
-    """The next lines that it prints."""
+    """Returns the next lines that judge prints."""
     assert process.stdout is not None
     return "".join(process.stdout.readline() for _ in range(count))

@@ -1,10 +1,10 @@
-"""Databases of what filters mean: which function the server calls, where it is NULL, and where it fails; each with the
-truth of each table worked out by hand."""
+"""Databases for the meaning of filters: which function the server calls, where it is NULL, and where it fails. The
+right answer for each table is worked out by hand."""
 
 from judged.cases import Case
 
 MEANINGS = [
-    # upper of a range is NULL for the empty one and for one without an end; of a text it is NULL where that is.
+    # upper of a range is NULL if the range is empty or unbounded; upper of a text is NULL if the text is.
     Case("upper_of_ranges", """
         CREATE TABLE bookings (id integer PRIMARY KEY, during tsrange NOT NULL);
         CREATE TABLE split (id integer PRIMARY KEY, during tsrange NOT NULL);
@@ -15,7 +15,7 @@ MEANINGS = [
             split WHERE (upper(during) IS NOT NULL), names WHERE (upper(name) IS NOT NULL);
         CREATE PUBLICATION others FOR TABLE split WHERE (upper(during) IS NULL);
     """, {"bookings": "not sound:", "split": "sound", "names": "sound"}, told=["during = 'empty'"]),
-    # The length of a text is a whole number, and that of a path is not, and fails where it is too long for a float.
+    # The length of a text is an integer; that of a path is not, and it fails if it is too large for a float.
     Case("length_of_paths", """
         CREATE TABLE paths (id integer PRIMARY KEY, way path NOT NULL);
         CREATE TABLE texts (id integer PRIMARY KEY, way text NOT NULL);
@@ -23,7 +23,7 @@ MEANINGS = [
         CREATE PUBLICATION short FOR TABLE paths WHERE (length(way) <= 5), texts WHERE (length(way) <= 5);
         CREATE PUBLICATION long FOR TABLE paths WHERE (length(way) >= 6), texts WHERE (length(way) >= 6);
     """, {"paths": "not read", "texts": "sound"}, told=["length(path) is not in judge's table"]),
-    # = of boxes compares their areas, and that of a char(3) drops blanks.
+    # = compares the areas of boxes, and ignores trailing blanks of a char(3).
     Case("equal_boxes", """
         CREATE TABLE boxes (id integer PRIMARY KEY, place box NOT NULL);
         CREATE TABLE codes (id integer PRIMARY KEY, code char(3) NOT NULL);
@@ -31,7 +31,7 @@ MEANINGS = [
         CREATE PUBLICATION one FOR TABLE boxes WHERE (place = '(1,1),(0,0)'), codes WHERE (code = 'a ');
         CREATE PUBLICATION two FOR TABLE boxes WHERE (NOT place = '(1,1),(0,0)'), codes WHERE (code <> 'a');
     """, {"boxes": "not read", "codes": "sound"}, told=["=(box,box) is not in judge's table"]),
-    # x = ANY of the empty list is FALSE, where x is NULL, too; so NOT of it is TRUE there.
+    # x = ANY of an empty list is FALSE, even if x is NULL, so its NOT is TRUE.
     Case("lists_of_rows", """
         CREATE TABLE users (id integer PRIMARY KEY, kind integer, allowed integer[] NOT NULL);
         CREATE TABLE whole (id integer PRIMARY KEY, kind integer, allowed integer[] NOT NULL);
@@ -45,7 +45,7 @@ MEANINGS = [
         CREATE PUBLICATION unknown FOR TABLE users WHERE (kind IS NULL),
             whole WHERE ((kind = ANY (allowed)) IS NULL), fixed WHERE (allowed IS NULL);
     """, {"users": "not sound: no unknown", "whole": "sound", "fixed": "not sound:"}),
-    # A pattern that the server refuses makes each row fail.
+    # With a pattern that the server refuses, each row fails.
     Case("malformed_patterns", """
         CREATE TABLE mails (address text PRIMARY KEY);
         CREATE TABLE good (address text PRIMARY KEY);
@@ -56,14 +56,14 @@ MEANINGS = [
             similar_ones WHERE (address NOT SIMILAR TO '%@eu.%');
     """, {"mails": "not read", "good": "sound", "similar_ones": "sound"},
         told=["a pattern that is no constant, or that the server refuses"]),
-    # Constants that the server computes, once.
+    # Constants that the server computes once.
     Case("computed_constants", """
         CREATE TABLE sums (id integer PRIMARY KEY);
         CREATE TABLE halves (id integer PRIMARY KEY);
         CREATE PUBLICATION low FOR TABLE sums WHERE (id < 2 * 50), halves WHERE (id < 1 / 0);
         CREATE PUBLICATION high FOR TABLE sums WHERE (id >= abs(-100)), halves WHERE (id >= 1 / 0);
     """, {"sums": "sound", "halves": "not read"}, told=["the server fails at it, so the filter fails at each row"]),
-    # Rows in order, the greatest and the least.
+    # Ordered rows, the greatest and the least.
     Case("rows_in_order", """
         CREATE TABLE pages (book integer NOT NULL, page integer NOT NULL, PRIMARY KEY (book, page));
         CREATE TABLE maybe (book integer NOT NULL, page integer);
@@ -76,7 +76,7 @@ MEANINGS = [
         CREATE PUBLICATION late FOR TABLE pages WHERE ((book, page) >= (5, 10)), maybe WHERE ((book, page) >= (5, 10)),
             tops WHERE (a >= 10 OR b >= 10), nones WHERE (a >= 10 OR b >= 10);
     """, {"pages": "sound", "maybe": "not sound:", "tops": "sound", "nones": "not sound:"}, told=["book = 5, page = NULL"]),
-    # Bits of any width: one bit, two far apart, and the sign.
+    # Bits of any width: one bit, two bits far apart, and the sign.
     Case("wide_masks", """
         CREATE TABLE flags (id integer PRIMARY KEY, flags integer NOT NULL);
         CREATE TABLE gap (id integer PRIMARY KEY, flags integer NOT NULL);
@@ -97,7 +97,7 @@ MEANINGS = [
         told=["flags = 1073741824"],
         regions={"flags": [("(flags & 16777216) = 0", "p0"), ("(flags & 16777216) = 16777216", "p1")]},
         rows={"flags": "SELECT n, (random() * 2147483647)::integer * (n % 3 - 1) FROM generate_series(1, 200) AS n"}),
-    # Filters that fail at some row: the row is told, and the others are divided all the same.
+    # Filters that fail for some row: the row is reported, and the others are divided all the same.
     Case("failing_rows", """
         CREATE TABLE shards (id integer PRIMARY KEY);
         CREATE TABLE positive (id integer PRIMARY KEY CHECK (id > 0));
@@ -113,7 +113,7 @@ MEANINGS = [
     """, {"shards": "sound", "positive": "sound", "next": "sound", "doubled": "sound", "guarded": "sound"},
         told=["a row with id = -2147483648 stops the replication of p0, p1, p2, p3: the filter fails",
               "a row with id = 2147483647 stops the replication of p0, p1: the filter fails"]),
-    # The same by the type, a CHECK or what comes before it; and of two columns.
+    # Filters that never fail because of a type, a CHECK or a preceding condition; also for two columns.
     Case("never_failing", """
         CREATE TABLE quotients (id integer PRIMARY KEY);
         CREATE TABLE tenants (id integer PRIMARY KEY, tenant integer);
@@ -130,7 +130,7 @@ MEANINGS = [
             before WHERE (id NOT BETWEEN -1000 AND 1000 OR id * -5 >= 20);
     """, {"quotients": "sound", "tenants": "sound", "lines": "sound", "checked": "sound", "before": "sound"},
         words=["--strict"]),
-    # Two columns whose product may be too long, and a sum of which it is not known.
+    # Two columns whose product may be too large, and a sum for which that is not known.
     Case("failing_products", """
         CREATE TABLE lines (id integer PRIMARY KEY, price integer NOT NULL, qty integer NOT NULL);
         CREATE TABLE sums (id integer PRIMARY KEY, a bigint, b bigint);
@@ -144,7 +144,7 @@ MEANINGS = [
     """, {"lines": "sound", "sums": "sound", "decimals": "sound"},
         told=["a row with price = -2147483648, qty = -2147483648 stops the replication of p0, p1: the filter fails",
               "a row with a = -9223372036854775808, b = -9223372036854775808 stops the replication of p0, p1"]),
-    # Regions are SQL that the server reads: a char compared as a text keeps the constant's blanks, and the part of a date
+    # Regions are SQL that the server accepts: a char compared as text keeps the constant's blanks, and a part of a date
     # has its own form.
     Case("regions_as_sql", """
         CREATE TABLE people (id integer PRIMARY KEY, country char(2) NOT NULL);

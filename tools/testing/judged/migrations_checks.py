@@ -1,4 +1,4 @@
-"""The steps of the workflow in examples/ci, by which a folder of migrations is judged."""
+"""Tests the steps of the workflow in examples/ci, which judges a folder of migrations."""
 
 import pathlib
 import re
@@ -23,7 +23,7 @@ public.orders: sound
 tables: 2 judged, 2 sound
 """
 NO_CHANGE = f"{FOLDER}with new.sql no answer changes\n"
-# A migration that is wrong: it leaves out a region.
+# A wrong migration, which leaves out a region.
 WRONG = EXAMPLE.joinpath("migrations", "003_asia.sql").read_text().replace("199", "198")
 GAP = """\
 public.orders: NOT SOUND: the row (0, 199, '2000-01-01') goes to no subscriber
@@ -41,7 +41,7 @@ with new.sql these answers change:
 
 
 def check_migrations(tally: Tally, server: Server) -> None:
-    """The steps as they are written, in a repository like that of the example, and with a migration that is wrong."""
+    """Tests the steps as they are written, in a repository like that of the example, and with a wrong migration."""
     workflow = EXAMPLE.joinpath("judge-migrations.yml").read_text()
     steps = {name: textwrap.dedent(text) for name, text in STEP.findall(workflow)}
     server.create("staging", "".join(it.read_text() for it in sorted(EXAMPLE.glob("migrations/00[12]*.sql"))))
@@ -59,7 +59,7 @@ def check_migrations(tally: Tally, server: Server) -> None:
 
 
 def made(folder: pathlib.Path) -> None:
-    """A repository with the example on a branch, of which the base has two migrations."""
+    """Creates a repository that has the example on a branch, with two migrations on its base."""
     shutil.copytree(EXAMPLE, folder)
     (folder / "pgshard").symlink_to(ROOT)
     new = folder / "migrations" / "003_asia.sql"
@@ -75,12 +75,12 @@ def made(folder: pathlib.Path) -> None:
 
 
 def git(folder: pathlib.Path, *words: str) -> None:
-    """Runs git as nobody in particular."""
+    """Runs git with a placeholder identity."""
     subprocess.run(["git", "-c", "user.name=a", "-c", "user.email=a@b", *words], cwd=folder, check=True)
 
 
 def run(folder: pathlib.Path, step: str, staging: str) -> tuple[str, int]:
-    """What a step prints, and its status, as the runner of workflows starts it."""
+    """Runs a step as the workflow runner does. Returns its output and its status."""
     home = folder.parent / "home"
     home.mkdir(exist_ok=True)
     given = {"PGSHARD": PGSHARD, "HOME": str(home), "BASE": "base", "STAGING": staging}

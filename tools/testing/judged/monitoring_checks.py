@@ -1,4 +1,5 @@
-"""What judge says to monitoring. The forms are those of the documentation of Nagios's plugins and of Prometheus."""
+"""Tests judge's output for monitoring. The formats are those of the documentation of Nagios plugins and of
+Prometheus."""
 
 import pathlib
 import re
@@ -8,7 +9,7 @@ from programs import judge
 from server import Server
 from tally import Tally
 
-# Each database, the statuses of --detailed-status, of judge and of a plugin, and the plugin's line.
+# Each database, with the statuses under --detailed-status, of judge and of a plugin, and the plugin's line.
 BEGIN = "CREATE TABLE t (id integer PRIMARY KEY, a integer); ALTER TABLE t REPLICA IDENTITY FULL;"
 DATA = "tables={} sound={} not_sound={} refused={} not_decided={} not_read={} failing=0 not_published={} findings=0"
 CASES = [
@@ -23,15 +24,15 @@ CASES = [
      (0, 0, 0, 0, 0, 0, 1)),
 ]
 
-# The text format of Prometheus: a line of help, one of the type, and samples with labels.
+# The text format of Prometheus: a line of help, one with the type, and samples with labels.
 LABELS = r'\{[a-z_]+="(?:[^"\\\n]|\\[\\"n])*"(?:,[a-z_]+="(?:[^"\\\n]|\\[\\"n])*")*\}'
 METRIC = re.compile(rf"# HELP (\w+) [^\n]+\n# TYPE \1 gauge\n(?:\1(?:{LABELS})? \d+\n)+")
-# A plugin's line: words, and labels with numbers.
+# A plugin's line: text, and labels with numbers.
 PLUGIN = re.compile(r"PGSHARD (?:OK|WARNING|CRITICAL|UNKNOWN) - [^|\n]+ \|(?: \w+=\d+)+\n")
 
 
 def check_monitoring(tally: Tally, server: Server) -> None:
-    """All of these."""
+    """Tests all of these."""
     for name, setup, (detailed, status, plugin), line, numbers in CASES:
         server.create(name, setup)
         found = judge(*server.words(name), "--detailed-status")
@@ -47,7 +48,7 @@ def check_monitoring(tally: Tally, server: Server) -> None:
 
 
 def check_faults(tally: Tally) -> None:
-    """No judgement is unknown to Nagios, and has a metric."""
+    """Checks that a missing judgment is UNKNOWN for Nagios, and has a metric."""
     with tempfile.TemporaryDirectory() as folder:
         file = pathlib.Path(folder) / "pgshard.prom"
         found = judge("-h", folder, "--nagios", "--prometheus", str(file)).split("\n")
@@ -62,7 +63,7 @@ def check_faults(tally: Tally) -> None:
 
 
 def check_metrics(tally: Tally, server: Server) -> None:
-    """The file of a database, some names of which have to be escaped."""
+    """Checks the file for a database, some names of which have to be escaped."""
     server.create("monitored", f"""
         {BEGIN} CREATE PUBLICATION p FOR TABLE t WHERE (a > 0);
         CREATE TABLE "a ""quoted"" \\name" (id integer PRIMARY KEY);

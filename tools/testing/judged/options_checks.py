@@ -1,4 +1,4 @@
-"""What judge takes on its command line, whom it takes for subscribers, and how it says that there is no judgement."""
+"""Tests judge's command line, whom it regards as subscribers, and its messages if it cannot judge."""
 
 import json
 import pathlib
@@ -49,7 +49,7 @@ EACH = "each publication counts as a subscriber of its own; -v subscriptions='..
 
 
 def check_options(tally, server):
-    """All of these."""
+    """Tests all of these."""
     server.create("options", PUBLISHER)
     check_variable(tally, server)
     server.psql("options", SLOTS)
@@ -85,7 +85,7 @@ def check_variable(tally, server):
 
 
 def check_subscribers(tally, server):
-    """Two databases with subscriptions, one of which has no slot here."""
+    """Tests two databases with subscriptions, one of which has no slot on this server."""
     connection = f"host={server.folder} user=postgres dbname=options"
     server.create("london", "CREATE SCHEMA elsewhere;" + LONDON.format(connection=connection))
     server.create("tokyo", TOKYO.format(connection=connection, slot="tokyo_gone"))
@@ -111,7 +111,7 @@ def check_subscribers(tally, server):
 
 
 def check_walsenders(tally, server):
-    """A subscription that is connected, as a role sees it that may, and as one that may not."""
+    """Tests a connected subscription, as seen by a role with the privilege to see it and by one without."""
     server.psql("london", "ALTER SUBSCRIPTION london ENABLE;")
     wait_for_walsender(server, "t")
     words = server.words("options")
@@ -125,7 +125,7 @@ def check_walsenders(tally, server):
 
 
 def wait_for_walsender(server, active, slot="london"):
-    """Waits up to a minute until somebody is connected to the slot of the subscription, or nobody is."""
+    """Waits up to a minute until a client is connected to the subscription's slot, or until none is."""
     for _ in range(600):
         if server.psql("options", f"SELECT active FROM pg_replication_slots WHERE slot_name = '{slot}';") == active:
             return
@@ -133,8 +133,8 @@ def wait_for_walsender(server, active, slot="london"):
 
 
 def check_recvlogical(tally, server):
-    """A client that writes the names of options in double quotes, as psycopg2 and pgjdbc do, and names of publications
-    without."""
+    """Tests a client that writes the names of options in double quotes, as psycopg2 and pgjdbc do, and names of
+    publications without."""
     client = subprocess.Popen(
         [PROGRAMS / "pg_recvlogical", *server.words("options"), "--slot", "tokyo", "--start", "-f", "-",
          "-o", "proto_version=1", "-o", "publication_names=Elsewhere, nowhere"],
@@ -153,7 +153,7 @@ def check_recvlogical(tally, server):
 
 
 def check_missing_publication(tally, server):
-    """A subscription of a publication that is not there. The server says what that does to its stream."""
+    """Tests a subscription to a publication that does not exist. The server says what that does to its stream."""
     connection = f"host={server.folder} user=postgres dbname=options"
     server.create("missing", f"""
         CREATE SUBSCRIPTION all_of_it CONNECTION '{connection}' PUBLICATION europe, elsewhere, nowhere, gone
@@ -177,7 +177,7 @@ def check_missing_publication(tally, server):
 
 
 def check_locked(tally, server):
-    """A table that another session has locked, beside one that it has not."""
+    """Tests a table that another session has locked, and one that is not locked."""
     server.create("locked", """
         CREATE TABLE one (id integer PRIMARY KEY); CREATE TABLE two (id integer PRIMARY KEY CHECK (id > 0));
         CREATE PUBLICATION p FOR TABLE one, two WHERE (id > 0);
@@ -197,7 +197,7 @@ def check_locked(tally, server):
 
 
 def check_seconds(tally, server):
-    """A table that takes too long: of a program that has no end for it."""
+    """Tests a table that takes too long, with a program that does not end for it."""
     with tempfile.TemporaryDirectory() as folder:
         program = pathlib.Path(folder) / "program"
         program.write_text(f"""#!/bin/sh
@@ -213,12 +213,12 @@ printf '%s\\n' "$input" | {PGSHARD} "$@"
 
 
 def check_strict(tally, server):
-    """Without a filter that fails, --strict changes nothing."""
+    """Checks that --strict changes nothing if no filter fails."""
     check_lines(tally, "--strict", judge(*server.words("options"), "--strict"), [*SOUND, EACH, ENDING.format(1)], 0)
 
 
 def check_json(tally, server):
-    """The form that docs/OUTPUT.md documents."""
+    """Checks the format that docs/OUTPUT.md documents."""
     given = ["--json", "-v", "subscriptions=london=europe tokyo=elsewhere"]
     found, _, status = judge(*server.words("options"), *given).rpartition("status ")
     tally.check("the JSON of a row", (json.loads(found), status), ({
@@ -239,7 +239,7 @@ def check_json(tally, server):
 
 
 def check_catalog(tally, server):
-    """What --catalog prints is what pgshard has accepted."""
+    """Checks that --catalog prints what pgshard has accepted."""
     catalog, _, status = judge(*server.words("options"), "--catalog", "orders").rpartition("status ")
     certificates = pgshard("make", text=catalog)
     answer = pgshard("check", text=f"{catalog}\n%%\n{certificates[1]}")
@@ -249,7 +249,7 @@ def check_catalog(tally, server):
 
 
 def check_refusals(tally, server):
-    """Each in one line, with its status."""
+    """Checks that each refusal has one line and its status."""
     words = server.words("options")
     check_lines(tally, "--copied of no table", judge(*words, "--copied", "none"), [
         "judge: --copied none: no such table is published"], 2)
@@ -285,7 +285,7 @@ def check_refusals(tally, server):
 
 
 def not_built(folder):
-    """What judge prints of a file where there is no program beside it."""
+    """Returns what judge prints for a file if there is no program with it."""
     file = folder / "catalog.sql"
     file.write_text("CREATE TABLE t (id integer PRIMARY KEY);")
     others = {name: value for name, value in environment().items() if name != "PGSHARD"}
@@ -296,7 +296,7 @@ def not_built(folder):
 
 
 def without_pglast(words):
-    """What judge prints where Python has its own libraries alone."""
+    """Returns what judge prints if Python has only its own libraries."""
     answer = subprocess.run(
         [sys.executable, "-S", TOOLS / "judge", *words], stdout=subprocess.PIPE, stderr=subprocess.STDOUT,
         encoding="utf-8", env=environment() | {"PGSHARD": PGSHARD, "JUDGE_TRIED_SYSTEM_PYTHON": "1"})
@@ -304,7 +304,7 @@ def without_pglast(words):
 
 
 def in_folder(folder, words):
-    """What judge prints where the folder's programs come first."""
+    """Returns what judge prints if this folder is first on the path."""
     path = {"PGSHARD": PGSHARD, "PATH": f"{folder}:{environment()['PATH']}"}
     answer = subprocess.run(
         [TOOLS / "judge", *words], stdout=subprocess.PIPE, stderr=subprocess.STDOUT, encoding="utf-8",

@@ -1,4 +1,4 @@
-"""The page of judge --html: what is in it, and that a browser shows it."""
+"""Tests the page of judge --html: its content, and that a browser shows it."""
 
 import html.parser
 import pathlib
@@ -30,7 +30,7 @@ SETUP = """
 WORDS = ["--copied", "rates", "--count", "--repair", "days"]
 # Each cell of the maps: its condition, who gets it, and how many rows it has.
 CELLS = [
-    # A name that has to be written otherwise in HTML.
+    # A name that has to be escaped in HTML.
     ("name = '<script>alert(1)</script>'", "london", "0 rows"),
     ("name <> '<script>alert(1)</script>'", "nobody", "0 rows"), ("name IS NULL", "nobody", "0 rows"),
     # A line, on which NULL is a cell of its own.
@@ -41,16 +41,16 @@ CELLS = [
     # A list, since there are three terms.
     ("a < 5 AND b < 5 AND c", "london", "0 rows"), ("a < 5 AND b < 5 AND NOT (c)", "tokyo", "0 rows"),
     ("a < 5 AND b >= 5", "tokyo", "0 rows"), ("a >= 5", "tokyo", "0 rows"),
-    # A grid of two.
+    # A grid of two terms.
     *((f"{region} AND {amount}", who, "0 rows") for region, its in {
         "region = 'eu'": ("london", "london and tokyo", "tokyo"), "region = 'us'": ("nobody", "tokyo", "tokyo"),
         "region NOT IN ('eu', 'us')": ("nobody", "nobody", "nobody"), "region IS NULL": ("nobody", "nobody", "nobody"),
     }.items() for amount, who in zip(("amount < 200", "amount BETWEEN 200 AND 499", "amount >= 500"), its)),
-    # What is copied.
+    # A table that is copied.
     ("all rows", "each subscriber", "0 rows"),
 ]
 SIZES = [(400, 3000), (1400, 2000)]
-# The page in a frame of a width, and how wide its content is.
+# The page in a frame of a given width, which reports the width of its content.
 FRAME = """<!DOCTYPE html><body><iframe id="f" width="{width}" height="2000" style="border: 0" srcdoc="{page}"></iframe>
 <p id="w"></p><script>document.getElementById("f").onload = function () {{
 document.getElementById("w").textContent = "width " + this.contentDocument.documentElement.scrollWidth; }};</script>
@@ -59,7 +59,7 @@ VOID = {"meta", "link", "br"}
 
 
 def check_pages(tally: Tally, server: Server) -> None:
-    """The page of one database, by its text and in a browser."""
+    """Tests the page of a database, by its text and in a browser."""
     server.create("pictured", SETUP)
     with tempfile.TemporaryDirectory() as name:
         folder = pathlib.Path(name)
@@ -82,7 +82,8 @@ def check_pages(tally: Tally, server: Server) -> None:
 
 
 def check_text(tally: Tally, text: str, lines: list[str], repair: str) -> None:
-    """The page as a text: what judge says, each cell of the maps, the repair, and nothing from elsewhere."""
+    """Checks the text of the page: judge's lines, each cell of the maps, the repair, and that nothing is loaded from
+    elsewhere."""
     found = Reading()
     found.feed(text)
     tally.check("tags that are not closed", found.open, [])
@@ -95,7 +96,7 @@ def check_text(tally: Tally, text: str, lines: list[str], repair: str) -> None:
 
 
 class Reading(html.parser.HTMLParser):
-    """A page's text, its cells as condition, owner and count, and what is not closed."""
+    """Collects a page's text, its cells with condition, owner and count, and elements that are not closed."""
 
     def __init__(self) -> None:
         super().__init__()
@@ -131,7 +132,7 @@ class Reading(html.parser.HTMLParser):
 
 
 def check_fault(tally: Tally, server: Server, folder: pathlib.Path) -> None:
-    """A page that cannot be written."""
+    """Tests a page that cannot be written."""
     found = judge(*server.words("pictured"), "--html", str(folder / "none" / "page.html"))
     tally.check("a page that cannot be written", found.splitlines()[-2:], [
         f"judge: cannot write {folder}/none/page.html: [Errno 2] No such file or directory: "
@@ -139,7 +140,7 @@ def check_fault(tally: Tally, server: Server, folder: pathlib.Path) -> None:
 
 
 def browser(*words: str) -> "subprocess.CompletedProcess[str]":
-    """A run of the browser without a window. What a page writes to the console is on standard error."""
+    """Runs the browser without a window. What a page writes to the console is on standard error."""
     with tempfile.TemporaryDirectory() as folder:
         return subprocess.run(
             ["chromium", "--headless", "--no-sandbox", "--disable-gpu", "--hide-scrollbars",
@@ -148,7 +149,8 @@ def browser(*words: str) -> "subprocess.CompletedProcess[str]":
 
 
 def check_shot(tally: Tally, folder: pathlib.Path, page: pathlib.Path, width: int, height: int, is_dark: bool) -> None:
-    """The page as a picture: of the right size, light or dark, and without a word on the console."""
+    """Checks a screenshot of the page: its size, whether it is light or dark, and that nothing is written to the
+    console."""
     what = f"the page at {width} pixels, {'dark' if is_dark else 'light'}"
     shot = folder / "shot.png"
     shot.unlink(missing_ok=True)
@@ -161,7 +163,7 @@ def check_shot(tally: Tally, folder: pathlib.Path, page: pathlib.Path, width: in
 
 
 def picture(data: bytes) -> tuple[tuple[int, int], tuple[int, ...]]:
-    """The size of a PNG, and its first pixel, which no filter changes."""
+    """Returns the size of a PNG and its first pixel, which no filter changes."""
     width, height = struct.unpack(">II", data[16:24])
     parts, at = b"", 8
     while at < len(data):
@@ -172,7 +174,7 @@ def picture(data: bytes) -> tuple[tuple[int, int], tuple[int, ...]]:
 
 
 def check_width(tally: Tally, folder: pathlib.Path, text: str, width: int) -> None:
-    """Nothing is wider than the page, in a frame of its own."""
+    """Checks, in a frame, that nothing is wider than the page."""
     frame = folder / "frame.html"
     page = text.replace("&", "&amp;").replace('"', "&quot;")
     frame.write_text(FRAME.format(width=width, page=page), encoding="utf-8")

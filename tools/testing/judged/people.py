@@ -5,7 +5,7 @@ from dataclasses import dataclass
 
 @dataclass(frozen=True)
 class Application:
-    """Tables by name: the columns and constraints, and for each subscriber the filter of what it gets."""
+    """Tables by name: the columns and constraints, and each subscriber's filter."""
 
     name: str
     tables: dict[str, tuple[str, list[str]]]

@@ -1,6 +1,7 @@
-"""Databases and filters as people have them: how many judge decides, and whether rows of the server say otherwise.
+"""Tests databases and filters as people have them: how many of them judge decides, and whether rows on the server
+contradict it.
 
-Rows have values at the edges of their types, and others by chance; the server itself evaluates all filters on each.
+Rows have values at the limits of their types, and random ones; the server itself evaluates all filters for each row.
 """
 
 import json
@@ -17,12 +18,12 @@ from server import Server, environment
 from tally import Tally
 
 ROWS = 120
-# Of a database all tables, and of the filters that the server takes these, have a verdict.
+# The most tables of a database, and the most filters that the server accepts, that may be left without a verdict.
 UNDECIDED_TABLES = 0
 UNDECIDED_FORMS = 8
 SHORT = {"integer": "int4", "bigint": "int8", "smallint": "int2", "boolean": "bool", "double": "float8", "real": "float4",
          "serial": "int4", "bigserial": "int8", '"char"': "char"}
-# Values that filters name, beside those at the edges of types.
+# Values that filters name, in addition to the extreme values of the types.
 NAMED = {
     "text": ["'eu'", "'DE'", "'de'", "'a@eu.com'", "'A1'", "'AB'", "'B'", "'n'", "'m'", "'admin'", "'Admin'", "'x.jpg'", "'+491'", "'+43'"],
     "int4": ["3", "4", "5", "100", "-3"], "int8": ["4194304", "1000", "999"], "date": [
@@ -32,8 +33,8 @@ NAMED = {
     "inet": ["'10.0.0.1'", "'10.1.0.1'", "'192.168.0.1'", "'128.0.0.0/1'"], "cidr": ["'10.0.0.0/9'"],
     "numeric": ["0", "1", "99.99", "100", "5.5", "4"], "_int4": ["'{}'", "'{1}'", "'{1,2}'", "'{5}'", "'{NULL}'", "'{1,2,3,4}'"],
 }
-# Functions that go on where the server fails: the value of a filter at a row, the rows at which not just one filter is
-# TRUE, and whether a statement is refused.
+# Functions that continue if the server fails: the value of a filter for a row, the rows for which not exactly one
+# filter is TRUE, and whether a statement is refused.
 PREPARED = """
     CREATE FUNCTION told(filter text, source text, number integer) RETURNS boolean LANGUAGE plpgsql AS $body$
     DECLARE found boolean;
@@ -59,7 +60,7 @@ PREPARED = """
 
 
 def check_people(tally: Tally, server: Server) -> None:
-    """All of both."""
+    """Tests both."""
     undecided = [it for application in APPLICATIONS for it in check_application(tally, server, application)]
     tally.check("tables of people that have no verdict", undecided[UNDECIDED_TABLES:], [])
     forms = [it for topic in TOPICS for it in check_topic(tally, server, topic)]
@@ -67,7 +68,7 @@ def check_people(tally: Tally, server: Server) -> None:
 
 
 def answers_of(server: Server, database: str) -> dict[str, str]:
-    """What judge says of each table of a database."""
+    """Returns judge's answer for each table of a database."""
     answer = subprocess.run(
         [TOOLS / "judge", "--json", *patience([]), *server.words(database)], stdout=subprocess.PIPE, encoding="utf-8",
         env=environment() | {"PGSHARD": PGSHARD})
@@ -75,7 +76,7 @@ def answers_of(server: Server, database: str) -> dict[str, str]:
 
 
 def check_application(tally: Tally, server: Server, application: Application) -> list[str]:
-    """A database; each of its tables has a publication for each filter. Returns those without a verdict."""
+    """Tests a database, in which each table has a publication for each filter. Returns the tables without a verdict."""
     database = f"people_{application.name}"
     statements = [f"ALTER DATABASE {database} SET client_min_messages = error;", application.before, PREPARED]
     for table, (columns, filters) in application.tables.items():
@@ -91,9 +92,8 @@ def check_application(tally: Tally, server: Server, application: Application) ->
 
 
 def check_topic(tally: Tally, server: Server, topic: Topic) -> list[str]:
-    """Filters of one topic, each of which has a table with one publication of the rows that it lets pass, and one of
-    the
-    others. If the table has no NULL, these are NOT of the filter."""
+    """Tests the filters of a topic. Each has a table with one publication of the rows for which it is true, and one of
+    the others, whose filter is NOT of the first if the table has no NULL."""
     database = f"forms_{topic.name}"
     server.create(database, f"ALTER DATABASE {database} SET client_min_messages = error; {PREPARED} CREATE TABLE source "
                             f"({topic.columns}, row_number integer); CREATE PUBLICATION trial;")
@@ -116,7 +116,7 @@ def check_topic(tally: Tally, server: Server, topic: Topic) -> list[str]:
 
 
 def statements_of(topic: Topic, place: int, filter: str) -> list[str]:
-    """The table of a filter, and its two publications."""
+    """Returns the statements for a filter's table and its two publications."""
     strict = named(topic, filter) if place % 2 == 0 else set()
     columns = ", ".join(it + (" NOT NULL" if it.split()[0] in strict else "") for it in parts_of(topic.columns))
     name = f"t{place:03d}"
@@ -130,13 +130,13 @@ def other(place: int, filter: str) -> str:
 
 
 def named(topic: Topic, filter: str) -> set[str]:
-    """The columns that a filter names."""
+    """Returns the columns that a filter names."""
     plain = re.sub(r"'[^']*'", "", filter)
     return {it.split()[0] for it in parts_of(topic.columns) if re.search(rf"\b{it.split()[0]}\b", plain)}
 
 
 def fill(server: Server, database: str, table: str, columns: str) -> None:
-    """Rows by chance, the same each time; the server leaves out those that its constraints refuse."""
+    """Inserts random rows, the same each time; the server leaves out those that its constraints refuse."""
     chance = random.Random(f"{database}.{table}")
     listed = [it.split() for it in parts_of(columns) if not it.startswith(("CHECK", "PRIMARY"))]
     given = [it for it in listed if "GENERATED" not in it]
@@ -149,7 +149,7 @@ def fill(server: Server, database: str, table: str, columns: str) -> None:
 
 
 def value_of(column: list[str], chance: random.Random) -> str:
-    """A value of a column, NULL now and then."""
+    """Returns a value of a column, which is sometimes NULL."""
     type = column[1].partition("(")[0].rstrip(",")
     kind = SHORT.get(type, type)
     kind = {"varchar": "text", "char": "text" if column[1] != '"char"' else "char", "integer[]": "_int4", "text[]": "_text"}.get(kind, kind)
@@ -163,9 +163,8 @@ def value_of(column: list[str], chance: random.Random) -> str:
 
 
 def check_rows(tally: Tally, server: Server, database: str, asked: list[tuple[str, list[str], str]]) -> None:
-    """Where judge says sound, no row goes to nobody or to several: of each the rows, the filters, and what it is. A row
-    at
-    which a filter fails ends the replication, and is none of these."""
+    """Checks that no row of a table that judge calls sound goes to nobody or to several. Each table is given with its
+    filters and what it is. A row for which a filter fails ends the replication, and does not count."""
     statements = []
     for source, filters, _ in asked:
         counted = " + ".join(f"(({it}) IS TRUE)::integer" for it in filters)

@@ -1,11 +1,12 @@
-"""Filters of the forms that people write, over columns of each type. Those that the server takes are judged."""
+"""Filters of the forms that people write, over columns of each type. Those that the server accepts are judged."""
 
 from dataclasses import dataclass
 
 
 @dataclass(frozen=True)
 class Topic:
-    """Columns, and filters of them. Each filter has a table, whose rows that it lets pass have one subscriber."""
+    """Columns, and filters on them. Each filter has a table, in which the rows that pass the filter have one
+    subscriber."""
 
     name: str
     columns: str

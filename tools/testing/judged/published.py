@@ -1,6 +1,6 @@
-"""Databases for the rules by which a server decides what it publishes, and to whom: docs/JUDGING.md lists the rules.
+"""Databases for the rules by which a server decides what it publishes, and to whom. docs/JUDGING.md lists the rules.
 
-`fails` of a case has statements that the server refuses, each with a part of its message.
+`fails` of a case contains statements that the server refuses, each with a part of its message.
 """
 
 from judged.databases import Case
@@ -14,7 +14,7 @@ BY_ROOT = """
     CREATE PUBLICATION odd FOR TABLE log WHERE (id % 2 <> 0) WITH (publish_via_partition_root);
 """
 UNLOGGED = "CREATE UNLOGGED TABLE log_2024 PARTITION OF log FOR VALUES FROM ('2024-01-01') TO ('2025-01-01')"
-# What the server says to a subscriber of both publications. The temporary slot is gone with the connection.
+# What the server answers to a subscriber of both publications. The temporary slot vanishes with the connection.
 BOTH_LISTS = """
     SELECT FROM pg_create_logical_replication_slot('listed', 'pgoutput', true);
     {}
@@ -23,19 +23,19 @@ BOTH_LISTS = """
 """
 
 PUBLISHED = [
-    # A partition that is unlogged is not in the WAL, so a root that is published as one table loses its rows.
+    # An unlogged partition is not in the WAL, so a root that is published as one table loses the partition's rows.
     Case("unlogged_partition", f"{LOG} {UNLOGGED}; {BY_ROOT}", {"log": "not sound:"},
         told=["partition public.log_2024, which takes this row, is unlogged", "'2024-01-01'"]),
-    # Under a publication of the partitions themselves, the others are sound.
+    # If the partitions themselves are published, the other ones are sound.
     Case("unlogged_beside", f"{LOG} {UNLOGGED}; CREATE PUBLICATION p FOR ALL TABLES;",
         {"log_2023": "sound", "log_2024": "not sound:"}),
-    # Rows that nobody gets may be meant, and a partition may be such that it holds no row.
+    # Rows that nobody gets may be intended, and a partition may have bounds that no row fits.
     Case("unlogged_on_purpose", f"{LOG} {UNLOGGED}; {BY_ROOT}", {"log": "sound"}, words=["--partial", "log"]),
     Case("unlogged_and_empty", f"{LOG} {UNLOGGED}; ALTER TABLE log_2024 ADD CHECK (day < '2024-01-01'); {BY_ROOT}",
         {"log": "sound"}),
     # Only a part of the tree is published, and the unlogged partition is in the other part.
     Case("unlogged_elsewhere", f"{LOG} {UNLOGGED}; CREATE PUBLICATION p FOR TABLE log_2023;", {"log_2023": "sound"}),
-    # All that a foreign table gets is written elsewhere.
+    # The rows of a foreign table are stored elsewhere.
     Case("foreign_partition", f"""
         CREATE TABLE log (id bigint NOT NULL, day date NOT NULL) PARTITION BY RANGE (day);
         CREATE TABLE log_2023 PARTITION OF log FOR VALUES FROM ('2023-01-01') TO ('2024-01-01');
@@ -45,8 +45,8 @@ PUBLISHED = [
         {BY_ROOT}""", {"log": "not sound:"}, refusing=["log"],
         told=["partition public.log_old, which takes this row, is a foreign table"],
         fails=[("INSERT INTO log VALUES (1, '2001-05-05')", 'foreign-data wrapper "nothing" has no handler')]),
-    # The server enforces the bounds of a foreign table only for rows that come by a table above it, so that also a
-    # partition whose bounds no row fits may have one, which is then a row of the published table.
+    # The server enforces the bounds of a foreign table only for rows that are routed through a table above it. Thus
+    # even a partition whose bounds no row fits may have one, which is then a row of the published table.
     Case("foreign_without_bounds", f"""
         CREATE TABLE log (id bigint NOT NULL, day date NOT NULL) PARTITION BY RANGE (day);
         CREATE TABLE log_2023 PARTITION OF log FOR VALUES FROM ('2023-01-01') TO ('2024-01-01');
@@ -65,7 +65,7 @@ PUBLISHED = [
         told=["partition public.log_never, which takes this row, is a foreign table",
               "INSERT into public.log_never itself takes it, since the server does not enforce the bounds"],
         fails=[("INSERT INTO log VALUES (1, '2022-05-05')", "no partition of relation")]),
-    # A temporary table is no partition of a permanent one, and a permanent one none of a temporary one.
+    # A temporary table cannot be a partition of a permanent one, nor the other way round.
     Case("temporary_partition", f"{LOG} {BY_ROOT}", {"log": "sound"}, fails=[
         ("CREATE TEMP TABLE gone PARTITION OF log DEFAULT",
          "cannot create a temporary relation as partition of permanent relation"),
@@ -77,19 +77,19 @@ PUBLISHED = [
         CREATE TABLE log_low PARTITION OF log FOR VALUES FROM (0) TO (100);
         CREATE PUBLICATION p FOR ALL TABLES WITH (publish_via_partition_root);
     """, {"log": "refused"}, told=["its rows are sent as those of public.log, which is unlogged"]),
-    # A table that is unlogged is in no publication of all tables.
+    # An unlogged table is in no publication of all tables.
     Case("unlogged_table", """
         CREATE UNLOGGED TABLE cache (id integer PRIMARY KEY);
         CREATE TABLE kept (id integer PRIMARY KEY);
         CREATE PUBLICATION p FOR ALL TABLES;
     """, {"kept": "sound"}, told=["1 not published"]),
-    # No partition takes a row of 2024, and so no filter need.
+    # No partition accepts a row of 2024, so no filter has to.
     Case("no_other_partition", f"""{LOG}
         CREATE PUBLICATION spring FOR TABLE log WHERE (day < '2023-07-01') WITH (publish_via_partition_root);
         CREATE PUBLICATION autumn FOR TABLE log WHERE (day BETWEEN '2023-07-01' AND '2023-12-31')
             WITH (publish_via_partition_root);
     """, {"log": "sound"}, fails=[("INSERT INTO log VALUES (1, '2024-01-01')", "no partition of relation")]),
-    # What a partition refuses by a CHECK or a NOT NULL of its own, no filter need take.
+    # Rows that a partition refuses because of its own CHECK or NOT NULL need not pass any filter.
     Case("narrower_partitions", """
         CREATE TABLE log (id bigint, kind integer) PARTITION BY RANGE (id);
         CREATE TABLE log_low PARTITION OF log FOR VALUES FROM (0) TO (10);
@@ -100,13 +100,13 @@ PUBLISHED = [
         CREATE PUBLICATION few FOR TABLE log WHERE (kind < 5) WITH (publish_via_partition_root);
         CREATE PUBLICATION many FOR TABLE log WHERE (kind >= 5 AND kind < 100) WITH (publish_via_partition_root);
     """, {"log": "not sound:"}, told=["(0, 100)"]),
-    # Without a partition a table holds no row; it is judged as if it had one for each.
+    # Without partitions a table has no rows; it is judged as if there were a partition for every row.
     Case("no_partition", """
         CREATE TABLE log (id bigint) PARTITION BY RANGE (id);
         CREATE PUBLICATION low FOR TABLE log WHERE (id < 5) WITH (publish_via_partition_root);
         CREATE PUBLICATION high FOR TABLE log WHERE (id >= 5) WITH (publish_via_partition_root);
     """, {"log": "not sound:"}, refusing=["log"], told=["but it has no partition, so the server takes no row of it"]),
-    # Hash partitions take all rows together, so one of NULL and of each number is in one of them.
+    # Hash partitions together accept all rows: each value, including NULL, belongs in one of them.
     Case("by_hash", """
         CREATE TABLE cells (id bigint, kind integer) PARTITION BY HASH (id);
         CREATE TABLE cells_0 PARTITION OF cells FOR VALUES WITH (MODULUS 2, REMAINDER 0);
@@ -115,7 +115,8 @@ PUBLISHED = [
         CREATE PUBLICATION low FOR TABLE cells WHERE (kind < 5) WITH (publish_via_partition_root);
         CREATE PUBLICATION high FOR TABLE cells WHERE (kind >= 5) WITH (publish_via_partition_root);
     """, {"cells": "not sound:"}, told=["kind = NULL"]),
-    # A filter that the server cannot prepare ends the stream at the first row, though it is one of updates alone.
+    # A filter that the server cannot prepare ends the stream at the first row, even if its publication publishes only
+    # updates.
     Case("not_prepared", """
         CREATE TABLE notes (id bigint PRIMARY KEY, kind integer);
         CREATE TABLE plans (id bigint PRIMARY KEY, area polygon);
@@ -127,7 +128,7 @@ PUBLISHED = [
         told=["each row stops the replication of all: the filter of publication two fails"],
         fails=[(BOTH_LISTS.format("INSERT INTO notes VALUES (1, 1);"), "division by zero"),
                (BOTH_LISTS.format("INSERT INTO plans VALUES (1, NULL);"), "could not identify a comparison function")]),
-    # A DEFAULT partition without others has no bounds, but constraints of its own.
+    # A DEFAULT partition without others has no bounds, but may have constraints of its own.
     Case("only_default", """
         CREATE TABLE log (id bigint, kind integer) PARTITION BY LIST (id);
         CREATE TABLE log_rest PARTITION OF log (kind NOT NULL) DEFAULT;
@@ -148,7 +149,7 @@ PUBLISHED = [
         CREATE PUBLICATION high FOR TABLE notes WHERE (kind >= 5);
     """, {"notes": "not sound:"}, refusing=["notes"], told=["judge knows no value of the type of column note"],
         fails=[("INSERT INTO notes VALUES (0, NULL, NULL)", "violates check constraint")]),
-    # A subscriber that takes a table with two column lists: the server ends its replication at the first row.
+    # A subscriber to a table with two different column lists: the server ends its replication at the first row.
     Case("two_lists", """
         CREATE TABLE people (id integer PRIMARY KEY, name text, mail text);
         CREATE PUBLICATION one FOR TABLE people (id, name) WHERE (id < 5);
@@ -156,7 +157,8 @@ PUBLISHED = [
     """, {"people": "refused"}, words=["-v", "subscriptions=all=one,two"],
         told=["subscriber all takes publications one and two, whose column lists differ"],
         fails=[(BOTH_LISTS.format("INSERT INTO people VALUES (1, 'a', 'b');"), 'cannot use different column lists for table "public.people"')]),
-    # Each with a list of its own is well, and so is one list twice, or a list of all columns beside none.
+    # Different lists for different subscribers are allowed, and so are one list twice, and a list of all columns
+    # together with no list.
     Case("one_list_each", """
         CREATE TABLE people (id integer PRIMARY KEY, name text, mail text);
         CREATE TABLE same (id integer PRIMARY KEY, name text, mail text);
@@ -170,7 +172,8 @@ PUBLISHED = [
         CREATE PUBLICATION two FOR TABLE people (name, id) WHERE (id >= 5), whole WHERE (id >= 5);
         {BOTH_LISTS.format("INSERT INTO people VALUES (1, 'a', 'b'); INSERT INTO whole VALUES (1, 'a');")}
     """, {"people": "sound", "whole": "sound"}, words=["-v", "subscriptions=all=one,two"]),
-    # A list of all columns is one beside none, where the server counts more columns: generated or dropped ones.
+    # A list of all columns counts as different from no list if the server counts more columns: generated or dropped
+    # ones.
     Case("whole_list_and_dropped", """
         CREATE TABLE people (id integer PRIMARY KEY, gone text, name text);
         ALTER TABLE people DROP COLUMN gone;
@@ -186,7 +189,7 @@ PUBLISHED = [
     """, {"people": "refused"}, words=["-v", "subscriptions=all=one,two"],
         told=["subscriber all takes publications one and two, whose column lists differ"],
         fails=[(BOTH_LISTS.format("INSERT INTO people VALUES (1, 'a');"), 'cannot use different column lists for table "public.people"')]),
-    # Under FULL the server refuses changes of a table with any list, even with one of all columns.
+    # Under FULL, the server refuses changes of a table with any column list, even one of all columns.
     Case("list_and_full", """
         CREATE TABLE people (id integer PRIMARY KEY, name text);
         ALTER TABLE people REPLICA IDENTITY FULL;
@@ -194,7 +197,7 @@ PUBLISHED = [
         CREATE PUBLICATION one FOR TABLE people (id, name);
     """, {"people": "refused"}, told=["publication one has a column list, and the table's replica identity is FULL"],
         fails=[("UPDATE people SET name = 'b'", "Column list used by the publication does not cover")]),
-    # The server asks the filters and lists of all publications of a table, also of those that nobody takes.
+    # The server checks the filters and lists of all publications of a table, also of those that nobody subscribes to.
     Case("nobody_takes_it", """
         CREATE TABLE orders (id integer PRIMARY KEY, region integer NOT NULL);
         CREATE TABLE lines (id integer PRIMARY KEY, region integer NOT NULL);
@@ -213,15 +216,15 @@ PUBLISHED = [
         fails=[("UPDATE orders SET region = 2", "Column used in the publication WHERE expression is not part of"),
                ("DELETE FROM lines", "Column list used by the publication does not cover the replica identity"),
                ("UPDATE notes SET id = 2", "does not have a replica identity and publishes updates")]),
-    # A filter under FOR TABLES IN SCHEMA filters nothing, but the server asks for its columns all the same.
+    # A filter has no effect together with FOR TABLES IN SCHEMA, but the server still checks its columns.
     Case("schema_and_table", """
         CREATE TABLE orders (id integer PRIMARY KEY, region integer NOT NULL);
         INSERT INTO orders VALUES (1, 1);
         CREATE PUBLICATION one FOR TABLES IN SCHEMA public, TABLE orders WHERE (region = 1);
     """, {"orders": "refused"}, told=["the filter of publication one names column region"],
         fails=[("DELETE FROM orders", "Column used in the publication WHERE expression is not part of")]),
-    # Publications that split the operations between them. By `other` the inserts of half of the rows are lost, and by
-    # `unlike` the deletes; `same` is as one publication.
+    # Publications that split the operations among them. In `other` the inserts of half of the rows are lost, and in
+    # `unlike` the deletes; `same` is equivalent to one publication.
     Case("split_operations", """
         CREATE TABLE same (id integer PRIMARY KEY);
         CREATE TABLE unlike (id integer PRIMARY KEY);
@@ -236,7 +239,7 @@ PUBLISHED = [
         words=["-v", "subscriptions=one=added,changed two=rest"],
         told=["subscriber one takes publications added and changed, which filter update otherwise than insert",
               "publication added, which has a subscriber, does not publish update"]),
-    # The root's publication publishes no insert. That of the partition does, and then no filter counts.
+    # The root's publication does not publish inserts. The partition's publication does, and then no filter applies.
     Case("split_levels", """
         CREATE TABLE log (id bigint PRIMARY KEY) PARTITION BY RANGE (id);
         CREATE TABLE log_low PARTITION OF log FOR VALUES FROM (0) TO (100);
@@ -244,7 +247,7 @@ PUBLISHED = [
             WITH (publish_via_partition_root, publish = 'update, delete, truncate');
         CREATE PUBLICATION added FOR TABLE log_low WHERE (id > 5) WITH (publish = 'insert');
     """, {"log_low": "not decided"}, words=["-v", "subscriptions=one=changed,added"]),
-    # Policies keep no row from a stream.
+    # Row security policies keep no row from a stream.
     Case("row_security", """
         CREATE TABLE secrets (id integer PRIMARY KEY, owner text);
         ALTER TABLE secrets ENABLE ROW LEVEL SECURITY;
@@ -253,7 +256,8 @@ PUBLISHED = [
         CREATE PUBLICATION low FOR TABLE secrets WHERE (id < 5);
         CREATE PUBLICATION high FOR TABLE secrets WHERE (id >= 5);
     """, {"secrets": "sound"}, told=["row-level security may keep rows from an initial copy"]),
-    # A key that is NULL is no key of another table, so nothing refuses the row; under MATCH FULL half of one is refused.
+    # A foreign key that is NULL references no row, so nothing refuses the row; under MATCH FULL a key that is NULL in
+    # part is refused.
     Case("null_keys", """
         CREATE TABLE shops (region integer, number integer, PRIMARY KEY (region, number));
         CREATE TABLE sales (id integer PRIMARY KEY, region integer, number integer,
@@ -266,7 +270,7 @@ PUBLISHED = [
         CREATE PUBLICATION two FOR TABLE sales WHERE (number > 5 OR region IS NULL), goods WHERE (number > 5);
     """, {"shops": "sound", "sales": "not sound:", "goods": "not sound:"}, refusing=["goods"],
         told=["but foreign key goods_region_number_fkey on region, number is not read"]),
-    # A rule may put a row elsewhere.
+    # A rule may redirect a row.
     Case("rules", """
         CREATE TABLE rows (id integer PRIMARY KEY);
         CREATE RULE nowhere AS ON INSERT TO rows WHERE id <= 0 DO INSTEAD NOTHING;

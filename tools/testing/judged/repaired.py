@@ -1,11 +1,11 @@
-"""Databases with tables that are repaired, and such as are not, with what is said about them."""
+"""Databases with tables that are repaired and tables that are not, with what is printed about them."""
 
 from dataclasses import dataclass, field
 
 
 @dataclass
 class Repaired:
-    """A database with a table `t`, words for judge, the statements of its repair, and rows to fill it with. If there
+    """A database with a table `t`, judge's arguments, the statements of its repair, and rows to fill it with. If there
     is no repair, `why` is the line that says so."""
 
     name: str
@@ -14,7 +14,7 @@ class Repaired:
     rows: str = ""
     words: list[str] = field(default_factory=list)
     why: str = ""
-    # Who subscribes, where each publication is not a subscriber of its own.
+    # The subscribers, if not each publication is a subscriber of its own.
     takers: dict[str, list[str]] = field(default_factory=dict)
 
 
@@ -24,13 +24,13 @@ ROWS = "SELECT n, nullif(n % 23, 7) FROM generate_series(-200, 200) AS n"
 REPAIRED = [
     Repaired("rest", T + "CREATE PUBLICATION p FOR TABLE t WHERE (region < 5);", [
         "CREATE PUBLICATION t_rest FOR TABLE public.t WHERE (region >= 5 OR region IS NULL);"], ROWS),
-    # The name is taken by a publication of another table.
+    # The new publication's name is taken by a publication of another table.
     Repaired("name_taken", T + """
         CREATE TABLE u (id integer PRIMARY KEY);
         CREATE PUBLICATION t_rest FOR TABLE u;
         CREATE PUBLICATION p FOR TABLE t WHERE (region IS NOT NULL);
     """, ["CREATE PUBLICATION t_rest_2 FOR TABLE public.t WHERE (region IS NULL);"], ROWS),
-    # Three have the same rows. The second one has other tables, too, which stay as they are.
+    # Three publications have the same rows. The second one has other tables too, which stay unchanged.
     Repaired("three", T + """
         CREATE TABLE u (id integer PRIMARY KEY);
         CREATE PUBLICATION p FOR TABLE t WHERE (id < 50);
@@ -43,7 +43,7 @@ REPAIRED = [
         CREATE PUBLICATION p FOR TABLE t WHERE (id < 50);
         CREATE PUBLICATION q FOR TABLE t WHERE (id >= 0);
     """, ["ALTER PUBLICATION p SET TABLE public.t WHERE (id < 0);"], ROWS, ["--keep", "q"]),
-    # What has no filters keeps its rows, and who is left without any has the table no more.
+    # A publication without a filter keeps its rows, and a subscriber that is left without any rows loses the table.
     Repaired("everything", T + """
         CREATE PUBLICATION a FOR TABLE t WHERE (id < 50);
         CREATE PUBLICATION b FOR ALL TABLES;
@@ -52,7 +52,7 @@ REPAIRED = [
         CREATE PUBLICATION p FOR TABLE t WHERE (region < 5);
         CREATE PUBLICATION q FOR TABLE t;
     """, ["ALTER PUBLICATION q SET TABLE public.t WHERE (region >= 5 OR region IS NULL);"], ROWS),
-    # Names in quotes, and columns that are all that is sent.
+    # Quoted names, and column lists.
     Repaired("columns", """
         CREATE TABLE t (id integer, "Region" integer, note text, PRIMARY KEY (id, "Region"));
         CREATE PUBLICATION "P" FOR TABLE t (id, "Region") WHERE ("Region" < 9);
@@ -60,7 +60,7 @@ REPAIRED = [
     """, ["BEGIN;", 'CREATE PUBLICATION t_rest FOR TABLE public.t (id, "Region") WHERE ("Region" >= 21);',
           'ALTER PUBLICATION q SET TABLE public.t (id, "Region") WHERE ("Region" BETWEEN 9 AND 20);', "COMMIT;"],
         "SELECT n, n % 23, 'x' FROM generate_series(-200, 200) AS n"),
-    # Of several publications of a subscriber each loses the rows.
+    # Each of a subscriber's several publications loses the rows.
     Repaired("several", T + """
         CREATE PUBLICATION a FOR TABLE t WHERE (id < 0);
         CREATE PUBLICATION b FOR TABLE t WHERE (id > 50);
@@ -71,7 +71,7 @@ REPAIRED = [
           "ALTER PUBLICATION b SET TABLE public.t WHERE (((id > 50)) AND "
           "(((id >= '-10'::integer) AND (id <= 60))) IS NOT TRUE);", "COMMIT;"], ROWS,
         ["-v", "subscriptions=one=a,b two=c", "--keep", "two"], takers={"one": ["a", "b"], "two": ["c"]}),
-    # Many regions are said by the filters that there are.
+    # Many regions are expressed by the existing filters.
     Repaired("long", f"""{T}
         CREATE PUBLICATION p FOR TABLE t;
         CREATE PUBLICATION q FOR TABLE t WHERE (id < 0 AND region < 3 OR {' OR '.join(
@@ -81,7 +81,7 @@ REPAIRED = [
         CREATE PUBLICATION p FOR TABLE t WHERE (id < 5);
         CREATE PUBLICATION q FOR TABLE t WHERE (id BETWEEN 0 AND 9);
     """, ["ALTER PUBLICATION q SET TABLE public.t WHERE (id BETWEEN 5 AND 9);"], ROWS, ["--partial", "t"]),
-    # What is not repaired, and why.
+    # Tables that are not repaired, and the reasons.
     Repaired("fine", T + "CREATE PUBLICATION p FOR TABLE t;", ["-- public.t: sound, so there is nothing to repair"]),
     Repaired("shared", T + "CREATE PUBLICATION p FOR TABLE t; CREATE PUBLICATION q FOR TABLE t WHERE (id < 5);",
              words=["-v", "subscriptions=a=p b=p,q"],
@@ -98,7 +98,7 @@ REPAIRED = [
              "t_rest names column region, which is not in the table's replica identity, so the server refuses its "
              "updates and deletes; append-only = [\"public.t\"] in a file of --intent would allow it; ALTER TABLE .. "
              "REPLICA IDENTITY FULL, or a filter by the columns of the identity, comes first"),
-    # No subscriber is to fail that did not before.
+    # No subscriber may fail that did not fail before.
     Repaired("failing", """
         CREATE TABLE t (id integer PRIMARY KEY, a integer NOT NULL, b integer NOT NULL);
         ALTER TABLE t REPLICA IDENTITY FULL;

@@ -1,4 +1,4 @@
-"""Repairs: what is printed, and that with it a table is sound, and each of its rows goes to one subscriber."""
+"""Tests repairs: what is printed, and that the repaired table is sound and each of its rows goes to one subscriber."""
 
 import json
 import os
@@ -20,8 +20,8 @@ Given, Found = TypeVar("Given"), TypeVar("Found")
 
 @dataclass
 class Job:
-    """A database with tables that are repaired together: rows for each, words for judge, and who subscribes, where each
-    publication is not a subscriber of its own."""
+    """A database with tables that are repaired together: the rows of each, judge's arguments, and the subscribers, if
+    not each publication is a subscriber of its own."""
 
     name: str
     setup: str
@@ -35,10 +35,10 @@ class Job:
 
 
 def check_repairs(tally: Tally, server: Server) -> None:
-    """All databases, and those of the regions once more."""
+    """Tests all databases of repairs, and also those of the regions."""
     cases = {it.name: it for it in REPAIRED}
     jobs = [Job(it.name, it.setup, {"t": it.rows}, it.words, it.takers) for it in REPAIRED]
-    # What is to be copied is not repaired.
+    # A table that is to be copied is not repaired.
     jobs += [Job(it.name, it.setup, {name: rows for name, rows in it.rows.items() if name != "rates"}, it.words)
              for it in FAULTY]
     for job in jobs:
@@ -54,7 +54,7 @@ def check_repairs(tally: Tally, server: Server) -> None:
 
 
 def side_by_side(listed: Iterable[Given], run: Callable[[Given], Found]) -> list[Found]:
-    """The results of runs that wait for other programs."""
+    """Runs a function concurrently on all values, since it waits for other programs, and returns the results."""
     with ThreadPoolExecutor(len(os.sched_getaffinity(0))) as threads:
         return list(threads.map(run, listed))
 
@@ -64,12 +64,13 @@ def repair_words(job: Job) -> list[str]:
 
 
 def plain_words(job: Job) -> list[str]:
-    """The words without what goes with a repair alone."""
+    """Returns the arguments without those that only a repair uses."""
     return job.words[:job.words.index("--keep")] if "--keep" in job.words else job.words
 
 
 def check_repair(tally: Tally, server: Server, job: Job, output: str, case: Repaired | None) -> bool:
-    """The statements as they are expected, or why there are none. They are run; answers whether there are some."""
+    """Checks the statements, or the reason why there are none, and runs the statements. Returns whether there are
+    some."""
     text, status = output.rsplit("status ", 1)
     if case is not None and case.why:
         tally.check(f"{job.name}: why there is no repair", (text, status), (
@@ -84,8 +85,8 @@ def check_repair(tally: Tally, server: Server, job: Job, output: str, case: Repa
 
 
 def check_mended(tally: Tally, server: Server, job: Job, report: dict[str, Any]) -> None:
-    """Judged again, the tables are sound; and each row passes the filters of one subscriber, but for one that is left
-    out on purpose."""
+    """Checks that the tables are now sound, and that each row passes the filters of one subscriber, except rows that
+    are left out on purpose."""
     answers = {it["table"]: it["answer"] for it in report["tables"]}
     names = server.psql(job.database, "SELECT pubname FROM pg_publication;").split("\n")
     listed = job.takers or {name: [name] for name in names}
@@ -101,7 +102,7 @@ def check_mended(tally: Tally, server: Server, job: Job, report: dict[str, Any])
 
 
 def check_role(tally: Tally, server: Server) -> None:
-    """A role that may not alter the publications."""
+    """Tests a role that may not alter the publications."""
     server.psql("postgres", "CREATE ROLE mender LOGIN;")
     found = judge(*server.words("mend_identity"), "-U", "mender", "--repair", "t")
     tally.check("a repair by a role without privileges", found, (
@@ -111,7 +112,7 @@ def check_role(tally: Tally, server: Server) -> None:
 
 
 def check_words(tally: Tally, server: Server) -> None:
-    """The command line, and JSON."""
+    """Tests the command line, and JSON."""
     words = server.words("mend_identity")
     with tempfile.TemporaryDirectory() as folder:
         for given, fault in {

@@ -1,4 +1,4 @@
-"""What judge says of a file with a schema, and that nothing is left of the server that loads it."""
+"""Tests what judge says of a schema file, and that nothing remains of the server that loads it."""
 
 import os
 import pathlib
@@ -41,7 +41,7 @@ CONNECTS = (
     "the subscription would connect to its publisher; judge reads CREATE SUBSCRIPTION .. WITH (connect = false), as "
     "pg_dump writes it")
 
-# Each file that is refused, and what is said about it after the file's name.
+# Files that are refused, each with the message after the file's name.
 REFUSED = {
     "CREATE TABLE t (id integer PRIMARY KEY);\nCREATE TABLE u (id money PRIMARY KEY, b gone);":
         '2: type "gone" does not exist\n    LINE 1: CREATE TABLE u (id money PRIMARY KEY, b gone);\n'
@@ -51,7 +51,7 @@ REFUSED = {
     "CREATE TABLE t (id money);\n\nALTER SUBSCRIPTION s REFRESH PUBLICATION;": f"3: {CONNECTS}",
 }
 
-# A program that does not read the file, so that it is a schema, and then says that it has begun, and has no end.
+# A program that refuses the file, so that judge takes it for a schema, and that then reports its start and never ends.
 ENDLESS = """\
 #!/bin/sh
 if [ -e {begun}.once ]; then : > {begun}; exec sleep 600; fi
@@ -62,7 +62,7 @@ exit 3
 
 
 def check_schemas(tally: Tally, server: Server) -> None:
-    """All of these."""
+    """Tests all of these."""
     server.create("schema_file", SCHEMA)
     with tempfile.TemporaryDirectory() as name:
         folder = pathlib.Path(name)
@@ -75,17 +75,17 @@ def check_schemas(tally: Tally, server: Server) -> None:
 
 
 def left() -> set[pathlib.Path]:
-    """The folders of servers."""
+    """Returns the folders of servers."""
     return {it for parent in (pathlib.Path("/tmp"), pathlib.Path(tempfile.gettempdir()))
             for it in parent.glob("pgshard_judge_*")}
 
 
 def check_dump(tally: Tally, server: Server, file: pathlib.Path) -> None:
-    """What pg_dump -s writes has the answers of the database."""
+    """Checks that the output of pg_dump -s has the same answers as the database."""
     dump = subprocess.run(
         [PROGRAMS / "pg_dump", "-s", *server.words("schema_file")], stdout=subprocess.PIPE, encoding="utf-8",
         check=True, env=environment())
-    # As pg_dump 17 and later releases of 15 write it.
+    # The form that pg_dump has in version 17 and in later releases of 15.
     file.write_text(f"\\restrict abc\n\nSET transaction_timeout = 0;\n{dump.stdout}\n\\unrestrict abc\n")
     words = ["-v", "subscriptions=a=low b=high", "--copied", "orders", "--all"]
     tally.check("what judge says of pg_dump's file", judge(str(file), *words), judge(
@@ -96,7 +96,8 @@ def check_dump(tally: Tally, server: Server, file: pathlib.Path) -> None:
 
 
 def check_text(tally: Tally, file: pathlib.Path) -> None:
-    """Without subscriptions, each publication counts as one, also where pgshard reads the text."""
+    """Checks that each publication counts as a subscriber if there are no subscriptions, also if pgshard reads the text
+    itself."""
     file.write_text("""
         CREATE TABLE orders (id integer PRIMARY KEY, region integer NOT NULL);
         ALTER TABLE orders REPLICA IDENTITY FULL;
@@ -110,7 +111,7 @@ def check_text(tally: Tally, file: pathlib.Path) -> None:
 
 
 def check_refusals(tally: Tally, file: pathlib.Path) -> None:
-    """Each has its line, and status 3."""
+    """Checks that each refusal has its line and status 3."""
     for text, words in REFUSED.items():
         file.write_text(text)
         tally.check(f"a schema with {text!r}", judge(str(file)), f"refused: {file}:{words}\nstatus 3\n")
@@ -121,7 +122,7 @@ def check_refusals(tally: Tally, file: pathlib.Path) -> None:
 
 
 def check_ending(tally: Tally, folder: pathlib.Path) -> None:
-    """A signal ends judge, its server and its folder."""
+    """Checks that a signal ends judge, its server and its folder."""
     program, begun, file = folder / "program", folder / "begun", folder / "ended.sql"
     program.write_text(ENDLESS.format(begun=begun))
     program.chmod(0o700)

@@ -1,6 +1,6 @@
-"""Each row of judge's table of functions and operators, on a server: at the edges of its types, with nulls, and with
-empty
-and infinite values, it is NULL where the table says so, fails only where the table says so, and goes by no setting."""
+"""Tests each row of judge's table of functions and operators on a server: with extreme values of its types, with nulls,
+and with empty and infinite values, it is NULL only where the table says so, fails only where the table says so, and
+depends on no setting."""
 
 import itertools
 import json
@@ -20,9 +20,9 @@ sys.path.insert(0, str(TOOLS))
 
 from pgshard_tools.judging.signatures import FUNCTIONS, NAMES, NEGATIONS, OPERATORS, PARTS, Row
 
-# This many calls of one function, by chance where there are more.
+# The most calls of a function; if there are more, a random sample is used.
 MOST_CALLS = 300
-# Says of an expression whether the server fails at it, or it is NULL, or else '='.
+# Evaluates an expression, and returns whether the server fails, or it is NULL, or otherwise '='.
 TRIED = """
     CREATE FUNCTION tried(expression text) RETURNS text LANGUAGE plpgsql AS $body$
     DECLARE is_null boolean;
@@ -33,20 +33,20 @@ TRIED = """
         RETURN 'fails';
     END $body$
 """
-# Settings by which the server reads and writes values otherwise than it does without them.
+# Settings under which the server reads and prints values differently from its defaults.
 SETTINGS = """
     SET extra_float_digits = -10; SET intervalstyle = 'iso_8601'; SET datestyle = 'German'; SET bytea_output = 'escape';
     SET timezone = 'Asia/Tokyo'; SET default_text_search_config = 'german'; SET quote_all_identifiers = on;
     SET xmlbinary = 'hex'; SET search_path = ''; SET lc_messages = 'C';
     SET backslash_quote = off; SET escape_string_warning = off;
 """
-# Functions that take a list of arguments.
+# Functions with a VARIADIC argument.
 LISTED = {"jsonb_extract_path", "jsonb_extract_path_text", "json_extract_path", "json_extract_path_text"}
 TextOf = Callable[[str, list[str]], str]
 
 
 def check_signatures(tally: Tally, server: Server) -> None:
-    """All rows of both tables."""
+    """Tests all rows of both tables."""
     server.create("signatures", f"ALTER DATABASE signatures SET client_min_messages = error; {TRIED}")
     rows = [(signature, row, function_text) for signature, row in FUNCTIONS.items()]
     rows += [(signature, row, operator_text) for signature, row in OPERATORS.items()]
@@ -61,7 +61,7 @@ def check_signatures(tally: Tally, server: Server) -> None:
 
 
 def check_descriptions(tally: Tally, server: Server) -> None:
-    """What the server says of each."""
+    """Compares the descriptions with what the server says of each function."""
     described = json.loads(server.psql("postgres", f"""
         SELECT json_agg(json_build_array(signature, p.proisstrict, p.provolatile)) FROM (
             SELECT oid AS code, format('%s(%s)', proname, array_to_string(ARRAY(
@@ -90,7 +90,7 @@ def operator_text(name: str, words: list[str]) -> str:
 
 
 def faults_of(server: Server, signature: str, row: Row, text_of: TextOf) -> list[str]:
-    """The calls that fail or are NULL otherwise than the row says, or are another value under other settings."""
+    """Returns the calls that fail or are NULL contrary to the row, or whose value depends on settings."""
     faults, kept = [], []
     for columns in value_sets(types_of(signature), dict(row.limits)):
         found, settled = faults_at(server, row, list(calls_of(signature, row, text_of, columns)))
@@ -100,7 +100,7 @@ def faults_of(server: Server, signature: str, row: Row, text_of: TextOf) -> list
 
 
 def faults_at(server: Server, row: Row, calls: list[tuple[str, bool]]) -> tuple[list[str], list[str]]:
-    """The faults of some calls, and those that have a value."""
+    """Returns the faults of some calls, and the calls that have a value."""
     listed = ", ".join(f"({place}, {literal(call)})" for place, (call, _) in enumerate(calls))
     answer = server.psql("signatures", f"SELECT tried(call) FROM (VALUES {listed}) AS c (place, call) ORDER BY place;")
     faults, kept = [], []
@@ -112,7 +112,7 @@ def faults_at(server: Server, row: Row, calls: list[tuple[str, bool]]) -> tuple[
 
 
 def unsettled(server: Server, calls: list[str]) -> list[str]:
-    """The calls that have another value under other settings. Values are compared as texts under one of them."""
+    """Returns the calls whose value depends on settings. Values are compared as texts under the same settings."""
     listed = ", ".join(f"({place}, {call})" for place, call in enumerate(calls))
     try:
         places = server.psql("signatures", f"""
@@ -126,7 +126,7 @@ def unsettled(server: Server, calls: list[str]) -> list[str]:
 
 
 def unlike_negations(server: Server, signature: str, name: str) -> list[str]:
-    """Where an operator is not NOT of the other."""
+    """Returns calls for which an operator is not NOT of its negator."""
     row = OPERATORS[signature]
     found = []
     for columns in value_sets(types_of(signature), dict(row.limits)):
@@ -155,7 +155,8 @@ def types_of(signature: str) -> list[str]:
 
 
 def calls_of(signature: str, row: Row, text_of: TextOf, columns: list[list[str]]) -> Iterator[tuple[str, bool]]:
-    """Calls, and whether an argument is NULL. Of a function that is not strict, some arguments are not NULL."""
+    """Yields calls, and whether an argument is NULL. For a function that is not strict, some arguments are never
+    NULL."""
     name, _, _ = signature.partition("(")
     combined = list(itertools.product(*columns))
     if len(combined) > MOST_CALLS:
@@ -167,7 +168,7 @@ def calls_of(signature: str, row: Row, text_of: TextOf, columns: list[list[str]]
 
 
 def value_sets(types: list[str], limits: dict[int, str]) -> Iterator[list[list[str]]]:
-    """Values of each argument, all of which go with all of the others."""
+    """Yields values of each argument; all of them are combined with all values of the others."""
     if "anyelement" in types:
         multi = "anymultirange" in types
         for its, element in OF_ELEMENTS.items():
@@ -195,12 +196,12 @@ def ranges_of(type: str) -> list[str]:
 
 
 def many_of(range: str) -> str:
-    """A multirange of one range, as a text."""
+    """Returns the text of a multirange with one range."""
     return range if range == "NULL" else "'{}'" if range == "'empty'" else "'{" + range[1:-1] + "}'"
 
 
 def cast(values: list[str], type: str) -> list[str]:
-    """Values as those of a type; what is computed is a text first."""
+    """Casts values to a type; computed values are cast to text first."""
     name = '"char"' if type == "char" else type
     return [f"({it})::text::{name}" if "(" in it and not it.startswith("'") else f"({it})::{name}" for it in values]
 

@@ -1,4 +1,4 @@
-"""Judge of servers of later versions: a relay tells clients another version than the server has."""
+"""Tests judge with servers of later versions: a relay tells clients a version that differs from the server's."""
 
 import contextlib
 import pathlib
@@ -23,7 +23,7 @@ SOCKET = ".s.PGSQL.5432"
 
 
 def check_versions(tally: Tally, server: Server) -> None:
-    """Versions 15 to 18 are judged, and a later one than 15 is said."""
+    """Checks that versions 15 to 18 are judged, and that judge mentions a version later than 15."""
     server.create(DATABASE, SETUP)
     for version, says in {
             "15.99": [], "18.99": ["the server has version 18.99: judged by the rules of 15"],
@@ -37,14 +37,14 @@ def check_versions(tally: Tally, server: Server) -> None:
 
 
 def told(server: Server, version: str) -> list[str]:
-    """The lines of judge where clients are told a version."""
+    """Returns judge's lines if clients are told this version."""
     with telling(version, pathlib.Path(server.folder)) as folder:
         return judge("-h", folder, "-U", "postgres", "-d", DATABASE).splitlines()
 
 
 @contextlib.contextmanager
 def telling(version: str, backend: pathlib.Path) -> Iterator[str]:
-    """A folder with a socket of the server, where clients are told a version."""
+    """Provides a folder with a socket of the server, on which clients are told this version."""
     with tempfile.TemporaryDirectory(dir="/tmp") as folder, socket.socket(socket.AF_UNIX) as listener:
         listener.bind(f"{folder}/{SOCKET}")
         listener.listen()
@@ -62,7 +62,7 @@ def accept(listener: socket.socket, version: str, backend: pathlib.Path) -> None
 
 
 def relay(client: socket.socket, version: str, backend: pathlib.Path) -> None:
-    """Relays both ways. Of the server's messages up to the first ReadyForQuery one is changed."""
+    """Relays both ways. Of the server's messages up to the first ReadyForQuery, one is changed."""
     with client, socket.socket(socket.AF_UNIX) as server, contextlib.suppress(OSError):
         server.connect(f"{backend}/{SOCKET}")
         threading.Thread(target=pump, args=(client, server), daemon=True).start()
@@ -86,7 +86,7 @@ def begin(read: Callable[[int], bytes], client: socket.socket, version: str) -> 
 
 
 def pump(source: socket.socket, sink: socket.socket) -> None:
-    """Relays one way, and then ends both."""
+    """Relays one way, and then closes both connections."""
     with contextlib.suppress(OSError):
         while piece := source.recv(1 << 16):
             sink.sendall(piece)

@@ -1,4 +1,4 @@
-"""What judge says of a migration that it tries and rolls back, and that nothing of it is left."""
+"""Tests what judge says of a migration that it runs and rolls back, and that nothing of it remains."""
 
 import json
 import pathlib
@@ -39,7 +39,7 @@ NOT_SOUND = [
     "    region = NULL, no filter names another column", "    region IS NULL -> nobody, as (0, NULL)"]
 EACH = "each publication counts as a subscriber of its own; -v subscriptions='..' names others"
 
-# Each migration that is refused, and what is said about it after the file's name.
+# Migrations that are refused, each with the message after the file's name.
 REFUSED = {
     "BEGIN;\nSELECT 1;\nCOMMIT;":
         "1: --with runs the file in one transaction, which is rolled back, so the file can't begin or end one; try it "
@@ -67,7 +67,7 @@ REFUSED = {
 
 
 def check_what_if(tally: Tally) -> None:
-    """All of these, with a server whose catalogs nothing else changes."""
+    """Tests all of these, with a server whose catalogs nothing else changes."""
     settings = "-c autovacuum=off -c max_prepared_transactions=2"
     with tempfile.TemporaryDirectory() as name, servers.server(settings) as server:
         file = pathlib.Path(name) / "it's a migration.sql"
@@ -82,7 +82,7 @@ def check_what_if(tally: Tally) -> None:
 
 
 def contents(server: Server) -> dict[str, str]:
-    """The rows of each table of the catalogs and the database, as a checksum, and what holds in memory."""
+    """Returns a checksum of the rows of each table of the catalogs and the database, and the state in memory."""
     names = server.psql("what_if", """
         SELECT c.oid::regclass::text FROM pg_class c WHERE relkind = 'r' AND relpersistence = 'p'
             AND (relnamespace = 'pg_catalog'::regnamespace OR c.oid >= 16384)
@@ -94,12 +94,12 @@ def contents(server: Server) -> dict[str, str]:
 
 
 def differences(before: dict[str, str], after: dict[str, str]) -> dict[str, tuple[str | None, str | None]]:
-    """The tables whose rows are others."""
+    """Returns the tables whose rows differ."""
     return {it: (before.get(it), after.get(it)) for it in {*before, *after} if before.get(it) != after.get(it)}
 
 
 def check_changes(tally: Tally, server: Server, file: pathlib.Path) -> None:
-    """What would be published, and which answers change, as lines and as JSON."""
+    """Checks what would be published, and which answers change, as lines and as JSON."""
     words = [*server.words("what_if"), "--with", str(file)]
     file.write_text(MIGRATION)
     tally.check("a migration", judge(*words), "\n".join([
@@ -119,7 +119,7 @@ def check_changes(tally: Tally, server: Server, file: pathlib.Path) -> None:
 
 
 def check_subscribers(tally: Tally, server: Server, file: pathlib.Path) -> None:
-    """Subscribers of a publication that the migration makes, and a table of it that is copied."""
+    """Tests subscribers to a publication that the migration creates, and a table of it that is copied."""
     file.write_text(
         "CREATE TABLE items (id integer PRIMARY KEY); CREATE PUBLICATION items FOR TABLE items; "
         "SET lock_timeout = '10min'; SET ROLE pg_read_all_stats;")
@@ -135,7 +135,7 @@ def check_subscribers(tally: Tally, server: Server, file: pathlib.Path) -> None:
 
 
 def check_refusals(tally: Tally, server: Server, file: pathlib.Path) -> None:
-    """Each has its line, and status 3."""
+    """Checks that each refusal has its line and status 3."""
     for text, words in REFUSED.items():
         file.write_text(text)
         found = judge(*server.words("what_if"), "--with", str(file))
@@ -145,7 +145,7 @@ def check_refusals(tally: Tally, server: Server, file: pathlib.Path) -> None:
 
 
 def check_lock(tally: Tally, server: Server, file: pathlib.Path) -> None:
-    """A migration that would have to wait for another session, with another limit of its own."""
+    """Tests a migration that would have to wait for another session, and one with a lock timeout of its own."""
     words = ["psql", "-X", "-q", "-A", "-t", *server.words("what_if")]
     holder = subprocess.Popen(
         words, stdin=subprocess.PIPE, stdout=subprocess.PIPE, encoding="utf-8", env=environment())
@@ -161,7 +161,7 @@ def check_lock(tally: Tally, server: Server, file: pathlib.Path) -> None:
 
 
 def check_standby(tally: Tally, server: Server, file: pathlib.Path) -> None:
-    """The same server, as a hot standby."""
+    """Tests the same server as a hot standby."""
     data = server.folder / "data"
     servers.stop(data)
     (data / "standby.signal").write_text("")

@@ -157,8 +157,8 @@ def keepalives_after(frames: list[bytes], publisher: Publisher, subscriber: Subs
 
 
 def is_closed(last: str, answers: list[str], publisher: Publisher, got: dict[str, bytes]) -> bool:
-    """Returns whether the last line gives the number of commits, as all lines do, and as many connections as there were
-    clients that got something, or a few more."""
+    """Returns whether all lines were answered, and the last one gives the number of commits, and at least as many
+    connections as there were clients that got something, but not more than there are subscribers."""
     closed = CLOSED.fullmatch(last)
     served = sum(bool(sent) for sent in got.values())
     return closed is not None and len(answers) == len(COMMITS) and int(closed[1]) == len(publisher.log) and (
