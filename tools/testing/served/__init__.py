@@ -1,1 +1,1 @@
-"""Tests of `pgshard serve` with clients of its own and with real ones, through tools/front."""
+"""Tests of `pgshard serve` with clients written here, and with real ones through tools/front."""

@@ -1,4 +1,4 @@
-"""Clients that do something else than subscribers do, and beside which others are served by `pgshard serve`."""
+"""Clients that behave differently from subscribers, while others are served by `pgshard serve`."""
 
 import contextlib
 import random
@@ -12,10 +12,10 @@ from .shardings import S0, S1
 from .shop import LONDON, SHOP, TOKYO
 from .whole import Findings, got_whole, together, whole_stream
 
-# How much junk a client sends, in bytes.
+# How many bytes of junk a client sends.
 JUNK = 16_000_000
 
-# First frames that are refused, with the code and the text.
+# First frames that are refused, each with the error code and message.
 BAD_STARTS = [
     (messages.status(0), "08P01", "expected a query"),
     (messages.query("SELECT 1"), "42601", "cannot read the replication command"),
@@ -38,7 +38,7 @@ BAD_STARTS = [
 
 
 def beside(strange: Callable[[int], AbstractContextManager]) -> Callable[[int, Publisher], Findings]:
-    """Both subscribers of the shop, beside a client that does something else."""
+    """Serves both subscribers of the shop while a client does something else."""
     def findings(port: int, publisher: Publisher) -> Findings:
         with strange(port):
             for subscriber in LONDON, TOKYO:
@@ -78,7 +78,7 @@ def bad_starts(port: int, publisher: Publisher) -> Findings:
 
 @contextlib.contextmanager
 def sending(port: int, given: bytes) -> Iterator[None]:
-    """A client that sends some bytes, as many as are taken, and stays."""
+    """A client that sends some bytes, as many as are accepted, and stays."""
     with client(port) as made:
         with contextlib.suppress(OSError):
             made.send(given)
@@ -87,14 +87,14 @@ def sending(port: int, given: bytes) -> Iterator[None]:
 
 @contextlib.contextmanager
 def leaving(port: int, given: bytes) -> Iterator[None]:
-    """A client that sends some bytes and ends at once."""
+    """A client that sends some bytes and disconnects at once."""
     with client(port) as made:
         made.send(given)
     yield
 
 
 def junk_of_frames() -> bytes:
-    """Frames that are long and no start."""
+    """Returns long frames that are not a start."""
     return messages.frame(b"d", bytes(65_000)) * (JUNK // 65_000)
 
 

@@ -1,4 +1,4 @@
-"""`pgshard publish --commands PORT`: callers, whose lines are answered at a port of their own."""
+"""Tests `pgshard publish --commands PORT`, which answers the lines of callers on a port of their own."""
 
 import contextlib
 import socket
@@ -16,19 +16,19 @@ from .publish_checks import ANSWERS, commit_line, head
 from .publisher import Insert
 from .shop import LONDON, SHOP
 
-# How long a caller is watched that is to get no answer yet, how long one may take no answer, and how much later that is
-# noticed at most, on a busy machine.
+# In seconds: how long a caller that should not get an answer yet is watched, how long a caller may leave an answer
+# unread, and the latest time after that by which it has been given up, on a busy machine.
 WATCH = 0.5
 STALL = 1
 DELAY = 60
 
-# What is shown to a caller that reads nothing: more than sockets hold.
+# The view that is sent to a caller that reads nothing: more than sockets hold.
 LONG_ROWS, LONG_TEXT, VIEWS = 50, 60_000, 6
 
 # The most commands of a commit, and the most bytes of a text and of an input. A line may be longer than an input.
 COMMANDS, TEXT, INPUT = 1_000, 65_535, 16_777_216
 
-# How many callers come one after another.
+# The number of callers that connect one after another.
 CALLERS = 1_000
 
 WRONG_WORDS = [
@@ -38,7 +38,7 @@ WRONG_WORDS = [
 
 
 class Caller:
-    """A client that says lines, and gets answers."""
+    """A client that sends lines, and reads answers."""
 
     def __init__(self, opened: socket.socket) -> None:
         self.opened = opened
@@ -48,12 +48,12 @@ class Caller:
         self.opened.sendall(text.encode())
 
     def ask(self, line: str) -> str:
-        """The first line of what is answered."""
+        """Sends a line, and returns the first line of the answer."""
         self.say(f"{line}\n")
         return self.answers.readline()
 
     def hears_nothing(self) -> bool:
-        """Whether no answer comes for a while."""
+        """Returns whether no answer comes for a while."""
         self.opened.settimeout(WATCH)
         try:
             return self.opened.recv(1, socket.MSG_PEEK) is None
@@ -65,26 +65,26 @@ class Caller:
 
 @contextlib.contextmanager
 def calling(port: int, room: int | None = None) -> Iterator[Caller]:
-    """A caller, which may have little room for what it does not read."""
+    """Provides a caller, whose receive buffer may be small."""
     with client(port, room) as made:
         caller = Caller(made.opened)
         try:
             yield caller
         finally:
-            # The file keeps the connection open.
+            # The file object keeps the connection open.
             caller.answers.close()
 
 
 @contextlib.contextmanager
 def answering(text: str, *words: str) -> Iterator[tuple[Publication, int, int]]:
-    """pgshard publish, its port, and its port for callers."""
+    """Runs pgshard publish, and yields it with its port and its port for callers."""
     with publishing(text, "--commands", "0", *words) as (program, port):
         line = program.line() or ""
         yield program, port, int(line.removeprefix("commands "))
 
 
 def check_callers(tally: Tally) -> None:
-    """All of it."""
+    """Tests all of this."""
     text = head()
     check_words(tally, text)
     check_ports(tally, text)
@@ -97,7 +97,7 @@ def check_callers(tally: Tally) -> None:
 
 
 def check_words(tally: Tally, text: str) -> None:
-    """Usage errors, and the help."""
+    """Tests usage errors and the help."""
     for wrong in WRONG_WORDS:
         status, output = pgshard("publish", "--port", "0", *wrong, text=text, seconds=SECONDS)
         tally.check(f"publish {' '.join(wrong)}", (status, output.startswith("command line\n")), (2, True))
@@ -106,7 +106,7 @@ def check_words(tally: Tally, text: str) -> None:
 
 
 def check_ports(tally: Tally, text: str) -> None:
-    """The file of the ports, a port that is asked for, and ports that are taken."""
+    """Tests the file of the ports, a port that is chosen, and ports that are taken."""
     with tempfile.NamedTemporaryFile("r") as file, answering(text, "--port-file", file.name) as (program, port, second):
         tally.check("both ports in the file", file.read(), f"{port}\n{second}\n")
         for words in ("--port", "0", "--commands", str(second)), ("--port", str(second), "--commands", "0"):
@@ -120,7 +120,7 @@ def check_ports(tally: Tally, text: str) -> None:
 
 
 def check_answers(tally: Tally, text: str) -> None:
-    """What a caller is answered, beside a subscriber. Standard input is not read after the certificates."""
+    """Tests the answers to a caller while there is a subscriber. Standard input is not read beyond the certificates."""
     with answering(text, "--keepalive", "86400") as (program, port, callers), calling(callers) as caller:
         for line, expected in ANSWERS:
             tally.check(f"a caller says {line}", caller.ask(line), f"{expected}\n")
@@ -141,7 +141,8 @@ def check_answers(tally: Tally, text: str) -> None:
 
 
 def check_turns(tally: Tally, text: str) -> None:
-    """Callers are answered one after another. Of a line that is cut at the end of a connection nothing is done."""
+    """Checks that callers are answered one after another, and that a line that is incomplete at the end of a connection
+    has no effect."""
     with answering(text) as (program, _, callers):
         with calling(callers) as first, calling(callers) as second:
             tally.check("the first caller", first.ask(commit_line(SHOP.commits[0])), "commit 1\n")
@@ -161,12 +162,13 @@ def check_turns(tally: Tally, text: str) -> None:
 
 
 def orders(count: int, note: str | None = None) -> list[Insert]:
-    """As many rows of london."""
+    """Returns this many rows of london."""
     return [Insert("orders", (number, 20, 500, note, None)) for number in range(count)]
 
 
 def limits() -> Iterator[tuple[str, str, str]]:
-    """Lines at a limit and past it, what they are, and what is answered. Each commit that is made empties the table."""
+    """Yields lines at a limit and beyond it, each with a description and the expected answer. Each commit that is
+    accepted truncates the table."""
     empty = "TRUNCATE (orders)"
     yield "a commit of the most commands", commit_line(orders(COMMANDS)), "commit 1"
     yield "a commit of one command more", commit_line(orders(COMMANDS + 1)), "refused TooManyCommands"
@@ -182,7 +184,7 @@ def limits() -> Iterator[tuple[str, str, str]]:
 
 
 def check_limits(tally: Tally, text: str) -> None:
-    """Lines at the limits, while memory is available, and the stream of the commit of the most commands."""
+    """Tests lines at the limits, while memory is available, and the stream of the commit with the most commands."""
     with answering(text, "--keepalive", "86400") as (program, port, callers), calling(callers) as caller:
         for what, line, expected in limits():
             tally.check(f"a caller says {what}", caller.ask(line), f"{expected}\n")
@@ -193,7 +195,7 @@ def check_limits(tally: Tally, text: str) -> None:
 
 
 def check_first(tally: Tally, port: int) -> None:
-    """The stream of the first commit."""
+    """Checks the stream of the first commit."""
     made = SHOP.publisher().__class__(SHOP.tables)
     made.commit(orders(COMMANDS))
     with client(port) as connection:
@@ -203,7 +205,7 @@ def check_first(tally: Tally, port: int) -> None:
 
 
 def check_many(tally: Tally, text: str) -> None:
-    """Many callers, one after another."""
+    """Tests many callers, one after another."""
     with answering(text) as (program, _, callers):
         answers = []
         for row in orders(CALLERS):
@@ -216,7 +218,7 @@ def check_many(tally: Tally, text: str) -> None:
 
 
 def check_lost(tally: Tally, text: str) -> None:
-    """Callers that say nothing, or are lost."""
+    """Tests callers that send nothing, or whose connections are lost."""
     with answering(text) as (program, _, callers):
         for said in "", "VIEW;\n" * 100, "COMMIT TRUNCATE (stock);\n", "COMMIT":
             with calling(callers) as lost:
@@ -231,7 +233,7 @@ def check_lost(tally: Tally, text: str) -> None:
 
 
 def check_stalled(tally: Tally, text: str) -> None:
-    """A caller that takes no answer is given up, and the next one is answered."""
+    """Checks that a caller that does not read its answer is given up, and the next one is answered."""
     rows = [Insert("orders", (number, 20, 500, "x" * LONG_TEXT, None)) for number in range(LONG_ROWS)]
     with answering(text, "--write-timeout", str(STALL)) as (program, _, callers):
         with calling(callers, LITTLE) as stalled, calling(callers) as caller:

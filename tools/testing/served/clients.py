@@ -1,4 +1,4 @@
-"""A client that speaks to `pgshard serve` itself, byte by byte where it is asked to."""
+"""A client of `pgshard serve` that works with single bytes if necessary."""
 
 import contextlib
 import itertools
@@ -10,15 +10,15 @@ from . import messages
 from .program import SECONDS
 from .publisher import Subscriber
 
-# How little room a client may have for what it does not read, in bytes.
+# The size of a small receive buffer, in bytes.
 LITTLE = 4096
 
-# What is read where nothing more comes, and no end.
+# What is read if nothing more comes and the connection does not end.
 NO_END = b" and no end"
 
 
 class Connection:
-    """One end of a connection. What it reads is cut short where the other ends it."""
+    """One end of a connection. If the other end closes it, less is read than was asked for."""
 
     def __init__(self, opened: socket.socket) -> None:
         opened.settimeout(SECONDS)
@@ -29,7 +29,7 @@ class Connection:
         self.opened.sendall(given)
 
     def send_slowly(self, given: bytes) -> None:
-        """Each byte by itself."""
+        """Sends each byte separately."""
         for byte in given:
             self.send(bytes([byte]))
             time.sleep(0.001)
@@ -38,7 +38,7 @@ class Connection:
         self.send(messages.start(subscriber.slot, position, list(subscriber.publications)))
 
     def receive(self, count: int) -> bytes:
-        """This many bytes, with no clocks and no times."""
+        """Reads this many bytes, and returns them without clocks and times."""
         return messages.without_times(self.receive_as_is(count))
 
     def receive_as_is(self, count: int) -> bytes:
@@ -56,7 +56,7 @@ class Connection:
         return bytes(received)
 
     def receive_until(self, end: bytes) -> bytes:
-        """All up to some bytes."""
+        """Reads up to and including these bytes."""
         received = b""
         while not received.endswith(end):
             byte = self.receive(1)
@@ -66,18 +66,18 @@ class Connection:
         return received
 
     def receive_all(self) -> bytes:
-        """All up to the connection's end."""
+        """Reads up to the end of the connection."""
         return self.receive(1 << 30)
 
     def finish(self) -> bytes:
-        """Says that the stream is done, and reads what still comes."""
+        """Ends the stream, and reads what still comes."""
         self.send(messages.COPY_DONE)
         return self.receive_all()
 
 
 @contextlib.contextmanager
 def client(port: int, room: int | None = None) -> Iterator[Connection]:
-    """A client, which may have little room for what it does not read."""
+    """Connects a client, whose receive buffer may be small."""
     with socket.socket() as opened:
         if room is not None:
             opened.setsockopt(socket.SOL_SOCKET, socket.SO_RCVBUF, room)
@@ -90,8 +90,9 @@ def client(port: int, room: int | None = None) -> Iterator[Connection]:
 def back_again(
         port: int, subscriber: Subscriber, position: int, answers: tuple[bytes, ...] = (b"E",),
 ) -> Iterator[Connection]:
-    """A client that has started, as one does that was lost. If it is refused it tries again, since its slot may be
-    in use for a moment, or its position ahead of a log that grows. Its answer begins with one of some bytes then."""
+    """Connects a client that starts as one does whose connection was lost. If it is refused, it tries again, since its
+    slot may be in use for a moment, or its position may be ahead of a log that is still growing. A refusal is an answer
+    that begins with one of the given bytes."""
     until = time.monotonic() + SECONDS
     for tries in itertools.count(1):
         with client(port) as made:
@@ -103,7 +104,7 @@ def back_again(
 
 
 def first_byte(made: Connection) -> bytes:
-    """The first byte that comes, which is still there to be received; none if the connection ends."""
+    """Returns the first byte, without consuming it; an empty result means that the connection has ended."""
     try:
         return made.opened.recv(1, socket.MSG_PEEK)
     except ConnectionError:

@@ -1,4 +1,4 @@
-"""The tests of consumers that examples/ has, which documents tell users to begin with."""
+"""Tests the consumer tests of examples/, which the documents recommend as a starting point."""
 
 import subprocess
 
@@ -9,7 +9,7 @@ from tally import Tally
 
 ROOT = TOOLS.parent
 
-# Where Debian has pgjdbc.
+# The path at which Debian installs pgjdbc.
 DRIVER = "/usr/share/java/postgresql.jar"
 
 SECONDS = 180
@@ -18,17 +18,17 @@ CUT = "cut after 1 transaction, in the second"
 
 
 def check_python(tally: Tally) -> None:
-    """The one with psycopg2."""
+    """Tests the one with psycopg2."""
     check_consumer(tally, str(python_with("psycopg2")), "examples/consumer_test.py")
 
 
 def check_java(tally: Tally) -> None:
-    """The one with pgjdbc."""
+    """Tests the one with pgjdbc."""
     check_consumer(tally, "java", "-cp", DRIVER, "examples/ConsumerTest.java")
 
 
 def check_consumer(tally: Tally, *words: str) -> None:
-    """A consumer whose connection is cut has all transactions, each once."""
+    """Checks that a consumer whose connections are cut gets each transaction exactly once."""
     answer = subprocess.run(
         words, stdin=subprocess.DEVNULL, stdout=subprocess.PIPE, stderr=subprocess.PIPE, encoding="utf-8",
         timeout=SECONDS, cwd=ROOT, env=environment() | {"PGSHARD": PGSHARD})

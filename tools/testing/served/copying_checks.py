@@ -1,5 +1,6 @@
-"""Subscriptions with default options: their tables are copied as they are at the beginning of the log, empty, and then
-catch up. No row is lost, whenever the copies come, and after the subscription is dropped and made again."""
+"""Tests subscriptions with default options. Their tables are copied as they are at the beginning of the log, that is,
+empty, and then catch up. No row is lost, whenever the copies are made, nor after the subscription is dropped and
+created again."""
 
 import tempfile
 import time
@@ -14,13 +15,14 @@ from .subscribers_checks import SETTINGS, check_rows, transaction_text
 
 CONNECTIONS = 60
 
-# This many workers copy tables at a time. With two workers for two subscriptions and these, tables wait for each other.
+# The number of workers that copy tables concurrently. With two workers for two subscriptions and their copies, tables
+# wait for each other.
 WORKERS = "ALTER SYSTEM SET max_sync_workers_per_subscription = 1;"
 
-# The process of the subscription that was sent something.
+# The process of the subscription that has received something.
 HEARS = "SELECT pid FROM pg_stat_subscription WHERE subname = 's' AND relid IS NULL AND last_msg_receipt_time IS NOT NULL;"
 
-# What psql prints of the slots, which FEEDING.md quotes.
+# What psql prints about the slots, which FEEDING.md quotes.
 CREATED = 'NOTICE:  created replication slot "{slot}" on publisher\n'
 DROPPED = 'NOTICE:  dropped replication slot "{slot}" on publisher\n'
 EXISTS = (
@@ -38,7 +40,7 @@ MADE = {"london": "copied_london", "tokyo": "copied_tokyo", "publisher": "copied
 
 
 def check_copies(tally: Tally, server: Server) -> None:
-    """Both subscribers with default options, twice, and then before a front that does not know their slots."""
+    """Tests both subscribers with default options, twice, and then with a front that does not know their slots."""
     for setting in [WORKERS, *SETTINGS]:
         server.psql("postgres", setting)
     for database in MADE.values():
@@ -60,7 +62,7 @@ def check_copies(tally: Tally, server: Server) -> None:
 
 
 def check_copied(tally: Tally, server: Server, port: int, name: str) -> None:
-    """Subscriptions that get all rows, and are dropped with their slots."""
+    """Checks that subscriptions get all rows, and are dropped with their slots."""
     for subscriber in SHOP.subscribers:
         made = subscribe(server, port, subscriber.slot)
         tally.check(f"{name}: {subscriber.slot} is made", made, CREATED.format(slot=subscriber.slot))
@@ -74,7 +76,8 @@ def check_copied(tally: Tally, server: Server, port: int, name: str) -> None:
 
 
 def check_existing(tally: Tally, server: Server, port: int) -> None:
-    """A slot that is not dropped cannot be made again, and its tables are copied all the same where it is not made."""
+    """Checks that a slot that was not dropped cannot be created again, and that tables are copied even if the slot is
+    not created."""
     slot = "london"
     subscribe(server, port, slot)
     tally.check(f"once more: the tables of {slot}", states(server, slot), "rrr")
@@ -93,12 +96,14 @@ def check_existing(tally: Tally, server: Server, port: int) -> None:
 
 
 def check_stale(tally: Tally, server: Server, port: int) -> None:
-    """A front that was started anew does not know what was before: it says so, and nothing is copied or dropped."""
+    """Checks that a restarted front, which does not know what happened before, says so, and neither copies nor drops
+    anything."""
     slot = "london"
     before = server.psql(MADE[slot], HEARS)
     server.psql(MADE[slot], f"ALTER SUBSCRIPTION s CONNECTION '{connection(port)}';")
     until = time.monotonic() + SECONDS
-    # A slot that no client has started is dropped: its next start has to prove that it begins afresh.
+    # A slot that no client has started can be dropped, since its next start begins afresh; so wait until it has been
+    # started.
     while server.psql(MADE[slot], HEARS) in ("", before) and time.monotonic() < until:
         time.sleep(0.1)
     found = server.told(MADE[slot], "DROP SUBSCRIPTION s;")
@@ -108,12 +113,12 @@ def check_stale(tally: Tally, server: Server, port: int) -> None:
 
 
 def connection(port: int) -> str:
-    """How a subscriber connects."""
+    """Returns a subscriber's connection string."""
     return f"host=127.0.0.1 port={port} user=postgres dbname=shop"
 
 
 def subscribe(server: Server, port: int, slot: str, options: str = "") -> str:
-    """What psql prints of a new subscription."""
+    """Creates a subscription, and returns what psql prints."""
     publications = next(", ".join(it.publications) for it in SHOP.subscribers if it.slot == slot)
     options = options.replace("WITH (", f"WITH (slot_name = {slot}, ") or f"WITH (slot_name = {slot})"
     return server.told(
@@ -121,7 +126,7 @@ def subscribe(server: Server, port: int, slot: str, options: str = "") -> str:
 
 
 def states(server: Server, slot: str) -> str:
-    """The states of the tables of a subscription, once all are ready or time is up."""
+    """Returns the states of a subscription's tables, after all are ready or time is up."""
     until = time.monotonic() + SECONDS
     while True:
         found = server.psql(MADE[slot], "SELECT string_agg(srsubstate::text, '') FROM pg_subscription_rel;")

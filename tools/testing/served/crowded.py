@@ -1,4 +1,4 @@
-"""`pgshard publish` beside junk: a thousand connections that ask for nothing, and six subscribers that get their
+"""Tests `pgshard publish` with a thousand junk connections that request nothing, and six subscribers that get their
 streams."""
 
 import contextlib
@@ -22,16 +22,18 @@ from .shardings import of_crowd
 
 JUNK = 1_000
 SUBSCRIBERS = 6
-# A second of each file of this process is left for others.
+# File descriptors of this process; as many again are left for others.
 FILES = JUNK + 500
-# How long the streams may take beside junk, in seconds, and the end.
+# How long the streams and the end may take in the presence of junk, in seconds.
 PATIENCE = 2 * SECONDS
-# When all have their streams: so long a rest, the processor time that it may take, and the memory, in bytes.
+# After all have their streams: the seconds of a pause, the processor time that publish may use in it, and the memory
+# that it may have, in bytes.
 REST, MOST_BUSY, MOST_MEMORY = 3.0, 0.5, 100_000_000
-# How the answer begins where a client tries again: while many wait, also the end of the connection. The system may hand
-# on a client's start only some time after its connection, and who says nothing for 0.2 seconds makes room for others.
+# The beginnings of answers after which a client tries again. While many wait, this includes the end of the connection:
+# the system may pass on a client's start some time after its connection, and a client that sends nothing for 0.2
+# seconds makes room for others.
 LATE_ANSWERS = b"E", b""
-# What junk sends: nothing, a part of a frame, a frame of which the rest never comes, and what is no frame.
+# What junk sends: nothing, a part of a frame, a frame that is never completed, or something that is not a frame.
 BEGINS = [b"", b"Q\0", struct.pack("!cI", b"Q", 1_000) + b"START", random.Random(1).randbytes(40)]
 
 COMMITS: list[list[Command]] = [
@@ -42,7 +44,7 @@ COMMITS: list[list[Command]] = [
 
 
 def check_crowded(tally: Tally) -> None:
-    """All of it."""
+    """Tests all of this."""
     made = of_crowd((("id", "integer"), ("turn", "integer")), COMMITS, SUBSCRIBERS)
     _, certificates = pgshard("make", text=made.catalog, seconds=SECONDS)
     publisher = Publisher(made.tables)
@@ -69,7 +71,7 @@ def check_crowded(tally: Tally) -> None:
 
 def check_streams(
         tally: Tally, publisher: Publisher, subscribers: tuple[Subscriber, ...], opened: dict[str, Connection]) -> None:
-    """Each subscriber has all of its stream, and says so."""
+    """Checks that each subscriber gets all of its stream, and confirms it."""
     for subscriber in subscribers:
         expected = publisher.stream(subscriber)
         found = opened[subscriber.slot].receive(len(expected))
@@ -78,7 +80,8 @@ def check_streams(
 
 
 def check_rest(tally: Tally, program: Publication) -> None:
-    """With nothing to do, publish does next to nothing, and what junk took is given back."""
+    """Checks that publish uses almost no processor time if there is nothing to do, and that what junk occupied is
+    released."""
     process = program.process.pid
     before = processor_time(process)
     time.sleep(REST)
@@ -89,7 +92,8 @@ def check_rest(tally: Tally, program: Publication) -> None:
 
 
 def throw(junk: contextlib.ExitStack, port: int, number: int) -> None:
-    """One junk connection. Each fifth is gone at once. If many wait it is not made yet, and sends nothing."""
+    """Makes a junk connection. Every fifth one ends at once. If many are waiting, the connection is not yet
+    established, and sends nothing."""
     made = socket.socket()
     made.setblocking(False)
     with contextlib.suppress(BlockingIOError):
@@ -104,7 +108,7 @@ def throw(junk: contextlib.ExitStack, port: int, number: int) -> None:
 
 @contextlib.contextmanager
 def files(count: int) -> Iterator[None]:
-    """As many files as are needed, for this process and those that it starts."""
+    """Allows this process and those that it starts to open as many files as necessary."""
     soft, hard = resource.getrlimit(resource.RLIMIT_NOFILE)
     resource.setrlimit(resource.RLIMIT_NOFILE, (max(soft, min(count, hard)), hard))
     try:
@@ -114,6 +118,6 @@ def files(count: int) -> Iterator[None]:
 
 
 def resident(process: int) -> int:
-    """How much memory a process has, in bytes."""
+    """Returns the memory that a process uses, in bytes."""
     pages = Path(f"/proc/{process}/statm").read_text(encoding="ascii").split()[1]
     return int(pages) * os.sysconf("SC_PAGE_SIZE")

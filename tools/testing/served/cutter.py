@@ -7,14 +7,15 @@ from collections.abc import Iterator
 
 
 class Cutter:
-    """Relays to a port, and cuts the first connection that starts a slot, after this many bytes to the client."""
+    """Relays to a port, and cuts the first connection that starts a slot, after it has relayed this many bytes to the
+    client."""
 
     def __init__(self, listener: socket.socket, backend: int, slot: str, after: int) -> None:
         self.listener = listener
         self.backend = backend
         self.slot = f'SLOT "{slot}"'.encode()
         self.after = after
-        # The first frames of the connections of the slot.
+        # The first frames of the slot's connections.
         self.starts: list[bytes] = []
         self.port = listener.getsockname()[1]
         threading.Thread(target=self.accept, daemon=True).start()
@@ -44,7 +45,7 @@ class Cutter:
 
 
 def pump(source: socket.socket, sink: socket.socket, left: int | None) -> None:
-    """Relays one way, and then ends both."""
+    """Relays one way, and then closes both connections."""
     with contextlib.suppress(OSError):
         while left is None or left > 0:
             piece = source.recv(1 << 16 if left is None else min(left, 1 << 16))

@@ -1,4 +1,4 @@
-"""Random workloads on the shop, and relays that cut connections."""
+"""Random workloads for the shop, and relays that cut connections."""
 
 import contextlib
 import random
@@ -18,7 +18,7 @@ STARTS = b"START_REPLICATION"
 
 
 def workload(chosen: random.Random) -> list[list[Command]]:
-    """Some commits without a fault, by what the tables have at each command."""
+    """Returns some commits without faults, each command of which fits the tables as they are then."""
     made = Publisher(SHOP.tables)
     commits = []
     for _ in range(chosen.randrange(3, 25)):
@@ -30,7 +30,7 @@ def workload(chosen: random.Random) -> list[list[Command]]:
 
 
 def command(chosen: random.Random, made: Publisher) -> Command:
-    """A command that has no fault now."""
+    """Returns a command that has no fault now."""
     kind = chosen.random()
     name = chosen.choice([table.name for table in SHOP.tables])
     rows = made.rows[name]
@@ -45,7 +45,7 @@ def command(chosen: random.Random, made: Publisher) -> Command:
 
 
 def new_row(chosen: random.Random, made: Publisher, name: str, old: Row | None) -> Row:
-    """A row whose key no other one has; that of the old one as often as not."""
+    """Returns a row whose key no other row has; half of the time, it is the old row's key."""
     while True:
         row = random_row(chosen, name)
         if old is not None and chosen.random() < 0.7:
@@ -57,13 +57,13 @@ def new_row(chosen: random.Random, made: Publisher, name: str, old: Row | None) 
 
 
 def with_key(made: Publisher, name: str, row: Row, key: Row) -> Row:
-    """The same row with another key."""
+    """Returns the row with another key."""
     values = dict(zip(made.table(name)[1].key, key))
     return tuple(values.get(at, value) for at, value in enumerate(row))
 
 
 def random_row(chosen: random.Random, name: str) -> Row:
-    """Any row of a table."""
+    """Returns a random row of a table."""
     match name:
         case "orders":
             paid = chosen.choice([None, True, False])
@@ -82,14 +82,14 @@ class Cuts:
     made: int = 0
 
     def accept(self, listener: socket.socket) -> None:
-        """Relays each connection by threads of its own."""
+        """Relays each connection in threads of its own."""
         with contextlib.suppress(OSError):
             while True:
                 client, _ = listener.accept()
                 threading.Thread(target=self.relay, args=(client,), daemon=True).start()
 
     def relay(self, client: socket.socket) -> None:
-        """Relays one connection."""
+        """Relays a connection."""
         with contextlib.suppress(OSError), client, socket.create_connection(("127.0.0.1", self.port)) as other:
             budget: list[int] = []
             down = threading.Thread(target=self.relay_down, args=(other, client, budget), daemon=True)
@@ -103,7 +103,7 @@ class Cuts:
             down.join()
 
     def relay_down(self, source: socket.socket, sink: socket.socket, budget: list[int]) -> None:
-        """Relays what comes down, up to this many bytes if there is a budget."""
+        """Relays what is sent to the client, up to this many bytes if there is a budget."""
         with contextlib.suppress(OSError):
             while piece := source.recv(1 << 16):
                 if budget:
@@ -118,14 +118,14 @@ class Cuts:
 
 
 def end(connection: socket.socket) -> None:
-    """Ends a connection both ways."""
+    """Shuts a connection down in both directions."""
     with contextlib.suppress(OSError):
         connection.shutdown(socket.SHUT_RDWR)
 
 
 @contextlib.contextmanager
 def cutting_some(port: int, left: list[int]) -> Iterator[tuple[Cuts, int]]:
-    """A relay to a port, and its own port."""
+    """Runs a relay to a port, and yields it with its own port."""
     with socket.create_server(("127.0.0.1", 0), backlog=64) as listener:
         cuts = Cuts(port, left)
         threading.Thread(target=cuts.accept, args=(listener,), daemon=True).start()

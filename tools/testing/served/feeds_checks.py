@@ -1,5 +1,5 @@
-"""Random workloads into PostgreSQL subscribers, through tools/front, with connections that are cut on both of its
-sides: in the end each has its rows, those that a third database says in which the commits are made by SQL."""
+"""Sends random workloads to PostgreSQL subscribers through tools/front, and cuts connections on both sides of it. In
+the end, each subscriber has its rows according to a third database, in which the commits are made in SQL."""
 
 import dataclasses
 import pathlib
@@ -22,16 +22,16 @@ from .shop import FILTERS, SHOP
 from .subscribers_checks import SETTINGS, transaction_text
 
 FEEDS = 12
-# More than all streams need that are cut or refused since a slot is not free yet.
+# More connections than are needed for all streams that are cut, or refused because a slot is still in use.
 CONNECTIONS = 1_000
 
 # How long a subscriber may take to receive its rows, in seconds. It may notice a lost connection only after
 # wal_receiver_timeout, which is a minute.
 PATIENCE = 180
-# At most this many streams are cut on each side of the front, each after this many bytes.
+# The most streams that are cut on each side of the front, and the bytes before each cut.
 CUTS = 4
 LATEST_CUT = 6_000
-# Each such workload goes by TLS and with a password, where the cuts before the front find no start.
+# Every workload with this number uses TLS and a password; the relay before the front then sees no start to cut.
 SECURED = 5
 
 MADE = {"london": "fed_london", "tokyo": "fed_tokyo", "publisher": "fed_publisher"}
@@ -39,7 +39,7 @@ TABLES = ", ".join(table.name for table in SHOP.tables)
 
 
 def check_feeds(tally: Tally, server: Server) -> None:
-    """All workloads of a seed, by subscriptions that copy their tables and by others."""
+    """Runs all workloads of a seed, with subscriptions that copy their tables and with others."""
     for setting in SETTINGS:
         server.psql("postgres", setting)
     for database in MADE.values():
@@ -58,7 +58,7 @@ def check_feeds(tally: Tally, server: Server) -> None:
 
 
 def secured_by(folder: pathlib.Path) -> list[str]:
-    """The words by which a front demands a password and TLS, none if openssl is not installed."""
+    """Returns the arguments with which a front demands a password and TLS, or none if openssl is not installed."""
     if shutil.which("openssl") is None:
         return []
     make_certificate(folder)
@@ -70,7 +70,7 @@ def secured_by(folder: pathlib.Path) -> list[str]:
 def check_feed(
         tally: Tally, server: Server, name: str, made: Sharding, text: str, chosen: random.Random, secured: list[str],
 ) -> int:
-    """One workload. Returns how many connections were cut."""
+    """Runs a workload. Returns how many connections were cut."""
     server.psql(MADE["publisher"], "\n".join([f"TRUNCATE {TABLES};", *map(transaction_text, made.commits)]))
     behind, before = ([chosen.randrange(1, LATEST_CUT) for _ in range(chosen.randrange(CUTS + 1))] for _ in range(2))
     options = [chosen.choice(["", ", create_slot = false, copy_data = false"]) for _ in SHOP.subscribers]
@@ -96,23 +96,23 @@ def check_feed(
 
 
 def faults(front: Started) -> list[str]:
-    """Lines of the log that tell of faults of the front itself."""
+    """Returns the lines of the log that report faults of the front itself."""
     return [line for line in front.log if "fault of tools/front" in line]
 
 
 def made_by(*cuts: Cuts) -> int:
-    """How many cuts were made."""
+    """Returns how many cuts were made."""
     return sum(it.made for it in cuts)
 
 
 def connection(port: int, is_secured: bool) -> str:
-    """How a subscriber connects."""
+    """Returns a subscriber's connection string."""
     more = f"sslmode=require password=''{PASSWORD}''" if is_secured else "sslmode=disable"
     return f"host=127.0.0.1 port={port} user=postgres dbname=shop {more}"
 
 
 def subscribe(server: Server, subscriber: Subscriber, connected: str, options: str) -> None:
-    """Makes a subscription whose tables are empty."""
+    """Creates a subscription whose tables are empty."""
     server.psql(MADE[subscriber.slot], f"""
         SET client_min_messages = error;
         TRUNCATE {TABLES};
@@ -122,7 +122,7 @@ def subscribe(server: Server, subscriber: Subscriber, connected: str, options: s
 
 
 def check_rows(tally: Tally, server: Server, name: str, shards: dict[str, str]) -> None:
-    """Each subscriber has its rows, in time."""
+    """Checks that each subscriber has its rows in time."""
     for slot, expected in shards.items():
         until = time.monotonic() + PATIENCE
         while (found := rows_of(server, slot, {})) != expected and time.monotonic() < until:
@@ -131,7 +131,7 @@ def check_rows(tally: Tally, server: Server, name: str, shards: dict[str, str]) 
 
 
 def rows_of(server: Server, database: str, filters: dict[str, str]) -> str:
-    """All rows of a database that filters let through."""
+    """Returns all rows of a database that pass the filters."""
     names = [table.name for table in SHOP.tables]
     listed = " UNION ALL ".join(
         f"SELECT '{name} ' || t FROM {name} t WHERE {filters.get(name, 'true')}" for name in names)

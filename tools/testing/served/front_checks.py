@@ -1,4 +1,4 @@
-"""What tools/front answers by itself, what it refuses, and how it ends."""
+"""Tests what tools/front answers itself, what it refuses, and how it ends."""
 
 import socket
 import struct
@@ -55,7 +55,7 @@ QUERIES = [
     ("START_REPLICATION SLOT s0 LOGICAL 0/0 0", "ERROR:  cannot read the replication command\n"),
 ]
 
-# The catalog that a front is given, and what subscribers ask of it.
+# The catalog that a front is given, and the queries of subscribers about it.
 CATALOG = """\
 CREATE SCHEMA "S"; /* CREATE TABLE no (id integer); */
 CREATE TABLE t (id integer PRIMARY KEY, "a,b" text); -- CREATE TABLE no (id integer);
@@ -90,7 +90,7 @@ NO_CATALOG = (
     "ERROR:  tools/front was given no catalog, so it does not know the tables of publications\n"
     "HINT:  Start it with --catalog FILE, the input of pgshard serve or its first part.\n")
 
-# Starts, and what the publisher is sent where clients are told 15.18.
+# Starts, each with what the publisher is sent if clients are told version 15.18.
 STARTS = [
     (
         """START_REPLICATION SLOT "s" LOGICAL 0/0 (proto_version '3', publication_names '"a"')""",
@@ -113,7 +113,7 @@ STARTS = [
     ("START_REPLICATION SLOT s LOGICAL 0/0 (a 'b' c)", "START_REPLICATION SLOT s LOGICAL 0/0 (a 'b' c)"),
 ]
 
-# First packets without their lengths, and how the answer begins.
+# First packets without their lengths, each with the beginning of the answer.
 PACKETS = [
     ("TLS is asked for", struct.pack("!I", 80877103), b"N"),
     ("GSS encryption is asked for", struct.pack("!I", 80877104), b"N"),
@@ -124,13 +124,13 @@ PACKETS = [
 ]
 START = "START_REPLICATION SLOT s0 LOGICAL 0/0 (proto_version '{version}', publication_names 'pa')"
 LOST = messages.frame(b"E", b"SFATAL\0VFATAL\0C08006\0Mthe connection to pgshard serve has ended\0\0")
-# Frames of the publisher in turn, as the client gets them, and how far it is told to be then.
+# Frames that the publisher sends, each with the client's position afterwards.
 BEGIN, COMMIT = messages.begin(64, 3), messages.commit(64, 128)
 RELAYED = [
     (messages.xlog_data(64, BEGIN), messages.xlog_data(64, BEGIN), 0),
     (messages.xlog_data(64, COMMIT), messages.xlog_data(128, COMMIT), 128),
     (messages.keepalive(192), messages.keepalive(192), 192),
-    # A client's position does not fall.
+    # A client's position never decreases.
     (2 * messages.xlog_data(64, COMMIT), 2 * messages.xlog_data(128, COMMIT), 192),
 ]
 DONE = b"".join([
@@ -138,7 +138,7 @@ DONE = b"".join([
     messages.frame(b"Z", b"I")])
 STARTUP = struct.pack("!I", 0x30000) + b"user\0postgres\0database\0shop\0replication\0database\0\0"
 
-# Words of the command line, and the status. PORT and TAKEN are ports.
+# Command-line arguments, and the status. PORT and TAKEN are ports.
 COMMAND_LINES = [
     ((), 2),
     (("--port", "PORT", "--backend", "0"), 2),
@@ -160,7 +160,7 @@ COMMAND_LINES = [
 
 
 def check_front(tally: Tally) -> None:
-    """What needs psql, and what needs bytes."""
+    """Tests what needs psql, and what needs single bytes."""
     with tempfile.NamedTemporaryFile("w", suffix=".txt") as file:
         file.write(CATALOG)
         file.flush()
@@ -196,7 +196,7 @@ def check_before_publisher(tally: Tally) -> None:
 
 
 def psql(port: int, query: str, **variables: str) -> str:
-    """What psql prints of a query, faults too."""
+    """Returns what psql prints for a query, including errors."""
     command = ["psql", "-X", "-q", "-A", "-t", "-w", f"{REPLICATION} port={port}", "-c", query]
     answer = subprocess.run(
         command, stdin=subprocess.DEVNULL, stdout=subprocess.PIPE, stderr=subprocess.STDOUT, encoding="utf-8",
@@ -205,7 +205,7 @@ def psql(port: int, query: str, **variables: str) -> str:
 
 
 def check_catalog(tally: Tally, port: int) -> None:
-    """What subscribers ask of publications, and what they are told where nobody listens."""
+    """Tests subscribers' queries about publications, and the answer if no publisher listens."""
     for names, tables in ASKED:
         listed = ", ".join(f"'{name}'" for name in names)
         found = psql(port, TABLES_OF.format(columns="", names=listed))
@@ -225,7 +225,7 @@ def check_packets(tally: Tally, port: int) -> None:
 
 
 def check_extended(tally: Tally, port: int) -> None:
-    """A query of the extended protocol is refused, and the connection goes on."""
+    """Checks that a query of the extended protocol is refused, and the connection continues."""
     with client(port) as made:
         made.send(packet(STARTUP))
         for kind in b"P", b"B", b"E", b"S":
@@ -237,7 +237,7 @@ def check_extended(tally: Tally, port: int) -> None:
 
 
 def check_loss(tally: Tally, program: Started, port: int) -> None:
-    """A client is told that the publisher has gone."""
+    """Checks that a client is told that the publisher is gone."""
     with fronting(port) as (_, front_port), client(front_port) as made:
         made.send(packet(STARTUP) + messages.query(START.format(version=3)))
         made.receive_until(messages.COPY_BOTH_RESPONSE)
@@ -247,7 +247,7 @@ def check_loss(tally: Tally, program: Started, port: int) -> None:
 
 
 def check_starts(tally: Tally) -> None:
-    """How starts are put into protocol version 1. The publisher here reads one and is gone."""
+    """Checks how starts are converted to protocol version 1. The publisher here reads one and closes the connection."""
     with socket.create_server(("127.0.0.1", 0)) as publisher:
         publisher.settimeout(SECONDS)
         with fronting(publisher.getsockname()[1]) as (_, port):
@@ -257,7 +257,7 @@ def check_starts(tally: Tally) -> None:
                     accepted, _ = publisher.accept()
                     with accepted:
                         found = accepted.recv(1 << 16)
-                    # Then the front asks from where the stream comes, by a status with a clock.
+                    # The front then asks for the beginning of the stream with a status that has a clock.
                     end = len(found) - len(messages.status(0))
                     tally.check(f"how {start} is passed on", found[:end], messages.query(expected))
                     frames, _ = messages.frames_of(made.receive_all())
@@ -265,12 +265,12 @@ def check_starts(tally: Tally) -> None:
 
 
 def check_relay(tally: Tally) -> None:
-    """A stream, frame by frame: what each side gets, and the replies that front gives itself."""
+    """Tests a stream frame by frame: what each side gets, and the replies of the front itself."""
     with socket.create_server(("127.0.0.1", 0)) as listener, fronting(listener.getsockname()[1]) as (_, port):
         listener.settimeout(SECONDS)
         with client(port) as made:
             made.send(packet(STARTUP))
-            # A client may start again once a stream is done.
+            # A client may start again after its stream has ended.
             for slot in "s0", "s1":
                 start = messages.query(START.format(version=1).replace("s0", slot))
                 made.send(start)
@@ -280,7 +280,7 @@ def check_relay(tally: Tally) -> None:
 
 
 def check_frames(tally: Tally, made: Connection, publisher: Connection, start: bytes) -> None:
-    # Of a slot that the front does not know it asks from where the stream comes.
+    # For a slot that the front does not know, it asks where the stream begins.
     publisher.receive(len(start + messages.status(0)))
     publisher.send(messages.COPY_BOTH_RESPONSE)
     made.receive_until(messages.COPY_BOTH_RESPONSE)
@@ -309,5 +309,5 @@ def check_command_lines(tally: Tally) -> None:
 
 
 def packet(body: bytes) -> bytes:
-    """A first packet, which has no kind."""
+    """Returns a first packet, which has no type byte."""
     return struct.pack("!I", len(body) + 4) + body

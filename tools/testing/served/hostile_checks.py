@@ -1,4 +1,4 @@
-"""tools/front beside clients that do it harm, publishers that are not there, and with few files."""
+"""Tests tools/front with clients that harm it, with publishers that do not answer, and with few file descriptors."""
 
 import contextlib
 import os
@@ -18,7 +18,7 @@ from .publisher import Insert, end_of
 from .sharding import Sharding
 from .shardings import halves
 
-# Queries that take a parser long that tries things again and again.
+# Queries for which a backtracking parser takes long.
 LONG = 30_000
 SLOW = [
     f"SHOW a{1000 * ' '}b", f"SHOW a{LONG * ' '}b", f"SHOW {LONG * 'a'}", LONG * "'", LONG * '"', LONG // 2 * "'\"",
@@ -26,19 +26,19 @@ SLOW = [
     f"SELECT t.pubname FROM pg_catalog.pg_publication t WHERE t.pubname IN ({LONG // 4 * chr(39) * 2}",
     f"START_REPLICATION SLOT s0 LOGICAL 0/0 ({LONG // 2 * 'a,'}",
 ]
-# How many seconds of a processor the front may take meanwhile, for which the others wait.
+# How many seconds of processor time the front may use meanwhile, in which others wait.
 MOST_BUSY = 2
 
-# How many seconds a client has to start, how many one in a stream may be silent, and how many a publisher has to answer.
-# A front that is not run for so long gives up those that are well, too.
+# The seconds within which a client has to start, a client in a stream has to send something, and a publisher has to
+# answer. A front that is suspended for as long also gives up clients that behave well.
 TO_START, TO_SPEAK, TO_ANSWER = 3, 6, 3
 
 FILES = 64
-# More than those files allow.
+# More connections than these files allow.
 CROWD = 100
 VANISHED = 30
 
-# What the process of a front may take, in bytes.
+# The memory that the front's process may use, in bytes.
 MEMORY = 60_000_000
 
 NOT_RECORDED = (
@@ -51,7 +51,7 @@ TOO_LONG = messages.frame(b"E", b"SFATAL\0VFATAL\0C08P01\0Minvalid message lengt
 
 
 def check_hostile(tally: Tally) -> None:
-    """Each harm, and then what the front has and takes."""
+    """Tests each kind of harm, and then the state of the front."""
     check_slow_queries(tally)
     check_silent_publisher(tally)
     check_few_files(tally)
@@ -62,7 +62,7 @@ def check_hostile(tally: Tally) -> None:
 
 
 def check_slow_queries(tally: Tally) -> None:
-    """Nobody waits for a query that another client makes."""
+    """Checks that nobody waits for a query of another client."""
     with nobody() as port, fronting(port) as (front, front_port):
         for query in SLOW:
             with client(front_port) as slow, client(front_port) as other:
@@ -80,8 +80,8 @@ def check_slow_queries(tally: Tally) -> None:
 
 
 def check_silent_publisher(tally: Tally) -> None:
-    """A publisher that does not answer costs each client its connection, and nothing is left of those that vanish
-    meanwhile."""
+    """Checks that a publisher that does not answer costs each client only its connection, and that nothing remains of
+    clients that vanish meanwhile."""
     with silent() as port:
         with fronting(port, "--backend-timeout", str(TO_ANSWER)) as (front, front_port), client(front_port) as made:
             made.send(packet(STARTUP) + messages.query(START.format(version=1)))
@@ -97,7 +97,8 @@ def check_silent_publisher(tally: Tally) -> None:
 
 
 def check_few_files(tally: Tally) -> None:
-    """With 64 files a crowd that does nothing, or the same in startups, keeps no subscriber out, and no stream ends."""
+    """Checks that a crowd that does nothing, either after connecting or during startup, keeps no subscriber out of a
+    front with 64 files, and ends no stream."""
     with (
         serving(halves([[Insert("t", (7, "eu"))]]).input(), "--connections", "20") as (_, port),
         fronting(port, limit=f"--nofile={FILES}") as (front, front_port),
@@ -121,7 +122,7 @@ def check_few_files(tally: Tally) -> None:
 
 
 def check_silence(tally: Tally) -> None:
-    """Clients that say nothing: before they have started, and in a stream. One that answers stays."""
+    """Tests clients that send nothing before they have started, and in a stream. A client that answers is kept."""
     with (
         serving(halves([[Insert("t", (7, "eu"))]]).input(), "--connections", "20") as (_, port),
         fronting(port, "--start-timeout", str(TO_START), "--timeout", str(TO_SPEAK)) as (front, front_port),
@@ -142,7 +143,7 @@ def check_silence(tally: Tally) -> None:
 
 
 def check_lengths(tally: Tally) -> None:
-    """Frames of lengths that cannot be."""
+    """Tests frames with impossible lengths."""
     with nobody() as port, fronting(port) as (front, front_port):
         for given in b"\0\0\0\3", b"\xff\xff\xff\xff", b"\0\1\0\0", b"\x16\3\1\2", packet(STARTUP) + b"Q\0\1\0\5":
             with client(front_port) as made:
@@ -153,7 +154,7 @@ def check_lengths(tally: Tally) -> None:
 
 
 def check_ahead(tally: Tally) -> None:
-    """A client that confirms what was never sent ends its own stream, and confirms nothing."""
+    """Checks that a client that confirms what was never sent loses its own stream, and confirms nothing."""
     sharding = halves([[Insert("t", (7, "eu"))], [Insert("t", (8, "eu"))]])
     with serving(sharding.input(), "--connections", "20") as (_, port), fronting(port) as (front, front_port):
         for flushed in (1 << 62, (1 << 64) - 1):
@@ -171,7 +172,7 @@ def check_ahead(tally: Tally) -> None:
 
 
 def stream_end(port: int, sharding: Sharding) -> int:
-    """Where the stream of the first slot ends, 0 while the slot is in use."""
+    """Returns the end of the first slot's stream, or 0 while the slot is in use."""
     count = len(sharding.publisher().stream(sharding.subscribers[0]))
     with client(port) as made:
         made.send(packet(STARTUP) + messages.query(START.format(version=1)))
@@ -183,14 +184,14 @@ def stream_end(port: int, sharding: Sharding) -> int:
 
 
 def check_full_file(tally: Tally) -> None:
-    """Where the temporary file cannot be written, streams go on, and a slot is not dropped."""
+    """Checks that streams continue if the temporary file cannot be written, and that a slot is then not dropped."""
     sharding = halves([[Insert("t", (number, "x" * 10_000))] for number in range(20)])
     with serving(sharding.input(), "--connections", "20") as (_, port):
         with fronting(port, limit="--fsize=50000") as (front, front_port):
             with client(front_port) as made:
                 made.send(packet(STARTUP) + messages.query(START.format(version=1)))
                 made.receive_until(messages.COPY_BOTH_RESPONSE)
-                # The first frame is a keepalive, by which the front knows from where the stream comes.
+                # The first frame is a keepalive, from which the front learns where the stream begins.
                 count = len(messages.keepalive(0) + sharding.publisher().stream(sharding.subscribers[0]))
                 frames, _ = messages.frames_of(made.receive(count - len(messages.COPY_BOTH_RESPONSE)))
                 tally.check("where the stream ends that is not recorded", messages.end_in(frames, 0), end_of(20))
@@ -202,7 +203,7 @@ def check_full_file(tally: Tally) -> None:
 
 
 def check_front_is_well(tally: Tally, what: str, front: Started) -> None:
-    """It runs, in one thread, and takes little memory."""
+    """Checks that the front runs in one thread and uses little memory."""
     tally.check(f"front runs {what}", front.is_running(), True)
     status = pathlib.Path(f"/proc/{front.process.pid}/status").read_text(encoding="ascii")
     tally.check(f"the threads of front {what}", dict(map(parted, status.splitlines()))["Threads"], "1")
@@ -210,24 +211,24 @@ def check_front_is_well(tally: Tally, what: str, front: Started) -> None:
 
 
 def parted(line: str) -> tuple[str, str]:
-    """A line's name and its value."""
+    """Splits a line into its name and value."""
     name, _, value = line.partition(":")
     return name, value.strip()
 
 
 def sockets(front: Started) -> int:
-    """How many sockets of connections, and the listening one, a front has."""
+    """Returns how many sockets a front has for connections and for listening."""
     folder = f"/proc/{front.process.pid}/fd"
     found = 0
     for name in os.listdir(folder):
         with contextlib.suppress(OSError):
             found += os.readlink(f"{folder}/{name}").startswith("socket:")
-    # Two are those by which a signal wakes it.
+    # Two further sockets wake it on signals.
     return found - 2
 
 
 def settles(found: Callable[[], int], expected: int) -> bool:
-    """Whether a count becomes what is expected in time."""
+    """Returns whether a count reaches the expected value in time."""
     until = time.monotonic() + SECONDS
     while found() != expected and time.monotonic() < until:
         time.sleep(0.05)
@@ -235,7 +236,7 @@ def settles(found: Callable[[], int], expected: int) -> bool:
 
 
 def vanish(port: int, given: bytes) -> None:
-    """Clients that send something and are gone a moment later."""
+    """Connects clients that send something and vanish a moment later."""
     with contextlib.ExitStack() as opened:
         for _ in range(VANISHED):
             opened.enter_context(client(port)).send(given)
@@ -244,6 +245,6 @@ def vanish(port: int, given: bytes) -> None:
 
 @contextlib.contextmanager
 def silent() -> Iterator[int]:
-    """A port where connections are made, and nothing is answered."""
+    """Provides a port on which connections are accepted and nothing is answered."""
     with socket.create_server(("127.0.0.1", 0), backlog=2 * VANISHED) as listener:
         yield listener.getsockname()[1]

@@ -1,6 +1,6 @@
 """Clients of `pgshard serve` under load: 100,000 commits, each of a row of one of 32 subscribers, whose clients are
-served side by side. If some of them are rough, a few stop reading until the others have all, and others lose their
-connections again and again; those that are lost come back at the position that they have reached."""
+served concurrently. If some clients are rough, a few stop reading until the others have everything, and others lose
+their connections repeatedly and come back at the position that they have reached."""
 
 import contextlib
 import threading
@@ -16,39 +16,39 @@ from .shardings import CROWD, of_crowd
 
 COMMITS = 100_000
 
-# This many of the first subscribers stop reading. Their rows are so long that a system doesn't keep a whole stream of a
-# client that doesn't read it, nor half of one.
+# How many of the first subscribers stop reading. Their rows are so long that a system buffers neither a whole stream
+# nor half of one for a client that does not read it.
 STOPPING = 3
 LONG = 1_250
 
 # How many bytes such a client reads before it stops.
 BEFORE_STOP = 100_000
 
-# This many subscribers after them lose their connections, each time after this many bytes.
+# How many subscribers after these lose their connections, and after how many bytes each time.
 LOST = 8
 READ_BEFORE_LOSS = (3, 50, 20_000, 100_001, 250_007)
 
-# How long the clients of a run wait for each other.
+# How long the clients of a run wait for each other, in seconds.
 TOGETHER = 2 * SECONDS
 
-# What was found, with a name, and what should have been found.
+# A description, the value found, and the expected value.
 Found = list[tuple[str, object, object]]
 
 
 def row(number: int) -> tuple:
-    """The row of a commit, by the number of the commit from 1."""
+    """Returns the row of a commit, whose numbers begin at 1."""
     turn = number % CROWD
     return (number, turn, "x" * LONG if turn < STOPPING else "")
 
 
 def sharding() -> Sharding:
-    """Each commit inserts a row of the next subscriber."""
+    """Returns a sharding in which each commit inserts a row of the next subscriber."""
     commits: list[list[Command]] = [[Insert("t", row(number))] for number in range(1, COMMITS + 1)]
     return of_crowd((("id", "integer"), ("turn", "integer"), ("note", "text")), commits)
 
 
 class Streams:
-    """What each subscriber is to be sent, worked out commit by commit."""
+    """The expected stream of each subscriber, computed commit by commit."""
 
     def __init__(self, made: Sharding) -> None:
         self.subscribers = made.subscribers
@@ -61,7 +61,7 @@ class Streams:
             self.transactions[number % CROWD].append((number, told))
 
     def stream(self, slot: int, position: int = 0) -> bytes:
-        """All that a connection of a subscriber is sent from a position on, with no clocks and no times."""
+        """Returns everything that a subscriber's connection is sent from a position on, without clocks and times."""
         told = [it for it in self.transactions[slot] if 64 * it[0] >= position]
         frames = [messages.xlog_data(64 * number, message) for number, listed in told for message in listed]
         if frames:
@@ -70,20 +70,20 @@ class Streams:
 
 
 class Clients:
-    """The clients of a run at a port, each in a thread of its own."""
+    """The clients of a run on a port, each in a thread of its own."""
 
     def __init__(self, streams: Streams, port: int, are_rough: bool) -> None:
         self.streams = streams
         self.port = port
         self.are_rough = are_rough
-        # All wait here for each other, and for the run: first while some have stopped reading, and then when each has
-        # its stream.
+        # All clients and the run itself wait for each other here: first when some have stopped reading, and then when
+        # each client has its stream.
         self.stopped = threading.Barrier(CROWD + 1, timeout=TOGETHER)
         self.whole = threading.Barrier(CROWD + 1, timeout=TOGETHER)
 
     @contextlib.contextmanager
     def started(self) -> Iterator[list]:
-        """The clients, and what they find when they have ended."""
+        """Starts the clients, and yields the futures of what they find."""
         with ThreadPoolExecutor(CROWD) as pool:
             try:
                 yield [pool.submit(self.findings, slot) for slot in range(CROWD)]
@@ -91,12 +91,12 @@ class Clients:
                 self.give_up()
 
     def give_up(self) -> None:
-        """Nobody waits any longer."""
+        """Ends all waiting."""
         self.stopped.abort()
         self.whole.abort()
 
     def findings(self, slot: int) -> Found:
-        """What the client of a slot finds, or what kept it from finding anything."""
+        """Returns what the client of a slot finds, or the fault that stopped it."""
         try:
             return self.served(slot)
         except (OSError, threading.BrokenBarrierError) as fault:
@@ -104,7 +104,7 @@ class Clients:
             return [(f"s{slot}", f"{type(fault).__name__}: {fault}", "no fault")]
 
     def served(self, slot: int) -> Found:
-        """What a client finds that gets its whole stream, in the way that it has."""
+        """Returns what a client finds that gets its whole stream in its own way."""
         if self.are_rough and slot < STOPPING:
             return self.stops(slot)
         if self.are_rough and slot < STOPPING + LOST:
@@ -114,8 +114,8 @@ class Clients:
             return self.whole_of(made, slot)
 
     def stops(self, slot: int) -> Found:
-        """It reads the first bytes, and no more until the others have all. The last one goes on then; the others are
-        cut off, and come back."""
+        """Runs a client that reads the first bytes, and no more until the others have everything. The last such client
+        then continues; the others are cut off, and come back."""
         expected = self.streams.stream(slot)
         with client(self.port, LITTLE) as made:
             made.start(self.streams.subscribers[slot])
@@ -134,7 +134,7 @@ class Clients:
                 *self.whole_of(again, slot, position, waits=False)]
 
     def is_lost(self, slot: int) -> Found:
-        """It is lost in the midst of its stream, and comes back, until it has all."""
+        """Runs a client that is repeatedly lost in the middle of its stream and comes back, until it has everything."""
         subscriber, position, found = self.streams.subscribers[slot], 0, []
         for count in READ_BEFORE_LOSS:
             expected = self.streams.stream(slot, position)
@@ -147,7 +147,7 @@ class Clients:
             return found + self.whole_of(made, slot, position)
 
     def whole_of(self, made: Connection, slot: int, position: int = 0, waits: bool = True) -> Found:
-        """What a started client gets that reads all."""
+        """Returns what a started client gets that reads everything."""
         expected = self.streams.stream(slot, position)
         sent = made.receive(len(expected))
         if waits:
@@ -158,7 +158,7 @@ class Clients:
 
 
 def resident(process: int) -> int:
-    """How much memory a process has, in bytes, but for what is in files; 0 where it has ended."""
+    """Returns the memory that a process uses, in bytes, except for mapped files; 0 if it has ended."""
     with open(f"/proc/{process}/status", encoding="ascii") as told:
         sizes = dict(line.split(":", 1) for line in told)
     return 1024 * int(sizes.get("RssAnon", "0 kB").split()[0])

@@ -1,4 +1,5 @@
-"""Clients that lose their connections to `pgshard serve` and come back, and what it keeps of what they confirm."""
+"""Clients that lose their connections to `pgshard serve` and come back, and what serve remembers of what they
+confirm."""
 
 import itertools
 import pathlib
@@ -12,21 +13,22 @@ from .shardings import S0, S1
 from .shop import LONDON, TOKYO
 from .whole import Findings, got_whole
 
-# Of which transaction of london's the first half is read before the connection is lost.
+# The transaction of london in the middle of which the connection is lost.
 HALF_READ = 5
 
-# How many bytes more a client reads each time before it is lost.
+# How many more bytes a client reads each time before its connection is lost.
 MORE = 61
 
-# The system's connections, each with its own port, the other one, its state, and what was sent and not taken yet.
+# The system's connections, each with its own port, the other port, its state, and the bytes that were sent and not yet
+# received.
 CONNECTIONS = pathlib.Path("/proc/net/tcp")
 
-# For how many seconds a client that doesn't read waits after what it said was read, until it is heard.
+# After its messages have been read, how many seconds a client that does not read waits until they have been processed.
 UNTIL_HEARD = 1
 
 
 def lost_and_back(port: int, publisher: Publisher) -> Findings:
-    """One is lost in the middle of a transaction, and comes back with the position that it has reached."""
+    """A client is lost in the middle of a transaction, and comes back at the position that it has reached."""
     transactions = publisher.transactions(LONDON)
     reached = transactions[HALF_READ - 2][0][0] + 64
     before = sum(len(messages.xlog_data(*it)) for listed in transactions[:HALF_READ - 1] for it in listed)
@@ -43,7 +45,8 @@ def lost_and_back(port: int, publisher: Publisher) -> Findings:
 
 
 def lost_again(port: int, publisher: Publisher) -> Findings:
-    """One is lost after ever more bytes, and comes back each time with the position that it has reached."""
+    """A client is lost repeatedly, after ever more bytes, and comes back each time at the position that it has
+    reached."""
     position = 0
     for tries in itertools.count(1):
         with back_again(port, LONDON, position) as made:
@@ -57,7 +60,7 @@ def lost_again(port: int, publisher: Publisher) -> Findings:
 
 
 def confirms(port: int, publisher: Publisher) -> Findings:
-    """What is confirmed does not come again, whatever is asked for."""
+    """What is confirmed is not sent again, whatever the client requests."""
     with client(port) as first:
         first.start(LONDON)
         first.receive(len(publisher.stream(LONDON)))
@@ -69,7 +72,7 @@ def confirms(port: int, publisher: Publisher) -> Findings:
 
 
 def confirms_too_much(port: int, publisher: Publisher) -> Findings:
-    """A client that confirms more than it was sent loses its connection, and what it said is not kept."""
+    """A client that confirms more than it was sent loses its connection, and its confirmation is ignored."""
     for position in publisher.end() + 1, (1 << 32) + end_of(1), (1 << 64) - 1:
         with back_again(port, LONDON, 0) as first:
             first.receive(len(publisher.stream(LONDON)))
@@ -80,8 +83,8 @@ def confirms_too_much(port: int, publisher: Publisher) -> Findings:
 
 
 def confirms_with_its_start(port: int, publisher: Publisher) -> Findings:
-    """A client that confirms the first commit in the bytes that start its stream was sent nothing yet, though the log
-    has that commit."""
+    """A client that confirms the first commit in the same bytes that start its stream has not been sent anything yet,
+    although the log has that commit."""
     with client(port) as other:
         other.start(TOKYO)
         yield from got_whole(other, publisher, TOKYO)
@@ -93,8 +96,8 @@ def confirms_with_its_start(port: int, publisher: Publisher) -> Findings:
 
 
 def confirms_what_is_on_its_way(port: int, publisher: Publisher) -> Findings:
-    """A slow client confirms the whole log, of which it was sent a part. It loses its connection, and what it said is
-    not kept."""
+    """A slow client confirms the whole log, of which it has been sent only a part. It loses its connection, and its
+    confirmation is ignored."""
     stream = publisher.stream(S1)
     with client(port, LITTLE) as slow, client(port) as other:
         slow.start(S1)
@@ -110,7 +113,7 @@ def confirms_what_is_on_its_way(port: int, publisher: Publisher) -> Findings:
 
 
 def await_heard(port: int, made: Connection) -> None:
-    """Waits until a server has read and heard all that a client has said."""
+    """Waits until a server has read and processed everything that a client has sent."""
     until = time.monotonic() + SECONDS
     while not is_read(port, made.opened.getsockname()[1]) and time.monotonic() < until:
         time.sleep(0.05)
@@ -118,7 +121,7 @@ def await_heard(port: int, made: Connection) -> None:
 
 
 def is_read(port: int, other: int) -> bool:
-    """Whether nothing waits to be read on the connection of a port to another one."""
+    """Returns whether nothing waits to be read on the connection from one port to another."""
     for line in CONNECTIONS.read_text(encoding="ascii").splitlines()[1:]:
         _, local, remote, _, queues, *_ = line.split()
         if local.endswith(f":{port:04X}") and remote.endswith(f":{other:04X}"):
@@ -127,8 +130,8 @@ def is_read(port: int, other: int) -> bool:
 
 
 def confirms_what_it_was_sent(port: int, publisher: Publisher) -> Findings:
-    """A client confirms each commit when it has come. Each time it then has its connection, and its stream in the end
-    goes on to the end of the log."""
+    """A client confirms each commit as it arrives. It keeps its connection, and its stream continues to the end of the
+    log."""
     with client(port) as first:
         first.start(LONDON)
         found = first.receive(len(messages.COPY_BOTH_RESPONSE))

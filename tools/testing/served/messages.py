@@ -1,5 +1,5 @@
-"""Messages of logical replication in protocol version 1, and the frames around them, as PostgreSQL's documentation lays
-them out (55.7 and 55.9). Nothing here is pgshard's."""
+"""Messages of logical replication in protocol version 1, and the frames around them, as defined in PostgreSQL's
+documentation (55.7 and 55.9). Nothing here is taken from pgshard."""
 
 import struct
 
@@ -9,26 +9,26 @@ COPY_BOTH_RESPONSE = bytes.fromhex("57 00000007 00 0000")
 COPY_DONE = bytes.fromhex("63 00000004")
 TERMINATE = bytes.fromhex("58 00000004")
 
-# Where the clock is in the body of an XLogData and of a keepalive, and the time in a Begin and a Commit.
+# The offset of the clock in the body of an XLogData and of a keepalive, and of the time in a Begin and a Commit.
 CLOCKS = {b"w": 17, b"k": 9}
 TIMES = {b"B": 9, b"C": 18}
 
-# Where the message is in the frame of an XLogData.
+# The offset of the message in the frame of an XLogData.
 MESSAGE = 30
 
 
 def begin(position: int, xid: int) -> bytes:
-    """With no time."""
+    """Returns a Begin, without a time."""
     return b"B" + struct.pack("!QQI", position, 0, xid)
 
 
 def commit(position: int, end: int) -> bytes:
-    """With no time."""
+    """Returns a Commit, without a time."""
     return b"C\0" + struct.pack("!QQQ", position, end, 0)
 
 
 def relation(oid: int, name: str, identity: str, columns: list[tuple[bool, str, str]]) -> bytes:
-    """The columns are flagged, named and typed."""
+    """Returns a Relation. Each column has a flag, a name and a type."""
     told = b"R" + struct.pack("!I", oid) + named("public") + named(name)
     told += identity.encode() + struct.pack("!H", len(columns))
     for is_flagged, column, kind in columns:
@@ -76,22 +76,22 @@ def frame(kind: bytes, body: bytes) -> bytes:
 
 
 def xlog_data(position: int, message: bytes) -> bytes:
-    """A message, with no clock."""
+    """Returns the frame of a message, without a clock."""
     return frame(b"d", b"w" + struct.pack("!QQQ", position, position, 0) + message)
 
 
 def keepalive(position: int) -> bytes:
-    """One that wants no reply, with no clock."""
+    """Returns a keepalive that requests no reply, without a clock."""
     return frame(b"d", b"k" + struct.pack("!QQB", position, 0, 0))
 
 
 def status(flushed: int, wants_reply: bool = False) -> bytes:
-    """A standby status update of a client that has flushed and applied all that it has written."""
+    """Returns a standby status update of a client that has flushed and applied everything that it has written."""
     return frame(b"d", b"r" + struct.pack("!QQQQB", flushed, flushed, flushed, 0, wants_reply))
 
 
 def start(slot: str, position: int, publications: list[str]) -> bytes:
-    """The query that starts a slot's stream."""
+    """Returns the query that starts a slot's stream."""
     names = ",".join(f'"{name}"' for name in publications)
     return query(
         f'START_REPLICATION SLOT "{slot}" LOGICAL {written(position)} '
@@ -107,12 +107,12 @@ def error_response(code: str, text: str) -> bytes:
 
 
 def written(position: int) -> str:
-    """A position as a pg_lsn is written."""
+    """Returns a position in the text form of pg_lsn."""
     return f"{position >> 32:X}/{position & 0xFFFFFFFF:X}"
 
 
 def frames_of(sent: bytes) -> tuple[list[bytes], bytes]:
-    """The whole frames at the front of some bytes, and what is left."""
+    """Returns the complete frames at the beginning, and the remaining bytes."""
     frames, at = [], 0
     while len(sent) >= at + 5:
         end = at + 1 + int.from_bytes(sent[at + 1:at + 5], "big")
@@ -124,13 +124,13 @@ def frames_of(sent: bytes) -> tuple[list[bytes], bytes]:
 
 
 def without_times(sent: bytes) -> bytes:
-    """The same bytes with no clocks of whole frames and no times of their messages."""
+    """Returns the bytes without the clocks of complete frames and without the times of their messages."""
     frames, left = frames_of(sent)
     return b"".join(map(without_clock, frames)) + left
 
 
 def without_clock(whole: bytes) -> bytes:
-    """A frame with no clock, and its message with no time."""
+    """Returns a frame without its clock, and its message without a time."""
     letter = whole[5:6] if whole[:1] == b"d" else b""
     if letter in CLOCKS:
         whole = blanked(whole, 5 + CLOCKS[letter])
@@ -138,7 +138,7 @@ def without_clock(whole: bytes) -> bytes:
 
 
 def without_time(message: bytes) -> bytes:
-    """A message with no time."""
+    """Returns a message without its time."""
     return blanked(message, TIMES[message[:1]]) if message[:1] in TIMES else message
 
 
@@ -147,17 +147,17 @@ def blanked(given: bytes, at: int) -> bytes:
 
 
 def time_of(message: bytes) -> int | None:
-    """The time of a Begin or a Commit."""
+    """Returns the time of a Begin or a Commit."""
     at = TIMES.get(message[:1])
     return None if at is None else int.from_bytes(message[at:at + 8], "big")
 
 
 def is_commit(whole: bytes) -> bool:
-    """Whether a frame is of a Commit."""
+    """Returns whether a frame contains a Commit."""
     return whole[MESSAGE:MESSAGE + 1] == b"C"
 
 
 def end_in(frames: list[bytes], before: int) -> int:
-    """Where the last transaction of some frames ends, as its Commit says, or where the stream was before."""
+    """Returns the end of the last transaction in the frames, as its Commit says, or the stream's previous position."""
     ends = [whole[MESSAGE + 10:MESSAGE + 18] for whole in frames if is_commit(whole)]
     return int.from_bytes(ends[-1], "big") if ends else before

@@ -1,4 +1,4 @@
-"""`pgshard serve`, `pgshard publish` and tools/front, each started on a port of its own and gone afterwards."""
+"""Runs `pgshard serve`, `pgshard publish` and tools/front, each on a port of its own."""
 
 import contextlib
 import os
@@ -12,10 +12,10 @@ from collections.abc import Iterator
 
 from programs import PGSHARD, TOOLS, decoded
 
-# How long anything here may take, on a machine that does much else, too.
+# The time limit of any step, also on a busy machine, in seconds.
 SECONDS = 120
 
-# How many ports are tried, and the status of a program that cannot have one.
+# How many ports are tried, and the status of a program that cannot listen on its port.
 PORTS = 3
 NO_PORT = 4
 
@@ -27,7 +27,7 @@ class Started:
         self.process = subprocess.Popen(
             words, stdin=subprocess.PIPE, stdout=subprocess.PIPE, stderr=subprocess.PIPE)
         self.lines: queue.Queue[str | None] = queue.Queue()
-        # What it writes to its standard error.
+        # What it writes to standard error.
         self.log: list[str] = []
         threading.Thread(target=self.read, daemon=True).start()
         self.logging = threading.Thread(target=self.read_log, daemon=True)
@@ -44,13 +44,13 @@ class Started:
             self.log.append(decoded(line))
 
     def write(self, given: bytes) -> None:
-        # A program that ends before it has read all is told about by its status.
+        # If a program ends before it has read everything, its status shows that.
         with contextlib.suppress(OSError):
             self.process.stdin.write(given)
             self.process.stdin.close()
 
     def line(self, seconds: float = SECONDS) -> str | None:
-        """The next line, or None if there is no further one, or it does not come."""
+        """Returns the next line, or None if there is none or it does not come in time."""
         try:
             line = self.lines.get(timeout=seconds)
         except queue.Empty:
@@ -63,7 +63,7 @@ class Started:
         return self.process.poll() is None
 
     def end(self, seconds: float = SECONDS) -> tuple[int | None, list[str]]:
-        """The status, None if it does not end, and the lines that were not read."""
+        """Returns the status, or None if the program does not end, and the lines that were not read."""
         try:
             status = self.process.wait(seconds)
         except subprocess.TimeoutExpired:
@@ -71,12 +71,12 @@ class Started:
         return status, list(iter(self.line, None))
 
     def whole_log(self) -> list[str]:
-        """All that it has written to its standard error, once it has ended."""
+        """Returns everything that it has written to standard error, after it has ended."""
         self.logging.join(SECONDS)
         return self.log
 
     def stop(self) -> None:
-        """Ends it, if it still runs."""
+        """Ends the program if it is still running."""
         self.process.kill()
         self.process.wait()
 
@@ -91,7 +91,7 @@ def started(words: list[str], text: str = "") -> Iterator[Started]:
 
 
 def free_port() -> int:
-    """A port that nobody has, as far as is known."""
+    """Returns a port that seems to be free."""
     with socket.socket() as taken:
         taken.bind(("127.0.0.1", 0))
         return taken.getsockname()[1]
@@ -99,20 +99,20 @@ def free_port() -> int:
 
 @contextlib.contextmanager
 def nobody() -> Iterator[int]:
-    """A port where nobody listens, and nobody can."""
+    """Provides a port on which nobody listens or can listen."""
     with socket.socket() as bound:
         bound.bind(("127.0.0.1", 0))
         yield bound.getsockname()[1]
 
 
 class NotStarted(Exception):
-    """A program does not listen."""
+    """The program does not listen."""
 
 
 @contextlib.contextmanager
 def listening(words: list[str], text: str = "", seconds: float = SECONDS) -> Iterator[tuple[Started, int]]:
-    """A program that listens within this many seconds, and its port, which is given by `--port`. Another port is tried
-    if the first one is taken."""
+    """Runs a program that listens within this many seconds, and yields it with its port, which is passed with `--port`.
+    Tries another port if the first one is taken."""
     for tries in range(1, PORTS + 1):
         port = free_port()
         with started([*words, "--port", str(port)], text) as program:
@@ -127,13 +127,13 @@ def listening(words: list[str], text: str = "", seconds: float = SECONDS) -> Ite
 
 @contextlib.contextmanager
 def serving(text: str, *words: str, seconds: float = SECONDS) -> Iterator[tuple[Started, int]]:
-    """pgshard serve that listens, and its port."""
+    """Runs pgshard serve, and yields it with its port."""
     with listening([PGSHARD, "serve", *words], text, seconds) as program:
         yield program
 
 
 class Publication(Started):
-    """pgshard publish, to which lines are said one at a time."""
+    """pgshard publish, which is sent one line at a time."""
 
     def write(self, given: bytes) -> None:
         with contextlib.suppress(OSError):
@@ -144,7 +144,7 @@ class Publication(Started):
         self.write(f"{line}\n".encode())
 
     def ask(self, line: str) -> str | None:
-        """The first line of what is answered."""
+        """Sends a line, and returns the first line of the answer."""
         self.say(line)
         return self.line()
 
@@ -156,7 +156,7 @@ class Publication(Started):
 
 @contextlib.contextmanager
 def publishing(text: str, *words: str) -> Iterator[tuple[Publication, int]]:
-    """pgshard publish that listens, and its port. The text is a catalog and certificates."""
+    """Runs pgshard publish, and yields it with its port. The text is a catalog and certificates."""
     program = Publication([PGSHARD, "publish", "--port", "0", *words], text)
     try:
         line = program.line()
@@ -169,20 +169,20 @@ def publishing(text: str, *words: str) -> Iterator[tuple[Publication, int]]:
 
 @contextlib.contextmanager
 def fronting(backend: int, *words: str, limit: str | None = None) -> Iterator[tuple[Started, int]]:
-    """tools/front before a publisher, with a limit that prlimit sets, and its port."""
+    """Runs tools/front for a publisher, with a limit that prlimit sets, and yields it with its port."""
     limited = ["prlimit", limit] if limit is not None else []
     with listening([*limited, str(TOOLS / "front"), "--backend", str(backend), *words]) as program:
         yield program
 
 
 def processor_time(process: int) -> float:
-    """The seconds of processor time that a process has used."""
+    """Returns the seconds of processor time that a process has used."""
     fields = pathlib.Path(f"/proc/{process}/stat").read_text(encoding="ascii").rpartition(")")[2].split()
     return (int(fields[11]) + int(fields[12])) / os.sysconf("SC_CLK_TCK")
 
 
 def use_up(program: Started, port: int) -> None:
-    """Makes connections and ends them at once, until the program that accepts this many has ended."""
+    """Makes connections and ends them at once, until the program, which accepts only this many, has ended."""
     until = time.monotonic() + SECONDS
     while program.is_running() and time.monotonic() < until:
         with contextlib.suppress(OSError):

@@ -1,4 +1,4 @@
-"""psycopg2, through tools/front: what it reads, and that the publisher keeps what it confirms."""
+"""Tests psycopg2 through tools/front: what it reads, and that the publisher remembers what it confirms."""
 
 import pathlib
 import subprocess
@@ -15,18 +15,19 @@ from .shop import SHOP, TOKYO
 
 CLIENT = pathlib.Path(__file__).resolve().parent / "psycopg_client.py"
 
-# A client that comes back before its slot is free is refused with this, and tries again.
+# The error of a client that comes back before its slot is free. It then tries again.
 IN_USE = "55006\n"
 CONNECTIONS = 100
 
-# After how many transactions of a slot the first client confirms and goes.
+# After this many transactions of a slot, the first client confirms them and disconnects.
 READ_FIRST = 4
 
 Transactions = list[list[tuple[int, bytes]]]
 
 
 def check_psycopg(tally: Tally) -> None:
-    """The first client reads some transactions and confirms them; the second asks for all and gets the others."""
+    """The first client reads some transactions and confirms them; the second one asks for all and gets only the
+    others."""
     python = python_with("psycopg2") or sys.executable
     publisher = SHOP.publisher()
     first = publisher.transactions(TOKYO)[:READ_FIRST]
@@ -45,7 +46,7 @@ def check_psycopg(tally: Tally) -> None:
 
 
 def read(python: str, port: int, transactions: Transactions, confirmed: int) -> str:
-    """What a client prints that reads this many messages as these have."""
+    """Returns what a client prints that reads as many messages as these have."""
     words = [port, TOKYO.slot, ",".join(TOKYO.publications), sum(map(len, transactions)), confirmed]
     until = time.monotonic() + SECONDS
     while True:
@@ -58,7 +59,7 @@ def read(python: str, port: int, transactions: Transactions, confirmed: int) -> 
 
 
 def without_time(line: str) -> str:
-    """A line with its message, if it has one, with no time."""
+    """Returns a line without the time of its message, if it has one."""
     position, _, message = line.removesuffix("\n").partition(" ")
     if not position.isdigit():
         return line
@@ -66,7 +67,7 @@ def without_time(line: str) -> str:
 
 
 def lines_of(transactions: Transactions) -> str:
-    """What the client prints of these. A Commit comes with the end of its transaction."""
+    """Returns what the client prints for these transactions. A Commit comes at the end of its transaction."""
     return "".join(
         f"{position + 64 if message[:1] == b'C' else position} {message.hex()}\n"
         for transaction in transactions for position, message in transaction)

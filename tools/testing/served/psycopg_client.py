@@ -1,10 +1,10 @@
 #!/usr/bin/env python3
-"""Reads messages of a slot by psycopg2, as a program would, and confirms what it is told to confirm.
+"""Reads messages of a slot with psycopg2, as a program would, and confirms a given position.
 
     psycopg_client.py PORT SLOT PUBLICATIONS COUNT CONFIRMED
 
-It prints each message with the position that it comes with, and ends after COUNT of them. CONFIRMED is a position in
-bytes, 0 for none.
+It prints each message with its position, and ends after COUNT messages. CONFIRMED is a position in bytes, or 0 for
+none.
 """
 
 import select
@@ -13,7 +13,7 @@ import sys
 import psycopg2
 from psycopg2.extras import LogicalReplicationConnection
 
-# How long it waits for a message.
+# How long it waits for a message, in seconds.
 SECONDS = 60
 
 
@@ -41,7 +41,7 @@ def main(port: str, slot: str, publications: str, count: str, confirmed: str) ->
 
 
 def next_message(cursor):
-    """The next message, or None if none comes."""
+    """Returns the next message, or None if none comes."""
     message = cursor.read_message()
     while message is None:
         readable, _, _ = select.select([cursor], [], [], SECONDS)

@@ -1,4 +1,4 @@
-"""`pgshard publish`: commits as they come, clients that come and go, and random workloads into PostgreSQL
+"""Tests `pgshard publish`: commits as they arrive, clients that come and go, and random workloads sent to PostgreSQL
 subscribers."""
 
 import contextlib
@@ -29,7 +29,7 @@ from .subscribers_checks import SETTINGS, transaction_text
 
 WORKLOADS = 20
 
-# Lines and the first lines of their answers. Each row is of london.
+# Lines, each with the first line of its answer. All rows are london's.
 ANSWERS = [
     ("COMMIT INSERT orders (1, 20, 500, NULL, NULL);", "commit 1"),
     ("COMMIT INSERT orders (2, 30, 1, NULL, NULL), INSERT orders (1, 20, 500, NULL, NULL);", "refused At 2 DuplicateKey"),
@@ -45,7 +45,7 @@ ANSWERS = [
 
 
 def head() -> str:
-    """The catalog and the certificates of the shop."""
+    """Returns the catalog and the certificates of the shop."""
     _, certificates = pgshard("make", text=SHOP.catalog, seconds=SECONDS)
     return f"{SHOP.catalog}%%\n{certificates}%%\n"
 
@@ -55,7 +55,7 @@ def commit_line(commands: list[Command]) -> str:
 
 
 def check_publish(tally: Tally, server: Server) -> None:
-    """All of it."""
+    """Tests all of this."""
     text = head()
     check_answers(tally, text)
     check_ports(tally, text)
@@ -74,7 +74,7 @@ def check_publish(tally: Tally, server: Server) -> None:
 
 
 def check_answers(tally: Tally, text: str) -> None:
-    """Each line is answered at once."""
+    """Checks that each line is answered at once."""
     with publishing(text) as (program, _):
         for line, expected in ANSWERS:
             tally.check(f"publish answers {line}", program.ask(line), f"{expected}\n")
@@ -92,7 +92,7 @@ def check_answers(tally: Tally, text: str) -> None:
 
 
 def check_ports(tally: Tally, text: str) -> None:
-    """The file of a port, and a port that is taken."""
+    """Tests the file of a port, and a port that is taken."""
     with tempfile.NamedTemporaryFile("r") as file, publishing(text, "--port-file", file.name) as (_, port):
         tally.check("the port in the file", file.read(), f"{port}\n")
         with started([PGSHARD, "publish", "--port", str(port)], text) as second:
@@ -102,7 +102,7 @@ def check_ports(tally: Tally, text: str) -> None:
 
 
 def check_stream(tally: Tally, text: str) -> None:
-    """A client that is cut after each commit gets each transaction, whatever it had confirmed."""
+    """Checks that a client that is cut off after each commit gets each transaction, whatever it had confirmed."""
     with publishing(text, "--keepalive", "86400") as (program, port):
         made = SHOP.publisher().__class__(SHOP.tables)
         position = 0
@@ -120,8 +120,8 @@ def check_stream(tally: Tally, text: str) -> None:
 
 
 def check_following(tally: Tally, text: str) -> None:
-    """A copy is sent what its slot is sent after the copy's stream began. A subscriber whose connection is lost while a
-    table catches up waits for it."""
+    """Checks that a copy is sent what its slot is sent after the copy's stream has begun, and that a subscriber whose
+    connection is lost while a table catches up waits for the copy."""
     copies = "pg_1_sync_2_3"
     with with_front(text) as (program, port), client(port) as stream, client(port) as copy:
         program.ask("COMMIT INSERT orders (1, 20, 500, NULL, NULL);")
@@ -147,7 +147,7 @@ def check_following(tally: Tally, text: str) -> None:
 
 
 def commit_ends(connection: Connection, count: int) -> list[int]:
-    """Reads this many Commit messages. Returns where their transactions end."""
+    """Reads this many Commit messages. Returns the ends of their transactions."""
     got, found = b"", []
     while len(found) < count:
         piece = connection.receive_as_is(1)
@@ -160,7 +160,7 @@ def commit_ends(connection: Connection, count: int) -> list[int]:
 
 
 def check_files(tally: Tally, text: str) -> None:
-    """The script pgshard with a file for each part, and with one file, and commands on the standard input."""
+    """Tests the script pgshard with a file for each part, and with one file, and commands on standard input."""
     catalog, certificates, _ = text.split("%%\n")
     with tempfile.TemporaryDirectory() as name:
         folder = pathlib.Path(name)
@@ -183,7 +183,7 @@ def check_files(tally: Tally, text: str) -> None:
 
 
 def check_troubles(tally: Tally, server: Server, text: str) -> None:
-    """A conflict that heals, and a subscription that is disabled for a while."""
+    """Tests a conflict that is resolved, and a subscription that is disabled for a while."""
     with with_front(text) as (program, port):
         subscribe_all(server, port)
         server.psql(MADE["london"], "INSERT INTO orders VALUES (1, 20, 1, NULL, NULL);")
@@ -201,7 +201,7 @@ def check_troubles(tally: Tally, server: Server, text: str) -> None:
 
 
 def check_table(tally: Tally, server: Server, name: str, slot: str, expected: str) -> None:
-    """The orders of a subscriber, in time."""
+    """Checks the orders of a subscriber, in time."""
     until = time.monotonic() + SECONDS
     query = "SELECT coalesce(string_agg(id::text, ' ' ORDER BY id), '') FROM orders;"
     while (found := server.psql(MADE[slot], query)) != expected and time.monotonic() < until:
@@ -210,7 +210,7 @@ def check_table(tally: Tally, server: Server, name: str, slot: str, expected: st
 
 
 def check_workloads(tally: Tally, server: Server, text: str) -> None:
-    """Random workloads, whose commits are said one at a time, while connections are cut."""
+    """Runs random workloads, whose commits are sent one at a time while connections are cut."""
     cuts = 0
     for number in range(WORKLOADS):
         chosen = random.Random(f"{seed()} publish {number}")
@@ -219,7 +219,7 @@ def check_workloads(tally: Tally, server: Server, text: str) -> None:
 
 
 def check_workload(tally: Tally, server: Server, name: str, text: str, chosen: random.Random) -> int:
-    """One workload. Returns how many connections were cut."""
+    """Runs a workload. Returns how many connections were cut."""
     made = dataclasses.replace(SHOP, commits=workload(chosen))
     server.psql(MADE["publisher"], "\n".join([f"TRUNCATE {TABLES};", *map(transaction_text, made.commits)]))
     left = [chosen.randrange(1, LATEST_CUT) for _ in range(chosen.randrange(CUTS + 1))]
@@ -251,7 +251,7 @@ def in_file(text: str) -> Iterator[str]:
 
 @contextlib.contextmanager
 def with_front(text: str) -> Iterator[tuple[Publication, int]]:
-    """publish, and the port of a front before it."""
+    """Runs publish with a front, and yields it with the front's port."""
     with publishing(text) as (program, port), in_file(text) as file:
         with fronting(port, "--catalog", file) as (_, front_port):
             yield program, front_port

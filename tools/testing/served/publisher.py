@@ -1,7 +1,7 @@
-"""What each subscriber is to be told of the commits of a script, worked out row by row from the rules of the
-documentation, and nothing of it by pgshard.
+"""What each subscriber should be sent for the commits of a script, computed row by row from the rules of the
+documentation, without any use of pgshard.
 
-Commit n has the LSN 64 n, ends at 64 n + 64, and has the transaction n + 2; table n, from 0, has the OID 16384 + n.
+Commit n has the LSN 64 n, ends at 64 n + 64, and has the transaction ID n + 2; table n, from 0, has the OID 16384 + n.
 """
 
 from collections.abc import Callable
@@ -15,8 +15,8 @@ Passes = Callable[[Row], bool | None]
 
 @dataclass(frozen=True)
 class Table:
-    """A table of the schema public. Its columns are names with types; `key` and `identity` are numbers of columns, the
-    second all of them under FULL."""
+    """A table of the schema public. Its columns are names with types. `key` and `identity` are numbers of columns;
+    under FULL the identity consists of all columns."""
 
     name: str
     columns: tuple[tuple[str, str], ...]
@@ -31,7 +31,7 @@ class Table:
         return tuple(row[at] for at in self.identity)
 
     def old_part(self, old: Row, new: Row | None) -> bytes:
-        """What a message says of an old row that `new` replaces, or that goes."""
+        """Returns what a message contains of an old row that is deleted or that `new` replaces."""
         if self.letter == "f":
             return b"O" + messages.tuple_of(old)
         if new is not None and self.identity_of(old) == self.identity_of(new):
@@ -68,7 +68,7 @@ Command = Insert | Update | Delete | Truncate
 
 @dataclass(frozen=True)
 class Change:
-    """A change of one row, or of some tables where both rows are missing."""
+    """A change of one row, or of some tables if both rows are missing."""
 
     tables: tuple[str, ...]
     old: Row | None = None
@@ -77,7 +77,7 @@ class Change:
 
 @dataclass(frozen=True)
 class Subscriber:
-    """A slot, the publications of its subscription, and which rows of each table they let through."""
+    """A slot, the publications of its subscription, and which rows of each table they pass."""
 
     slot: str
     publications: tuple[str, ...]
@@ -99,7 +99,7 @@ class Publisher:
         self.rows = {table.name: {} for table in self.tables}
 
     def table(self, name: str) -> tuple[int, Table]:
-        """A table with its OID."""
+        """Returns a table with its OID."""
         return next((16384 + at, table) for at, table in enumerate(self.tables) if table.name == name)
 
     def commit(self, commands: list[Command]) -> None:
@@ -123,16 +123,16 @@ class Publisher:
                 return Change(names)
 
     def end(self) -> int:
-        """Where the log ends."""
+        """Returns the end of the log."""
         return end_of(len(self.log))
 
     def shard(self, subscriber: Subscriber, table: str) -> list[Row]:
-        """The rows of a table that a subscriber is to have, by their keys."""
+        """Returns the rows of a table that a subscriber should have, in the order of their keys."""
         return sorted(row for row in self.rows[table].values() if subscriber.takes(table, row))
 
     def transactions(self, subscriber: Subscriber, position: int = 0) -> list[list[tuple[int, bytes]]]:
-        """The messages of each commit that a subscriber is told about from a position on, with no times, each with the
-        position in the log that it is sent with."""
+        """Returns the messages of each commit that a subscriber is sent from a position on, without times. Each message
+        has the log position with which it is sent."""
         told: set[str] = set()
         found = []
         for number, changes in enumerate(self.log, 1):
@@ -146,13 +146,13 @@ class Publisher:
         return found
 
     def stream(self, subscriber: Subscriber, position: int = 0) -> bytes:
-        """All that a connection is sent, with no clocks and no times."""
+        """Returns everything that a connection is sent, without clocks and times."""
         told = [it for transaction in self.transactions(subscriber, position) for it in transaction]
         return messages.COPY_BOTH_RESPONSE + b"".join(messages.xlog_data(*it) for it in told)
 
     def said(self, subscriber: Subscriber, change: Change, told: set[str]) -> list[bytes]:
-        """The message of a change, after the Relations of tables that come for the first time; nothing if the
-        subscriber gets nothing of it."""
+        """Returns the message of a change, after the Relations of tables that are sent for the first time; or nothing
+        if the subscriber gets nothing of the change."""
         message = self.message(subscriber, change)
         if message is None:
             return []
@@ -180,7 +180,7 @@ class Publisher:
 
 
 def end_of(number: int) -> int:
-    """Where a commit ends."""
+    """Returns the end of a commit."""
     return 64 * number + 64
 
 

@@ -1,4 +1,4 @@
-"""pg_recvlogical, which writes the messages of a slot to a file, through tools/front."""
+"""Tests pg_recvlogical, which writes a slot's messages to a file, through tools/front."""
 
 import pathlib
 import subprocess
@@ -12,8 +12,8 @@ from .program import SECONDS, fronting, serving, use_up
 from .publisher import Subscriber, end_of
 from .shop import LONDON, SHOP, TOKYO
 
-# What is asked for in turn of one publisher: slots, and positions. It cannot be asked twice for a slot, since whatever
-# was read is confirmed.
+# The slots and positions that are requested from one publisher, in turn. A slot cannot be requested twice, since
+# everything that was read is confirmed.
 ASKED = [
     [(TOKYO, 0), (LONDON, end_of(4))],
     [(LONDON, 0)],
@@ -31,7 +31,7 @@ def check_recvlogical(tally: Tally) -> None:
 
 
 def check_start(tally: Tally, port: int, subscriber: Subscriber, position: int) -> None:
-    """What it writes, that it ends by itself at the end of the log, and what it is told about its slot."""
+    """Checks what pg_recvlogical writes, that it ends at the end of the log, and its message about its slot."""
     name = f"pg_recvlogical of {subscriber.slot} from {messages.written(position)}"
     with tempfile.TemporaryDirectory() as folder:
         file = pathlib.Path(folder) / "messages"
@@ -47,7 +47,8 @@ def check_start(tally: Tally, port: int, subscriber: Subscriber, position: int) 
 
 
 def not_dropped(subscriber: Subscriber, position: int) -> str:
-    """What it says where a slot would not start afresh, since nobody had its stream from the beginning of the log."""
+    """Returns the message for a slot that would not start afresh, since nobody has read its stream from the beginning
+    of the log."""
     return (
         f'pg_recvlogical: error: could not send replication command "DROP_REPLICATION_SLOT "{subscriber.slot}"": '
         f'ERROR:  replication slot "{subscriber.slot}" cannot be dropped, since it would not start from the beginning: '
@@ -63,7 +64,7 @@ def start_words(subscriber: Subscriber, position: int, file: pathlib.Path) -> li
 
 
 def run(port: int, subscriber: Subscriber, *words: str) -> tuple[int | None, str]:
-    """Its status, and what it says."""
+    """Returns the status and the messages of pg_recvlogical."""
     command = [PROGRAMS / "pg_recvlogical", "-h", "127.0.0.1", "-p", str(port), "-U", "postgres", "-d", "shop"]
     try:
         answer = subprocess.run(
@@ -75,13 +76,13 @@ def run(port: int, subscriber: Subscriber, *words: str) -> tuple[int | None, str
 
 
 def written_messages(subscriber: Subscriber, position: int) -> list[bytes]:
-    """Each with the newline that pg_recvlogical writes after it."""
+    """Returns the messages, each followed by the newline that pg_recvlogical writes."""
     transactions = SHOP.publisher().transactions(subscriber, position)
     return [message + b"\n" for transaction in transactions for _, message in transaction]
 
 
 def cut(found: bytes, expected: list[bytes]) -> list[bytes]:
-    """What was written in pieces as long as those that are expected, with no times, and then what is left."""
+    """Cuts the output into pieces as long as the expected ones, without times, followed by what is left."""
     pieces = []
     for message in expected:
         pieces.append(messages.without_time(found[:len(message)]))

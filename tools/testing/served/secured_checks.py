@@ -1,4 +1,4 @@
-"""tools/front with a password and TLS, by psql, and by bytes that no client should send."""
+"""Tests tools/front with a password and TLS, by psql, and with bytes that no client should send."""
 
 import contextlib
 import pathlib
@@ -21,11 +21,11 @@ NOT_SENT = "fe_sendauth: no password supplied\n"
 PLAIN = "FATAL:  tools/front accepts only TLS connections; use sslmode=require\n"
 
 TLS = struct.pack("!I", 80877103)
-# The first message of RFC 7677's example, and what is no first message.
+# The first message of the example in RFC 7677, and messages that are not a first message.
 MECHANISM = b"SCRAM-SHA-256\0"
 FIRST = b"n,,n=user,r=rOprNGfwEbeRWgbNEkqO"
 SASL = bytes.fromhex("52 00000017 0000000a") + MECHANISM + b"\0"
-# A frame's head, the client's nonce and the server's, a salt in base64, and the count of iterations.
+# The length of a frame's head, the client's nonce and the server's, a salt in base64, and the number of iterations.
 CONTINUE = 9 + len(b"r=") + 20 + 24 + len(b",s=") + 24 + len(b",i=4096")
 NO_ANSWER = messages.frame(b"E", b"SFATAL\0VFATAL\0C08P01\0Mexpected a password message\0\0")
 BAD_FIRSTS = [
@@ -40,7 +40,7 @@ BAD_LASTS = [
 
 
 def check_secured(tally: Tally) -> None:
-    """A password, and TLS with it and without."""
+    """Tests a password with TLS and without."""
     with tempfile.TemporaryDirectory() as name:
         folder = pathlib.Path(name)
         file = folder / "password"
@@ -56,7 +56,7 @@ def check_secured(tally: Tally) -> None:
 
 
 def check_password(tally: Tally, port: int) -> None:
-    """Who knows the password is let in."""
+    """Checks that only a client that knows the password is admitted."""
     for given, ending in (PASSWORD, "UTC\n"), (f"{PASSWORD} ", DENIED), ("another line", DENIED), ("", NOT_SENT):
         variables = {"PGPASSWORD": given, "PGPASSFILE": "/dev/null"}
         found = psql(port, "SHOW TimeZone", **variables)
@@ -64,7 +64,7 @@ def check_password(tally: Tally, port: int) -> None:
 
 
 def check_exchanges(tally: Tally, port: int) -> None:
-    """Messages of SCRAM that are wrong, each at its place."""
+    """Tests wrong SCRAM messages at each step."""
     for first in BAD_FIRSTS:
         with exchanging(port) as made:
             made.send(messages.frame(b"p", first))
@@ -84,7 +84,7 @@ def check_exchanges(tally: Tally, port: int) -> None:
 
 @contextlib.contextmanager
 def exchanging(port: int) -> Iterator:
-    """A client that is asked for its password."""
+    """Connects a client that is asked for its password."""
     with client(port) as made:
         made.send(packet(STARTUP))
         made.receive(len(SASL))
@@ -92,14 +92,14 @@ def exchanging(port: int) -> Iterator:
 
 
 def check_denied(tally: Tally, what: str, found: bytes) -> None:
-    """The client is denied, and nothing else."""
+    """Checks that the client is denied access, and gets nothing else."""
     words = b'password authentication failed for user "postgres"'
     expected = messages.frame(b"E", b"SFATAL\0VFATAL\0C28P01\0M" + words + b"\0\0")
     tally.check(what, found, expected)
 
 
 def make_certificate(folder: pathlib.Path) -> None:
-    """A certificate for 127.0.0.1 that is its own authority."""
+    """Creates a self-signed certificate for 127.0.0.1."""
     subprocess.run(
         ["openssl", "req", "-x509", "-newkey", "rsa:2048", "-nodes", "-days", "2", "-subj", "/CN=127.0.0.1", "-addext",
          "subjectAltName=IP:127.0.0.1", "-keyout", folder / "key", "-out", folder / "certificate"],
@@ -107,7 +107,7 @@ def make_certificate(folder: pathlib.Path) -> None:
 
 
 def check_tls(tally: Tally, folder: pathlib.Path, file: pathlib.Path) -> None:
-    """TLS is demanded, and has the certificate."""
+    """Checks that TLS is required and uses the certificate."""
     words = "--certificate", str(folder / "certificate"), "--key", str(folder / "key")
     verified = {"PGSSLMODE": "verify-full", "PGSSLROOTCERT": str(folder / "certificate")}
     with nobody() as port, fronting(port, *words, "--password-file", str(file)) as (_, front_port):

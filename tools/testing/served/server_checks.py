@@ -1,7 +1,8 @@
-"""What a PostgreSQL server itself tells subscribers of the shop's commits, beside what is expected of `pgshard serve`.
+"""Compares what a PostgreSQL server sends subscribers for the shop's commits with what `pgshard serve` is expected to
+send.
 
-Positions, times, numbers of transactions and OIDs are each server's own, and a server says the Relation of a table more
-than once. All else is the same.
+Positions, times, transaction IDs and OIDs differ between servers, and a server sends a table's Relation more than once.
+Everything else is the same.
 """
 
 from programs import without_subscriptions
@@ -16,7 +17,7 @@ DATABASE = "told"
 
 
 def check_messages(tally: Tally, server: Server) -> None:
-    """The messages of each subscriber."""
+    """Compares the messages of each subscriber."""
     server.create(DATABASE, without_subscriptions(SHOP.catalog))
     for subscriber in SHOP.subscribers:
         server.psql(DATABASE, f"SELECT pg_create_logical_replication_slot('{slot_of(subscriber)}', 'pgoutput');")
@@ -29,12 +30,12 @@ def check_messages(tally: Tally, server: Server) -> None:
 
 
 def slot_of(subscriber: Subscriber) -> str:
-    """A slot of the server that no other test has."""
+    """Returns the name of a slot that no other test uses."""
     return f"{DATABASE}_{subscriber.slot}"
 
 
 def messages_of(server: Server, subscriber: Subscriber) -> list[bytes]:
-    """All that comes of a slot."""
+    """Returns everything that a slot sends."""
     listed = server.psql(DATABASE, f"""
         SELECT encode(data, 'hex') FROM pg_logical_slot_get_binary_changes(
             '{slot_of(subscriber)}', NULL, NULL, 'proto_version', '1',
@@ -44,13 +45,13 @@ def messages_of(server: Server, subscriber: Subscriber) -> list[bytes]:
 
 
 def lines_of(messages: list[bytes]) -> str:
-    """Messages without what is each server's own: a line for each, with names in place of OIDs."""
+    """Returns a line for each message, without what differs between servers, and with names instead of OIDs."""
     names: dict[bytes, str] = {}
     return "".join(line_of(message, names) for message in messages)
 
 
 def line_of(message: bytes, names: dict[bytes, str]) -> str:
-    """A message's line, none if it is the Relation of a table that `names` has already."""
+    """Returns a message's line, or nothing if it is the Relation of a table that `names` already contains."""
     letter, oid = message[:1].decode(), message[1:5]
     match letter:
         case "B" | "C":

@@ -1,4 +1,4 @@
-"""A catalog with a script of commits, and what is to come of them."""
+"""A catalog with a script of commits, and the expected result."""
 
 from dataclasses import dataclass
 
@@ -10,7 +10,7 @@ from .publisher import Command, Publisher, Subscriber, Table, command_text
 
 @dataclass(frozen=True)
 class Sharding:
-    """A catalog text, what it says, and commits, of which some are refused, by their numbers from 1."""
+    """A catalog's text, its meaning, and commits. The refused ones are given by their numbers, from 1."""
 
     catalog: str
     tables: tuple[Table, ...]
@@ -19,7 +19,7 @@ class Sharding:
     refused: frozenset[int] = frozenset()
 
     def publisher(self) -> Publisher:
-        """A publisher that has made the other commits."""
+        """Returns a publisher that has made the other commits."""
         made = Publisher(self.tables)
         for number, commands in enumerate(self.commits, 1):
             if number not in self.refused:
@@ -27,10 +27,10 @@ class Sharding:
         return made
 
     def input(self) -> str:
-        """The input of serve, with the certificates that make finds."""
+        """Returns the input of serve, with the certificates that make finds."""
         _, certificates = pgshard("make", text=self.catalog, seconds=SECONDS)
         return f"{self.catalog}%%\n{certificates}%%\n{self.script()}"
 
     def script(self) -> str:
-        """A step a line."""
+        """Returns the script, one step per line."""
         return "".join(f"COMMIT {', '.join(map(command_text, commands))};\n" for commands in self.commits)

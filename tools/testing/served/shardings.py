@@ -1,4 +1,4 @@
-"""Halves of a table, a table that is split over many subscribers, and rows that take megabytes."""
+"""A table divided into halves, one divided over many subscribers, and rows of several megabytes."""
 
 import itertools
 
@@ -18,10 +18,10 @@ S0 = Subscriber("s0", ("pa",), {"t": lambda row: row[0] < 100})
 S1 = Subscriber("s1", ("pb",), {"t": lambda row: row[0] >= 100})
 
 CROWD = 32
-# How often each row of the crowd goes on to the next subscriber.
+# How often each row of the crowd moves to the next subscriber.
 ROUNDS = 10
 
-# Rows of one subscriber that take 7 MB, more than what a system keeps of a connection that nobody reads.
+# Rows of one subscriber that take 7 MB, more than a system buffers for a connection that nobody reads.
 LARGE = 60_000
 LARGE_ROWS = 120
 
@@ -29,7 +29,7 @@ MOST_COMMANDS = 64
 
 
 def halves(commits: list[list[Command]], refused: frozenset[int] = frozenset()) -> Sharding:
-    """Rows go to s0 where the number is below 100, and otherwise to s1."""
+    """Rows with a number below 100 go to s0, and the others to s1."""
     return Sharding(HALVES_CATALOG, (TABLE,), (S0, S1), commits, refused)
 
 
@@ -48,7 +48,7 @@ def growing() -> Sharding:
 
 
 def crowd() -> Sharding:
-    """Each of many subscribers has one row, which goes from one to the next."""
+    """Each of many subscribers has one row, which moves from one subscriber to the next."""
     commits: list[list[Command]] = [[Insert("t", (number, number)) for number in range(CROWD)]]
     for turn in range(1, ROUNDS + 1):
         commits.append([Update("t", (number,), (number, (number + turn) % CROWD)) for number in range(CROWD)])
@@ -56,7 +56,7 @@ def crowd() -> Sharding:
 
 
 def of_crowd(columns: tuple[tuple[str, str], ...], commits: list[list[Command]], many: int = CROWD) -> Sharding:
-    """The second column of a table, from 0, says which of many subscribers has a row."""
+    """The second column of the table is the number, from 0, of the subscriber that has the row."""
     tests = ["turn < 1", *(f"turn = {number}" for number in range(1, many - 1)), f"turn >= {many - 1}"]
     listed = ", ".join(f"{name} {kind} NOT NULL" for name, kind in columns)
     catalog = f"CREATE TABLE t ({listed}, PRIMARY KEY (id));\nALTER TABLE t REPLICA IDENTITY FULL;\n"

@@ -1,4 +1,5 @@
-"""A shop whose three tables are identified in three ways, divided over two subscribers, and a script of commits."""
+"""A shop with three tables that have different replica identities, divided over two subscribers, and a script of
+commits."""
 
 from .publisher import Command, Delete, Insert, Subscriber, Table, Truncate, Update
 from .sharding import Sharding
@@ -39,7 +40,7 @@ TOKYO = Subscriber("tokyo", ("high", "nowhere"), {
     "accounts": lambda row: row[1] != "a",
 })
 
-# The filters of the catalog in SQL, those of one subscriber together.
+# The filters of the catalog in SQL; those of one subscriber are joined.
 FILTERS = {
     "london": {"orders": "region < 100", "stock": "place < 10", "accounts": "code = 'a'"},
     "tokyo": {"orders": "region >= 100 OR region IS NULL", "stock": "place >= 10", "accounts": "code <> 'a'"},
@@ -55,10 +56,10 @@ COMMITS: list[list[Command]] = [
         Insert("accounts", (1, "a", "Ada")),
         Insert("accounts", (2, "b", None)),
     ],
-    # Rows that stay where they are: with the same identity, and with another one.
+    # Rows that stay with their subscriber: with the same identity, and with another one.
     [Update("orders", (1,), (1, 30, 500, "d'été", None)), Update("stock", (1, "pen"), (1, "pen", 9))],
     [Update("stock", (12, "pen"), (13, "ink", 21)), Update("accounts", (2,), (20, "c", "Grace"))],
-    # To the other subscriber and, some of them, back in the same commit.
+    # Rows that move to the other subscriber; some of them move back in the same commit.
     [Update("orders", (1,), (1, 300, 500, "moved", True)), Update("orders", (2,), (2, 7, 700, "moved", False))],
     [Update("stock", (1, "pen"), (11, "pen", 9)), Update("accounts", (1,), (1, "z", "Ada"))],
     [
@@ -66,7 +67,7 @@ COMMITS: list[list[Command]] = [
         Update("orders", (3,), (4, None, -2, "and back", None)),
         Update("accounts", (20,), (2, "a", "Grace")),
     ],
-    # For one subscriber alone.
+    # Changes for one subscriber only.
     [Insert("stock", (2, "cap", 1)), Insert("stock", (3, "cap", 2)), Delete("stock", (2, "cap"))],
     [Delete("orders", (2,)), Delete("accounts", (1,))],
     [Truncate(("stock", "accounts")), Insert("stock", (4, "hat", 3)), Insert("accounts", (5, "a", None))],

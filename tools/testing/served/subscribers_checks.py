@@ -1,6 +1,6 @@
-"""PostgreSQL subscribers of two shards, fed by `pgshard serve` through tools/front.
+"""Tests PostgreSQL subscribers of two shards, which get their rows from `pgshard serve` through tools/front.
 
-What each is to have is what a third database says, in which the script's commits are made by SQL.
+The expected rows come from a third database, in which the script's commits are made in SQL.
 """
 
 import re
@@ -17,27 +17,28 @@ from .program import SECONDS, fronting, serving, use_up
 from .publisher import Command, Delete, Insert, Truncate, Update, literal, row_text
 from .shop import FILTERS, SHOP, TOKYO
 
-# More than the subscribers and a lost connection need, since a subscriber may try again before its slot is free.
+# More connections than the subscribers and a lost connection need, since a subscriber may retry before its slot is
+# free.
 CONNECTIONS = 30
 
-# Of which transaction that tokyo gets the first half comes, and then the end of the connection.
+# The transaction of tokyo in the middle of which the connection ends.
 CUT = 6
 
-# Which versions of PostgreSQL clients are told about.
+# The versions of PostgreSQL that clients are told.
 VERSIONS = ["15.18", "13.18"]
 
-# In place of the five seconds that a server waits before it connects again.
+# Replaces the five seconds that a server waits before it reconnects.
 SETTINGS = ["ALTER SYSTEM SET wal_retrieve_retry_interval = '200ms';", "SELECT pg_reload_conf();"]
 
 
 def check_versions(tally: Tally, server: Server) -> None:
-    """Both subscribers of a publisher of each version."""
+    """Tests both subscribers with a publisher of each version."""
     for version in VERSIONS:
         check_subscribers(tally, server, version)
 
 
 def check_subscribers(tally: Tally, server: Server, version: str) -> None:
-    """Both subscribers, where clients are told about a version of the publisher."""
+    """Tests both subscribers, with clients that are told this version of the publisher."""
     name = f"subscribers of a publisher {version}"
     for setting in SETTINGS:
         server.psql("postgres", setting)
@@ -65,7 +66,7 @@ def check_subscribers(tally: Tally, server: Server, version: str) -> None:
 
 
 def cut_at() -> int:
-    """The number of bytes that come before the middle of a transaction of tokyo's."""
+    """Returns the number of bytes before the middle of a transaction of tokyo."""
     transactions = SHOP.publisher().transactions(TOKYO)
     whole = sum(map(length, transactions[:CUT - 1]))
     return len(messages.COPY_BOTH_RESPONSE) + whole + length(transactions[CUT - 1]) // 2
@@ -76,7 +77,8 @@ def length(transaction: list[tuple[int, bytes]]) -> int:
 
 
 def databases(server: Server, version: str) -> dict[str, str]:
-    """A database for each subscriber by its slot, and one of the publisher with all rows, by the name `publisher`."""
+    """Returns a database for each subscriber, by slot, and one of the publisher with all rows, under the name
+    `publisher`."""
     made = {name: f"{name}_{version.partition('.')[0]}" for name in ("london", "tokyo", "publisher")}
     for database in made.values():
         server.create(database, without_subscriptions(SHOP.catalog))
@@ -85,7 +87,7 @@ def databases(server: Server, version: str) -> dict[str, str]:
 
 
 def transaction_text(commands: list[Command]) -> str:
-    """A commit's commands in SQL."""
+    """Returns a commit's commands in SQL."""
     return "BEGIN;\n" + "".join(f"{sql_text(command)};\n" for command in commands) + "COMMIT;"
 
 
@@ -130,7 +132,7 @@ def unsubscribe(server: Server, made: dict[str, str]) -> None:
 
 
 def reached(server: Server, made: dict[str, str], end: str) -> list[str]:
-    """How far the subscribers come, which is the end if they come so far in time."""
+    """Returns the positions that the subscribers reach in time."""
     until = time.monotonic() + SECONDS
     while True:
         found = [applied(server, made[subscriber.slot]) for subscriber in SHOP.subscribers]
@@ -140,7 +142,7 @@ def reached(server: Server, made: dict[str, str], end: str) -> list[str]:
 
 
 def applied(server: Server, subscription: str) -> str:
-    """Where the last transaction ends that a subscriber has applied."""
+    """Returns the end of the last transaction that a subscriber has applied."""
     return server.psql(subscription, f"""
         SELECT o.remote_lsn FROM pg_replication_origin_status o
         JOIN pg_subscription s ON o.external_id = 'pg_' || s.oid
@@ -149,7 +151,7 @@ def applied(server: Server, subscription: str) -> str:
 
 
 def check_rows(tally: Tally, server: Server, name: str, made: dict[str, str]) -> None:
-    """Each subscriber has its rows, and all have all rows."""
+    """Checks that each subscriber has its rows, and that together they have all rows."""
     for table in SHOP.tables:
         found = []
         for subscriber in SHOP.subscribers:
@@ -166,7 +168,7 @@ def rows_of(server: Server, database: str, table: str, condition: str = "true") 
 
 
 def asked_again(cutter: Cutter) -> bool:
-    """Whether the first start after the loss is where a transaction ends that had come whole."""
+    """Returns whether the first start after the loss is at the end of a transaction that had arrived completely."""
     whole = SHOP.publisher().transactions(TOKYO)[:CUT - 1]
     ends = {"0/0", *(messages.written(transaction[0][0] + 64) for transaction in whole)}
     asked = [re.search(rb"LOGICAL (\S+)", start)[1].decode() for start in cutter.starts]

@@ -1,4 +1,4 @@
-"""What `pgshard publish` does as time goes by, and what it says of connections as objects of JSON."""
+"""Tests what `pgshard publish` does as time passes, and its log of connections, which consists of JSON objects."""
 
 import json
 import socket
@@ -14,18 +14,18 @@ from .publish_checks import commit_line, head
 from .publisher import Insert, Publisher
 from .shop import LONDON, SHOP, TOKYO
 
-# For how many seconds a client may be silent, and how long one stays at least that is not.
+# For how many seconds a client may send nothing, and how long a client that does is kept at least.
 SILENCE = 4
 STAY = 7
 PAUSE = 0.2
 
-# For how many seconds a client may take nothing, how much later its end may come on a busy machine, and what is committed
-# for a client that reads nothing: more than sockets hold.
+# For how many seconds a client may leave everything unread, how much later its end may come on a busy machine, and the
+# commits for a client that reads nothing: more than sockets hold.
 STALL = 2
 DELAY = 60
 LONG_ROWS, LONG_TEXT = 200, 60_000
 
-# How many keepalives are awaited, a second apart. The first may be one that was due before the stream began.
+# How many keepalives are expected, one second apart. The first may have been due before the stream began.
 KEEPALIVES = 4
 LEAST = KEEPALIVES - 2
 
@@ -38,13 +38,13 @@ TAKEN = "port {} of 127.0.0.1 cannot be used: Address already in use (os error 9
 
 TOOK_NOTHING = "the connection was lost, or the client read nothing for too long"
 
-# The name of a slot in which JSON needs escapes, and as SQL has it.
+# A slot name that needs escapes in JSON, and its form in SQL.
 STRANGE = 'a"b\\c'
 STRANGE_QUOTED = '"a""b\\c"'
 
 
 def check_timing(tally: Tally) -> None:
-    """All of it."""
+    """Tests all of this."""
     text = head()
     check_words(tally, text)
     check_keepalives(tally, text)
@@ -56,7 +56,7 @@ def check_timing(tally: Tally) -> None:
 
 
 def check_words(tally: Tally, text: str) -> None:
-    """Usage errors, and a help that has the options."""
+    """Tests usage errors, and that the help lists the options."""
     for wrong in WRONG_WORDS:
         status, output = pgshard("publish", "--port", "0", *wrong, text=text, seconds=SECONDS)
         tally.check(f"publish {' '.join(wrong)}", (status, output.startswith("command line\n")), (2, True))
@@ -66,13 +66,14 @@ def check_words(tally: Tally, text: str) -> None:
 
 
 def next_frame(made: Connection) -> bytes:
-    """The next frame, with no clock."""
+    """Returns the next frame, without its clock."""
     first = made.receive_as_is(5)
     return messages.without_times(first + made.receive_as_is(int.from_bytes(first[1:5], "big") - 4))
 
 
 def check_keepalives(tally: Tally, text: str) -> None:
-    """Each client gets keepalives a second apart, which say how far it was sent the log."""
+    """Checks that each client gets keepalives one second apart, which give the log position up to which it has been
+    sent changes."""
     with publishing(text, "--keepalive", "1") as (program, port), client(port) as made, client(port) as other:
         begin = time.monotonic()
         for connection, subscriber in (made, LONDON), (other, TOKYO):
@@ -95,7 +96,7 @@ def check_keepalives(tally: Tally, text: str) -> None:
 
 
 def frames_up_to(made: Connection, last: bytes) -> list[bytes]:
-    """The next frames up to this one, or as many as come in time."""
+    """Returns the next frames up to and including this one, or as many as come in time."""
     until = time.monotonic() + SECONDS
     frames = [next_frame(made)]
     while frames[-1] and frames[-1] != last and time.monotonic() < until:
@@ -104,7 +105,7 @@ def frames_up_to(made: Connection, last: bytes) -> list[bytes]:
 
 
 def check_silence(tally: Tally, text: str) -> None:
-    """A client that says nothing for a while is given up, and one that says something is not."""
+    """Checks that a client that sends nothing for a while is given up, and one that sends something is not."""
     words = "--timeout", str(SILENCE), "--keepalive", "86400"
     with publishing(text, *words) as (program, port), client(port) as silent, client(port) as other:
         begin, given_up = time.monotonic(), 0.0
@@ -127,7 +128,8 @@ def check_silence(tally: Tally, text: str) -> None:
 
 
 def check_stalled(tally: Tally, text: str) -> None:
-    """A client that reads nothing is given up soon, however long it may be silent. Then its slot loses nothing."""
+    """Checks that a client that reads nothing is given up soon, however long it may be silent, and that its slot then
+    loses nothing."""
     made = Publisher(SHOP.tables)
     words = "--write-timeout", str(STALL), "--timeout", "600", "--keepalive", "86400"
     with publishing(text, *words) as (program, port), client(port, LITTLE) as stalled:
@@ -157,7 +159,7 @@ def address(opened: socket.socket) -> str:
 
 
 def timeless(lines: list[str], begin: float) -> list[dict[str, object]]:
-    """The objects of some lines, whose times are whether they are of the run, in milliseconds."""
+    """Returns the objects of some lines. Each time is replaced by whether it is within the run, in milliseconds."""
     objects = [json.loads(line) for line in lines]
     for it in objects:
         it["time"] = begin - 1 <= it["time"] / 1000 <= time.time() + 1
@@ -165,7 +167,7 @@ def timeless(lines: list[str], begin: float) -> list[dict[str, object]]:
 
 
 def check_objects(tally: Tally, text: str) -> None:
-    """A client that is sent a commit, and one that starts nothing."""
+    """Tests a client that is sent a commit, and one that starts nothing."""
     begin = time.time()
     publisher = Publisher(SHOP.tables)
     publisher.commit(SHOP.commits[0])
@@ -194,7 +196,7 @@ def check_objects(tally: Tally, text: str) -> None:
 
 
 def check_strange_name(tally: Tally, text: str) -> None:
-    """A name in which JSON needs escapes."""
+    """Tests a name that needs escapes in JSON."""
     strange = text.replace("CREATE SUBSCRIPTION london", f"CREATE SUBSCRIPTION {STRANGE_QUOTED}")
     start = f"START_REPLICATION SLOT {STRANGE_QUOTED} LOGICAL 0/0 (proto_version '1', publication_names 'low')"
     with publishing(strange, "--log", "json") as (program, port):
@@ -209,7 +211,7 @@ def check_strange_name(tally: Tally, text: str) -> None:
 
 
 def check_fault(tally: Tally, text: str) -> None:
-    """A port that is taken."""
+    """Tests a port that is taken."""
     begin = time.time()
     with publishing(text) as (_, port), started([PGSHARD, "publish", "--port", str(port), "--log", "json"], text) as second:
         tally.check("publish with objects at a port that is taken", second.end(), (4, []))

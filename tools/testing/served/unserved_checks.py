@@ -1,4 +1,4 @@
-"""Whom `pgshard serve` says on standard error that it did not serve."""
+"""Tests which subscriptions `pgshard serve` names on standard error as not served."""
 
 import re
 import socket
@@ -16,7 +16,7 @@ CONNECTIONS = 40
 
 
 def check_unserved(tally: Tally) -> None:
-    """Runs of two subscriptions."""
+    """Tests runs with two subscriptions."""
     check_strangers(tally)
     check_refused_start(tally)
     check_lost(tally)
@@ -28,7 +28,7 @@ def never_started(*slots: str) -> list[str]:
 
 
 def check_whole(tally: Tally, port: int, publisher: Publisher, subscriber: Subscriber) -> None:
-    """A client that gets all."""
+    """Runs a client that gets everything."""
     with client(port) as made:
         made.start(subscriber)
         found = stream_of(made, publisher, subscriber)
@@ -36,13 +36,13 @@ def check_whole(tally: Tally, port: int, publisher: Publisher, subscriber: Subsc
 
 
 def check_end(tally: Tally, name: str, program: Started, last: str, said: list[str]) -> None:
-    """How a run ends, and what it says on standard error."""
+    """Checks how a run ends, and what it writes to standard error."""
     tally.check(f"{name}: the end", program.end(), (0, [last]))
     tally.check(f"{name}: standard error", program.whole_log(), said)
 
 
 def check_strangers(tally: Tally) -> None:
-    """Connections that ask for nothing take the places of none, one and both subscribers."""
+    """Connections that request nothing take the place of no subscriber, of one, and of both."""
     sharding = halves(TWO_COMMITS)
     subscribers = S0, S1
     for served in 2, 1, 0:
@@ -56,7 +56,7 @@ def check_strangers(tally: Tally) -> None:
 
 
 def check_refused_start(tally: Tally) -> None:
-    """A client that asks for a slot that is in use has started no stream."""
+    """A client that asks for a slot in use has not started a stream."""
     sharding = halves(TWO_COMMITS)
     with serving(sharding.input()) as (program, port), client(port) as first, client(port) as second:
         first.start(S0)
@@ -70,7 +70,7 @@ def check_refused_start(tally: Tally) -> None:
 
 
 def check_lost(tally: Tally) -> None:
-    """A client that is lost before it has all."""
+    """A client whose connection is lost before it has everything."""
     sharding = large()
     publisher = sharding.publisher()
     with serving(sharding.input()) as (program, port):
@@ -87,7 +87,7 @@ def check_lost(tally: Tally) -> None:
 
 
 def check_late_start(tally: Tally) -> None:
-    """A client that has the log already is served."""
+    """A client that already has the whole log counts as served."""
     sharding = halves(TWO_COMMITS)
     publisher = sharding.publisher()
     with serving(sharding.input(), "--connections", str(CONNECTIONS)) as (program, port):

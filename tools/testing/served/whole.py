@@ -1,4 +1,4 @@
-"""Clients that are served their whole streams by `pgshard serve`."""
+"""Clients that get their whole streams from `pgshard serve`."""
 
 import contextlib
 import time
@@ -10,11 +10,11 @@ from .publisher import Command, Insert, Publisher, Subscriber, end_of
 from .shardings import S0, S1
 from .shop import LONDON, TOKYO
 
-# What clients found, with a name, and what they should have found.
+# Descriptions, each with what clients found and what they should have found.
 Findings = Iterator[tuple[str, object, object]]
 
-# Commits of halves, and what each client is sent of them, with P in place of a position, and 0 in place of K, a clock,
-# and of T, a time.
+# Commits of halves, and what each client is sent for them, with P for a position, and 0 for K, a clock, and for T, a
+# time.
 TWO_COMMITS: list[list[Command]] = [[Insert("t", (7, "eu"))], [Insert("t", (150, "us"))]]
 TWO_STREAMS = [
     (S0, """
@@ -42,17 +42,17 @@ EPOCH = 946_684_800
 
 
 def stream_of(made: Connection, publisher: Publisher, subscriber: Subscriber, position: int = 0) -> bytes:
-    """What a client that has started gets, as many bytes as its stream has, and then of the end of the stream."""
+    """Returns what a started client gets: as many bytes as its stream has, and then the end of the stream."""
     return made.receive(len(publisher.stream(subscriber, position))) + made.finish()
 
 
 def whole_stream(publisher: Publisher, subscriber: Subscriber, position: int = 0) -> bytes:
-    """What it has to get: its stream and CopyDone, and nothing more."""
+    """Returns what it should get: its stream and CopyDone, and nothing more."""
     return publisher.stream(subscriber, position) + messages.COPY_DONE
 
 
 def written_bytes(port: int, publisher: Publisher) -> Findings:
-    """Two clients, whose bytes are written down."""
+    """Two clients, whose expected bytes are written out."""
     with client(port) as first, client(port) as second:
         for made, (subscriber, text, position) in zip((first, second), TWO_STREAMS):
             made.start(subscriber)
@@ -75,13 +75,13 @@ def together(subscribers: tuple[Subscriber, ...]) -> Callable[[int, Publisher], 
 
 
 def got_whole(made: Connection, publisher: Publisher, subscriber: Subscriber, position: int = 0) -> Findings:
-    """The stream that a started client gets, and what it has to get."""
+    """Compares the stream that a started client gets with the expected one."""
     found = stream_of(made, publisher, subscriber, position)
     yield f"what {subscriber.slot} gets", found, whole_stream(publisher, subscriber, position)
 
 
 def byte_by_byte(port: int, publisher: Publisher) -> Findings:
-    """One sends its start byte by byte, and then statuses; the other reads byte by byte."""
+    """One client sends its start byte by byte, and then statuses; the other reads byte by byte."""
     with client(port) as first, client(port) as second:
         first.send_slowly(messages.start("london", 0, ["low"]) + messages.status(0) + messages.status(0))
         second.start(TOKYO)
@@ -92,8 +92,8 @@ def byte_by_byte(port: int, publisher: Publisher) -> Findings:
 
 
 def times(port: int, publisher: Publisher) -> Findings:
-    """The clock of each frame is that of the run. The time of a transaction is the number of its step, in its Begin and
-    in its Commit."""
+    """Checks that the clock of each frame is within the run, and that the time in a transaction's Begin and Commit is
+    the number of its step."""
     before = clock()
     with client(port) as first, client(port) as second:
         first.start(LONDON)
@@ -108,12 +108,12 @@ def times(port: int, publisher: Publisher) -> Findings:
 
 
 def clock() -> int:
-    """The microseconds since the year 2000."""
+    """Returns the microseconds since the year 2000."""
     return int((time.time() - EPOCH) * 1_000_000)
 
 
 def late(port: int, publisher: Publisher) -> Findings:
-    """One connects at once and starts only after the other was served and has gone."""
+    """One client connects at once, and starts only after the other was served and has disconnected."""
     with client(port) as second:
         second.send(messages.start("tokyo", 0, ["high", "nowhere"])[:20])
         with client(port) as first:
@@ -124,15 +124,15 @@ def late(port: int, publisher: Publisher) -> Findings:
 
 
 def from_positions(port: int, publisher: Publisher) -> Findings:
-    """One starts in the middle of the log, the other at its end, from where nothing comes; each once the log is so
-    long."""
+    """One client starts in the middle of the log, and the other at its end, after which nothing comes; each starts when
+    the log has become that long."""
     for subscriber, position in (LONDON, end_of(4)), (TOKYO, publisher.end()):
         with back_again(port, subscriber, position) as made:
             yield from got_whole(made, publisher, subscriber, position)
 
 
 def asks_for_replies(port: int, publisher: Publisher) -> Findings:
-    """One reads nothing for a while, so that it is not sent everything, and asks for a reply."""
+    """One client reads nothing for a while, so that it is not sent everything, and requests a reply."""
     with client(port, LITTLE) as slow, client(port) as other:
         slow.start(S1)
         other.start(S0)
