@@ -1,6 +1,6 @@
-"""Runs of pgshard on texts that are written down or made here, with what each has to answer. They need no server.
+"""Runs of pgshard on texts that are written down or generated here, with the expected answers. They need no server.
 
-Each file has a topic, and its function `cases` gives the topic's runs.
+Each file has a topic, and its function `cases` yields the topic's runs.
 """
 
 from tally import Tally
@@ -35,7 +35,7 @@ TOPICS = [
 
 
 def check_runs(tally: Tally) -> None:
-    """Makes all the runs."""
+    """Makes all runs."""
     for topic in TOPICS:
         for case in topic.cases():
             case.check(tally)

@@ -1,4 +1,4 @@
-"""What a run of pgshard is given, and what it has to answer."""
+"""The input of a run of pgshard, and its expected answer."""
 
 import resource
 from dataclasses import dataclass
@@ -6,18 +6,18 @@ from dataclasses import dataclass
 from programs import pgshard
 from tally import Tally
 
-# What check writes of a sound sharding.
+# The output of check for a sound sharding.
 ACCEPTED = "accepted\n"
 
-# How long a run may take, on a machine that does much else, too; and how many seconds of a processor one whose input is
-# so long that it would take more if its time grew by the square of that.
+# The time limit of a run, also on a busy machine; and how many seconds of processor time a run with a long input may
+# take, which it would exceed if its time grew quadratically.
 SECONDS = 300
 LONG_SECONDS = 20
 
 
 @dataclass(frozen=True)
 class Outline:
-    """How an output begins and ends, a text that is in it, and its number of lines, where that is asked."""
+    """How an output begins and ends, a text that it contains, and its number of lines, if these are to be checked."""
 
     begin: str = ""
     end: str = ""
@@ -25,7 +25,7 @@ class Outline:
     lines: int | None = None
 
     def of(self, output: str) -> "Outline":
-        """What an output has in place of these."""
+        """Returns the same properties of an output."""
         return Outline(
             begin=output[:len(self.begin)],
             end=output[max(len(output) - len(self.end), 0):],
@@ -35,8 +35,8 @@ class Outline:
 
 @dataclass(frozen=True)
 class Case:
-    """A run, with the status that it has to have, its whole output or an outline of it, and how many seconds of a
-    processor it may take."""
+    """A run, with its expected status, its whole output or an outline of it, and the seconds of processor time that it
+    may take."""
 
     name: str
     words: tuple[str, ...]
@@ -60,7 +60,7 @@ class Case:
 
 @dataclass(frozen=True)
 class Made:
-    """A catalog. `make` has to find certificates of its tables that `check` then accepts."""
+    """A catalog for whose tables `make` has to find certificates that `check` then accepts."""
 
     name: str
     catalog: str
@@ -77,7 +77,7 @@ class Made:
 
 @dataclass(frozen=True)
 class Sized:
-    """A catalog of one table whose certificate has at least this many nodes, and fewer than this many."""
+    """A catalog of one table whose certificate has at least one number of nodes, and fewer than another."""
 
     name: str
     catalog: str
@@ -93,16 +93,16 @@ class Sized:
 
 
 def processor_seconds() -> float:
-    """What the programs have used of processors that have ended."""
+    """Returns the processor time that programs have used that have ended."""
     used = resource.getrusage(resource.RUSAGE_CHILDREN)
     return used.ru_utime + used.ru_stime
 
 
 def ended(status: int | None, output: str) -> str:
-    """An output with the status as its last line."""
+    """Returns an output with the status as its last line."""
     return f"{output}status {status}\n"
 
 
 def two_parts(catalog: str, lines: str) -> str:
-    """An input of two parts. The first is empty, or ends with a newline."""
+    """Returns an input of two parts. The first is empty, or ends with a newline."""
     return f"{catalog}%%\n{lines}"

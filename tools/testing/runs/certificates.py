@@ -1,11 +1,11 @@
-"""Certificates of several tables, and refusals that name what a catalog has."""
+"""Certificates of several tables, and refusals that name objects of a catalog."""
 
 from collections.abc import Iterator
 
 from .case import ACCEPTED, Case, two_parts
 
-# Three tables, two of one name: the first is cut in two, the others are each carried whole. The publications, the
-# subscriptions and the tables have other numbers.
+# Three tables, two with the same name: the first is split in two, and the others are carried whole. The publications,
+# the subscriptions and the tables are numbered differently.
 MANY = """\
 CREATE SCHEMA west;
 CREATE TABLE t (id integer, region text, PRIMARY KEY (id));
@@ -65,7 +65,7 @@ NAMES: list[tuple[str, str, int, str]] = [
 
 
 def cases() -> Iterator[Case]:
-    """A run of check for each."""
+    """Yields a run of check for each."""
     words = ("check",)
     for number, (first, second, third, status, expected) in enumerate(THREE, 1):
         text = two_parts(MANY, f"{first}\n{second}\n{third}\n")

@@ -5,10 +5,10 @@ from collections.abc import Iterator
 from .case import ACCEPTED, Case, two_parts
 from .catalogs import INDEXED, REGIONS, C, halves
 
-# As C, where the second half is named by two conditions.
+# As C, but two conditions define the second half.
 THREE = "s 0 s 1 e 0 s 2 e 0 o 0 n 2 n 1 s 1 o 1 s 2 o 1 e 0 n 2 n 1 n 0\n"
 
-# The same, but with the rows that neither of those two conditions takes left out.
+# The same, but without the rows that neither of those two conditions takes.
 HOLE = "s 0 s 1 e 0 s 2 e 0 o 0 n 2 n 1 s 1 o 1 e 0 n 1 n 0\n"
 
 # The certificate of REGIONS.
@@ -64,15 +64,15 @@ HALVES: list[tuple[str, str, str, int, str]] = [
     ("", "", "o 1\n", 1, "refused SecondOwner public.t 0 s0\n"),
 ]
 
-# The rows of a table by a condition and by its negation.
+# The rows of a table are divided by a condition and its negation.
 NOT_LOW = " WHERE (NOT id < 100)"
 
-# Rows of any key by whether their region is null, which is written as that a comparison is unknown.
+# Rows with any key are divided by whether their region is null, which is expressed by a comparison that is unknown.
 UNKNOWN = "(region = 'eu') IS UNKNOWN"
 KNOWN_REGIONS = f" WHERE ((id < 100 OR NOT id < 100) AND NOT ({UNKNOWN}))"
 UNKNOWN_REGIONS = f" WHERE ((id < 100 OR NOT id < 100) AND {UNKNOWN})"
 
-# A condition with one part 120 times, and its negation.
+# A condition that contains the same part 120 times, and its negation.
 OFTEN = " OR ".join(["id < 100 AND region IS NULL"] * 120)
 IS_OFTEN = f" WHERE ({OFTEN})"
 NOT_OFTEN = f" WHERE (NOT ({OFTEN}))"
@@ -84,15 +84,15 @@ NOT_MANY = f" WHERE (NOT ({MANY}))"
 
 
 def one_after_another(last: int) -> str:
-    """A split by each of 64 atoms, each in the false branch of the one before. The first subscriber has the rows for
-    which one is true, and this one those for which all are false."""
+    """Returns a split by each of 64 atoms, each in the false branch of the one before. The first subscriber has the
+    rows for which one of them is true, and this one those for which all are false."""
     splits = "".join(f"s {atom} o 0 " for atom in range(64))
     ends = "".join(f" n {atom}" for atom in reversed(range(64)))
     return f"{splits}o {last}{ends}\n"
 
 
-# As HALVES: atoms that are met again on a path, that are open again after their split, and that are in conditions
-# often.
+# As HALVES, with atoms that occur again on a path, that are open again after their split, or that occur in conditions
+# many times.
 PATHS: list[tuple[str, str, str, int, str]] = [
     (LOW, NOT_LOW, "s 0 o 0 o 1 n 0\n", 0, ACCEPTED),
     (LOW, NOT_LOW, "s 0 o 1 o 0 n 0\n", 1, "refused NotOwner public.t 1\n"),
@@ -119,7 +119,7 @@ PATHS: list[tuple[str, str, str, int, str]] = [
     (IS_MANY, NOT_MANY, one_after_another(0), 1, "refused NotOwner public.t 128\n"),
 ]
 
-# Two publications of a table. One of them publishes too little.
+# Two publications of a table, one of which publishes too few operations.
 INSERTS = """\
 CREATE TABLE t (id integer, region text, PRIMARY KEY (id));
 CREATE PUBLICATION pa FOR TABLE t WHERE (region = 'eu') WITH (publish = 'insert');
@@ -128,7 +128,7 @@ CREATE SUBSCRIPTION s0 CONNECTION '' PUBLICATION pa;
 CREATE SUBSCRIPTION s1 CONNECTION '' PUBLICATION pb;
 """
 
-# Halves of a table. The publication of one leaves out truncate.
+# Halves of a table. The publication of one does not publish truncate.
 KEEPS = """\
 CREATE TABLE t (id integer PRIMARY KEY);
 CREATE PUBLICATION pa FOR TABLE t WHERE (id < 100) WITH (publish = 'insert, update, delete');
@@ -137,7 +137,7 @@ CREATE SUBSCRIPTION s0 CONNECTION '' PUBLICATION pa;
 CREATE SUBSCRIPTION s1 CONNECTION '' PUBLICATION pb;
 """
 
-# As INSERTS, but that it publishes all, and names a column outside the primary key.
+# As INSERTS, but it publishes all operations, and its filter uses a column outside the primary key.
 OUTSIDE = """\
 CREATE TABLE t (id integer, region text, PRIMARY KEY (id));
 CREATE PUBLICATION pa FOR TABLE t WHERE (region = 'eu');
@@ -146,7 +146,8 @@ CREATE SUBSCRIPTION s0 CONNECTION '' PUBLICATION pa;
 CREATE SUBSCRIPTION s1 CONNECTION '' PUBLICATION pb;
 """
 
-# Halves by a truth value that may be null, which goes to neither. That the value is neither TRUE nor FALSE leaves null.
+# Halves by a boolean column. Rows in which it is null go to neither: a value that is neither TRUE nor FALSE may be
+# null.
 TRUTHS = """\
 CREATE TABLE t (id integer, ok boolean, PRIMARY KEY (id));
 ALTER TABLE t REPLICA IDENTITY FULL;
@@ -156,7 +157,7 @@ CREATE SUBSCRIPTION s0 CONNECTION '' PUBLICATION pa;
 CREATE SUBSCRIPTION s1 CONNECTION '' PUBLICATION pb;
 """
 
-# Rows are identified by an index, and one half is by a column outside it.
+# The replica identity is an index, and the filter of one half uses another column.
 BESIDE = """\
 CREATE TABLE u (id integer, code text NOT NULL, note text, PRIMARY KEY (id));
 CREATE UNIQUE INDEX u_code ON u (code);
@@ -174,7 +175,7 @@ CREATE UNIQUE INDEX u_code ON u (code);
 ALTER TABLE u REPLICA IDENTITY USING INDEX u_code;
 """
 
-# Halves of a table whose old rows are not recorded.
+# Halves of a table whose old rows are not logged.
 NOTHING = """\
 CREATE TABLE t (id integer, region text, PRIMARY KEY (id));
 ALTER TABLE t REPLICA IDENTITY NOTHING;
@@ -197,8 +198,8 @@ ALL = "insert, update, delete, truncate"
 
 
 def by_region(identity: str, publishes: str) -> str:
-    """A table with this replica identity. The first subscriber takes its rows by a column outside the primary key, from
-    a publication of these operations."""
+    """Returns a table with this replica identity. The first subscriber takes its rows by a column outside the primary
+    key, from a publication of these operations."""
     return f"""\
 CREATE TABLE t (id integer, region text, PRIMARY KEY (id));
 CREATE UNIQUE INDEX i ON t (id);
@@ -242,21 +243,21 @@ CATALOGS: list[tuple[str, str, int, str]] = [
     ("%%\n", "o\n", 3, "input\n"),
 ]
 
-# A certificate of 65 splits, one below another, and no more.
+# A certificate of 65 nested splits, which then ends.
 DEEP = "s 0 " * 65
 
-# What is answered of a tree of 8 levels of splits by the first atom: at its first leaf the second one is open.
+# The answer for a tree of 8 levels of splits by the first atom: at its first leaf, the second atom is open.
 OPEN = "refused SecondOwner public.t 8 s1\n"
 
 
 def tree_of(levels: int) -> str:
-    """A tree of this many levels of splits by the first atom. With 8 it has 9,841 nodes."""
+    """Returns a tree of this many levels of splits by the first atom. With 8 levels it has 9,841 nodes."""
     below = tree_of(levels - 1) if levels else ""
     return f"s 0 {below} {below} {below}" if levels else "o 0"
 
 
 def cases() -> Iterator[Case]:
-    """A run of check for each."""
+    """Yields a run of check for each."""
     words = ("check",)
     for number, (first, second, certificates, status, expected) in enumerate(HALVES, 1):
         text = two_parts(halves(first, second), certificates)

@@ -1,6 +1,6 @@
 """Usage errors, help and versions.
 
-A command line without any word, not even the program's name, is tested in crates/sender_tests.
+An empty command line, which lacks even the program's name, is tested in crates/sender_tests.
 """
 
 from collections.abc import Iterator
@@ -32,10 +32,10 @@ REFUSED: list[tuple[str, ...]] = [
     ("simulate", "--limit"),
 ]
 
-# Limits of a log that are none.
+# Invalid limits of a log.
 LIMITS = ["0", "1000000001", "4294967297", "1e3"]
 
-# What asks for help, and a part of the help.
+# Words that request help, and a part of the help.
 HELP: list[tuple[tuple[str, ...], str]] = [
     (("--help",), f"pgshard {VERSION}"),
     (("--help",), "standard input"),
@@ -75,7 +75,7 @@ VERSIONS: list[tuple[tuple[str, ...], str]] = [
 
 
 def cases() -> Iterator[Case]:
-    """A run for each."""
+    """Yields a run for each."""
     refused = Outline(begin="command line\nerror: ", end="try '--help'.\n")
     for words in REFUSED:
         yield Case(f"the words {words} are refused", words, BASE, 2, refused)

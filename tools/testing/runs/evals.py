@@ -1,5 +1,5 @@
-"""Filters of eval at their limits, with ample memory: as many atoms, nodes and constants as a table may have. What each
-row's line has to be is computed by the model."""
+"""Filters of eval at their limits, with ample memory: as many atoms, nodes and constants as a table may have. The
+expected line of each row is computed by the model."""
 
 from collections.abc import Iterator
 from itertools import count, cycle, islice
@@ -11,20 +11,20 @@ from model.values import written
 
 from .case import Case, two_parts
 
-# The most atoms that the filters of a table may have, the most nodes, and the most constants of a list.
+# The most atoms and nodes that the filters of a table may have, and the most constants of a list.
 ATOMS, NODES, ENTRIES = 64, 1_000, 100
 
-# Remainders that have a filter each.
+# The number of remainders that have a filter each.
 REMAINDERS = 60
 
-# How many rows are read. Nearly no two of them are told the same.
+# The number of rows. Hardly any two of them have the same answer.
 ROWS = 2_000
 
 TABLE = Table("public", "t", (Column("k", "bigint", True), Column("n", "bigint", False)), (0,))
 
 
 def cases() -> Iterator[Case]:
-    """Each of the limits, also with --insert."""
+    """Yields a run for each limit, also with --insert."""
     filters = {
         "64 atoms": atoms(),
         "1,000 nodes": [nodes()],
@@ -40,7 +40,7 @@ def cases() -> Iterator[Case]:
 
 
 def run(name: str, catalog: Catalog, words: tuple[str, ...], is_insert: bool) -> Case:
-    """A run on rows whose lines the model gives."""
+    """Returns a run on rows for which the model gives the lines."""
     given = list(rows())
     text = "".join(f"({', '.join(written(it) for it in row)})\n" for row in given)
     lines = "".join(f"{eval_line(catalog, 0, row, is_insert)}\n" for row in given)
@@ -49,8 +49,8 @@ def run(name: str, catalog: Catalog, words: tuple[str, ...], is_insert: bool) ->
 
 
 def rows() -> Iterator[Row]:
-    """Rows with small keys and large ones of both signs, the least that is read and the greatest, and a number or
-    null."""
+    """Yields rows with small and large keys of both signs, including the least that can be read and the greatest, and a
+    number or null."""
     ends = (0, -1, 1, -2**63 + 1, 2**63 - 1, -2**63 + 2, 2**63 - 2)
     keys = [*ends, *((-1) ** at * 48_271**(1 + at % 4) * (at + 1) % 2**62 for at in range(ROWS))]
     for at, key in enumerate(dict.fromkeys(keys)):
@@ -58,23 +58,23 @@ def rows() -> Iterator[Row]:
 
 
 def primes(least: int) -> Iterator[int]:
-    """The prime numbers from one on."""
+    """Yields the prime numbers from a number on."""
     return (it for it in count(least) if all(it % one for one in range(2, int(it**0.5) + 1)))
 
 
 def remainders(column: int, number: int) -> list[Filter]:
-    """Remainders by this many primes of which half are below a bound."""
+    """Returns filters on the remainders by this many primes; half of the remainders are below a bound."""
     return [("cmp", column, it, "<", it // 2) for it in islice(primes(3), number)]
 
 
 def atoms() -> list[Filter]:
-    """As many filters of one atom each as there may be, half of which may be null."""
+    """Returns the greatest number of filters of one atom each; half of the atoms may be null."""
     return [*remainders(0, ATOMS // 2), *remainders(1, ATOMS // 2)]
 
 
 def nodes() -> Filter:
-    """A filter of as many nodes as there may be: 500 atoms, of which 64 are different, layers of AND and OR, and a
-    NOT."""
+    """Returns a filter with the greatest number of nodes: 500 atoms, of which 64 are different, layers of AND and OR,
+    and a NOT."""
     own, heads = atoms(), cycle(("and", "or", "or", "and"))
     layer: list[Filter] = [own[at * 29 % ATOMS] for at in range(NODES // 2)]
     while len(layer) > 1:
@@ -85,12 +85,12 @@ def nodes() -> Filter:
 
 
 def lists(least: int = 211) -> list[Filter]:
-    """As many lists of remainders as there may be constants, each of another remainder."""
+    """Returns lists of remainders with the greatest number of constants, each list for another remainder."""
     divisors = islice(primes(least), REMAINDERS)
     return [("in", 0, it, tuple(sorted({at * 37 % it for at in range(ENTRIES)}))) for it in divisors]
 
 
 def keys() -> list[Filter]:
-    """Lists of the keys themselves."""
+    """Returns lists of the keys themselves."""
     given = [row[0] for row in rows()]
     return [("in", 0, 0, tuple(sorted(given[at::REMAINDERS][:ENTRIES]))) for at in range(REMAINDERS)]

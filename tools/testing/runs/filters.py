@@ -1,4 +1,4 @@
-"""Filters and catalogs of the whole language, and what eval writes of rows."""
+"""Filters and catalogs with the whole language, and what eval prints for rows."""
 
 from collections.abc import Iterator
 
@@ -61,7 +61,7 @@ CREATE PUBLICATION p;"""
 
 
 def cases() -> Iterator[Case]:
-    """A run of eval for each."""
+    """Yields a run of eval for each."""
     for number, (catalog, expected) in enumerate(FAULTS, 1):
         yield evaluation(f"a fault of a filter, case {number}", catalog, "", 3, expected)
     for number, (condition, rows, expected) in enumerate(VALUES, 1):
@@ -71,5 +71,5 @@ def cases() -> Iterator[Case]:
 
 
 def evaluation(name: str, catalog: str, rows: str, status: int, expected: str) -> Case:
-    """A run of eval on a catalog whose last line is not ended."""
+    """Returns a run of eval on a catalog whose last line has no newline."""
     return Case(name, ("eval", "t"), two_parts(f"{catalog}\n", rows), status, expected)

@@ -1,4 +1,4 @@
-"""Certificates over IN, BETWEEN and IS DISTINCT FROM, each with what `check` says of it, and what `make` finds."""
+"""Certificates over IN, BETWEEN and IS DISTINCT FROM, with what `check` says of each, and what `make` finds."""
 
 from collections.abc import Iterator
 
@@ -8,34 +8,34 @@ from .families import catalog
 ID = "id integer PRIMARY KEY"
 REGION = f"{ID}, region text"
 
-# One owner where the atom is true, another where it is false, and no row where it is null.
+# One owner if the atom is true, another if it is false, and no rows for which it is null.
 TWO_WAYS = "s 0 o 0 o 1 n 0"
 
-# Remainders by 51 are the 101 numbers from -50 to 50.
+# The remainders by 51 are the 101 numbers from -50 to 50.
 HUNDRED = f"id % 51 IN ({', '.join(str(it) for it in range(-50, 50))})"
 
-# Two regions, and the others with nulls; and what is true of all but one of them, and of null.
+# Two regions, and the others with nulls; and what is true for all regions but one, and for null.
 LISTED = ["region IN ('eu', 'us')", "region NOT IN ('us', 'eu') OR region IS NULL"]
 ELSEWHERE = ["region IN ('eu', 'us')", "region IS DISTINCT FROM 'eu' OR region IS DISTINCT FROM 'us'"]
 EXACTLY = ["ok IS NOT DISTINCT FROM TRUE", "ok IS NOT DISTINCT FROM FALSE"]
 EXACTLY_PAID = [it.replace("ok", "paid") for it in EXACTLY]
 
-# A truth value, and no row where it is neither true nor false; the same after the nulls.
+# A boolean, with no rows for which it is neither true nor false; the same with nulls first.
 TRUE_OR_FALSE = "s 0 s 1 e 0 o 1 n 1 s 1 o 0 e 0 n 1 n 0"
 AFTER_NULLS = f"s 2 s 0 s 1 o 2 e 0 n 1 e 0 n 0 {TRUE_OR_FALSE} n 2"
 
-# The columns, the filters of the subscribers, and certificates with the answers: none if it is accepted.
+# The columns, the filters of the subscribers, and certificates with their faults, which are empty if they are accepted.
 FORMS: list[tuple[str, list[str], list[tuple[str, str]]]] = [
     (ID, ["id BETWEEN 1 AND 9", "id NOT BETWEEN 1 AND 9"], [
         (TWO_WAYS, ""), ("s 0 e 0 o 1 n 0", "NotEmpty public.t 1"), ("s 0 o 0 e 0 n 0", "NotEmpty public.t 2"),
         ("s 0 o 0 o 1 o 1", "NotOwner public.t 3"),
     ]),
-    # No number is between a greater and a smaller one, and one is between equal ones.
+    # No number is between a greater and a smaller number, and one number is between two equal ones.
     (ID, ["id BETWEEN 9 AND 8", "id NOT BETWEEN 9 AND 8"], [
         ("s 0 e 0 o 1 n 0", ""), ("s 0 o 0 e 0 n 0", "NotEmpty public.t 2"),
     ]),
     (ID, ["id BETWEEN 9 AND 9", "id NOT BETWEEN 9 AND 9"], [("s 0 e 0 o 1 n 0", "NotEmpty public.t 1")]),
-    # A number of a column that may be null is outside the range, or null.
+    # A value of a nullable column is outside the range, or null.
     (f"{ID}, low smallint", ["low BETWEEN -32768 AND 9", "low NOT BETWEEN -32768 AND 9 OR low IS NULL"], [
         ("s 0 s 1 e 0 o 0 n 1 o 1 s 1 o 1 e 0 n 1", ""),
         ("s 0 s 1 e 0 o 0 n 1 o 1 n 0", "MayBeNull public.t 6"),
@@ -51,13 +51,13 @@ FORMS: list[tuple[str, list[str], list[tuple[str, str]]]] = [
     (REGION, ["region IS DISTINCT FROM 'eu'", "region IS NOT DISTINCT FROM 'eu'"], [
         (TWO_WAYS, ""), ("s 0 e 0 o 1 n 0", "NotEmpty public.t 1"), ("s 0 o 0 e 0 n 0", "NotEmpty public.t 2"),
     ]),
-    # Where a text is in the list, and is neither of its texts, there is none.
+    # No text is in the list and equal to neither of its texts.
     (REGION, ELSEWHERE, [
         ("s 0 s 1 e 0 e 0 n 1 e 0 e 0", "NotEmpty public.t 2"),
         ("s 0 s 1 s 2 e 0 e 0 n 2 e 0 n 1 e 0 e 0", "NotEmpty public.t 4"),
     ]),
-    # What differs from each truth value is null, which a column may be, or is not by its declaration or by what was
-    # found.
+    # A value that is distinct from both booleans is null. The column may be null, or it is not null by its declaration
+    # or by what is known already.
     (f"{ID}, ok boolean NOT NULL", EXACTLY, [(TRUE_OR_FALSE, "")]),
     (f"{ID}, ok boolean", EXACTLY, [(TRUE_OR_FALSE, "NotEmpty public.t 2")]),
     (f"{ID}, ok boolean", [*EXACTLY, "ok IS NULL"], [(AFTER_NULLS, "")]),
@@ -87,7 +87,8 @@ DIVIDED: list[tuple[str, list[str]]] = [
     ]),
 ]
 
-# The same of shardings in which some row has no owner, or two, and how the line begins and ends that shows it.
+# Columns and filters of shardings in which some row has no owner or two, and how the line that shows the row begins and
+# ends.
 NOT_DIVIDED: list[tuple[str, list[str], str, str]] = [
     (ID, ["id IN (5, 7)", "id IN (7, 9) OR id NOT IN (5, 7, 9)"], "(7) ", "owners s0,s1"),
     (ID, ["id BETWEEN 10 AND 20", "id BETWEEN 20 AND 30", "id NOT BETWEEN 10 AND 30"], "(20) ", "owners s0,s1"),
@@ -101,7 +102,7 @@ NOT_DIVIDED: list[tuple[str, list[str], str, str]] = [
 
 
 def cases() -> Iterator[Case | Made]:
-    """A run of check for each certificate, and of make for each sharding."""
+    """Yields a run of check for each certificate, and of make for each sharding."""
     for columns, filters, certificates in FORMS:
         for certificate, refusal in certificates:
             name = f"check of {certificate} for {filters[0][:40]}"

@@ -1,4 +1,4 @@
-"""Inputs with other parts than two, that are not UTF-8, or that are too long."""
+"""Inputs that do not have two parts, that are not UTF-8, or that are too long."""
 
 from collections.abc import Iterator
 
@@ -9,7 +9,7 @@ TABLE = "CREATE TABLE t (id integer PRIMARY KEY);"
 # The longest input, in bytes.
 MAX_INPUT = 16_777_216
 
-# What comes after the table's line, and the output and the status.
+# What follows the table's line, and the output and the status.
 ENDS: list[tuple[bytes, str, int]] = [
     (b"", "input\n", 3),
     (b"\n", "input\n", 3),
@@ -32,7 +32,7 @@ LENGTHS: list[tuple[int, str, int]] = [
 
 
 def cases() -> Iterator[Case]:
-    """A run of eval for each."""
+    """Yields a run of eval for each."""
     words = ("eval", "t")
     for number, (end, expected, status) in enumerate(ENDS, 1):
         yield Case(f"parts of an input, case {number}", words, TABLE.encode() + b"\n" + end, status, expected)
@@ -41,6 +41,6 @@ def cases() -> Iterator[Case]:
 
 
 def spaced(length: int) -> str:
-    """A catalog and a row with as many spaces between as make it so long."""
+    """Returns a catalog and a row with enough spaces between them to reach this length."""
     rows = "\n%%\n(1)"
     return TABLE + " " * (length - len(TABLE) - len(rows)) + rows

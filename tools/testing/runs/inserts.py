@@ -1,4 +1,4 @@
-"""Rows of a table, and the Insert messages that eval writes of them."""
+"""Rows of a table, and the Insert messages that eval prints for them."""
 
 from collections.abc import Iterator
 
@@ -61,7 +61,7 @@ INSERTS: list[tuple[str, str, str, int]] = [
 
 
 def cases() -> Iterator[Case]:
-    """A run of eval for each, and one with the flag before the table's name."""
+    """Yields a run of eval for each, and one with the flag before the table's name."""
     for number, (catalog, rows, expected, status) in enumerate(INSERTS, 1):
         for words in ("eval", "t", "--insert"), ("eval", "--insert", "t"):
             name = f"{' '.join(words)}, case {number}"

@@ -14,12 +14,12 @@ from .simulations import end_of, text_of, three_parts, view_of
 # The longest text that a value may have, in bytes.
 MAX_TEXT = 65_535
 
-# Rows of the simulation of many tables, each by its table's number and its key.
+# Rows of the simulation of many tables, each given by its table's number and its key.
 Rows = list[tuple[int, int]]
 
 
 def cases() -> Iterator[Case | Made]:
-    """The runs for each limit."""
+    """Yields the runs for each limit."""
     yield from columns()
     yield from texts()
     yield from longest_row()
@@ -32,7 +32,7 @@ def cases() -> Iterator[Case | Made]:
 
 
 def columns() -> Iterator[Case]:
-    """A table of 100 columns, and one of more."""
+    """Yields a table of 100 columns, and one with one more."""
     defined = ", ".join(f"c{number} integer" for number in range(100))
     values = ", ".join(str(number) for number in range(100))
     catalog = (
@@ -47,7 +47,7 @@ def columns() -> Iterator[Case]:
 
 
 def texts() -> Iterator[Case]:
-    """The longest text, one that is longer, and an empty one."""
+    """Yields the longest text, a longer one, and an empty one."""
     catalog = (
         "CREATE TABLE t (id integer PRIMARY KEY, name text); "
         "CREATE PUBLICATION p FOR TABLE t WHERE (name = '' OR id = 1);\n")
@@ -65,7 +65,7 @@ def texts() -> Iterator[Case]:
 
 
 def longest_row() -> Iterator[Case]:
-    """A row of 100 texts of quotes that makes the input as long as it may be, and one with a space more."""
+    """Yields a row of 100 texts of quotes that makes the input as long as allowed, and one with a space more."""
     quotes = "''" * MAX_TEXT
     defined = ", ".join(f"c{number} text" for number in range(100))
     values = ", ".join([f"'{quotes}'"] * 100)
@@ -80,7 +80,7 @@ def longest_row() -> Iterator[Case]:
 
 
 def largest_catalog() -> str:
-    """64 tables, each cut in 32 by its key."""
+    """Returns 64 tables, each split into 32 parts by its key."""
     statements = [f"CREATE TABLE t{table} (id integer PRIMARY KEY);\n" for table in range(64)]
     for part in range(32):
         condition = condition_of(part)
@@ -91,7 +91,7 @@ def largest_catalog() -> str:
 
 
 def condition_of(part: int) -> str:
-    """The keys of one of 32 parts."""
+    """Returns the keys of one of 32 parts."""
     low = part * 100
     high = low + 100
     if part == 0:
@@ -102,7 +102,7 @@ def condition_of(part: int) -> str:
 
 
 def largest_certificate() -> Iterator[Case]:
-    """A certificate of 1,000,000 nodes, and one of three more."""
+    """Yields a certificate of 1,000,000 nodes, and one of three more."""
     catalog = halves(" WHERE (id < 100)", " WHERE (id >= 100)")
     for splits, status, expected in (333_330, 0, ACCEPTED), (333_331, 3, "certificate 1 TooLarge\n"):
         certificate = f"s 0 s 1 {empty_tree(splits)}o 0 n 1 s 1 o 1 e 0 n 1 n 0"
@@ -111,7 +111,8 @@ def largest_certificate() -> Iterator[Case]:
 
 
 def last_nodes() -> Iterator[Case]:
-    """The last of 1,000,000 nodes, and the last of 64 splits one below another, has an owner that is not there."""
+    """Yields certificates in which the last of 1,000,000 nodes, or the last of 64 nested splits, has an owner that does
+    not exist."""
     catalog = (
         "CREATE TABLE t (id integer, region text, PRIMARY KEY (id));\n"
         "CREATE PUBLICATION pa FOR TABLE t WHERE (id < 0 OR TRUE);\n"
@@ -125,12 +126,12 @@ def last_nodes() -> Iterator[Case]:
 
 
 def empty_tree(splits: int) -> str:
-    """A tree of this many splits. Each of its leaves says that no row comes to it."""
+    """Returns a tree of this many splits. Each of its leaves says that no row reaches it."""
     return tree(splits, "e 0 ")
 
 
 def tree(splits: int, leaf: str) -> str:
-    """A tree of this many splits, with this leaf."""
+    """Returns a tree of this many splits with this leaf."""
     nodes = []
     left = [splits]
     while left:
@@ -146,8 +147,8 @@ def tree(splits: int, leaf: str) -> str:
 
 
 def simulation_of_tables() -> Case:
-    """64 tables that 32 subscribers share, of which each takes two publications, with names of 63 bytes. There is a row
-    in each table, then all tables are emptied at once, and then some have a row of each remainder."""
+    """Returns a simulation of 64 tables and 32 subscribers with two publications each, with names of 63 bytes. There is
+    a row in each table; then all tables are truncated at once; and then some have a row for each remainder."""
     first = [(table, table) for table in range(64)]
     later = [(table, key) for table in range(0, 64, 8) for key in range(-31, 32)]
     opens = "".join(f"OPEN {number}; " for number in range(32))
@@ -165,13 +166,13 @@ def simulation_of_tables() -> Case:
 
 
 def long_name(kind: str, number: int) -> str:
-    """A name of 63 bytes."""
+    """Returns a name of 63 bytes."""
     return f"{kind}{number:062}"
 
 
 def catalog_of_remainders() -> str:
-    """64 publications of all tables, each by a remainder, from -31 to 31. The first two have 0, and the two of each
-    other subscriber its number and minus its number."""
+    """Returns 64 publications of all tables, each by a remainder, from -31 to 31. The first two have 0, and the two of
+    each other subscriber have its number and minus its number."""
     statements = [f"CREATE TABLE {long_name('t', table)} (id integer PRIMARY KEY);\n" for table in range(64)]
     for subscriber in range(32):
         names = long_name("p", 2 * subscriber), long_name("p", 2 * subscriber + 1)
@@ -184,8 +185,8 @@ def catalog_of_remainders() -> str:
 
 
 def tree_of_remainders() -> str:
-    """A certificate that asks for one remainder after another, in the order of the publications. If one is found,
-    no later one is; where none is found, no value is left."""
+    """Returns a certificate that tests one remainder after another, in the order of the publications. If the remainder
+    is this one, it is no later one; and after the last test no value is left."""
     tree = "e 0"
     for atom in reversed(range(63)):
         found = f"o {(atom + 1) // 2}"
@@ -196,24 +197,24 @@ def tree_of_remainders() -> str:
 
 
 def inserts(rows: Rows) -> str:
-    """A command for each row."""
+    """Returns a command for each row."""
     return ", ".join(f"INSERT {long_name('t', table)} ({key})" for table, key in rows)
 
 
 def lines_of(rows: Rows) -> list[str]:
-    """The rows as VIEW shows them, if they come in their order."""
+    """Returns the lines of VIEW for rows, which are in order."""
     return [f"public.{long_name('t', table)} ({key})" for table, key in rows]
 
 
 def shards_of(rows: Rows) -> dict[str, list[str]]:
-    """The rows of each subscriber."""
+    """Returns the rows of each subscriber."""
     return {
         long_name("s", number): lines_of([row for row in rows if abs(row[1]) % 32 == number]) for number in range(32)}
 
 
 def simulation_of_columns() -> Case:
-    """A table of 100 columns, in which a row of 98 longest texts and an empty one gets other texts, and another row
-    goes. The message of the change has both of its rows, and 12.8 MB."""
+    """Returns a simulation of a table of 100 columns. A row of 98 of the longest texts and an empty one gets other
+    texts, and another row is deleted. The message of the change contains both rows, and has 12.8 MB."""
     longest = [f"{number}".ljust(MAX_TEXT, "x") for number in range(98)]
     before, after, other = wide_row(1, [*longest, ""]), wide_row(1, ["", *longest]), wide_row(100, [""] * 99)
     script = (
@@ -230,15 +231,15 @@ def simulation_of_columns() -> Case:
 
 
 def wide_row(key: int, texts: list[str]) -> str:
-    """A row of a number and texts that have no quotes."""
+    """Returns a row of a number and texts that contain no quotes."""
     values = "', '".join(texts)
     return f"({key}, '{values}')"
 
 
 def simulation_of_pieces() -> Case:
-    """A row of 98 longest texts comes, goes and comes. What tells a subscriber of that is 19 MB, and is delivered in
-    one
-    piece but for its last byte; then the connection is lost, and another one brings the last commit."""
+    """Returns a simulation in which a row of 98 of the longest texts is inserted, deleted and inserted again. The
+    stream of these changes has 19 MB, and is delivered in one piece except for its last byte; then the connection is
+    lost, and the next one delivers the last commit."""
     row = (1, *[f"{number}".ljust(MAX_TEXT, "y") for number in range(98)])
     columns = (Column("id", "integer", True), *(Column(f"c{number}", "text", False) for number in range(98)))
     table = Table("public", "t", columns, (0,))

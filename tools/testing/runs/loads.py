@@ -1,4 +1,4 @@
-"""Runs of `serve` with many clients and many commits, and what memory they take."""
+"""Runs of `serve` with many clients and many commits, and the memory that they use."""
 
 import threading
 from collections.abc import Iterator
@@ -8,28 +8,27 @@ from served import load
 from served.program import NotStarted, Started, serving, use_up
 from tally import Tally
 
-# How many connections are accepted: more than clients need that are lost and try to come back.
+# How many connections are accepted: more than needed by clients that are lost and try to come back.
 CONNECTIONS = 400
 
-# How long a run may take until it listens, and from there to its end, in seconds each, on a machine that does much
-# else, too.
+# How many seconds a run may take until it listens, and from then to its end, also on a busy machine.
 LONGEST = 300
 
-# By how much the memory may be more where some clients are rough: by this part, and by this many bytes for what is kept
-# of the connections that they have made beside the last ones.
+# By how much the memory may be greater if some clients are rough: by this factor, and by this many bytes for what is
+# kept of their earlier connections.
 PART = 0.25
 KEPT = 40_000_000
 
 
 @dataclass(frozen=True)
 class Load:
-    """A run in which all clients read on, and one in which some do not, with the same commits. In the second it takes
-    about as much memory as in the first, both while some have stopped and when all have their streams."""
+    """A run in which all clients read continuously, and one in which some do not, with the same commits. The second run
+    uses about as much memory as the first, both while some have stopped and when all have their streams."""
 
     name: str = "serve of 100,000 commits"
 
     def check(self, tally: Tally) -> None:
-        """Makes both."""
+        """Makes both runs."""
         made = load.sharding()
         streams, text = load.Streams(made), made.input()
         plain = self.sizes(tally, streams, text, are_rough=False)
@@ -41,7 +40,7 @@ class Load:
             tally.check(f"{self.name}: memory", (plain, rough), "both measured")
 
     def sizes(self, tally: Tally, streams: load.Streams, text: str, are_rough: bool) -> list[int]:
-        """The sizes of a run's memory, none if it did not come so far."""
+        """Returns the sizes of a run's memory, or nothing if it did not get that far."""
         name = f"{self.name} with {'rough' if are_rough else 'plain'} clients"
         try:
             with serving(text, "--connections", str(CONNECTIONS), seconds=LONGEST) as (program, port):
@@ -56,7 +55,7 @@ class Load:
             return []
 
     def run(self, tally: Tally, name: str, program: Started, clients: load.Clients) -> list[int]:
-        """A run of a program that listens."""
+        """Makes the run, with a program that listens."""
         sizes = []
         with clients.started() as findings:
             try:
@@ -74,5 +73,5 @@ class Load:
 
 
 def cases() -> Iterator[Load]:
-    """Both runs together."""
+    """Yields both runs together."""
     yield Load()

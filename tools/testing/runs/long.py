@@ -1,6 +1,6 @@
-"""Long inputs, whose runs have to end soon: many commits, many rows of a table, many rows that are read, also by many
-lists and remainders, many commits of many tables, and many leaves of a certificate below many lists. Runs of many steps
-and of many nodes are in most.py and limits.py."""
+"""Long inputs that have to be processed quickly: many commits, many rows of a table, many rows that are read, also with
+many lists and remainders, many commits of many tables, and many leaves of a certificate below many lists. Runs of many
+steps and of many nodes are in most.py and limits.py."""
 
 from collections.abc import Callable, Iterator
 from itertools import count, islice
@@ -18,27 +18,27 @@ READ_ROWS = 700_000
 ROWS_OF_TABLES = 40_000
 TABLES, SUBSCRIBERS = 64, 32
 
-# How many commands a commit may have.
+# The most commands of a commit.
 COMMANDS = 1_000
 
-# Lists that have all numbers below 6,000 together, and how far the numbers go that are read.
+# Lists that together contain all numbers below 6,000, and the range of the numbers that are read.
 EVAL_LISTS, EVAL_ENTRIES = 60, 100
 EVAL_NUMBERS = 9_000
 
-# How many seconds of a processor eval may take on the longest input. It takes two to three of them on a quiet machine;
-# where other work shares the caches, a processor second does less.
+# How many seconds of processor time eval may take on the longest input. It takes two to three on a quiet machine; if
+# other work shares the caches, a processor second achieves less.
 EVAL_SECONDS = 10
 
-# Remainders by this many primes from the first one on, and the keys whose remainders are tested: nearly no two of them
-# are told the same.
+# Remainders by this many primes from the first one on, and the keys whose remainders are tested: hardly any two keys
+# have the same answers.
 PRIMES, FIRST_PRIME = 60, 211
 LEAST_KEY, KEYS = 100_000, 900_000
 
-# How many leaves a filter below AND and OR by turns has, how many atoms they are, and after how many rows the rows come
-# again.
+# The number of leaves of a filter with alternating AND and OR, the number of different atoms among them, and the number
+# of rows after which the rows repeat.
 LEAVES, ATOMS, BLOCK = 500, 64, 5_000
 
-# Lists that have all remainders by 2500, and how often their certificate splits below them.
+# Lists that together contain all remainders by 2500, and how often their certificate splits below them.
 LISTS, ENTRIES = 50, 100
 FURTHER = 12
 
@@ -46,7 +46,7 @@ B = halves(LOW, HIGH, "flag boolean")
 
 
 def cases() -> Iterator[Case]:
-    """A run for each kind."""
+    """Yields a run of each kind."""
     keys = range(-COMMITS // 2, COMMITS // 2)
     commits = [f"INSERT t ({key}, NULL)" for key in keys]
     yield simulation("many commits", B, C, commits, 2)
@@ -66,7 +66,7 @@ def cases() -> Iterator[Case]:
 
 
 def simulation(name: str, catalog: str, certificates: str, commits: list[str], subscribers: int) -> Case:
-    """Commits of these commands, which all subscribers are told about when all are made."""
+    """Returns commits of these commands, whose changes all subscribers are sent after the last one."""
     script = "".join(f"COMMIT {it};\n" for it in commits)
     script += "".join(f"OPEN {at}; PUMP {at};\n" for at in range(subscribers))
     lines = [f"commit {number}" for number in range(1, len(commits) + 1)]
@@ -76,14 +76,14 @@ def simulation(name: str, catalog: str, certificates: str, commits: list[str], s
 
 
 def reading() -> Case:
-    """Rows below 100, and others."""
+    """Returns a run on rows below 100 and others."""
     rows = "".join(f"({key}, NULL)\n" for key in range(READ_ROWS))
     lines = ["pa=true pb=false"] * 100 + ["pa=false pb=true"] * (READ_ROWS - 100)
     return Case("eval of many rows", ("eval", "t"), two_parts(B, rows), 0, text_of(lines), EVAL_SECONDS)
 
 
 def reading_by_lists() -> Case:
-    """Rows that a filter of many lists takes, and others."""
+    """Returns a run on rows that a filter with many lists takes, and others."""
     listed = EVAL_LISTS * EVAL_ENTRIES
     lists = [f"n IN ({', '.join(map(str, range(start, listed, EVAL_LISTS)))})" for start in range(EVAL_LISTS)]
     where = " OR ".join(lists)
@@ -95,19 +95,19 @@ def reading_by_lists() -> Case:
 
 
 def primes(least: int, number: int) -> list[int]:
-    """This many prime numbers from one on."""
+    """Returns this many prime numbers from a number on."""
     found = (it for it in count(least) if all(it % one for one in range(2, int(it**0.5) + 1)))
     return list(islice(found, number))
 
 
 def remainder_lists() -> list[tuple[int, set[int]]]:
-    """Prime numbers, each with as many remainders by it as a list may have."""
+    """Returns prime numbers, each with as many of its remainders as a list may have."""
     return [(it, {at * 37 % it for at in range(EVAL_ENTRIES)}) for it in primes(FIRST_PRIME, PRIMES)]
 
 
 def rows_by_remainders(condition: str) -> tuple[str, list[int]]:
-    """An input as long as it may be: one publication, by any of the lists and another condition, and the keys of its
-    rows."""
+    """Returns an input as long as allowed, with one publication, by any of the lists and another condition, and the
+    keys of its rows."""
     lists = [f"k % {prime} IN ({', '.join(map(str, sorted(entries)))})" for prime, entries in remainder_lists()]
     where = f"({' OR '.join(lists)}) AND {condition}"
     catalog = f"CREATE TABLE t (k bigint PRIMARY KEY);\nCREATE PUBLICATION p FOR TABLE t WHERE ({where});\n"
@@ -117,7 +117,7 @@ def rows_by_remainders(condition: str) -> tuple[str, list[int]]:
 
 
 def reading_by_remainders() -> Case:
-    """The worst rows for the constants of many terms."""
+    """Returns a run on the worst rows for the constants of many terms."""
     text, keys = rows_by_remainders("k > 0")
     lists = remainder_lists()
     lines = ["p=true" if any(key % prime in entries for prime, entries in lists) else "p=false" for key in keys]
@@ -125,7 +125,7 @@ def reading_by_remainders() -> Case:
 
 
 def inserts_by_remainders() -> Case:
-    """The same rows, none of which is carried."""
+    """Returns a run on the same rows, none of which is carried."""
     text, keys = rows_by_remainders("k < 0")
     lines = ["none"] * len(keys)
     return Case(
@@ -133,7 +133,8 @@ def inserts_by_remainders() -> Case:
 
 
 def alternating(numbers: list[int], is_or: bool = True) -> tuple[str, Callable[[list[bool]], bool]]:
-    """A filter of the atoms of these numbers below OR and AND by turns, and its value by those of all atoms."""
+    """Returns a filter of the atoms with these numbers, with alternating OR and AND, and its value given the values of
+    all atoms."""
     if len(numbers) == 1:
         prime = primes(3, ATOMS)[numbers[0]]
         return f"k % {prime} < {prime // 2}", lambda values: values[numbers[0]]
@@ -144,7 +145,8 @@ def alternating(numbers: list[int], is_or: bool = True) -> tuple[str, Callable[[
 
 
 def reading_by_filter() -> Case:
-    """A filter of many conditions, which rows seldom answer alike: the rows on which a filter takes longest."""
+    """Returns a run with a filter of many conditions, on rows that seldom have the same values: the rows for which a
+    filter takes longest."""
     where, value = alternating([at * 29 % ATOMS for at in range(LEAVES)])
     catalog = f"CREATE TABLE t (k bigint PRIMARY KEY);\nCREATE PUBLICATION p FOR TABLE t WHERE ({where});\n"
     keys = [LEAST_KEY + at * 387_563 % KEYS for at in range(BLOCK)]
@@ -157,8 +159,8 @@ def reading_by_filter() -> Case:
 
 
 def below_lists() -> Case:
-    """A certificate that finds each list false, and then splits by atoms that tell nothing more: 797,314 nodes, of
-    which 531,441 say that no remainder is left."""
+    """Returns a certificate in which each list is false, and which then splits by atoms that add no information:
+    797,314 nodes, of which 531,441 say that no remainder is left."""
     starts = range(-ENTRIES * LISTS // 2, ENTRIES * LISTS // 2, ENTRIES)
     lists = [f"n % 2500 IN ({', '.join(map(str, range(start, start + ENTRIES)))})" for start in starts]
     others = " OR ".join(f"n = {at}" for at in range(FURTHER))

@@ -1,4 +1,4 @@
-"""Connections that are lost after each byte in either direction, with what the model answers."""
+"""Connections that are lost after each byte in either direction, with the model's answers."""
 
 from collections.abc import Iterator
 
@@ -9,24 +9,24 @@ from refused.scripts import CATALOG, FIRST_ROWS, MOVES, VIEW, catalog_text, scri
 
 from .case import SECONDS, Case
 
-# Two commits wait for a subscriber that asks for its stream, and then a keepalive.
+# A subscriber asks for its stream, and two commits wait for it, and then a keepalive.
 STREAM: list[Step] = [
     FIRST_ROWS, MOVES, ("open", 0), ("hear", 0, ALL), ("take", 0), ("take", 0), ("keep", 0, True)]
 
 # The Query of the start waits for the publisher.
 START: list[Step] = [FIRST_ROWS, ("open", 0)]
 
-# Two statuses wait for the publisher, each after another commit. The first one wants a reply.
+# Two statuses wait for the publisher, each after another commit. The first one requests a reply.
 STATUSES: list[Step] = [
     FIRST_ROWS, MOVES, ("open", 0), ("hear", 0, ALL), ("take", 0), ("deliver", 0, ALL), ("report", 0, True),
     ("take", 0), ("deliver", 0, ALL), ("report", 0, False)]
 
-# After a loss, and once the subscriber is connected again.
+# What follows the loss, and then the reconnection of the subscriber.
 AFTER: list[Step] = [("lose", 0), VIEW, ("open", 0), ("pump", 0), VIEW]
 
 
 def waiting(steps: list[Step]) -> tuple[int, int]:
-    """How many bytes wait for the subscriber after these steps, and how many for the publisher."""
+    """Returns how many bytes wait for the subscriber after these steps, and how many for the publisher."""
     world = World(CATALOG)
     for step in steps:
         world.step(step)
@@ -35,7 +35,7 @@ def waiting(steps: list[Step]) -> tuple[int, int]:
 
 
 def scripts() -> Iterator[tuple[str, list[Step]]]:
-    """Names and steps."""
+    """Yields names and steps."""
     for count in range(waiting(STREAM)[0] + 1):
         yield f"a stream is lost after {count} bytes", [*STREAM, ("deliver", 0, count), *AFTER]
     for count in range(waiting(START)[1] + 1):
@@ -45,7 +45,7 @@ def scripts() -> Iterator[tuple[str, list[Step]]]:
 
 
 def cases() -> Iterator[Case]:
-    """A run of simulate for each."""
+    """Yields a run of simulate for each."""
     catalog = catalog_text()
     _, certificates = pgshard("make", text=catalog, seconds=SECONDS)
     for name, steps in scripts():

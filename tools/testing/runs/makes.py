@@ -1,4 +1,4 @@
-"""Tables that have a certificate, and tables with a row that shows that they have none."""
+"""Tables that have a certificate, and tables with a row that shows that there is none."""
 
 from collections.abc import Iterator
 
@@ -19,7 +19,7 @@ SOUND: list[tuple[str, str]] = [
     (" WHERE (region IS DISTINCT FROM 'eu')", " WHERE (region = 'eu')"),
 ]
 
-# Conditions of two halves, and how the row begins and ends that shows what is wrong.
+# Conditions of two halves, and how the row that shows the fault begins and ends.
 WRONG: list[tuple[str, str, str, str]] = [
     (" WHERE (region = 'eu')", " WHERE (region <> 'eu')", "counter public.t (", ", NULL) owners none\n"),
     (" WHERE (id % 2 = 0)", " WHERE (id % 2 = 1)", "counter public.t (-", " owners none\n"),
@@ -58,7 +58,7 @@ LINES: list[tuple[str, int, str | Outline]] = [
 
 
 def cases() -> Iterator[Case | Made]:
-    """A run of make for each, and of check where a certificate is to be made."""
+    """Yields a run of make for each, and one of check if there should be a certificate."""
     words = ("make",)
     for number, (first, second) in enumerate(SOUND, 1):
         yield Made(f"make of sound halves, case {number}", halves(first, second))

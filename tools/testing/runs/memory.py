@@ -1,4 +1,4 @@
-"""What the program has of memory after commits that are refused, and after rows that have come and gone."""
+"""The memory that the program uses after commits that are refused, and after rows that were inserted and deleted."""
 
 import os
 import re
@@ -25,7 +25,7 @@ CREATE SUBSCRIPTION s0 CONNECTION '' PUBLICATION pa;
 CREATE SUBSCRIPTION s1 CONNECTION '' PUBLICATION pb;
 """
 
-# Steps that do nothing, whose lines are written out in several writes.
+# Steps without effect, whose lines are printed in several writes.
 NOTHING, NOTHING_LINE = "TAKE 0;\n", "not open"
 PAUSE = 4_000
 
@@ -33,15 +33,15 @@ MANY = 10_000
 KEYS = range(100, 100 + MANY)
 COMMANDS = 1_000
 
-# Two counts of a program that has kept nothing may differ by this many blocks and bytes: a line may be incomplete, and
-# a block may be a little longer than requested.
+# Two counts for a program that has kept nothing may differ by this many blocks and bytes: a line may be incomplete, and
+# a block may be slightly longer than requested.
 SOME_BLOCKS = 5
 SOME_BYTES = 4_000
 
-# The log keeps blocks of each commit: one for itself, and one for its list of changes; and of a commit of several
-# changes two for the sets of who gets each of them. Of a row that comes, and of the key of a row that goes, it keeps
-# one that is shared, and one for the list of values; and one for the row's text. The lists of what undoes a commit keep
-# the room of the largest one, which is some 60 bytes for each of its changes.
+# The log keeps blocks for each commit: one for the commit, and one for its list of changes; and for a commit of several
+# changes, two for the sets of those who get each of them. For a row that is inserted, and for the key of a row that is
+# deleted, it keeps a shared block, one for the list of values, and one for the row's text. The lists with which a
+# commit is undone keep the size of the largest commit, which is about 60 bytes for each of its changes.
 COMMIT_BLOCKS = 2
 SET_BLOCKS = 2
 ROW_BLOCKS = 5
@@ -60,7 +60,7 @@ class Script:
         return Script(self.steps + other.steps, self.lines + other.lines)
 
     def of_nothing(self) -> "Script":
-        """As many steps of the same lengths that do nothing."""
+        """Returns as many steps of the same lengths that have no effect."""
         return Script([f"{NOTHING.strip():{len(it) - 1}}\n" for it in self.steps], [NOTHING_LINE] * len(self.steps))
 
 
@@ -69,8 +69,8 @@ PAUSED = Script([NOTHING] * PAUSE, [NOTHING_LINE] * PAUSE)
 
 @dataclass(frozen=True)
 class Kept:
-    """Steps that come after others. By how many blocks the memory is more after them than after as many steps that do
-    nothing, and by how many bytes at most."""
+    """Steps that follow others. Compared with as many steps without effect, the memory after them is greater by this
+    many blocks, and by at most this many bytes."""
 
     name: str
     before: Script
@@ -80,7 +80,7 @@ class Kept:
     words: tuple[str, ...] = ()
 
     def check(self, tally: Tally) -> None:
-        """Makes both runs, where there is a C compiler."""
+        """Makes both runs, if there is a C compiler."""
         with tempfile.TemporaryDirectory() as folder:
             library = compiled(folder, "counting")
             if library is None:
@@ -92,10 +92,10 @@ class Kept:
         tally.check(f"memory after {self.name}, which is {blocks} blocks and {more} bytes more", is_right, True)
 
     def size(self, tally: Tally, library: str, script: Script) -> tuple[int, int]:
-        """The memory after these steps, in blocks and in bytes."""
+        """Returns the memory after these steps, in blocks and in bytes."""
         script = self.before + script + PAUSED
         text = three_parts(CATALOG, C + C, "".join(script.steps))
-        # A file, since the room for an input that comes in pieces depends on the pieces.
+        # The input is a file, since the buffer of an input that comes in pieces depends on the pieces.
         with tempfile.TemporaryFile() as file:
             file.write(text.encode())
             file.seek(0)
@@ -107,7 +107,7 @@ class Kept:
                 tally.check(self.name, f"{type(fault).__name__}: {fault}", "no fault")
                 return 0, 0
         tally.check(self.name, ended(answer.returncode, decoded(answer.stdout)), ended(0, text_of(script.lines)))
-        # The last write is made when the book is gone, and those before it in the pause.
+        # The last write is made when the book is gone, and the writes before it in the pause.
         counts = COUNTS.findall(answer.stderr.decode())
         blocks, size = counts[-2] if len(counts) > 1 else (0, 0)
         return int(blocks), int(size)
@@ -118,7 +118,7 @@ def commit(*commands: str) -> str:
 
 
 def commits(lists: list[list[str]], first: int = 1) -> Script:
-    """Commits that are taken, from this number on."""
+    """Returns commits that are accepted, from this number on."""
     return Script([commit(*it) for it in lists], [f"commit {first + at}" for at in range(len(lists))])
 
 
@@ -126,14 +126,14 @@ def insert(key: int) -> str:
     return f"INSERT t ({key}, {key}, 'the text of {key:06}')"
 
 
-# Rows that are there, and commands on them that are not at fault, with # in place of a number that is new each time.
+# Rows that exist, and commands on them that have no fault. # is replaced by a number that is new each time.
 FIRST = commits([[insert(key) for key in range(1, 51)] + [f"INSERT u ({key}, TRUE)" for key in range(1, 51)]])
 GOOD = [
     "INSERT t (#, #, 'the text of #')", "UPDATE t (1) (1, 1, 'another text')", "UPDATE t (2) (-#, -#, NULL)",
     "DELETE t (3)", "INSERT u (#, FALSE)", "DELETE u (4)", "TRUNCATE (u)", "INSERT u (#, NULL)",
 ]
 
-# Commands that are at fault after those, or without them, and the fault.
+# Commands that have a fault after those, or without them, and the fault.
 BAD: list[tuple[str, str]] = [
     ("INSERT t (1, -1, NULL)", "DuplicateKey"),
     ("INSERT t (-1, 5, 'the code of 5')", "DuplicateKey"),
@@ -149,7 +149,8 @@ BAD: list[tuple[str, str]] = [
 
 
 def refused(number: int) -> tuple[str, str]:
-    """A commit that is refused, and its line: with a fault after some good commands, of no command, or of too many."""
+    """Returns a commit that is refused, and its line: it has a fault after some valid commands, no command, or too
+    many."""
     if number % 100 == 98:
         return "COMMIT;\n", "refused EmptyTransaction"
     if number % 100 == 99:
@@ -160,24 +161,24 @@ def refused(number: int) -> tuple[str, str]:
 
 
 def refusals(numbers: range) -> Script:
-    """Commits that are refused."""
+    """Returns commits that are refused."""
     pairs = [refused(number) for number in numbers]
     return Script([step for step, _ in pairs], [line for _, line in pairs])
 
 
 def one_by_one() -> list[list[str]]:
-    """Rows each of which comes in a commit, and goes in the next one."""
+    """Returns rows, each of which is inserted by a commit, and deleted by the next one."""
     return [[command] for key in KEYS for command in (insert(key), f"DELETE t ({key})")]
 
 
 def all_at_once() -> list[list[str]]:
-    """Rows that come and then go, many in a commit."""
+    """Returns rows that are inserted and then deleted, many in a commit."""
     commands = [insert(key) for key in KEYS] + [f"DELETE t ({key})" for key in KEYS]
     return [commands[at:at + COMMANDS] for at in range(0, len(commands), COMMANDS)]
 
 
 def cases() -> Iterator[Kept]:
-    """Runs of simulate in which a library counts what the program has of memory."""
+    """Yields runs of simulate in which a library counts the memory that the program uses."""
     yield Kept("10,000 refused commits", FIRST + refusals(range(100)), refusals(range(100, 100 + MANY)))
     full = Script([commit(insert(key)) for key in KEYS], ["refused LogFull"] * MANY)
     yield Kept("10,000 commits into a full log", FIRST, full, words=("--limit", "1"))

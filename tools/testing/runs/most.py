@@ -1,4 +1,4 @@
-"""As many of each thing as a catalog or a script may have, and one more."""
+"""Catalogs and scripts with the greatest number of each thing, and with one more."""
 
 from collections.abc import Callable, Iterator
 
@@ -12,35 +12,35 @@ MOST_STEPS = 100_000
 
 
 def statements(before: str, each: str) -> Callable[[int], str]:
-    """Makes this many statements, each with its number from 0."""
+    """Returns a function that makes this many statements, numbered from 0."""
     return lambda number: before + "".join(f"{each.format(at)}\n" for at in range(number))
 
 
 def condition(text: str) -> str:
-    """A publication with a filter."""
+    """Returns a publication with a filter."""
     return f"{T}CREATE PUBLICATION p FOR TABLE t WHERE ({text});\n"
 
 
 def atoms(number: int) -> str:
-    """This many comparisons, in two publications."""
+    """Returns this many comparisons, in two publications."""
     first = " OR ".join(f"id = {at}" for at in range(32))
     second = " OR ".join(f"id = {at}" for at in range(32, number))
     return f"{condition(first)}CREATE PUBLICATION q FOR TABLE t WHERE ({second});\n"
 
 
 def nodes(number: int) -> str:
-    """A filter of this many nodes: truth values, what joins them, and NOT where the number is even."""
+    """Returns a filter of this many nodes: truth values, connectives, and NOT if the number is even."""
     joined = " OR ".join(["FALSE"] * ((number + 1) // 2))
     return condition(joined if number % 2 else f"NOT ({joined})")
 
 
 def entries(number: int) -> str:
-    """A list of this many numbers, of which the last is another one."""
+    """Returns a list of this many numbers, the last of which differs."""
     return condition(f"id IN ({'7, ' * (number - 1)}8)")
 
 
-# What there is, a catalog with this many, the most that there may be, what eval writes of that for a row, what one more
-# has at its fault, in the last line, and the kind of the fault.
+# What is counted, a catalog with a given number of it, the greatest number, what eval prints for a row then, the text
+# at the fault in the last line if there is one more, and the kind of the fault.
 THINGS: list[tuple[str, Callable[[int], str], int, str, str, str]] = [
     ("tables", statements("", T.replace(" t ", " t{} ").strip()), 64, "", "t64", "TooMany"),
     ("unique indexes", statements(T, "CREATE UNIQUE INDEX i{} ON t (id);"), 8, "", "i8", "TooMany"),
@@ -62,7 +62,7 @@ THINGS: list[tuple[str, Callable[[int], str], int, str, str, str]] = [
 
 
 def cases() -> Iterator[Case]:
-    """Two runs for each."""
+    """Yields two runs for each."""
     for thing, catalog, most, line, there, kind in THINGS:
         row = "(1, NULL)"
         words, text = ("eval", "t1" if thing == "tables" else "t"), two_parts(catalog(most), row)
@@ -74,7 +74,7 @@ def cases() -> Iterator[Case]:
 
 
 def steps() -> Iterator[Case]:
-    """A script that is as long as it may be, and one that is longer."""
+    """Yields a script that is as long as allowed, and one that is longer."""
     catalog, script = halves("", " WHERE (FALSE)"), "TAKE 0;\n" * MOST_STEPS
     answers = "not open\n" * MOST_STEPS
     text = three_parts(catalog, "o 0\n", script)

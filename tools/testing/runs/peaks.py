@@ -1,6 +1,6 @@
-"""Runs at all limits of a catalog together, with inputs as long as they may be: 64 tables of 100 columns and 8 unique
-indexes, 64 publications, 32 subscriptions, 64 atoms and 1,000 nodes in the filters of each table. Each run takes no
-more memory than docs/OUTPUT.md says, and none is refused where it may take twice that."""
+"""Runs at all limits of a catalog at once, with inputs as long as allowed: 64 tables of 100 columns and 8 unique
+indexes, 64 publications, 32 subscriptions, 64 atoms and 1,000 nodes in the filters of each table. No run uses more
+memory than docs/OUTPUT.md says, and none is refused if it may use twice that."""
 
 import re
 import subprocess
@@ -19,7 +19,7 @@ from .simulations import three_parts
 
 OUTPUT = Path(__file__).resolve().parent.parent.parent.parent / "docs" / "OUTPUT.md"
 
-# What the page says of a run, in megabytes, and how many seconds of a processor a run may take.
+# What the page says of a run, in megabytes, and how many seconds of processor time a run may take.
 FIGURE = re.compile(r"^\| `(\w+)` at all limits \| ([0-9,]+) MB \|$", re.M)
 
 MEGABYTE = 1_000_000
@@ -28,7 +28,7 @@ PROCESSOR_SECONDS = 60
 COMMANDS = 1_000
 TABLES, COLUMNS, INDEXES, PUBLICATIONS, SUBSCRIPTIONS = 64, 100, 8, 64, 32
 
-# The keys of each publication, and how many nodes the filters of a table have at most.
+# The keys of each publication, and the most nodes of a table's filters.
 WIDTH = 1_000
 NODES = 1_000
 
@@ -44,7 +44,7 @@ class Peak:
     end: str
 
     def check(self, tally: Tally) -> None:
-        """Makes the run twice: as it is, and with twice the memory that the page says of it."""
+        """Makes the run twice: without a limit, and with twice the memory that the page gives."""
         figure = figures().get(self.words[0])
         if figure is None:
             tally.check(f"the memory of {self.name} in OUTPUT.md", "no figure", "a figure")
@@ -54,7 +54,7 @@ class Peak:
         tally.check(f"{self.name}: {peak / MEGABYTE:.0f} MB, at most {figure}", peak <= figure * MEGABYTE, True)
 
     def run(self, most: int) -> tuple[int, str, int]:
-        """A run's status, its output, and the most memory that it had, in bytes."""
+        """Returns a run's status, its output, and the most memory that it used, in bytes."""
         with tempfile.TemporaryFile() as given, tempfile.TemporaryFile() as written:
             given.write(self.text.encode())
             given.seek(0)
@@ -65,8 +65,8 @@ class Peak:
             return ended.returncode, written.read().decode(), int(ended.stderr)
 
 
-# Runs a program with so much memory and time of a processor, and writes on standard error the most memory that it had.
-# A process of its own does that, since a child begins with the memory of its parent.
+# Runs a program with limits on memory and processor time, and prints its peak memory on standard error. This is done in
+# a process of its own, since a child begins with its parent's memory.
 MEASURED = """
 import resource, subprocess, sys
 most, seconds = map(int, sys.argv[1:3])
@@ -80,13 +80,13 @@ sys.exit(status)
 
 
 def figures() -> dict[str, int]:
-    """What the page says that each run takes."""
+    """Returns the memory that the page gives for each run."""
     text = OUTPUT.read_text(encoding="utf-8")
     return {word: int(number.replace(",", "")) for word, number in FIGURE.findall(text)}
 
 
 def cases() -> Iterator[Peak]:
-    """A run of each subcommand that reads one text and ends."""
+    """Yields a run of each subcommand that reads one text and ends."""
     catalog = largest()
     certificates = made(catalog)
     yield Peak("make at all limits", ("make",), filled(catalog), 0, certificates)
@@ -96,7 +96,8 @@ def cases() -> Iterator[Peak]:
 
 
 def largest() -> str:
-    """The catalog. The key of a table decides which publication has a row, and each subscriber takes two of them."""
+    """Returns the catalog. The key of a table decides which publication has a row, and each subscriber has two
+    publications."""
     statements = [table(number) for number in range(TABLES)]
     for number in range(PUBLICATIONS):
         condition = filter_of(number)
@@ -109,7 +110,7 @@ def largest() -> str:
 
 
 def table(number: int) -> str:
-    """A table with its indexes."""
+    """Returns a table with its indexes."""
     name = long_name("t", number)
     integers = ", ".join(f"{long_name('c', at)} integer NOT NULL" for at in range(COLUMNS - 1))
     indexes = "".join(
@@ -121,8 +122,8 @@ def table(number: int) -> str:
 
 
 def filter_of(number: int) -> str:
-    """The keys of a publication, by 63 atoms of all of them; the first one has the 64th, and as many more parts as make
-    the nodes 1,000."""
+    """Returns the filter for a publication's keys, with 63 atoms over all filters; the first filter has the 64th, and
+    more parts until there are 1,000 nodes."""
     key = long_name("c", 0)
     below = f"{key} < {(number + 1) * WIDTH}"
     above = f"NOT {key} < {number * WIDTH}"
@@ -133,28 +134,29 @@ def filter_of(number: int) -> str:
 
 
 def nodes() -> int:
-    """How many nodes the filters of a table have without more parts: an atom is one, and so are NOT, AND and OR."""
+    """Returns how many nodes the filters of a table have without the additional parts: atoms, NOT, AND and OR count as
+    one each."""
     first, between, last = 5, 4, 2
     return first + (PUBLICATIONS - 2) * between + last
 
 
 def long_name(kind: str, number: int) -> str:
-    """A name of 63 bytes."""
+    """Returns a name of 63 bytes."""
     return f"{kind}{number:0{63 - len(kind)}}"
 
 
 def made(catalog: str) -> str:
-    """Certificates, to which `check` need not agree."""
+    """Returns certificates, which `check` need not accept."""
     return pgshard("make", text=catalog, seconds=SECONDS)[1]
 
 
 def filled(text: str) -> str:
-    """A catalog with a comment that makes the input of a run as long as it may be."""
+    """Returns a catalog with a comment that makes the input of a run as long as allowed."""
     return f"--{' ' * (MAX_INPUT - len(text) - len('--' + chr(10)))}\n{text}"
 
 
 def eval_of_rows(catalog: str) -> Peak:
-    """As many rows as there is room for. The last one goes to the last publication."""
+    """Returns a run of eval on as many rows as fit. The last one goes to the last publication."""
     name, key = long_name("t", TABLES - 1), (PUBLICATIONS - 1) * WIDTH
     line = f"{row(key)}\n"
     rows = line * ((MAX_INPUT - len(two_parts(catalog, ""))) // len(line))
@@ -164,7 +166,8 @@ def eval_of_rows(catalog: str) -> Peak:
 
 
 def simulation(catalog: str, certificates: str) -> Peak:
-    """As many commits of 1,000 rows as there is room for, of which each subscriber is told, and all rows at the end."""
+    """Returns a simulation of as many commits of 1,000 rows as fit, which each subscriber is sent, and of all rows at
+    the end."""
     opens = "".join(f"OPEN {number}; PUMP {number};\n" for number in range(SUBSCRIPTIONS))
     room = MAX_INPUT - len(three_parts(catalog, certificates, f"{opens}VIEW;\n"))
     longest = len(f"INSERT {long_name('t', 0)} {row(PUBLICATIONS * WIDTH)}, ")
@@ -179,7 +182,7 @@ def simulation(catalog: str, certificates: str) -> Peak:
 
 
 def row(number: int) -> str:
-    """A row of a table, of which the columns of unique indexes are as the key."""
+    """Returns a row of a table, in which the columns of unique indexes equal the key."""
     unique = ", ".join([str(number)] * (1 + INDEXES))
     others = ", ".join(["1"] * (COLUMNS - 2 - INDEXES))
     return f"({unique}, {others}, 'text')"

@@ -1,4 +1,4 @@
-"""Rows of a table, and what eval writes of each."""
+"""Rows of a table, and what eval prints for each."""
 
 from collections.abc import Iterator
 
@@ -46,6 +46,6 @@ ROWS: list[tuple[str, str, str, str, int]] = [
 
 
 def cases() -> Iterator[Case]:
-    """A run of eval for each."""
+    """Yields a run of eval for each."""
     for number, (table, catalog, rows, expected, status) in enumerate(ROWS, 1):
         yield Case(f"eval of rows, case {number}", ("eval", table), two_parts(catalog, rows), status, expected)

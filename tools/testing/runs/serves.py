@@ -1,4 +1,4 @@
-"""What clients get of `pgshard serve`, whatever others do meanwhile, and how it ends."""
+"""What clients of `pgshard serve` get, whatever others do meanwhile, and how it ends."""
 
 import socket
 from collections.abc import Callable, Iterator
@@ -17,7 +17,7 @@ from .case import SECONDS, Case, Outline
 from .catalogs import C
 from .simulations import three_parts
 
-# Commits of which some are refused, by the numbers of their steps.
+# Commits of which some are refused, given by the numbers of their steps.
 SOME_REFUSED: list[list[Command]] = [
     [Insert("t", (1, "a"))],
     [Insert("t", (2, "b")), Insert("t", (1, "b"))],
@@ -44,18 +44,18 @@ WRONG_WORDS: list[tuple[str, ...]] = [
     ("--port", "45432", "--connections", "1001"),
 ]
 
-# Commits of one row each, which go to both subscribers.
+# Commits of one row each, which go to the two subscribers.
 MOST_COMMITS: list[list[Command]] = [[Insert("t", (key, None))] for key in range(-50_000, 50_000)]
 
-# How many connections are accepted where clients may try more than once.
+# How many connections are accepted if clients may try more than once.
 MANY = 40
 VERY_MANY = 300
 
 
 @dataclass(frozen=True)
 class Run:
-    """A run of serve with clients, in which the commits of a sharding are made. It accepts a connection for each
-    subscriber, or this many."""
+    """A run of serve with clients, which makes the commits of a sharding. It accepts a connection for each subscriber,
+    or this many."""
 
     name: str
     sharding: Sharding
@@ -82,7 +82,7 @@ class Run:
 
 @dataclass(frozen=True)
 class PortInUse:
-    """A run of serve at a port that another program has."""
+    """A run of serve on a port that another program uses."""
 
     name: str = "serve at a port that is in use"
 
@@ -94,7 +94,7 @@ class PortInUse:
 
 
 def runs() -> Iterator[Run]:
-    """The runs of clients."""
+    """Yields the runs with clients."""
     yield Run("serve of two commits", halves(whole.TWO_COMMITS), whole.written_bytes)
     yield Run("serve of no commit", halves([]), whole.together((S0, S1)))
     yield Run("serve of refused commits", halves(SOME_REFUSED, REFUSED), whole.together((S0, S1)))
@@ -126,7 +126,7 @@ def runs() -> Iterator[Run]:
 
 
 def inputs() -> Iterator[Case]:
-    """Runs that end before they listen, or with the command line."""
+    """Yields runs that end before they listen, or because of their arguments."""
     words = ("serve", "--port", "45432")
     b, commit = HALVES_CATALOG, "COMMIT INSERT t (1, 'a');"
     for place, script in (0, "VIEW;"), (26, f"{commit} OPEN 0; {commit}"), (27, f"{commit}\n\nPUMP 0;"):
@@ -144,7 +144,7 @@ def inputs() -> Iterator[Case]:
 
 
 def cases() -> Iterator[Run | PortInUse | Case]:
-    """The runs of clients, and the others."""
+    """Yields the runs with clients, and the others."""
     yield from runs()
     yield PortInUse()
     yield from inputs()

@@ -15,7 +15,7 @@ CREATE TABLE "public"."t" ("id" integer NOT NULL, "a" boolean, "b" boolean, "not
 ALTER TABLE "public"."t" REPLICA IDENTITY DEFAULT;
 """
 
-# Filters on it, and how each is shown: with exactly the parentheses that it needs.
+# Filters on it, and how each is shown: with only the necessary parentheses.
 FILTERS: list[tuple[str, str]] = [
     ("a", '"a" = TRUE'),
     ("NOT a", 'NOT "a" = TRUE'),
@@ -91,7 +91,7 @@ SHOWS: list[tuple[str, int, str]] = [
     ("CREATE;", 3, "catalog 6 Expected\n"),
 ]
 
-# NOTs within parentheses, as many as may nest, and one more.
+# NOTs in parentheses, nested as deeply as allowed, and once more.
 NESTED = [("(NOT " * 31 + "a" + ")" * 31, 0), ("NOT " * 64 + "a", 0), ("(" * 64 + "a" + ")" * 64, 0)]
 TOO_DEEP = "NOT " * 65 + "a"
 
@@ -105,7 +105,7 @@ CREATE SUBSCRIPTION "s0" CONNECTION '' PUBLICATION "pa";
 CREATE SUBSCRIPTION "s1" CONNECTION '' PUBLICATION "pb";
 """
 
-# Certificates of two halves, with the status and the output of `check --show`. A fault is alone.
+# Certificates of two halves, with the status and the output of `check --show`. A fault is printed alone.
 CHECKS: list[tuple[str, int, str]] = [
     (C, 0, HALVES_SHOWN + ACCEPTED),
     ("o 0\n", 1, f"{HALVES_SHOWN}refused NotOwner public.t 0\n"),
@@ -114,17 +114,17 @@ CHECKS: list[tuple[str, int, str]] = [
 
 
 def filtered(condition: str) -> str:
-    """A catalog with this filter."""
+    """Returns a catalog with this filter."""
     return f"{T}CREATE PUBLICATION p FOR TABLE t WHERE ({condition});\n"
 
 
 def shown_filter(condition: str) -> str:
-    """How it is shown, where the filter is shown so."""
+    """Returns the catalog as shown, if its filter is shown like this."""
     return f"{T_SHOWN}CREATE PUBLICATION \"p\" FOR TABLE \"public\".\"t\" WHERE ({condition}) WITH (publish = '{ALL}');\n"
 
 
 def cases() -> Iterator[Case]:
-    """A run for each, and one more for what is shown of each filter."""
+    """Yields a run for each, and one more for what is shown of each filter."""
     for condition, shown in FILTERS:
         for text in (condition, shown):
             yield Case(f"show of {text}", ("show",), filtered(text), 0, shown_filter(shown))

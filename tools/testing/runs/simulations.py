@@ -1,14 +1,14 @@
-"""What becomes of the rows of a sharding, step by step."""
+"""Step by step, where the rows of a sharding go."""
 
 from collections.abc import Iterator
 
 from .case import Case
 from .catalogs import INDEXED, C, halves
 
-# Rows go to s0 where the number is below 100, and otherwise to s1.
+# Rows with a number below 100 go to s0, and the others to s1.
 B = halves(" WHERE (id < 100)", " WHERE (id >= 100)")
 
-# Two tables, both by their numbers.
+# Two tables, both divided by their numbers.
 TWO = """\
 CREATE TABLE t (id integer PRIMARY KEY, note text);
 CREATE TABLE u (id bigint PRIMARY KEY, flag boolean);
@@ -19,7 +19,7 @@ CREATE SUBSCRIPTION s0 CONNECTION '' PUBLICATION pa;
 CREATE SUBSCRIPTION s1 CONNECTION '' PUBLICATION pb;
 """
 
-# How many rows come and go, and how many of them in a commit.
+# How many rows are inserted and deleted, and how many of them in a commit.
 MANY = 10_000
 EACH = 100
 
@@ -90,7 +90,7 @@ STEPS: list[tuple[str, list[str]]] = [
     ),
 ]
 
-# Scripts of a log with two commits at most.
+# Scripts for a log of at most two commits.
 FULL: list[tuple[str, list[str]]] = [
     (
         "COMMIT INSERT t (1, 'a'), INSERT t (1, 'b'); COMMIT; COMMIT DELETE t (1); VIEW;",
@@ -113,7 +113,7 @@ FULL: list[tuple[str, list[str]]] = [
     ),
 ]
 
-# A table is emptied, the other is not.
+# One table is truncated, and the other is not.
 EMPTIED = (
     "COMMIT INSERT t (1, 'a'), INSERT t (100, NULL), INSERT u (-5, TRUE), INSERT u (100, FALSE); OPEN 0; OPEN 1;"
     " PUMP 0; PUMP 1; COMMIT TRUNCATE (t), INSERT t (2, 'b'); PUMP 0; VIEW;",
@@ -135,7 +135,7 @@ CODES = (
     ],
 )
 
-# A table with several unique indexes, and what two rows may not share.
+# A table with several unique indexes, and the values that two rows may not share.
 SEVERAL = INDEXED.replace(
     "ALTER", "CREATE UNIQUE INDEX u_note ON u (note, id);\nCREATE UNIQUE INDEX u_last ON u (note);\nALTER")
 TAKEN = (
@@ -150,7 +150,7 @@ TAKEN = (
     ],
 )
 
-# Tables are emptied in the middle of a list, and by a list that is refused.
+# Tables are truncated in the middle of a list, and by a list that is refused.
 BOTH_EMPTIED = (
     "COMMIT INSERT t (1, 'a'), INSERT u (2, TRUE); COMMIT TRUNCATE (t, u), DELETE t (1); VIEW;"
     " COMMIT INSERT u (3, FALSE), TRUNCATE (u, t, u), INSERT u (4, NULL), INSERT u (5, TRUE), DELETE u (5); VIEW;",
@@ -161,7 +161,7 @@ BOTH_EMPTIED = (
     ],
 )
 
-# Rows come in the order of their columns, whatever the key.
+# Rows are in the order of their columns, whatever the key.
 KEY_LAST = """\
 CREATE TABLE v (region text, ok boolean, id integer PRIMARY KEY);
 CREATE PUBLICATION p FOR ALL TABLES;
@@ -178,7 +178,7 @@ ORDERED = (
     ],
 )
 
-# Words, an input, the status and the output.
+# Arguments, an input, the status and the output.
 OTHERS: list[tuple[tuple[str, ...], str, int, str]] = [
     ((), f"{B}%%\no 0\n%%\nVIEW;\n", 1, "refused NotOwner public.t 0\n"),
     ((), f"{B}%%\n{C}%%\nOPEN 0; PUMP;\n", 3, "script 12 Expected\n"),
@@ -191,12 +191,13 @@ OTHERS: list[tuple[tuple[str, ...], str, int, str]] = [
 
 
 def three_parts(catalog: str, certificates: str, script: str) -> str:
-    """An input of three parts. The first two end with a newline."""
+    """Returns an input of three parts. The first two end with a newline."""
     return f"{catalog}%%\n{certificates}%%\n{script}"
 
 
 def lost_downwards(delivered: int) -> tuple[str, list[str]]:
-    """A connection is lost after this many bytes, of 174, of its second transaction, and the subscriber reconnects."""
+    """Returns a script in which a connection is lost after this many bytes, of 174, of its second transaction, and the
+    subscriber reconnects."""
     script = (
         "COMMIT INSERT t (7, 'eu'); OPEN 0; PUMP 0; COMMIT UPDATE t (7) (8, 'eu'); TAKE 0;"
         f" DELIVER 0 {delivered}; LOSE 0; OPEN 0; HEAR 0 92; TAKE 0; DELIVER 0 257; VIEW;")
@@ -209,7 +210,7 @@ def lost_downwards(delivered: int) -> tuple[str, list[str]]:
 
 
 def lost_upwards(heard: int) -> tuple[str, list[str]]:
-    """A connection is lost after this many bytes of a status, of 39."""
+    """Returns a script in which a connection is lost after this many bytes, of 39, of a status."""
     script = (
         "COMMIT INSERT t (7, 'eu'); OPEN 0; HEAR 0 91; TAKE 0; DELIVER 0 241; REPORT 0;"
         f" HEAR 0 {heard}; LOSE 0; VIEW;")
@@ -221,7 +222,7 @@ def lost_upwards(heard: int) -> tuple[str, list[str]]:
 
 
 def many() -> tuple[str, list[str]]:
-    """Many rows are inserted in descending order, and then deleted in ascending order."""
+    """Returns a script in which many rows are inserted in descending order, and then deleted in ascending order."""
     inserts = [f"INSERT t ({key}, NULL)" for key in reversed(range(MANY))]
     deletes = [f"DELETE t ({key})" for key in range(MANY)]
     commands = inserts + deletes
@@ -235,13 +236,13 @@ def many() -> tuple[str, list[str]]:
 
 
 def end_of(commits: int) -> str:
-    """Where a log of this many commits ends: each takes 64 bytes, and 64 come before the first."""
+    """Returns the end of a log of this many commits: each takes 64 bytes, and 64 come before the first."""
     return f"0/{64 * commits + 64:X}"
 
 
 def view_of(commits: int, rows: list[str], shards: dict[str, list[str]]) -> list[str]:
-    """The lines of VIEW where each subscriber was pumped after this many commits: the rows, each with its table before
-    it, and those of each subscriber, by its name."""
+    """Returns the lines of VIEW if each subscriber was pumped after this many commits: the rows, each after its table,
+    and those of each subscriber, by name."""
     at = end_of(commits)
     lines = [f"log {commits}", *rows]
     for name, shard in shards.items():
@@ -250,7 +251,7 @@ def view_of(commits: int, rows: list[str], shards: dict[str, list[str]]) -> list
 
 
 def scripts() -> Iterator[tuple[str, str, tuple[str, list[str]]]]:
-    """Names, catalogs, and scripts with their lines."""
+    """Yields names, catalogs, and scripts with their lines."""
     for number, steps in enumerate(STEPS, 1):
         yield f"the steps of a script, case {number}", B, steps
     for delivered in range(175):
@@ -263,7 +264,7 @@ def scripts() -> Iterator[tuple[str, str, tuple[str, list[str]]]]:
 
 
 def cases() -> Iterator[Case]:
-    """A run of simulate for each."""
+    """Yields a run of simulate for each."""
     for name, catalog, (script, lines) in scripts():
         yield Case(name, ("simulate",), three_parts(catalog, C, script), 0, text_of(lines))
     for number, (script, lines) in enumerate(FULL, 1):
@@ -278,5 +279,5 @@ def cases() -> Iterator[Case]:
 
 
 def text_of(lines: list[str]) -> str:
-    """The lines, each with its newline."""
+    """Returns the lines, each with its newline."""
     return "".join(f"{line}\n" for line in lines)

@@ -22,7 +22,7 @@ from .shardings import of_crowd
 
 JUNK = 1_000
 SUBSCRIBERS = 6
-# File descriptors of this process; as many again are left for others.
+# How many files each of the two processes may have open: one for each junk connection, and some for others.
 FILES = JUNK + 500
 # How long the streams and the end may take in the presence of junk, in seconds.
 PATIENCE = 2 * SECONDS

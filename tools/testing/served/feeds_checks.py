@@ -31,7 +31,7 @@ PATIENCE = 180
 # The most streams that are cut on each side of the front, and the bytes before each cut.
 CUTS = 4
 LATEST_CUT = 6_000
-# Every workload with this number uses TLS and a password; the relay before the front then sees no start to cut.
+# Workloads whose number is a multiple of this use TLS and a password; the relay before the front sees no start then.
 SECURED = 5
 
 MADE = {"london": "fed_london", "tokyo": "fed_tokyo", "publisher": "fed_publisher"}
