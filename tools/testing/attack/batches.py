@@ -15,10 +15,10 @@ from .moves import moved
 from .oracle import HELPERS, Database, Subscriber
 from .rows import rows_near, rows_of
 
-# A table that the server does not take is drawn again, at most so often.
+# How often a table that the server refuses is generated again.
 DRAWS = 40
 ROWS, MOST_ROWS = 330, 1500
-# This many lots more are inserted while a table that is sound has too few rows, since its constraints refuse most.
+# How many more batches of rows are inserted while a sound table has too few rows, since its constraints refuse most.
 LOTS = 4
 LOCALES = {
     "": 6, "ENCODING 'UTF8' LC_COLLATE 'C.UTF-8' LC_CTYPE 'C.UTF-8'": 2,
@@ -40,7 +40,7 @@ SHADOWS = (
     "CREATE FUNCTION shadows.abs(integer) RETURNS integer LANGUAGE sql IMMUTABLE AS 'SELECT 1'",
     "CREATE OPERATOR shadows.< (LEFTARG = integer, RIGHTARG = integer, FUNCTION = int4gt)",
     "CREATE OPERATOR shadows.= (LEFTARG = text, RIGHTARG = text, FUNCTION = textne)")
-# How judge says that a row is outside of its partition's bounds.
+# The message that judge prints if a row is outside its partition's bounds.
 ITSELF = re.compile(r"INSERT into (\S+) itself takes it")
 Draw = Callable[[str], Design]
 NO_VERDICT = Verdict("no judgement")
@@ -64,14 +64,14 @@ class Place:
     program: str
 
     def psql_words(self, database: str) -> list[str]:
-        """As judge takes them."""
+        """Returns the arguments as judge takes them."""
         pairs = (it.split("=") for it in self.words.split())
         options = {"host": "-h", "user": "-U", "port": "-p"}
         return [word for name, value in pairs for word in (options[name], value)] + ["-d", database]
 
 
 def setup_of(chance: random.Random, name: str) -> tuple[list[str], list[str]]:
-    """Statements that create a database, and those that come first in it."""
+    """Returns the statements that create a database, and the first statements in it."""
     locale = chance.choices(list(LOCALES), list(LOCALES.values()))[0]
     some = [it for it in SETTINGS if chance.random() < 0.12]
     making = [f"CREATE DATABASE {name} TEMPLATE template0 STRATEGY file_copy {locale}"]
@@ -80,7 +80,7 @@ def setup_of(chance: random.Random, name: str) -> tuple[list[str], list[str]]:
 
 
 def loop(place: Place, name: str) -> tuple[str, ...]:
-    """A server through which a foreign table is another table of the same database."""
+    """Returns a foreign server through which a foreign table is another table of the same database."""
     options = dict(it.split("=") for it in place.words.split()) | {"dbname": name}
     listed = ", ".join(f"{option} '{value}'" for option, value in options.items() if option != "user")
     user = options.get("user", "")
@@ -94,8 +94,8 @@ def loop(place: Place, name: str) -> tuple[str, ...]:
 def attack(
     place: Place, name: str, seed: int, draw: Callable[[random.Random], Draw], count: int, locale: str | None = None,
 ) -> Result:
-    """Makes a database of this many designs, and compares what judge says of them with its slots. If a locale is
-    given, the database has no settings by chance, and what is to be in it is not drawn again."""
+    """Creates a database of this many designs, and compares judge's answers with its slots. If a locale is given, the
+    database has no random settings, and designs that are refused are not generated again."""
     chance, result = random.Random(seed), Result()
     making, first = setup_of(chance, name)
     if locale is not None:
@@ -121,7 +121,7 @@ def attack(
 
 
 def made(database: Database, draw: Draw, count: int, result: Result, draws: int) -> Iterator[Design]:
-    """Designs that the server accepts."""
+    """Yields designs that the server accepts."""
     for number in range(count):
         for _ in range(draws):
             design = draw(f"d{number}")
@@ -163,7 +163,7 @@ def compare(place: Place, database: Database, chance: random.Random, designs: li
 
 
 def filled(database: Database, chance: random.Random, design: Design, verdicts: dict[str, Verdict]) -> Iterator[Judged]:
-    """Fills a design's tables; each row is one of the judged table that has it."""
+    """Fills a design's tables. Each row belongs to the judged table that contains it."""
     found = {name: Judged(name, design, verdict) for name, verdict in verdicts.items()
              if name.startswith((f"{design.name}.", f"{design.name}_more."))}
     for table in found.values():
@@ -190,7 +190,7 @@ def has_few(table: Judged) -> bool:
 
 
 def set_rows(database: Database, design: Design, found: dict[str, Judged]) -> None:
-    """Gives each judged table of a design its rows."""
+    """Assigns rows to each judged table of a design."""
     for table in found.values():
         table.rows = []
     rows = (f"SELECT {NUMBER}, format('%s.%s', n.nspname, c.relname) FROM {design.table} AS r "
@@ -211,7 +211,8 @@ def leaves_of(database: Database, table: str) -> list[str]:
 
 
 def insert_told(database: Database, table: Judged) -> tuple[int, str | None]:
-    """Inserts the row that judge reports, with a number. Returns the number, and why the server refuses the row."""
+    """Inserts the row that judge reports, with a number. Returns the number, and the server's reason if it refuses the
+    row."""
     number = database.next_number
     database.next_number += 1
     row = {**(table.verdict.row or {}), NUMBER: str(number)}
@@ -227,13 +228,13 @@ def insert_told(database: Database, table: Judged) -> tuple[int, str | None]:
 
 
 def quoted(name: str) -> str:
-    """A name as SQL has it."""
+    """Returns a name as it is written in SQL."""
     doubled = name.replace('"', '""')
     return f'"{doubled}"'
 
 
 def target_of(table: Judged) -> str:
-    """Into which table the row is inserted: the partition, if the server takes it only there."""
+    """Returns the table into which the row is inserted: the partition, if the server accepts the row only there."""
     found = (ITSELF.match(it) for it in table.verdict.remarks)
     return next((it[1] for it in found if it is not None), table.name)
 

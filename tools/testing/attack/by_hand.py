@@ -1,6 +1,6 @@
-"""Designs that were written by hand, since no random one would be likely to come upon them.
+"""Designs that are written by hand, since random ones are unlikely to reach these cases.
 
-What is true of each is not written here: the slots say it.
+The right answers are not given here: they come from the slots.
 """
 
 from collections.abc import Iterator
@@ -13,7 +13,7 @@ from .written import Written
 
 TEXT_PAIR = ("'a', 'b'", "'a', 'a'", "'', ''")
 PLAIN = [
-    # Functions of one name over other types.
+    # Functions with the same name over other types.
     Written("a int4range", ["upper(a) IS NOT NULL", "a IS NULL"], ["'[1,2)'", "'empty'", "'[1,)'", "NULL"]),
     Written("a int4range NOT NULL", ["lower(a) < 5", "lower(a) >= 5"], ["'[1,2)'", "'empty'", "'(,1)'"]),
     Written("a path NOT NULL", ["length(a) <= 5", "length(a) >= 6"], ["'[(0,0),(5.5,0)]'", "'[(0,0),(1,0)]'"]),
@@ -32,7 +32,7 @@ PLAIN = [
         ["'((1e308,0),(-1e308,0),(0,1e308))'", "'((0,0))'"]),
     Written("a tsquery NOT NULL", ["(a && 'b'::tsquery) = 'b'::tsquery", "(a && 'b'::tsquery) <> 'b'::tsquery"],
         ["'a'", "''", "'b'"]),
-    # Lists that are columns.
+    # Lists in columns.
     Written("a integer, b integer[]", ["(a = ANY (b)) IS NULL", "(a = ANY (b)) IS NOT NULL AND a IS NOT NULL"],
         ["NULL, '{}'", "1, '{NULL}'", "1, '{}'", "1, NULL"]),
     Written("a integer, b integer[] NOT NULL", ["a IS NULL", "a = ANY (b)", "NOT a = ANY (b)"],
@@ -47,7 +47,7 @@ PLAIN = [
     Written("a text NOT NULL", ["a ~ ANY ('{a,(}')", "NOT (a ~ ANY ('{a,(}'))"], ["'a'", "'b'"]),
     Written("a text NOT NULL", ["a LIKE ANY ('{a\\\\\\\\}')", "NOT (a LIKE ANY ('{a\\\\\\\\}'))"],
         ["'a'", "'ab'", "E'a\\\\'"]),
-    # Collations that no comparison can choose from.
+    # Different collations for which a comparison cannot choose one.
     Written('a text COLLATE "C" NOT NULL, b text COLLATE "POSIX" NOT NULL', ["a = b", "a <> b"], TEXT_PAIR),
     Written('a text COLLATE "C" NOT NULL, b text COLLATE "POSIX" NOT NULL', ["a < b", "a >= b"], TEXT_PAIR),
     Written('a text COLLATE "C" NOT NULL, b text COLLATE "POSIX" NOT NULL',
@@ -79,12 +79,12 @@ PLAIN = [
     Written("a text NOT NULL", ["a COLLATE \"en-x-icu\" < 'b'", "a >= 'b'"], ["'B'", "'a'", "'c'"]),
     Written('a text COLLATE "en-x-icu" NOT NULL', ["a < 'b'", "a COLLATE \"C\" >= 'b'"], ["'B'", "'a'", "'c'"]),
     Written("a text NOT NULL", ["ascii(a) < 128", "ascii(a) >= 128"], ["'a'", "'あ'", "'é'", "''"]),
-    # Casts and functions of a database's own in constraints.
+    # Casts and functions defined in the database, in constraints.
     Written("a integer, CHECK (a::text IS NOT NULL)", ["a < 5", "a >= 5"], ["NULL", "1", "5"], before=(
         "CREATE FUNCTION public.to_word(integer) RETURNS text LANGUAGE sql IMMUTABLE AS $$ SELECT 'x' $$",
         "CREATE CAST (integer AS text) WITH FUNCTION public.to_word(integer) AS ASSIGNMENT"),
         after=("DROP CAST (integer AS text)",) * 0),
-    # A sub-select that finds no row gives NULL to a domain that is NOT NULL, as CREATE DOMAIN's notes say.
+    # A subquery that finds no row gives NULL to a domain that is NOT NULL, as described in the notes of CREATE DOMAIN.
     Written("a integer NOT NULL, b public.filled, CHECK (b IS NULL OR a >= 0)", ["a >= 0"],
         ["1, 1", "-1, (SELECT b FROM {table} WHERE false)"], before=("CREATE DOMAIN public.filled AS integer NOT NULL",
         )),
@@ -126,10 +126,10 @@ PLAIN = [
     Written("a integer NOT NULL", [], ["1", "-1"], others=(
         ("FOR TABLE {table} WHERE (a < 0) WITH (publish = 'insert')", 0), ("FOR TABLE {table} WHERE (a >= 0)", 1),
         ("FOR TABLE {table} WHERE (a < 5) WITH (publish = 'update, delete, truncate')", 0))),
-    # Values at the edges.
+    # Extreme values.
     Written("a double precision NOT NULL", ["a < 0", "a = 0", "a > 0"], ["'-0'", "'NaN'", "'-Infinity'", "'5e-324'"]),
     Written("a double precision NOT NULL", ["a <= 'Infinity'", "a > 'Infinity'"], ["'NaN'", "'Infinity'"]),
-    # A constant that is computed, where the database's floats are written short.
+    # A constant that is computed, in a database that prints floats with few digits.
     Written("a double precision NOT NULL", ["a < sqrt(2.0::float8)", "a >= 1.4142"], ["1.4142", "1.41421", "0"],
         before=(
         "DO $$ BEGIN EXECUTE format('ALTER DATABASE %I SET extra_float_digits = -10', current_database()); END $$",)),
@@ -149,7 +149,7 @@ PLAIN = [
     Written("a numeric(3,5) NOT NULL", ["a <= 0.00999", "a > 0.00999"], ["0.00999", "0", "'NaN'"]),
     Written("a timestamp NOT NULL", ["a::date <= '294276-12-31'", "a::date > '294276-12-31'"],
         ["'infinity'", "'294276-12-31 23:59:59.999999'"]),
-    # Rounded, it is past the last timestamp.
+    # When rounded, it is beyond the last timestamp.
     Written("a timestamp(0)", ["a + interval '0' >= '2024-01-01'", "(a >= '2024-01-01') IS NOT TRUE"],
         ["'294276-12-31 23:59:59.6'", "'2024-01-01'", "NULL"]),
     Written("a date NOT NULL", ["a < timestamp 'infinity'", "a = timestamp 'infinity'"],
@@ -168,7 +168,7 @@ PLAIN = [
         ("FOR TABLE {table} WHERE (a <> 0 AND 10 / a <= 1)", 1))),
     Written("a integer NOT NULL, b integer GENERATED ALWAYS AS (a % 2) STORED", ["b = 0", "b = 1", "b = -1"],
         ["1, DEFAULT", "-1, DEFAULT", "2, DEFAULT"]),
-    # Generated columns as their expressions; one is rounded for its type, and one drops blanks at its end.
+    # Generated columns are read as their expressions; one is rounded to its type, and one drops trailing blanks.
     Written("a numeric NOT NULL, b integer GENERATED ALWAYS AS (a * 1.5) STORED", ["b < 5", "a * 1.5 >= 5"],
         ["3, DEFAULT", "3.2, DEFAULT", "3.4, DEFAULT", "0, DEFAULT"]),
     Written("a text NOT NULL, b varchar(2) GENERATED ALWAYS AS (a) STORED", ["b = 'ab'", "a <> 'ab'"],
@@ -182,7 +182,7 @@ PLAIN = [
     Written("a {schema}.size, b boolean GENERATED ALWAYS AS (a < 'large') STORED", ["b", "NOT b", "b IS NULL"],
         ["'small', DEFAULT", "'middle', DEFAULT", "'large', DEFAULT", "NULL, DEFAULT"],
         before=("CREATE TYPE {schema}.size AS ENUM ('small', 'middle', 'large')",)),
-    # What one side of a comparison says of the other.
+    # What one side of a comparison implies about the other.
     Written("a integer NOT NULL, b integer NOT NULL, CHECK (a < b)", ["b <= 10", "a >= 10 OR b > 10"],
         ["9, 10", "10, 11", "9, 11", "-5, 5"]),
     Written("a date NOT NULL, b date NOT NULL, CHECK (a <= b)", ["b < '2024-01-01'", "a >= '2024-01-01'"],
@@ -202,7 +202,7 @@ PLAIN = [
         ["'2023-12-31 20:00+00'", "'2023-12-31 18:00+00'"]),
     Written("a date NOT NULL, CHECK (a < timestamptz '2024-01-01 00:00+00')", ["a < '2024-01-01'"],
         ["'2024-01-01'", "'2023-12-31'"]),
-    # Partitions that keep their rows from the log.
+    # Partitions whose rows are not in the WAL.
     Written("a integer", ["a < 0", "a >= 0 OR a IS NULL"], ["1", "-1", "NULL"],
         making="CREATE TABLE {table} ({columns}, row_number bigint) PARTITION BY LIST (a)",
         after=("CREATE UNLOGGED TABLE {schema}.one PARTITION OF {table} FOR VALUES IN (1)",
@@ -227,36 +227,36 @@ PLAIN = [
         ["1, '[(0,0),(1,1)]', '((0,0))'", "NULL, '[(0,0),(1,1)]', '((0,0))'"]),
 ]
 
-# In an encoding of several bytes that is not UTF8, ascii() takes no other letter than ASCII's.
+# In a multibyte encoding other than UTF8, ascii() accepts only ASCII characters.
 JAPANESE = [
     Written("a text NOT NULL", ["ascii(a) < 128", "ascii(a) >= 128"], ["'a'", "'あ'", "''"]),
     Written("a text NOT NULL", ["length(a) < 2", "length(a) >= 2"], ["'a'", "'あ'", "'あい'"]),
     Written("a text NOT NULL", ["a < 'あ'", "a >= 'あ'"], ["'a'", "'あ'", "'あい'"]),
 ]
-# In SQL_ASCII the server knows bytes, and no letters beside ASCII's.
+# In SQL_ASCII the server knows only bytes, and no letters other than those of ASCII.
 ASCII = [
     Written("a text NOT NULL", ["a < 'é'", "a >= 'é'"], ["'z'", "'é'", "'ü'", "''"]),
     Written("a text NOT NULL", ["a = 'é'", "a > 'é'", "a < 'é'"], ["'z'", "'é'", "'ü'", "''"]),
     Written("a jsonb NOT NULL", ["a ->> 'é' = 'ü'", "(a ->> 'é' = 'ü') IS NOT TRUE"], ["'{\"é\": \"ü\"}'", "'{}'"]),
 ]
-# This many are in one database.
+# The number of designs in a database.
 PIECE = 15
 WRITTEN = {f"by hand from {at}": PLAIN[at:at + PIECE] for at in range(0, len(PLAIN), PIECE)}
 WRITTEN |= {f"edges from {at}": EDGES[at:at + PIECE] for at in range(0, len(EDGES), PIECE)}
 WRITTEN |= {"in EUC_JP": JAPANESE, "in SQL_ASCII": ASCII}
-# What CREATE DATABASE has of each.
+# The options of CREATE DATABASE for each.
 PLACES = dict.fromkeys(WRITTEN, "") | {
     f"in {it}": f"ENCODING '{it}' LC_COLLATE 'C' LC_CTYPE 'C'" for it in ("EUC_JP", "SQL_ASCII")}
 
 
 def by_hand(kind: str) -> Iterator[Design]:
-    """All designs of a database, each in a schema of its own."""
+    """Yields all designs of a database, each in a schema of its own."""
     for number, it in enumerate(WRITTEN[kind]):
         yield design_of(f"h{number}", it)
 
 
 def design_of(name: str, written: Written) -> Design:
-    """A design that is written by hand."""
+    """Returns a design that is written by hand."""
     table = f"{name}.rows"
 
     def said(text: str) -> str:
@@ -278,5 +278,5 @@ def design_of(name: str, written: Written) -> Design:
 
 
 def columns_of(text: str) -> list[str]:
-    """The columns of a list, without constraints."""
+    """Returns the columns of a list, without constraints."""
     return [it for it in parts_of(text) if not it.startswith("CHECK")]

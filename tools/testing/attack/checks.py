@@ -1,5 +1,4 @@
-"""The part of tools/test: 300 random tables and 30 trees of partitions, with a new seed each time unless one is
-given."""
+"""The part of tools/test: 300 random tables and 30 partition trees, with a new seed each time unless one is given."""
 
 import os
 import re
@@ -10,7 +9,7 @@ from server import environment
 from tally import Tally
 
 DESIGNS, TOPOLOGIES = 300, 30
-# What the last lines of an attack count.
+# Matches the counts in the last lines of an attack.
 COUNTED = re.compile(r" *([\d,]+) (.*)")
 
 

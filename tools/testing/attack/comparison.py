@@ -1,4 +1,4 @@
-"""Compares what judge says about a table with what the slots sent of its rows."""
+"""Compares judge's answer for a table with what the slots sent of its rows."""
 
 import re
 from collections.abc import Iterator
@@ -10,13 +10,13 @@ from .designs import NUMBER, Design
 from .judgement import Verdict
 from .oracle import Database
 
-# The rows of a table that is sound.
+# The number of rows of a sound table.
 WANTED = 300
 OPERATIONS = {
     "update": f"UPDATE ONLY {{table}} SET {NUMBER} = {NUMBER}", "delete": "DELETE FROM ONLY {table}"}
-# How it names a table of which it sends nothing more.
+# How a message names a table of which nothing more is sent.
 NAMED = re.compile(r'for table "([^"]+)"')
-# How the server says that a table's replica identity does not do.
+# How the server says that a table's replica identity does not suffice.
 REFUSALS = ("cannot update table", "cannot delete from table")
 
 
@@ -33,34 +33,34 @@ class Finding:
 
 @dataclass
 class Judged:
-    """A table with a verdict, its rows, and the tables that have them: itself, or its partitions."""
+    """A table with a verdict, its rows, and the tables that store them: itself, or its partitions."""
 
     name: str
     design: Design
     verdict: Verdict
     rows: list[int] = field(default_factory=list)
     leaves: list[str] = field(default_factory=list)
-    # Whether it is a partitioned table; the rows of tables that inherit from another are not its own.
+    # Whether it is a partitioned table. The rows of tables that inherit from another do not belong to it.
     is_partitioned: bool = False
 
     @property
     def source(self) -> str:
-        """The table, as in FROM, UPDATE and DELETE."""
+        """Returns the table, as in FROM, UPDATE and DELETE."""
         return self.name if self.is_partitioned else f"ONLY {self.name}"
 
     def finding(self, kind: str, words: str, row: str = "") -> Finding:
-        """A difference in what is said about it."""
+        """Returns a difference about the table."""
         return Finding(kind, words, self.verdict, self.design, row)
 
 
 def row_text(database: Database, table: str, number: int) -> str:
-    """A row as the server writes it."""
+    """Returns a row as the server prints it."""
     found = database.run(f"SELECT row_to_json(r)::text FROM {table} AS r WHERE {NUMBER} = {number}")
     return str(found[0][0]) if found else f"{NUMBER} {number}"
 
 
 def differences(database: Database, table: Judged) -> Iterator[Finding]:
-    """Everything that judge says about a table and that is false."""
+    """Yields everything false that judge says about a table."""
     match table.verdict.answer:
         case "sound":
             yield from of_sound(database, table)
@@ -73,13 +73,14 @@ def differences(database: Database, table: Judged) -> Iterator[Finding]:
 
 
 def of_sound(database: Database, table: Judged) -> Iterator[Finding]:
-    """Each row is sent to one subscriber, and no slot fails at it. One row of each kind is reported."""
+    """Checks that each row is sent to one subscriber, and that no slot fails because of it. One row of each kind is
+    reported."""
     told = set()
     for number in table.rows:
         failed = database.heard.failed.get(number, {})
         takers = sorted(database.heard.takers.get(number, ()))
         if failed and all(is_of_another(it, table) for it in failed.values()):
-            # The transaction has rows of other tables, too, and nothing of it is sent.
+            # The transaction also contains rows of other tables, and nothing of it is sent.
             continue
         if failed:
             kind, words = "the replication stops", f"{failed}"
@@ -95,13 +96,13 @@ def of_sound(database: Database, table: Judged) -> Iterator[Finding]:
 
 
 def is_of_another(message: str, table: Judged) -> bool:
-    """Whether the message of a failure names a table that is not this one."""
+    """Returns whether the message of a failure names another table."""
     found = NAMED.search(message)
     return found is not None and found[1] not in (table.name, *table.leaves)
 
 
 def of_operations(database: Database, table: Judged) -> Iterator[Finding]:
-    """The server takes updates and deletes."""
+    """Checks that the server accepts updates and deletes."""
     for operation, statement in OPERATIONS.items():
         for leaf in table.leaves:
             refusal = database.refusal(statement.format(table=leaf))
@@ -110,7 +111,7 @@ def of_operations(database: Database, table: Judged) -> Iterator[Finding]:
 
 
 def of_regions(database: Database, table: Judged) -> Iterator[Finding]:
-    """Each row is in one region, that of its subscriber."""
+    """Checks that each row is in one region, which is that of its subscriber."""
     regions = [(rows.replace("all rows", "true"), taker) for rows, taker in table.verdict.regions]
     listed = ", ".join(f"({rows}) IS TRUE" for rows, _ in regions)
     if not regions:
@@ -134,8 +135,8 @@ def of_regions(database: Database, table: Judged) -> Iterator[Finding]:
 
 
 def of_faults(database: Database, table: Judged) -> Iterator[Finding]:
-    """Each row that goes to nobody or to several is in one of the listed regions, with these takers; no other row
-    is."""
+    """Checks that each row that goes to nobody or to several is in one of the listed regions, with these takers, and
+    that no other row is."""
     regions = [(rows.replace("all rows", "true"), taking) for rows, taking in table.verdict.faults or ()]
     if not regions:
         return
@@ -160,7 +161,7 @@ def of_faults(database: Database, table: Judged) -> Iterator[Finding]:
 
 
 def of_refused(database: Database, table: Judged) -> Iterator[Finding]:
-    """An operation is refused by the server, or is not published, as the reasons say."""
+    """Checks that an operation is refused by the server, or is not published, as the reasons say."""
     reasons = "; ".join(table.verdict.because)
     if "replica identity" in reasons:
         refusals = [database.refusal(OPERATIONS[it].format(table=leaf)) for it in OPERATIONS for leaf in table.leaves]
@@ -172,7 +173,8 @@ def of_refused(database: Database, table: Judged) -> Iterator[Finding]:
 
 
 def of_not_sound(database: Database, table: Judged, number: int, refusal: str | None) -> Iterator[Finding]:
-    """The row of a table that is not sound goes where judge says; `refusal` is why the server refused it."""
+    """Checks that the row of a table that is not sound goes where judge says. `refusal` is why the server refused the
+    row."""
     may_be_refused = any("refuse" in it or "never be" in it or "OVERRIDING" in it or "domain" in it or "no value" in it
                          for it in table.verdict.remarks)
     if refusal is not None:

@@ -8,7 +8,7 @@ from .kinds import Kind
 
 OPERATORS = ("=", "<>", "<", "<=", ">", ">=")
 TESTS = ("IS TRUE", "IS NOT TRUE", "IS FALSE", "IS NOT FALSE", "IS UNKNOWN", "IS NOT UNKNOWN")
-# How many conditions are comparisons or ask for NULL.
+# The share of conditions that are comparisons or tests for NULL.
 PLAIN = 0.4
 SMALL, GREAT = (1, 2, 3, 4, 5, 8), (1, 7, 16, 255, 256, 4096, 1000, 30000)
 FAMILIES = {
@@ -21,11 +21,11 @@ FAMILIES = {
 
 
 def family(kind: Kind) -> str:
-    """Columns of one family are compared with each other."""
+    """Returns the family of a kind. Columns of one family are compared with each other."""
     return FAMILIES.get(kind.name, kind.name)
 
 
-# Whether the server takes a template of a kind.
+# Whether the server accepts a template of a kind.
 Takes = Callable[[Kind, str], bool]
 
 
@@ -40,14 +40,14 @@ class Column:
 
 
 class Conditions:
-    """Makes conditions by chance."""
+    """Generates random conditions."""
 
     def __init__(self, chance: random.Random, takes: Takes) -> None:
         self.chance = chance
         self.takes = takes
 
     def template(self, kind: Kind, among: tuple[str, ...]) -> str:
-        """One of several templates that the server accepts."""
+        """Returns one of several templates that the server accepts."""
         left = list(among)
         while left:
             found = self.chance.choice(left)
@@ -57,7 +57,7 @@ class Conditions:
         raise LookupError(f"the server takes no condition of a column of kind {kind.name}")
 
     def constant(self, column: Column) -> str:
-        """A constant of a column's kind, or one that is compared with it elsewhere."""
+        """Returns a constant of a column's kind, or one that is compared with the column elsewhere."""
         if column.constants and self.chance.random() < 0.4:
             return self.chance.choice(column.constants)
         found = self.chance.choice(column.kind.values)
@@ -65,7 +65,7 @@ class Conditions:
         return found
 
     def filled(self, template: str, column: Column, columns: list[Column]) -> str:
-        """A template for a column, with its parts filled in."""
+        """Returns a template for a column, with its placeholders replaced."""
         others = [it for it in columns if it is not column and family(it.kind) == family(column.kind)]
         choice = self.chance.choice
         other = choice(others).name if others and self.chance.random() < 0.8 else self.constant(column)
@@ -75,13 +75,13 @@ class Conditions:
             eq=choice(OPERATORS[:2]), m=low, r=high, j=choice(GREAT))
 
     def condition(self, columns: list[Column]) -> str:
-        """A condition of a column."""
+        """Returns a condition on a column."""
         column = self.chance.choice(columns)
         among = column.kind.plain if self.chance.random() < PLAIN else column.kind.conditions
         return self.filled(self.template(column.kind, among), column, columns)
 
     def formula(self, columns: list[Column], depth: int) -> str:
-        """A tree of conditions."""
+        """Returns a tree of conditions."""
         kind = self.chance.random()
         if depth == 0 or kind < 0.4:
             return self.condition(columns)
@@ -99,7 +99,7 @@ class Conditions:
         return f"({one}) {self.chance.choice(('AND', 'OR'))} ({other})"
 
     def measure(self, columns: list[Column]) -> str | None:
-        """An integer that is computed from a column, or None if no kind has one."""
+        """Returns an integer expression of a column, or None if no kind has one."""
         measured = [it for it in columns if it.kind.measures]
         if not measured:
             return None

@@ -10,7 +10,7 @@ from .plans import filters_of
 
 KINDS = [*kinds_numbers.KINDS, *kinds_texts.KINDS, *kinds_times.KINDS, *kinds_others.KINDS]
 UNFILTERED = kinds_others.UNFILTERED
-# Types and collations of a database's own, which each database has.
+# Types and collations that are created in each database.
 OWN_TYPES = tuple(it.needs for it in UNFILTERED)
 SUBSCRIBERS = 5
 OFTEN = {
@@ -18,13 +18,13 @@ OFTEN = {
     "bool": 3, "date": 3, "timestamp": 3, "timestamptz": 2, "uuid": 2, "float8": 2, "int4range": 2, "int4array": 3,
     "textarray": 2, "jsonb": 2}
 OPERATIONS = ("insert", "insert, update", "insert, update, delete", "update, delete", "insert, delete, truncate")
-# By this column rows are told apart; no filter names it.
+# This column identifies rows; no filter names it.
 NUMBER = "row_number"
 
 
 @dataclass
 class Publication:
-    """A publication, how it is created, and the number of the subscriber that takes it, or None."""
+    """A publication, how it is created, and the number of its subscriber, or None."""
 
     name: str
     statement: str
@@ -40,27 +40,27 @@ class Design:
     columns: list[Column]
     setup: list[str]
     publications: list[Publication] = field(default_factory=list)
-    # Into which tables rows are inserted, if these are others than the table itself.
+    # The tables into which rows are inserted, if not the table itself.
     targets: list[str] = field(default_factory=list)
     # Rows that are written by hand, as statements with {number}.
     rows: list[str] = field(default_factory=list)
 
     @property
     def table(self) -> str:
-        """The table, or the root of all others."""
+        """Returns the table, or the root of the tree."""
         return f"{self.name}.rows"
 
     def filters(self) -> list[str]:
-        """All filters, each once."""
+        """Returns all filters without duplicates."""
         return list(dict.fromkeys(it.filter for it in self.publications if it.filter is not None))
 
     def statements(self) -> list[str]:
-        """The statements that create it."""
+        """Returns the statements that create the design."""
         return [f"CREATE SCHEMA {self.name}", *self.setup, *(it.statement for it in self.publications)]
 
 
 class Designs:
-    """Makes designs by chance."""
+    """Generates random designs."""
 
     def __init__(self, chance: random.Random, takes: Takes, kinds: list[Kind]) -> None:
         self.chance = chance
@@ -68,7 +68,7 @@ class Designs:
         self.conditions = Conditions(chance, takes)
 
     def columns(self) -> list[Column]:
-        """One to three columns; where there are several, they are often of one family."""
+        """Returns one to three columns; several are often of one family."""
         first = self.kind(self.kinds)
         found = [first]
         for _ in range(self.chance.choice((0, 0, 1, 1, 2))):
@@ -78,22 +78,22 @@ class Designs:
         return [Column(name, kind, self.chance.random() < 0.4) for name, kind in zip(names, found)]
 
     def kind(self, among: list[Kind]) -> Kind:
-        """A random kind; those by which people divide tables are more likely."""
+        """Returns a random kind; those by which people usually divide tables are more likely."""
         return self.chance.choices(among, [OFTEN.get(it.name, 1) for it in among])[0]
 
     def unfiltered(self) -> list[Column]:
-        """Sometimes a column that filters cannot name."""
+        """Sometimes returns a column that filters cannot name."""
         if self.chance.random() < 0.9:
             return []
         return [Column("x4", self.chance.choice(UNFILTERED), self.chance.random() < 0.3)]
 
     def checks(self, columns: list[Column]) -> list[str]:
-        """Conditions that each row meets."""
+        """Returns conditions that each row satisfies."""
         wanted = self.chance.choice((0, 0, 0, 1, 1, 2))
         return [self.check(columns) for _ in range(wanted)]
 
     def check(self, columns: list[Column]) -> str:
-        """A condition that many rows meet."""
+        """Returns a condition that many rows satisfy."""
         column, kind = self.chance.choice(columns), self.chance.random()
         if column.kind.is_ordered and kind < 0.5:
             sign = self.chance.choice((">=", "<=", ">", "<", "<>"))
@@ -103,7 +103,7 @@ class Designs:
         return self.conditions.formula(columns, 1)
 
     def design(self, name: str) -> Design:
-        """A table with a plan."""
+        """Returns a table with a plan."""
         columns, others = self.columns(), self.unfiltered()
         design = Design(name, [*columns, *others], [])
         listed = [declared(it) for it in design.columns]
@@ -116,7 +116,7 @@ class Designs:
         return design
 
     def identity(self, design: Design) -> list[str]:
-        """The replica identity: mostly the full row, so that filters may name each column."""
+        """Returns the replica identity: mostly FULL, so that filters may name each column."""
         kind = self.chance.random()
         if kind < 0.85:
             return [f"ALTER TABLE {design.table} REPLICA IDENTITY FULL"]
@@ -130,7 +130,7 @@ class Designs:
         return []
 
     def publications(self, design: Design, filters: list[str]) -> list[Publication]:
-        """A publication for each filter, each with a subscriber of its own as a rule."""
+        """Returns a publication for each filter, usually each with a subscriber of its own."""
         found = []
         for place, filter in enumerate(filters):
             taker: int | None = place % SUBSCRIBERS
@@ -143,11 +143,11 @@ class Designs:
 
     @staticmethod
     def filtered(design: Design) -> list[Column]:
-        """The columns that filters may name."""
+        """Returns the columns that filters may name."""
         return [it for it in design.columns if it.kind.is_filtered]
 
     def publication(self, design: Design, place: int, filter: str, taker: int | None) -> Publication:
-        """One publication, sometimes with a column list or other operations."""
+        """Returns a publication, sometimes with a column list or other operations."""
         name, listed, options = f"{design.name}_p{place}", "", ""
         if self.chance.random() < 0.06:
             some = [it.name for it in design.columns if self.chance.random() < 0.7]
@@ -159,5 +159,5 @@ class Designs:
 
 
 def declared(column: Column) -> str:
-    """A column in CREATE TABLE."""
+    """Returns a column as in CREATE TABLE."""
     return f"{column.name} {column.kind.type}{' NOT NULL' if column.is_not_null else ''}"

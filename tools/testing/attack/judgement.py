@@ -1,4 +1,4 @@
-"""What judge says about a database, as JSON."""
+"""Judge's answers about a database, from its JSON."""
 
 import json
 import os
@@ -8,13 +8,13 @@ from dataclasses import dataclass, field
 from typing import Any
 
 TOOLS = pathlib.Path(__file__).resolve().parent.parent.parent
-# How long judge may take of a table, and in all, so that a busy machine does not change its answers.
+# The seconds that judge may take for a table, and in all, so that a busy machine does not change its answers.
 TABLE_SECONDS, SECONDS = 60, 900
 
 
 @dataclass
 class Verdict:
-    """What is said about a table."""
+    """The answer for a table."""
 
     answer: str
     because: list[str] = field(default_factory=list)
@@ -22,14 +22,13 @@ class Verdict:
     row: dict[str, str] | None = None
     takers: list[str] = field(default_factory=list)
     regions: list[tuple[str, str]] = field(default_factory=list)
-    # All regions that go to nobody or to several, as conditions with the takers, if they are known and no more are
-    # left.
+    # All regions that go to nobody or to several, as conditions with the takers, if they are known completely.
     faults: list[tuple[str, list[str]]] | None = None
-    # Rows at which a filter fails, in words.
+    # Rows for which a filter fails, in words.
     failing: list[str] = field(default_factory=list)
 
     def words(self) -> str:
-        """The whole verdict, for people."""
+        """Returns the whole verdict, for people."""
         parts = [self.answer]
         if self.row is not None:
             row = ", ".join(f"{name} = {value}" for name, value in self.row.items())
@@ -40,21 +39,21 @@ class Verdict:
         return "; ".join(parts)
 
     def says_that_it_fails(self) -> bool:
-        """Whether rows at which a filter fails are reported."""
+        """Returns whether rows for which a filter fails are reported."""
         words = ("fail", "stop", "ends its replication")
         return bool(self.failing) or any(word in it for it in (*self.because, *self.remarks) for word in words)
 
 
 @dataclass
 class Judgement:
-    """What is said about all tables by their names, or why nothing is."""
+    """The answers for all tables by name, or the reason why there are none."""
 
     verdicts: dict[str, Verdict] = field(default_factory=dict)
     fault: str | None = None
 
 
 def judged(program: str, words: list[str], takers: dict[str, list[str]]) -> Judgement:
-    """Runs judge with psql's words and who takes which publications."""
+    """Runs judge with psql's arguments and who takes which publications."""
     listed = " ".join(f"{name}={','.join(names)}" for name, names in takers.items() if names)
     given = ["-v", f"subscriptions={listed}"] if listed else []
     environment = {name: value for name, value in os.environ.items() if not name.startswith("PG") or name == "PGSHARD"}
@@ -74,7 +73,7 @@ def judged(program: str, words: list[str], takers: dict[str, list[str]]) -> Judg
 
 
 def verdict_of(found: dict[str, Any]) -> Verdict:
-    """A table of the JSON."""
+    """Returns the verdict of a table in the JSON."""
     return Verdict(
         found["answer"], [str(it) for it in found.get("because", [])], [str(it) for it in found.get("remarks", [])],
         found.get("row"), found.get("goes_to", []), [(it["rows"], it["subscriber"]) for it in found.get("regions", [])],

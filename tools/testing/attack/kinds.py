@@ -1,4 +1,4 @@
-"""What a kind of column is: its type, values at its edges, and conditions that filters may have over it."""
+"""Kinds of columns: a type, its extreme values, and conditions on it that filters may contain."""
 
 from dataclasses import dataclass
 
@@ -7,9 +7,9 @@ from dataclasses import dataclass
 class Kind:
     """A kind of column.
 
-    Values are constants as SQL writes them. A condition is a template: {c} is the column, {d} another column of its
-    kind or a constant, {k} and {l} are constants, {op} is a comparison, {eq} one of = and <>, {m} a small number above
-    zero, {r} a small number, and {j} a great one. A measure is a template of an integer.
+    Values are constants in SQL. A condition is a template: {c} is the column, {d} another column of its kind or a
+    constant, {k} and {l} are constants, {op} is a comparison operator, {eq} one of = and <>, {m} a small positive
+    number, {r} a small number, and {j} a large one. A measure is a template of an integer expression.
     """
 
     name: str
@@ -19,18 +19,18 @@ class Kind:
     measures: tuple[str, ...] = ()
     # Whether the type has < and =.
     is_ordered: bool = True
-    # Whether filters may name such a column; others are for constraints and partitions.
+    # Whether filters may name such a column; other columns are used in constraints and partitions.
     is_filtered: bool = True
-    # What has to be there first.
+    # What has to be created first.
     needs: str = ""
 
     @property
     def plain(self) -> tuple[str, ...]:
-        """The conditions that are comparisons or ask for NULL."""
+        """Returns the conditions that are comparisons or tests for NULL."""
         return tuple(it for it in self.conditions if it in PLAIN) or self.conditions
 
 
-# Conditions over each type that has an order.
+# Conditions on each ordered type.
 ORDERED = (
     "{c} {op} {k}", "{c} {op} {k}", "{c} BETWEEN {k} AND {l}", "{c} NOT BETWEEN {k} AND {l}",
     "{c} BETWEEN SYMMETRIC {k} AND {l}", "{c} IN ({k}, {l})", "{c} NOT IN ({k}, {l})", "{c} IN ({k}, {l}, NULL)",
@@ -45,6 +45,6 @@ ORDERED = (
     "({c}, {d}) {op} ({k}, {l})", "({c}, {d}) IN (({k}, {l}), ({l}, {k}))", "ROW({c}, {d}) IS NULL",
     "ROW({c}, {d}) IS NOT NULL", "ROW({c}, {d}) IS DISTINCT FROM ROW({k}, {l})", "{k} {op} {c}",
 )
-# Conditions over each type.
+# Conditions on each type.
 ANY = ("{c} IS NULL", "{c} IS NOT NULL", "{c} IS NULL")
 PLAIN = {*ORDERED, *ANY}

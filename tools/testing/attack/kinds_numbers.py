@@ -1,4 +1,4 @@
-"""Numbers, money, bits and truth values."""
+"""Numbers, money, bits and booleans."""
 
 from .kinds import ANY, ORDERED, Kind
 
@@ -63,7 +63,7 @@ FLOATS = (
 
 
 def integers(name: str, type: str, bits: int) -> Kind:
-    """A kind of integer with the values at its ends."""
+    """Returns a kind of integer with its least and greatest values."""
     ends = [-2 ** (bits - 1), -2 ** (bits - 1) + 1, 2 ** (bits - 1) - 2, 2 ** (bits - 1) - 1]
     values = (*SMALL, *(f"'{it}'" for it in ends))
     return Kind(name, type, values, (*ANY, *ORDERED, *INTEGER, *INTEGER), MEASURES)

@@ -1,4 +1,4 @@
-"""Networks, ranges, arrays, JSON, geometry and texts for searching; and types of the database's own."""
+"""Networks, ranges, arrays, JSON, geometric types and text search types; and types created in the database."""
 
 from .kinds import ANY, ORDERED, Kind
 
@@ -83,7 +83,7 @@ POINTS = ("'(0,0)'", "'(1,1)'", "'(NaN,0)'", "'(Infinity,0)'", "'(1e308,0)'", "'
 
 
 def ranges(name: str, type: str, values: tuple[str, ...], more: tuple[str, ...] = ()) -> Kind:
-    """A kind of range."""
+    """Returns a kind of range."""
     own = tuple(it.replace("TYPE", type) for it in RANGE)
     return Kind(name, type, ("'empty'", "'(,)'", *values), (*ANY, *ORDERED, *own, *own, *more), ())
 

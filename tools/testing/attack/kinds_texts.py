@@ -1,4 +1,4 @@
-"""Texts and what is like them."""
+"""Texts and similar types."""
 
 from .kinds import ANY, ORDERED, Kind
 

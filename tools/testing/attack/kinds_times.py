@@ -9,7 +9,7 @@ MOMENTS = (
     "'-infinity'", "'4714-11-24 00:00:00 BC'", "'1999-12-31 23:59:59.999999'", "'2000-01-01 00:00:00'",
     "'2023-12-31 23:59:59.999999'", "'2024-01-01 00:00:00'", "'2024-01-01 00:00:00.000001'", "'2024-02-29 12:00:00'",
     "'294276-12-31 23:59:59.999999'", "'infinity'", "'2024-03-31 02:30:00'", "'1969-12-31 23:59:59.5'")
-# The last timestamps of all, which come by rounding alone.
+# The last timestamps of all, which can only be obtained by rounding.
 LAST = "'294276-12-31 23:59:59.999999'::timestamp(0)"
 LAST_IN_UTC = "'294276-12-31 23:59:59.999999 UTC'::timestamptz(0)"
 PARTS = (

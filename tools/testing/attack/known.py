@@ -10,7 +10,7 @@ DATABASE = "attack_known"
 
 
 def prepare(words: str) -> None:
-    """Makes the database in which conditions are tried."""
+    """Creates the database in which conditions are tried."""
     control = Database(words, "postgres")
     control.run(f"DROP DATABASE IF EXISTS {DATABASE} WITH (FORCE)")
     control.run(f"CREATE DATABASE {DATABASE} TEMPLATE template0 ENCODING 'UTF8'")
@@ -23,7 +23,7 @@ def prepare(words: str) -> None:
 
 
 class Known:
-    """Asks the server about each condition once, always with the same constants, so that a seed gives the same
+    """Asks the server about each condition once, always with the same constants, so that a seed yields the same
     tables."""
 
     def __init__(self, words: str) -> None:
@@ -35,7 +35,7 @@ class Known:
         self.database.run(f"CREATE PUBLICATION {self.schema}")
 
     def takes(self, kind: Kind, template: str) -> bool:
-        """Whether the server accepts a filter, or a constraint, of this form."""
+        """Returns whether the server accepts a filter, or a constraint, of this form."""
         key = kind.name, template
         if key not in self.answers:
             self.answers[key] = any(self.tried(kind, template, place) for place in range(3))

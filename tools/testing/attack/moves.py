@@ -1,4 +1,4 @@
-"""Updates, deletes and a truncation of tables that are sound: what each subscriber has afterwards."""
+"""Updates, deletes and truncations of sound tables, and what each subscriber has afterwards."""
 
 import random
 from collections.abc import Iterator
@@ -24,12 +24,12 @@ def moved(database: Database, chance: random.Random, tables: list[Judged]) -> It
 
 
 def failing(database: Database, table: Judged) -> bool:
-    """Whether a slot failed at one of its rows."""
+    """Returns whether a slot failed because of one of its rows."""
     return any(it in database.heard.failed for it in table.rows)
 
 
 def move(database: Database, chance: random.Random, table: Judged) -> None:
-    """Gives some rows the values of others, and deletes a few."""
+    """Gives some rows the values of other rows, and deletes a few."""
     names = [it.name for it in table.design.columns]
     some = chance.sample(table.rows, min(len(table.rows), UPDATES + DELETES))
     statements = [f"DELETE FROM {table.source} WHERE {NUMBER} = {it}" for it in some[UPDATES:]]
@@ -43,7 +43,7 @@ def move(database: Database, chance: random.Random, table: Judged) -> None:
 
 
 def apply(changes: list[tuple[Subscriber, Change]], owned: dict[int, set[str]]) -> Iterator[tuple[int, str]]:
-    """Does what subscribers do. Returns rows that a subscriber is told to change, and does not have."""
+    """Applies changes as subscribers do. Yields rows that a subscriber is told to change, and does not have."""
     for subscriber, change in changes:
         if change.letter == "I" and change.new is not None:
             owned.setdefault(change.new, set()).add(subscriber.name)
@@ -58,7 +58,7 @@ def apply(changes: list[tuple[Subscriber, Change]], owned: dict[int, set[str]]) 
 def kept(
     database: Database, table: Judged, owned: dict[int, set[str]], faults: dict[int, str],
 ) -> Iterator[Finding]:
-    """Each row is at one subscriber, and a row that was deleted at none."""
+    """Checks that each row is at one subscriber, and a deleted row at none."""
     present = {number for number, in database.run(f"SELECT {NUMBER} FROM {table.source}")}
     for number in table.rows:
         takers, failed = owned.get(number, set()), database.heard.failed.get(number, {})
@@ -74,8 +74,8 @@ def kept(
 
 
 def truncated(database: Database, tables: list[Judged], owned: dict[int, set[str]]) -> Iterator[Finding]:
-    """Those who have rows are sent the TRUNCATE. A partition is truncated with its root, since TRUNCATE of only a
-    partition is not sent if the root is published."""
+    """Checks that those who have rows are sent the TRUNCATE. A partition is truncated with its root, since a TRUNCATE
+    of only a partition is not sent if the root is published."""
     done = {design: database.fault([f"TRUNCATE {design}"]) is None for design in {it.design.table for it in tables}}
     database.batches.append(Batch([], database.position()))
     told = {(subscriber.name, subscriber.stream.names[change.table].partition(".")[0].removesuffix("_more"))

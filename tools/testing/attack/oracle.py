@@ -1,4 +1,4 @@
-"""A database with a logical slot for each subscriber, which says what each subscriber is sent."""
+"""A database with a logical slot for each subscriber, which shows what each subscriber is sent."""
 
 import random
 from collections.abc import Iterator, Sequence
@@ -36,15 +36,15 @@ HELPERS = """
         END LOOP;
     END $$;
 """
-# Of encodings that lack some texts, Python's name.
+# Python's names of encodings that lack some texts.
 CODECS = {"LATIN1": "latin-1", "EUC_JP": "euc_jp"}
-# Of the rows at which a filter fails, this many are inserted.
+# The number of rows for which a filter fails that are inserted.
 FAILING = 3
 
 
 @dataclass
 class Subscriber:
-    """Somebody with a slot, and the publications that it takes."""
+    """A subscriber with a slot, and the publications that it takes."""
 
     name: str
     publications: list[str]
@@ -52,13 +52,14 @@ class Subscriber:
 
     @property
     def names(self) -> str:
-        """As pgoutput reads them."""
+        """Returns the names as pgoutput reads them."""
         return ",".join(f'"{it}"' for it in self.publications)
 
 
 @dataclass
 class Heard:
-    """What the slots sent: who got each row, by its number, and whose decoding failed at it, with the message."""
+    """What the slots sent: who got each row, by its number, and whose decoding failed because of it, with the
+    message."""
 
     takers: dict[int, set[str]] = field(default_factory=dict)
     failed: dict[int, dict[str, str]] = field(default_factory=dict)
@@ -88,14 +89,14 @@ class Database:
         self.heard = Heard()
 
     def run(self, statement: str, values: Sequence[object] | None = None) -> list[tuple[Any, ...]]:
-        """The rows that a statement returns."""
+        """Returns the rows of a statement's result."""
         self.cursor.execute(statement, values)
         return self.cursor.fetchall() if self.cursor.description else []
 
     @contextmanager
     def as_told(self) -> Iterator[None]:
-        """In these settings the SQL that judge tells is read: a backslash is a character, times are those of UTC, and
-        operators are PostgreSQL's own, though a schema of the database may have others of their names."""
+        """Sets the settings in which SQL printed by judge is read: a backslash is an ordinary character, times are in
+        UTC, and operators are PostgreSQL's own, even if a schema of the database has others with the same names."""
         self.run("SET timezone = 'UTC'; SET standard_conforming_strings = on; SET search_path = pg_catalog")
         try:
             yield
@@ -114,18 +115,18 @@ class Database:
         self.run("COMMIT")
 
     def fault(self, statements: Sequence[str]) -> str | None:
-        """Runs some statements as one transaction. Returns why the server refuses them, or None."""
+        """Runs some statements in one transaction. Returns the server's reason if it refuses them, or None."""
         try:
             with self.transaction():
                 for statement in statements:
                     self.run(statement)
         except (psycopg2.Error, UnicodeEncodeError) as fault:
-            # The second is of a text that the database's encoding lacks.
+            # The second exception is for a text that the database's encoding lacks.
             return str(fault).splitlines()[0]
         return None
 
     def refusal(self, statement: str) -> str | None:
-        """Why the server refuses a statement, which is rolled back."""
+        """Returns why the server refuses a statement, which is rolled back."""
         self.run("BEGIN")
         try:
             self.run(statement)
@@ -136,7 +137,7 @@ class Database:
         return None
 
     def open_slots(self, subscribers: list[Subscriber]) -> None:
-        """A slot for each subscriber that takes a publication."""
+        """Creates a slot for each subscriber that takes a publication."""
         self.subscribers = [it for it in subscribers if it.publications]
         for it in self.subscribers:
             self.run("SELECT pg_create_logical_replication_slot(%s, 'pgoutput')", [self.slot(it)])
@@ -149,13 +150,13 @@ class Database:
         self.connection.close()
 
     def slot(self, subscriber: Subscriber) -> str:
-        """The name of a slot, which is unique on the server."""
+        """Returns the name of a slot, which is unique on the server."""
         return f"{self.name}_{subscriber.name}"
 
     def insert(self, design: Design, statements: Sequence[str]) -> list[int]:
-        """Inserts the rows that the table takes, and answers their numbers.
+        """Inserts the rows that the table accepts, and returns their numbers.
 
-        Most of the rows at which a filter fails are left out, since a slot sends nothing after such a row; a few are
+        Most of the rows for which a filter fails are left out, since a slot sends nothing after such a row; a few are
         inserted, each in a transaction of its own.
         """
         first = self.next_number
@@ -179,12 +180,12 @@ class Database:
         return kept
 
     def present(self, design: Design, first: int) -> list[int]:
-        """The rows that are in the table; a trigger may have kept some out."""
+        """Returns the rows that are in the table; a trigger may have discarded some."""
         found = self.run(f"SELECT {NUMBER} FROM {design.table} WHERE {NUMBER} >= {first} ORDER BY 1")
         return [number for number, in found]
 
     def reads_all(self, design: Design) -> bool:
-        """Whether the server can compute all filters for all rows."""
+        """Returns whether the server can compute all filters for all rows."""
         self.run("SAVEPOINT computed")
         try:
             self.run(f"SELECT {listed(design)} FROM {design.table}")
@@ -194,7 +195,7 @@ class Database:
         return True
 
     def failing(self, design: Design, numbers: list[int]) -> list[int]:
-        """The rows for which the server cannot compute all filters."""
+        """Returns the rows for which the server cannot compute all filters."""
         query = f"SELECT {listed(design)} FROM {design.table} WHERE {NUMBER} = $1"
         found = self.run("SELECT * FROM public.attack_failing(%s, %s::bigint[])", [query, numbers])
         return [number for number, in found]
@@ -209,16 +210,16 @@ class Database:
         return [number]
 
     def note(self, number: int) -> None:
-        """A row was inserted in a transaction of its own."""
+        """Records a row that was inserted in a transaction of its own."""
         self.batches.append(Batch([number], self.position()))
 
     def position(self) -> str:
-        """Where the server's log ends."""
+        """Returns the end of the server's log."""
         (found,), = self.run("SELECT pg_current_wal_insert_lsn()::text")
         return str(found)
 
     def listen(self) -> list[tuple[Subscriber, Change]]:
-        """Reads all slots up to here, and keeps who got which row."""
+        """Reads all slots up to the present, and records who got which row."""
         found = []
         for subscriber in self.subscribers:
             for change in self.read(subscriber):
@@ -229,7 +230,8 @@ class Database:
         return found
 
     def read(self, subscriber: Subscriber) -> list[Change]:
-        """All changes that a slot sends; it is read transaction by transaction where one of them fails."""
+        """Returns all changes that a slot sends. If a transaction fails, the slot is read transaction by
+        transaction."""
         try:
             return self.taken(subscriber, None)
         except psycopg2.Error:
@@ -244,7 +246,7 @@ class Database:
             return found
 
     def taken(self, subscriber: Subscriber, end: str | None) -> list[Change]:
-        """The changes up to a place of the log, which the slot gives once."""
+        """Returns the changes up to a log position, which the slot returns only once."""
         messages = self.run(
             "SELECT data FROM pg_logical_slot_get_binary_changes(%s, %s, NULL, 'proto_version', '1', "
             "'publication_names', %s)", [self.slot(subscriber), end, subscriber.names])
@@ -252,5 +254,5 @@ class Database:
 
 
 def listed(design: Design) -> str:
-    """All filters of a table as columns of a query."""
+    """Returns all filters of a table as columns of a query."""
     return ", ".join(f"({it}) IS TRUE" for it in design.filters()) or "NULL"

@@ -1,4 +1,4 @@
-"""Plans by which filters divide a table: most of them divide all rows, and a small change makes a gap or an overlap."""
+"""Plans by which filters divide a table. Most divide all rows; a small change then makes a gap or an overlap."""
 
 import random
 import re
@@ -8,7 +8,7 @@ from .conditions import OPERATORS, Column, Conditions, family
 
 Plan = Callable[[Conditions, list[Column]], list[str]]
 CHANGES, DISGUISES = 0.25, 0.25
-# Other words for a column, in one filter of several: they mean the same, or nearly.
+# Other expressions for a column, used in one of several filters. Their meaning is the same, or nearly.
 SAME = ("coalesce({c}, {c})", "CASE WHEN true THEN {c} END", "nullif({c}, NULL)", "greatest({c}, {c})",
     "coalesce({c}, {d})")
 OTHERWISE = {
@@ -21,30 +21,30 @@ OTHERWISE = {
         "{c}::float4", "({c} - 0.0)", "(+{c})"),
     "moments": ("{c}::timestamp", "{c}::date", "({c} + interval '0')", "{c}::timestamp(0)", "({c} + 0)"),
 }
-# The sign of where a comparison is false.
+# The operator that is true where the given one is false.
 TURNED = {"=": "<>", "<>": "=", "<": ">=", ">=": "<", "<=": ">", ">": "<="}
 
 
 def halves(conditions: Conditions, columns: list[Column]) -> list[str]:
-    """The rows for which a condition is true, and the others."""
+    """Returns filters for the rows for which a condition is true, and for the others."""
     one = conditions.formula(columns, 2)
     return [one, f"({one}) IS NOT TRUE"]
 
 
 def with_gap(conditions: Conditions, columns: list[Column]) -> list[str]:
-    """A condition and its NOT: rows for which it is NULL are in neither."""
+    """Returns a condition and its NOT: rows for which it is NULL are in neither."""
     one = conditions.formula(columns, 1)
     return [one, f"NOT ({one})"]
 
 
 def thirds(conditions: Conditions, columns: list[Column]) -> list[str]:
-    """True, false and unknown."""
+    """Returns filters for true, false and unknown."""
     one = conditions.formula(columns, 1)
     return [one, f"NOT ({one})", f"({one}) IS NULL"]
 
 
 def opposite(conditions: Conditions, columns: list[Column]) -> list[str]:
-    """A comparison and the opposite one, as people write them, and NULL."""
+    """Returns a comparison and its opposite, as people write them, and a test for NULL."""
     column = conditions.chance.choice(columns)
     written = tuple(it for it in column.kind.conditions if "{op}" in it and conditions.takes(column.kind, it))
     if not written:
@@ -62,7 +62,7 @@ def opposite(conditions: Conditions, columns: list[Column]) -> list[str]:
 
 
 def quarters(conditions: Conditions, columns: list[Column]) -> list[str]:
-    """Two conditions."""
+    """Returns filters by two conditions."""
     one, other = conditions.formula(columns, 1), conditions.formula(columns, 1)
     return [
         f"({one}) AND ({other})", f"({one}) AND ({other}) IS NOT TRUE", f"({one}) IS NOT TRUE AND ({other})",
@@ -70,14 +70,14 @@ def quarters(conditions: Conditions, columns: list[Column]) -> list[str]:
 
 
 def chosen(conditions: Conditions, columns: list[Column]) -> list[str]:
-    """The number of a subscriber by a CASE."""
+    """Returns filters by a CASE that yields the number of a subscriber."""
     one, other = conditions.formula(columns, 1), conditions.formula(columns, 1)
     number = f"CASE WHEN {one} THEN 0 WHEN {other} THEN 1 ELSE 2 END"
     return [f"{number} = {it}" for it in range(3)]
 
 
 def buckets(conditions: Conditions, columns: list[Column]) -> list[str]:
-    """A number that is computed from a row: its small values, and the others."""
+    """Returns filters for the small values of a number that is computed from a row, and for the other values."""
     measure = conditions.measure(columns)
     if measure is None:
         return quarters(conditions, columns)
@@ -96,12 +96,12 @@ def buckets(conditions: Conditions, columns: list[Column]) -> list[str]:
 
 
 def listed(count: int) -> str:
-    """The numbers below a number."""
+    """Returns the numbers below a number."""
     return ", ".join(str(it) for it in range(count))
 
 
 def ends(conditions: Conditions, columns: list[Column]) -> list[str]:
-    """Ranges of a column between constants, in the order in which they are drawn."""
+    """Returns ranges of a column between constants, in the order in which these are drawn."""
     column = conditions.chance.choice(columns)
     if not column.kind.is_ordered:
         return halves(conditions, columns)
@@ -112,7 +112,7 @@ def ends(conditions: Conditions, columns: list[Column]) -> list[str]:
 
 
 def lists(conditions: Conditions, columns: list[Column]) -> list[str]:
-    """Lists of constants, and the others."""
+    """Returns lists of constants, and the others."""
     column = conditions.chance.choice(columns)
     if not column.kind.is_ordered:
         return halves(conditions, columns)
@@ -123,7 +123,7 @@ def lists(conditions: Conditions, columns: list[Column]) -> list[str]:
 
 
 def random_filters(conditions: Conditions, columns: list[Column]) -> list[str]:
-    """No plan."""
+    """Returns random filters, without a plan."""
     return [conditions.formula(columns, 2) for _ in range(conditions.chance.choice((2, 3)))]
 
 
@@ -133,7 +133,7 @@ PLANS: dict[Plan, int] = {
 
 
 def filters_of(conditions: Conditions, columns: list[Column]) -> list[str]:
-    """The filters of a table, three in ten of them changed in a place."""
+    """Returns the filters of a table; in three of ten cases, one is changed."""
     chance = conditions.chance
     plan = chance.choices(list(PLANS), list(PLANS.values()))[0]
     filters = plan(conditions, columns)
@@ -143,7 +143,7 @@ def filters_of(conditions: Conditions, columns: list[Column]) -> list[str]:
 
 
 def disguised(chance: random.Random, filters: list[str], columns: list[Column]) -> list[str]:
-    """The filters with one mention of a column written differently."""
+    """Returns the filters with one reference to a column written differently."""
     column, place = chance.choice(columns), chance.randrange(len(filters))
     places = [it.start() for it in re.finditer(re.escape(column.name), filters[place])]
     if not places:
@@ -156,7 +156,7 @@ def disguised(chance: random.Random, filters: list[str], columns: list[Column]) 
 
 
 def changed(chance: random.Random, filters: list[str]) -> list[str]:
-    """One filter with another sign or constant, without its IS NOT, or none."""
+    """Returns the filters with one operator or constant changed, without one IS NOT, or without one filter."""
     place = chance.randrange(len(filters))
     text, kind = filters[place], chance.random()
     signs = [it for it in re.finditer(r" (<=|>=|<>|=|<|>) ", text)]

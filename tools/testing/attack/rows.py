@@ -1,4 +1,4 @@
-"""Edge and random rows for a table: the constants of its filters, their neighbours, the edges of types, and NULL."""
+"""Extreme and random rows for a table: the constants of its filters, their neighbors, the limits of types, and NULL."""
 
 import itertools
 import random
@@ -14,12 +14,12 @@ TEXTS = {"text", "text_c", "text_posix", "text_icu", "text_de", "text_root", "te
 FRACTIONS = {"numeric", "cents", "float8", "float4"}
 INTEGERS = {"int2": 16, "int4": 32, "int8": 64}
 LETTERS = "aAbBzZ éßİ%_,.\\1\n"
-# Of so few combinations all are tried.
+# If there are at most this many combinations, all are tried.
 ALL_OF = 400
 
 
 def neighbours(column: Column, constant: str) -> Iterator[str]:
-    """The neighbours of a constant."""
+    """Yields the neighbors of a constant."""
     name = column.kind.name
     if name in INTEGERS and (found := INTEGER.fullmatch(constant)):
         yield from (str(int(found[1]) + it) for it in (-2, -1, 1, 2))
@@ -34,7 +34,7 @@ def neighbours(column: Column, constant: str) -> Iterator[str]:
 
 
 def random_value(chance: random.Random, column: Column) -> str:
-    """A value of a column's type by chance, or one of its edges where no rule is known."""
+    """Returns a random value of a column's type, or one of its extreme values if no rule is known."""
     name = column.kind.name
     if name in INTEGERS:
         bits = chance.randint(1, INTEGERS[name] - 1)
@@ -65,7 +65,7 @@ def random_value(chance: random.Random, column: Column) -> str:
 
 
 def values_of(chance: random.Random, column: Column) -> list[str]:
-    """The values that are tried for a column."""
+    """Returns the values that are tried for a column."""
     edges = [*column.kind.values, *column.constants]
     edges += [it for constant in dict.fromkeys(column.constants) for it in neighbours(column, constant)]
     if column.kind.name in INTEGERS:
@@ -76,7 +76,7 @@ def values_of(chance: random.Random, column: Column) -> list[str]:
 
 
 def rows_of(chance: random.Random, design: Design, most: int, targets: Sequence[str] = ()) -> Iterator[str]:
-    """At most this many rows as INSERT statements, without their number, which is written as {number}."""
+    """Yields at most this many rows as INSERT statements, without their number, which is written as {number}."""
     if design.rows:
         yield from design.rows
         return
@@ -98,7 +98,8 @@ def rows_of(chance: random.Random, design: Design, most: int, targets: Sequence[
 def rows_near(
     chance: random.Random, design: Design, source: str, numbers: Sequence[int], most: int,
 ) -> Iterator[str]:
-    """Rows that differ in one column from one that a table has, so that constraints that refuse most rows take many."""
+    """Yields rows that differ in one column from a row that a table has, so that constraints that refuse most rows
+    accept many."""
     for _ in range(most if numbers and design.columns else 0):
         changed = chance.choice(design.columns)
         values = [chance.choice(values_of(chance, it)) if it is changed else it.name for it in design.columns]
@@ -108,7 +109,7 @@ def rows_near(
 
 
 def edge_rows(chance: random.Random, listed: list[list[str]]) -> Iterator[tuple[str, ...]]:
-    """Each value of each column, with some value of the others."""
+    """Yields each value of each column, with some value of the others."""
     for place, values in enumerate(listed):
         for value in values:
             row = [chance.choice(it) for it in listed]
@@ -117,6 +118,6 @@ def edge_rows(chance: random.Random, listed: list[list[str]]) -> Iterator[tuple[
 
 
 def random_rows(chance: random.Random, listed: list[list[str]]) -> Iterator[tuple[str, ...]]:
-    """Any rows."""
+    """Yields arbitrary rows."""
     while True:
         yield tuple(chance.choice(it) for it in listed)

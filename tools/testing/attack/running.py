@@ -1,4 +1,4 @@
-"""Attacks as long as requested, with several processes and one server."""
+"""Runs attacks for as long as requested, with several processes and one server."""
 
 import argparse
 import collections
@@ -26,13 +26,13 @@ from .known import Known, prepare
 from .topologies import Topologies
 
 TOOLS = pathlib.Path(__file__).resolve().parent.parent.parent
-# This many designs, and this many topologies, are in one database.
+# The number of designs and of topologies in a database.
 DESIGNS, TOPOLOGIES = 10, 5
 SETTINGS = "-c max_replication_slots=80 -c max_connections=60 -c max_wal_senders=0 -c log_min_messages=panic"
 
 
 def arguments(words: list[str], help: str) -> argparse.Namespace:
-    """What the command line says."""
+    """Parses the command line."""
     parser = argparse.ArgumentParser(prog="attack", description=help,
         formatter_class=argparse.RawDescriptionHelpFormatter)
     parser.add_argument("--seed", type=int, help="the same databases once more; otherwise each run has a new seed")
@@ -53,32 +53,32 @@ def arguments(words: list[str], help: str) -> argparse.Namespace:
 
 @functools.cache
 def known_at(words: str) -> Known:
-    """What a process knows of the conditions that the server takes."""
+    """Returns what a process knows about the conditions that the server accepts."""
     return Known(words)
 
 
 def result_of(place: Place, seed: int, kinds: list[str], task: tuple[int, str, int]) -> tuple[int, Result]:
-    """The database of a number."""
+    """Returns the result for the database with a number."""
     number, kind, count = task
     draw = functools.partial(drawer, known_at(place.words).takes, kind, [it for it in KINDS if it.name in kinds])
     name = f"attack_by_hand{-number}" if number < 0 else f"attack_{number}"
     try:
         return number, batches.attack(place, name, seed * 100_000 + number, draw, count, PLACES.get(kind))
-    except Exception as fault:  # What was not foreseen of one database is told beside the others.
+    except Exception as fault:  # A failure for one database does not end the attack.
         result = Result()
         result.counts[f"the attack itself fails at {number}: {type(fault).__name__}: {fault}"] += 1
         return number, result
 
 
 def drawer(takes: Takes, kind: str, kinds: list[Kind], chance: random.Random) -> batches.Draw:
-    """Draws tables, or trees; or gives those that are written by hand."""
+    """Returns a function that draws tables or trees, or that returns those that are written by hand."""
     if kind in WRITTEN:
         return dict((it.name.replace("h", "d"), it) for it in by_hand(kind)).__getitem__
     return Topologies(chance, takes).design if kind == "topologies" else Designs(chance, takes, kinds).design
 
 
 def tasks(given: argparse.Namespace) -> Iterator[tuple[int, str, int]]:
-    """Databases by number; without end if minutes are given."""
+    """Yields databases by number; without end if minutes are given."""
     yield from ((-1 - place, kind, len(WRITTEN[kind])) for place, kind in enumerate(WRITTEN))
     kinds = ["designs"] * -(-given.designs // DESIGNS) + ["topologies"] * -(-given.topologies // TOPOLOGIES)
     random.Random(0).shuffle(kinds)
@@ -109,15 +109,15 @@ def run(words: list[str], help: str) -> int:
 def gather(
     given: argparse.Namespace, place: Place, seed: int,
 ) -> tuple[collections.Counter[str], int]:
-    """Makes all databases, and prints each difference when it is found."""
+    """Creates all databases, and prints each difference as soon as it is found."""
     counts: collections.Counter[str] = collections.Counter()
     findings, end = 0, time.monotonic() + 60 * (given.minutes or 10**6)
     made = functools.partial(result_of, place, seed, given.kinds)
     wanted = (it for it in tasks(given) if given.only in (None, it[0]))
-    # The pool takes tasks as fast as they come, so that no more of them come than are at work.
+    # The pool takes tasks as fast as they come, so no more tasks are generated than are being processed.
     room = threading.Semaphore(2 * given.jobs)
     stopped = threading.Event()
-    # A worker ends by a signal as programs do: an exit from the middle of a wait would leave the others waiting.
+    # A worker is killed by a signal as usual: if it exited in the middle of a wait, the others would keep waiting.
     with multiprocessing.Pool(given.jobs, signal.signal, (signal.SIGTERM, signal.SIG_DFL)) as pool:
         try:
             for number, result in pool.imap_unordered(made, until(end, wanted, room, stopped)):
@@ -129,7 +129,7 @@ def gather(
                     findings += 1
                     show(finding, result, seed, number)
         finally:
-            # Whoever gives the tasks may be waiting for room, and the pool for whoever gives them.
+            # The generator of tasks may be waiting for room, and the pool for the generator.
             stopped.set()
             room.release()
         pool.close()
@@ -140,7 +140,7 @@ def gather(
 def until(
     end: float, wanted: Iterator[tuple[int, str, int]], room: threading.Semaphore, stopped: threading.Event,
 ) -> Iterator[tuple[int, str, int]]:
-    """Tasks until a time has come, or nobody takes more, each when there is room for it."""
+    """Yields tasks, each when there is room for it, until a time or until stopped."""
     for task in wanted:
         room.acquire()
         if stopped.is_set() or time.monotonic() > end:
@@ -149,7 +149,7 @@ def until(
 
 
 def show(finding: Finding, result: Result, seed: int, number: int) -> None:
-    """A difference, with the statements that make it."""
+    """Prints a difference, with the statements that reproduce it."""
     print(f"== {finding.kind}")
     print(f"   {finding.words}")
     if finding.row:
@@ -162,6 +162,6 @@ def show(finding: Finding, result: Result, seed: int, number: int) -> None:
 
 
 def tell(counts: collections.Counter[str]) -> None:
-    """The counts, each in a line."""
+    """Prints the counts, one per line."""
     for what, count in sorted(counts.items()):
         print(f"{count:8,} {what}")

@@ -1,6 +1,6 @@
-"""Which rows a logical slot sends: pgoutput's messages, as far as they contain a row's number.
+"""Reads which rows a logical slot sends: pgoutput's messages, as far as they contain a row's number.
 
-Section 55.9 of PostgreSQL's documentation has their layouts.
+Their layouts are in section 55.9 of PostgreSQL's documentation.
 """
 
 import struct
@@ -12,7 +12,7 @@ from .designs import NUMBER
 
 @dataclass(frozen=True)
 class Change:
-    """A change of a row: its letter, the table, and the numbers of the old row and of the new one, as far as told."""
+    """A change of a row: its letter, the table, and the numbers of the old row and of the new one, if they are sent."""
 
     letter: str
     table: int
@@ -21,14 +21,14 @@ class Change:
 
 
 class Stream:
-    """Reads messages in their order. A Relation comes before the first change of its table."""
+    """Reads messages in order. A Relation comes before the first change of its table."""
 
     def __init__(self) -> None:
         self.places: dict[int, int] = {}
         self.names: dict[int, str] = {}
 
     def changes(self, messages: Iterable[bytes]) -> Iterator[Change]:
-        """The changes that some messages tell."""
+        """Yields the changes in some messages."""
         for message in messages:
             letter = chr(message[0])
             if letter == "R":
@@ -40,7 +40,7 @@ class Stream:
                 yield from (Change("T", it, None, None) for it in struct.unpack_from(f"!{count}I", message, 6))
 
     def read_relation(self, message: bytes) -> None:
-        """Remembers where a table has its rows' numbers."""
+        """Records which column of a table contains the rows' numbers."""
         oid, = struct.unpack_from("!I", message, 1)
         schema, name, rest = message[5:].split(b"\0", 2)
         self.names[oid] = f"{schema.decode()}.{name.decode()}"
@@ -53,7 +53,7 @@ class Stream:
                 self.places[oid] = place
 
     def change(self, letter: str, message: bytes) -> Change:
-        """An Insert, an Update or a Delete."""
+        """Returns an Insert, an Update or a Delete."""
         oid, = struct.unpack_from("!I", message, 1)
         at, numbers = 5, {}
         while at < len(message):
@@ -62,7 +62,7 @@ class Stream:
         return Change(letter, oid, numbers.get("O", numbers.get("K")), numbers.get("N"))
 
     def row(self, oid: int, message: bytes, at: int) -> tuple[int | None, int]:
-        """The number of a row that begins at a place, and where the row ends."""
+        """Returns the number of the row that begins at a place, and the end of the row."""
         count, = struct.unpack_from("!h", message, at)
         at, found = at + 2, None
         for place in range(count):

@@ -12,7 +12,7 @@ KINDS = {it.name: it for it in (*kinds_numbers.KINDS, *kinds_texts.KINDS, *kinds
 COLUMNS = ("int4", "text", "date", "bool", "int8", "char3", "uuid", "text_icu", "numeric", "timestamp", "text_c")
 COLLATIONS = ("caseless", '"C"', '"en-x-icu"')
 MOST_DEPTH = 3
-# How a partition keeps its rows: as a plain table does, in no log, in another table, or as a table that is attached.
+# How a partition stores its rows: as a plain table does, unlogged, in another table, or as a table that is attached.
 WAYS = {"plain": 10, "unlogged": 1, "foreign": 1, "attached": 3}
 
 
@@ -25,19 +25,19 @@ class Node:
     way: str = "plain"
 
     def all(self) -> list["Node"]:
-        """The table and all below it."""
+        """Returns the table and all below it."""
         return [self, *(it for child in self.children for it in child.all())]
 
 
 class Topologies:
-    """Makes trees by chance."""
+    """Generates random trees."""
 
     def __init__(self, chance: random.Random, takes: Takes) -> None:
         self.chance = chance
         self.conditions = Conditions(chance, takes)
 
     def design(self, name: str) -> Design:
-        """A tree with publications."""
+        """Returns a tree with publications."""
         names = self.chance.sample(COLUMNS, self.chance.choice((2, 3)))
         columns = [Column(f"c{place}", KINDS[it], self.chance.random() < 0.4) for place, it in enumerate(names)]
         design = Design(name, columns, [f"CREATE SCHEMA {name}_more"])
@@ -51,7 +51,7 @@ class Topologies:
         return design
 
     def inheritance(self, design: Design) -> Node:
-        """A table and others that inherit from it."""
+        """Returns a table and others that inherit from it."""
         root = Node(design.table)
         listed = ", ".join([*map(declared, design.columns), f"{NUMBER} bigint"])
         design.setup.append(f"CREATE TABLE {root.name} ({listed})")
@@ -60,11 +60,11 @@ class Topologies:
             check = f"CHECK ({self.conditions.condition(design.columns)})" if self.chance.random() < 0.4 else ""
             design.setup.append(f"CREATE TABLE {child.name} ({check}) INHERITS ({root.name})")
             root.children.append(child)
-        # The parent has rows itself.
+        # The parent has rows of its own.
         return root
 
     def partitions(self, design: Design) -> Node:
-        """A partitioned table with all its parts."""
+        """Returns a partitioned table with all its parts."""
         root = Node(design.table)
         listed = ", ".join([*map(declared, design.columns), f"{NUMBER} bigint"])
         key, strategy = self.key(design)
@@ -74,11 +74,11 @@ class Topologies:
         return root
 
     def key(self, design: Design) -> tuple[Column, str]:
-        """The column by which a table is partitioned, and how."""
+        """Returns the column by which a table is partitioned, and the strategy."""
         return self.chance.choice(design.columns), self.chance.choice(("LIST", "RANGE", "RANGE", "HASH"))
 
     def collation(self, key: Column) -> str:
-        """Sometimes a collation other than the column's."""
+        """Sometimes returns a collation other than the column's."""
         if "text" not in key.kind.name or self.chance.random() < 0.7:
             return ""
         return f" COLLATE {self.chance.choice(COLLATIONS)}"
@@ -99,7 +99,7 @@ class Topologies:
                 design.setup += self.leaf(design, node, child, bounds)
 
     def bounds(self, key: Column, strategy: str) -> list[str]:
-        """The bounds of some partitions; those that the server does not take make it another tree."""
+        """Returns the bounds of some partitions. If the server refuses them, another tree is generated."""
         if strategy == "HASH":
             count = self.chance.choice((2, 3))
             return [f"FOR VALUES WITH (MODULUS {count}, REMAINDER {it})" for it in range(count)]
@@ -112,7 +112,7 @@ class Topologies:
         return [found[0], *(found[1:] if self.chance.random() < 0.7 else []), *last]
 
     def leaf(self, design: Design, node: Node, leaf: Node, bounds: str) -> list[str]:
-        """A partition that has rows itself."""
+        """Returns the statements for a partition that stores rows itself."""
         match leaf.way:
             case "unlogged":
                 return [f"CREATE UNLOGGED TABLE {leaf.name} PARTITION OF {node.name} {bounds}"]
@@ -130,13 +130,13 @@ class Topologies:
         return [f"CREATE TABLE {leaf.name} PARTITION OF {node.name} {bounds}"]
 
     def identity(self, node: Node) -> list[str]:
-        """The full row, as a rule."""
+        """Returns the replica identity, usually FULL."""
         if node.way in ("foreign", "unlogged") or self.chance.random() < 0.04:
             return []
         return [f"ALTER TABLE {node.name} REPLICA IDENTITY FULL"]
 
     def publications(self, design: Design, root: Node) -> list[Publication]:
-        """Publications of the root, of the leaves, or of any parts."""
+        """Returns publications of the root, of the leaves, or of any parts."""
         kind = self.chance.random()
         filters = filters_of(self.conditions, design.columns)[:SUBSCRIBERS]
         leaves = [it for it in root.all() if not it.children]
@@ -151,7 +151,7 @@ class Topologies:
         return [self.anyhow(design, place, root, filters) for place in range(self.chance.choice((2, 3, 4)))]
 
     def anyhow(self, design: Design, place: int, root: Node, filters: list[str]) -> Publication:
-        """A publication of some parts, or of a schema."""
+        """Returns a publication of some parts, or of a schema."""
         if self.chance.random() < 0.2:
             schema = self.chance.choice((design.name, f"{design.name}_more"))
             return Publication(
@@ -166,7 +166,7 @@ class Topologies:
     def publication(
         self, design: Design, place: int, parts: list[tuple[Node, str]], taker: int, via_root: bool,
     ) -> Publication:
-        """A publication of tables, each with a filter or ''."""
+        """Returns a publication of tables, each with a filter or ''."""
         listed = []
         for node, filter in parts:
             is_alone = "ONLY " if node.children and self.chance.random() < 0.05 else ""
@@ -182,7 +182,7 @@ class Topologies:
             who, found)
 
     def options(self, via_root: bool) -> str:
-        """How it publishes."""
+        """Returns the options of a publication."""
         found = [f"publish_via_partition_root = {str(via_root).lower()}"]
         if self.chance.random() < 0.05:
             found.append(f"publish = '{self.chance.choice(OPERATIONS)}'")

@@ -1,4 +1,4 @@
-"""A design that is written by hand."""
+"""The form of a design that is written by hand."""
 
 from collections.abc import Sequence
 from dataclasses import dataclass
@@ -13,10 +13,10 @@ class Written:
     rows: Sequence[str]
     before: Sequence[str] = ()
     after: Sequence[str] = ()
-    # Where it is another table than a plain one.
+    # How the table is created, if it is not a plain one.
     making: str = "CREATE TABLE {table} ({columns}, row_number bigint PRIMARY KEY)"
-    # Publications beside those of the filters: their ends, and who takes them.
+    # Publications other than those of the filters: the rest of the statement, and who takes them.
     others: Sequence[tuple[str, int | None]] = ()
-    # What is published, if it is another table; and how.
+    # What is published, if not the table itself; and how.
     published: str = "{table}"
     options: str = ""

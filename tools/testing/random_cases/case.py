@@ -1,4 +1,4 @@
-"""What a case is: runs of the program with what each has to answer, and what the case has that is to be met."""
+"""A case: runs of the program with the expected answers, and the features of the case that are counted."""
 
 from collections import Counter
 from collections.abc import Callable, Iterator
@@ -6,13 +6,13 @@ from dataclasses import dataclass, field
 
 from .running import Answer
 
-# Makes a run with these words and this input.
+# Runs the program with these arguments and this input.
 Runner = Callable[[tuple[str, ...], bytes], Answer]
 
 
 @dataclass
 class Case:
-    """One run, and the whole answer that the model gives."""
+    """One run, and the whole answer according to the model."""
 
     words: tuple[str, ...]
     text: bytes
@@ -21,19 +21,19 @@ class Case:
     met: Counter[str] = field(default_factory=Counter)
 
     def check(self, run: Runner) -> Iterator[str]:
-        """Makes the run, and tells what is wrong."""
+        """Makes the run, and yields what is wrong."""
         answer = run(self.words, self.text)
         if answer.status != self.status:
             yield f"status {answer.status}, and not {self.status}"
         yield from differences(answer.output, self.output)
 
     def lines(self) -> int:
-        """How many lines are compared."""
+        """Returns how many lines are compared."""
         return self.output.count("\n")
 
 
 def differences(found: str, expected: str) -> Iterator[str]:
-    """The first line that differs, if one does."""
+    """Yields the first line that differs, if there is one."""
     if found == expected:
         return
     theirs, ours = found.split("\n"), expected.split("\n")
@@ -45,10 +45,10 @@ def differences(found: str, expected: str) -> Iterator[str]:
 
 
 def shown(line: str) -> str:
-    """A line, cut where it is long."""
+    """Returns a line, shortened if it is long."""
     return repr(line) if len(line) <= 300 else f"{line[:300]!r} and {len(line) - 300} characters more"
 
 
 def parts(*texts: str) -> bytes:
-    """An input of parts, each of which is empty or ends with a newline."""
+    """Returns an input of parts, each of which is empty or ends with a newline."""
     return "%%\n".join(texts).encode()

@@ -1,4 +1,4 @@
-"""Catalogs as texts."""
+"""Catalogs as text."""
 
 import random
 
@@ -16,7 +16,7 @@ KINDS = {
 
 
 class CatalogText:
-    """Writes a catalog."""
+    """Prints a catalog."""
 
     def __init__(self, catalog: Catalog, chance: random.Random, noise: bool) -> None:
         self.catalog = catalog
@@ -24,11 +24,11 @@ class CatalogText:
         self.noise = noise
 
     def text(self) -> str:
-        """The catalog's text. Its last line ends."""
+        """Returns the catalog's text. Its last line has a newline."""
         return "".join(joined(it, self.chance, self.noise) + "\n" for it in self.statements())
 
     def statements(self) -> list[list[str]]:
-        """The tokens of each statement."""
+        """Returns the tokens of each statement."""
         found = [["CREATE", "SCHEMA", self.name(schema)] for schema in self.catalog.schemas]
         for table in self.catalog.tables:
             found += self.of_table(table)
@@ -37,17 +37,17 @@ class CatalogText:
         return [[*it, ";"] for it in found]
 
     def name(self, name: str) -> Exact:
-        """A name as a text has it."""
+        """Returns a name as it is written in a text."""
         return Exact(spelled(name, self.chance))
 
     def table_name(self, table: Table) -> list[str]:
-        """A table's name, with its schema where it needs that."""
+        """Returns a table's name, with its schema if necessary."""
         if table.schema == "public" and self.chance.random() < 0.7:
             return [self.name(table.name)]
         return [self.name(table.schema), ".", self.name(table.name)]
 
     def of_table(self, table: Table) -> list[list[str]]:
-        """A table with its indexes and its identity."""
+        """Returns the statements for a table, its indexes and its identity."""
         named = self.table_name(table)
         elements = [self.column(table, number) for number in range(len(table.columns))]
         if not self.has_own_key(table):
@@ -62,11 +62,12 @@ class CatalogText:
         return statements
 
     def has_own_key(self, table: Table) -> bool:
-        """Whether the key is said beside its only column, which both statements of a table's parts have to agree on."""
+        """Returns whether the key is declared with its only column. Both functions that print parts of the table have
+        to agree on this."""
         return len(table.key) == 1 and len(table.name) % 2 == 1
 
     def column(self, table: Table, number: int) -> list[str]:
-        """A column."""
+        """Returns a column."""
         column = table.columns[number]
         found = [self.name(column.name), self.chance.choice(KINDS[column.kind])]
         constraints = [["NOT", "NULL"]] if column.not_null else []
@@ -76,21 +77,21 @@ class CatalogText:
         return [*found, *(word for constraint in constraints for word in constraint)]
 
     def columns(self, table: Table, numbers: tuple[int, ...]) -> list[str]:
-        """Columns by their numbers."""
+        """Returns the columns with these numbers."""
         return commas([[self.name(table.columns[number].name)] for number in numbers])
 
     def only(self) -> list[str]:
-        """A word that changes nothing."""
+        """Sometimes returns ONLY, which changes nothing."""
         return ["ONLY"] if self.chance.random() < 0.1 else []
 
     def identity(self, table: Table) -> list[str]:
-        """A replica identity."""
+        """Returns a replica identity."""
         if isinstance(table.identity, str):
             return [table.identity]
         return ["USING", "INDEX", self.name(table.indexes[table.identity].name)]
 
     def of_publication(self, it: Publication) -> list[str]:
-        """A publication."""
+        """Returns a publication."""
         objects = [self.entry(number, filter) for number, filter in it.entries]
         objects += [["TABLES", "IN", "SCHEMA", self.name(schema)] for schema in it.schemas]
         tables = ["FOR", *commas(objects)] if objects else []
@@ -99,7 +100,7 @@ class CatalogText:
         return ["CREATE", "PUBLICATION", self.name(it.name), *tables, *self.parameters(it)]
 
     def entry(self, number: int, filter: tuple | None) -> list[str]:
-        """A table of a publication."""
+        """Returns a table of a publication."""
         table = self.catalog.tables[number]
         star = ["*"] if self.chance.random() < 0.1 else []
         found = ["TABLE", *self.only(), *self.table_name(table), *star]
@@ -108,13 +109,13 @@ class CatalogText:
         return [*found, "WHERE", "(", *FilterText(table, self.chance).tokens(filter), ")"]
 
     def parameters(self, it: Publication) -> list[str]:
-        """What a publication publishes, where it does not publish all, and sometimes where it does."""
+        """Returns what a publication publishes if it does not publish everything, and sometimes if it does."""
         if len(it.operations) == len(OPERATIONS) and self.chance.random() < 0.8:
             return []
         words = ", ".join(sorted(it.operations))
         return ["WITH", "(", "publish", "=", Exact(written(words)), ")"]
 
     def of_subscription(self, it: Subscription) -> list[str]:
-        """A subscription."""
+        """Returns a subscription."""
         taken = commas([[self.name(self.catalog.publications[number].name)] for number in it.publications])
         return ["CREATE", "SUBSCRIPTION", self.name(it.name), "CONNECTION", Exact("'host=here'"), "PUBLICATION", *taken]

@@ -1,4 +1,4 @@
-"""Catalogs by chance: sound ones by construction, ones that are broken a little, and any."""
+"""Random catalogs: some are sound by construction, some are slightly broken, and some are arbitrary."""
 
 import random
 from dataclasses import replace
@@ -14,7 +14,7 @@ ALL = ("const", True)
 
 
 class Sharding:
-    """What each subscriber is to get of each table: conditions, or all of it, if they are None."""
+    """What each subscriber should get of each table: conditions, or all rows if they are None."""
 
     def __init__(self, chance: random.Random, tables: list[Table], subscribers: int) -> None:
         self.chance = chance
@@ -23,7 +23,7 @@ class Sharding:
         self.parts: list[list[tuple[int, Filter | None]]] = [self.parts_of(table) for table in tables]
 
     def parts_of(self, table: Table) -> list[tuple[int, Filter | None]]:
-        """The owners of the parts of a table."""
+        """Returns the owners of the parts of a table."""
         chance = self.chance
         if not table.identity_columns() or chance.random() < 0.15:
             return [(chance.randrange(self.subscribers), None)]
@@ -37,7 +37,7 @@ class Sharding:
         return [(0, None)]
 
     def publications(self, names: Names, each: int) -> tuple[list[Publication], list[list[int]]]:
-        """Publications, and which of them each subscriber takes: at most this many of its own."""
+        """Returns publications, and which of them each subscriber takes: at most this many of its own."""
         found: list[Publication] = []
         taken: list[list[int]] = []
         for subscriber in range(self.subscribers):
@@ -54,7 +54,7 @@ class Sharding:
         return found, taken
 
     def place(self, own: list[dict[int, Filter | None]], table: int, condition: Filter | None) -> None:
-        """Gives a condition to one of a subscriber's publications, and sometimes a narrower one to another."""
+        """Adds a condition to one of a subscriber's publications, and sometimes a narrower one to another."""
         entries = self.chance.choice(own)
         add_condition(entries, table, condition)
         other = self.chance.choice(own)
@@ -63,7 +63,7 @@ class Sharding:
 
 
 def add_condition(entries: dict[int, Filter | None], table: int, condition: Filter | None) -> None:
-    """One more condition for the rows of a table, which may have no condition already."""
+    """Adds a condition for the rows of a table, which may have none yet."""
     if condition is None or condition == ALL and table not in entries:
         entries[table] = None
     elif table not in entries:
@@ -73,7 +73,7 @@ def add_condition(entries: dict[int, Filter | None], table: int, condition: Filt
 
 
 class CatalogMaker:
-    """Makes catalogs."""
+    """Generates catalogs."""
 
     def __init__(self, chance: random.Random, lines: bool = True) -> None:
         self.chance = chance
@@ -81,11 +81,11 @@ class CatalogMaker:
         self.lines = lines
 
     def names(self) -> Names:
-        """Names of one kind of thing."""
+        """Returns a generator of names for one kind of object."""
         return Names(self.chance, self.special, self.lines)
 
     def sound(self, tables: int, subscribers: int, each: int) -> Catalog:
-        """A catalog of this many tables and subscribers. Each row goes to one of them, by construction."""
+        """Returns a catalog with this many tables and subscribers. By construction, each row goes to one subscriber."""
         maker = TableMaker(self.chance, self.names)
         schemas = maker.add_schemas(2)
         made = [maker.table() for _ in range(tables)]
@@ -97,13 +97,13 @@ class CatalogMaker:
     def finished(
             self, schemas: list[str], tables: list[Table], publications: list[Publication],
             taken: list[list[int]]) -> Catalog:
-        """The catalog, with subscriptions of these publications."""
+        """Returns the catalog, with subscriptions to these publications."""
         slots = self.names()
         subscriptions = tuple(Subscription(slots.name(), tuple(numbers)) for numbers in taken)
         return Catalog(tuple(tables), tuple(publications), subscriptions, tuple(schemas))
 
     def any(self, tables: int, publications: int, subscribers: int) -> Catalog:
-        """A catalog with filters by chance, in which a row may go to nobody or to several."""
+        """Returns a catalog with random filters, in which a row may go to nobody or to several."""
         chance = self.chance
         maker = TableMaker(chance, self.names)
         schemas = maker.add_schemas(2)
@@ -118,7 +118,7 @@ class CatalogMaker:
         return self.finished(schemas, made, found, taken)
 
     def publication(self, names: Names, schemas: list[str], tables: list[Table]) -> Publication:
-        """A publication of some tables, with filters or whole."""
+        """Returns a publication of some tables, with filters or whole."""
         chance = self.chance
         if chance.random() < 0.05:
             return Publication(names.name(), all_tables=True)
@@ -133,26 +133,26 @@ class CatalogMaker:
         return Publication(names.name(), tuple(entries), of_schema, False, self.operations())
 
     def operations(self) -> frozenset[str]:
-        """All operations, or sometimes fewer."""
+        """Returns all operations, or sometimes fewer."""
         if self.chance.random() < 0.93:
             return frozenset(OPERATIONS)
         return frozenset(it for it in OPERATIONS if self.chance.random() < 0.7)
 
 
 def tables(chance: random.Random) -> int:
-    """How many tables a catalog has: mostly up to three."""
+    """Returns how many tables a catalog has: mostly up to three."""
     fewest, most = chance.choices([(1, 3), (4, 12), (64, 64)], [960, 38, 2])[0]
     return chance.randint(fewest, most)
 
 
 def filters_on(publications: list[Publication], table: int) -> list[Filter]:
-    """All filters of a table."""
+    """Returns all filters of a table."""
     entries = [entry for publication in publications for entry in publication.entries]
     return [it for number, it in entries if number == table and it is not None]
 
 
 def with_shortcuts(chance: random.Random, catalog: Catalog) -> Catalog:
-    """The catalog, in which a publication that has all tables whole may say so."""
+    """Returns the catalog, in which a publication that carries all tables whole may be FOR ALL TABLES."""
     whole = tuple((number, None) for number in range(len(catalog.tables)))
     publications = list(catalog.publications)
     for number, it in enumerate(publications):
@@ -169,7 +169,7 @@ def with_shortcuts(chance: random.Random, catalog: Catalog) -> Catalog:
 
 
 def broken(chance: random.Random, catalog: Catalog) -> Catalog:
-    """The catalog with one thing left out or changed."""
+    """Returns the catalog with one thing left out or changed."""
     publications = list(catalog.publications)
     at = chance.randrange(len(publications))
     it = publications[at]

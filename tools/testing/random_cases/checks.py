@@ -1,4 +1,4 @@
-"""Cases of `check`: certificates that are right, changed a little, by chance, or none."""
+"""Cases of `check`: certificates that are right, slightly changed, random, or malformed."""
 
 import random
 
@@ -12,15 +12,15 @@ from .catalog_texts import CatalogText
 from .catalogs import CatalogMaker, broken, tables
 from .meeting import meet_catalog
 
-# Words that no node has, and what comes after a tree.
+# Words that no node contains, and what follows a tree.
 NO_WORDS = ["", "x", "00", "-1", "4294967296", "\t", "s", "s0", "\r", "S", "o", "\x01", "é"]
 
-# With more atoms, certificates are not looked for by the model.
+# If there are more atoms, the model does not search for certificates.
 MOST_ATOMS = 20
 
 
 def case(chance: random.Random) -> Case:
-    """A catalog with certificates."""
+    """Returns a catalog with certificates."""
     maker = CatalogMaker(chance)
     number = tables(chance)
     if chance.random() < 0.7:
@@ -40,7 +40,7 @@ def case(chance: random.Random) -> Case:
 
 
 def certificates_of(chance: random.Random, catalog: Catalog) -> list[str]:
-    """Certificates of the tables, or some other number of lines."""
+    """Returns certificates of the tables, or another number of lines."""
     found = []
     for number, table in enumerate(catalog.tables):
         shares = shares_of(catalog, number)
@@ -62,7 +62,7 @@ def certificates_of(chance: random.Random, catalog: Catalog) -> list[str]:
 
 
 def number_for(chance: random.Random, walk: Walk, letter: str) -> int:
-    """A number that fits a letter, mostly."""
+    """Returns a number that usually fits a letter."""
     listed = {"s": walk.atoms, "n": walk.atoms, "e": walk.terms, "o": walk.shares}[letter]
     if chance.random() < 0.03 or not listed:
         return chance.choice([len(listed), 64, 2**32 - 1])
@@ -70,7 +70,7 @@ def number_for(chance: random.Random, walk: Walk, letter: str) -> int:
 
 
 def tree(chance: random.Random, walk: Walk, depth: int) -> list[Node]:
-    """A tree by chance."""
+    """Returns a random tree."""
     if depth == 0 or chance.random() < 0.3:
         letter = chance.choice("ooen")
         return [(letter, number_for(chance, walk, letter))]
@@ -81,7 +81,7 @@ def tree(chance: random.Random, walk: Walk, depth: int) -> list[Node]:
 
 
 def changed(chance: random.Random, walk: Walk, nodes: list[Node]) -> list[Node]:
-    """A tree with another leaf or number, a leaf that is split, or a split that is a leaf."""
+    """Returns a tree with another leaf or number, with a leaf that is split, or with a split replaced by a leaf."""
     at = chance.randrange(len(nodes))
     letter, number = nodes[at]
     if letter == "s" and chance.random() < 0.6:
@@ -96,7 +96,7 @@ def changed(chance: random.Random, walk: Walk, nodes: list[Node]) -> list[Node]:
 
 
 def end_at(nodes: list[Node], at: int) -> int:
-    """Where the nodes end that a node begins."""
+    """Returns the end of the subtree that begins at a node."""
     due = 1
     while due:
         due += 2 if nodes[at][0] == "s" else -1
@@ -105,7 +105,7 @@ def end_at(nodes: list[Node], at: int) -> int:
 
 
 def misspelled(chance: random.Random, text: str) -> str:
-    """A text with another word, one more or one less, or another end."""
+    """Returns a text with a word changed, added or removed, or with another end."""
     words = text.split(" ")
     at = chance.randrange(len(words))
     match chance.randrange(5):

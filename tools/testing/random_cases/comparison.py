@@ -1,4 +1,4 @@
-"""All cases of a seed, by as many processes as there are processors."""
+"""Runs all cases of a seed, in as many processes as there are processors."""
 
 import datetime
 import functools
@@ -18,20 +18,20 @@ from .coverage import WANTED
 from .plan import CASES, case_of, kind_of
 from .running import Answer, compiled, program, run
 
-# Of so many cases that fail, what is wrong is shown.
+# The number of failing cases that are shown in detail.
 MOST_SHOWN = 20
 
-# After so many runs that do not end, no more are made.
+# After this many runs that do not end, no more are made.
 MOST_LATE = 20
 
 
-# In this many cases the system may refuse memory, a read or a write; they are not compared.
+# The number of cases in which the system may refuse memory, a read or a write; these are not compared.
 MOST_REFUSED = 20
 
 
 @dataclass
 class Result:
-    """What came of a case."""
+    """The result of a case."""
 
     number: int
     faults: list[str] = field(default_factory=list)
@@ -44,7 +44,7 @@ class Result:
 
 
 class Watched:
-    """Makes the runs of a case, and keeps what they were refused."""
+    """Makes the runs of a case, and records what they were refused."""
 
     def __init__(self, library: str | None, expects_input: bool) -> None:
         self.library = library
@@ -67,7 +67,7 @@ class Watched:
 
 
 def result_of(seed: int, library: str | None, number: int) -> Result:
-    """Makes a case."""
+    """Runs a case."""
     case = case_of(seed, number)
     watched = Watched(library, isinstance(case, Case) and case.output == "input\n")
     faults = [*case.check(watched.run)]
@@ -80,24 +80,24 @@ def result_of(seed: int, library: str | None, number: int) -> Result:
 
 
 def seed() -> int:
-    """The seed that the environment gives, or the day's."""
+    """Returns the seed in the environment, or the day's seed."""
     return int(os.environ.get("SEED") or datetime.date.today().strftime("%Y%m%d"))
 
 
 def results(seed: int, numbers: list[int]) -> Iterator[Result]:
-    """What came of cases, in the order of their numbers."""
+    """Yields the results of cases in the order of their numbers."""
     with tempfile.TemporaryDirectory() as folder:
         made = functools.partial(result_of, seed, compiled(folder))
         yield from processes.each(made, numbers)
 
 
 def check_random(tally: Tally) -> None:
-    """Makes all cases of the seed that the environment gives."""
+    """Runs all cases of the seed in the environment."""
     check_seed(tally, seed())
 
 
 def check_seed(tally: Tally, seed: int) -> None:
-    """Makes all cases of a seed. Each case is a check, and so is what they met."""
+    """Runs all cases of a seed. Each case is a check, and so is each feature that they must have."""
     if not pathlib.Path(program()).exists():
         return tally.check("the program that random cases try", f"{program()} is not there", "it is built")
     if shutil.which("cc") is None:
@@ -120,7 +120,7 @@ def check_seed(tally: Tally, seed: int) -> None:
 
 
 def tell(tally: Tally, seed: int, result: Result) -> None:
-    """Counts a case. Of the first ones that fail, what is wrong is printed, and the inputs are kept."""
+    """Counts a case. The first ones that fail are printed in detail, and their inputs are kept."""
     name = f"random case {result.number} ({kind_of(result.number)[0]}) of seed {seed}"
     if not result.faults or tally.failed > MOST_SHOWN:
         tally.passed += not result.faults

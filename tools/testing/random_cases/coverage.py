@@ -1,5 +1,5 @@
-"""What the cases of every seed have to have: each is something on which a program might give up, or answer wrongly,
-while all else goes well."""
+"""The features that the cases of every seed must have. A program might give up, or answer wrongly, for each of them,
+and be right otherwise."""
 
 CATALOGS = [
     "several schemas", "a name between quotes", "a name of 63 bytes", "a subscriber of three publications",

@@ -16,12 +16,12 @@ from .row_values import Values
 BAD = ("invalid ", "unreadable ")
 
 MANY = 30_000
-# No row is added to rows that have more: an input has at most 16,777,216 bytes.
+# No row is added after this many characters: an input has at most 16,777,216 bytes.
 MOST_LETTERS = 5_000_000
 
 
 def case(chance: random.Random, number: int) -> Case:
-    """A catalog with filters by chance, and rows of one of its tables: in the first case many."""
+    """Returns a catalog with random filters, and rows of one of its tables; the first case has many rows."""
     maker = CatalogMaker(chance)
     fewest, most = chance.choices([(0, 6), (7, 64)], [95, 5])[0]
     catalog = maker.any(tables(chance), chance.randint(fewest, most), 0)
@@ -36,7 +36,7 @@ def case(chance: random.Random, number: int) -> Case:
 
 
 def of_rows(chance: random.Random, catalog: Catalog, text: str, table: int, insert: bool, number: int) -> Case:
-    """This many rows of a table with their answers, or fewer if they are long."""
+    """Returns this many rows of a table with their answers, or fewer if they are long."""
     values = Values(chance, catalog.tables[table], filters_on(list(catalog.publications), table), lines=False)
     found = Case(words(chance, catalog.tables[table], insert), b"", 0, "")
     meet_catalog(found.met, catalog)
@@ -62,12 +62,13 @@ def of_rows(chance: random.Random, catalog: Catalog, text: str, table: int, inse
 
 
 def can_be_named(name: str) -> bool:
-    """Whether a word of the command line may begin with a name: it is cut at its first point, and is no option."""
+    """Returns whether an argument may begin with a name: the argument is split at its first period, and must not look
+    like an option."""
     return "." not in name and not name.startswith("-")
 
 
 def words(chance: random.Random, table: Table, insert: bool) -> tuple[str, ...]:
-    """The words of the command line."""
+    """Returns the arguments."""
     short = table.schema == "public" and can_be_named(table.name) and chance.random() < 0.5
     name = table.name if short else table.full_name()
     if not insert:

@@ -1,4 +1,4 @@
-"""Filters as catalogs have them, in one of the ways in which each may be written."""
+"""Filters as they are written in catalogs, each in one of its possible forms."""
 
 import random
 
@@ -8,32 +8,32 @@ from model.values import written
 from .names import spelled
 from .texts import Exact
 
-# How tightly parts are joined: OR, AND, NOT, tests, comparisons, operands.
+# The levels of precedence: OR, AND, NOT, tests, comparisons, operands.
 OR, AND, NOT, TEST, COMPARISON, OPERAND = range(6)
 TURNED = {"<": ">", "<=": ">=", ">": "<", ">=": "<=", "=": "=", "<>": "<>"}
 TESTS = {True: "TRUE", False: "FALSE", None: "UNKNOWN"}
 
 
 class FilterText:
-    """Writes the filters of a table."""
+    """Prints the filters of a table."""
 
     def __init__(self, table: Table, chance: random.Random) -> None:
         self.table = table
         self.chance = chance
 
     def is_likely(self, share: float) -> bool:
-        """Whether something that a share of all texts has is in this one."""
+        """Returns true with this probability."""
         return self.chance.random() < share
 
     def tokens(self, it: Filter, level: int = OR) -> list[str]:
-        """A filter where parts of a level are due."""
+        """Returns a filter for a place that needs at least this precedence."""
         own, found = self.written(it)
         if own < level or self.is_likely(0.05):
             return ["(", *found, ")"]
         return found
 
     def written(self, it: Filter) -> tuple[int, list[str]]:
-        """A filter without parentheses, and how tightly it is joined."""
+        """Returns a filter without parentheses, and its precedence."""
         match it:
             case ("or", left, right):
                 return OR, [*self.tokens(left, OR), "OR", *self.tokens(right, AND)]
@@ -48,7 +48,7 @@ class FilterText:
         return self.atom(it)
 
     def negated(self, it: Filter) -> tuple[int, list[str]]:
-        """NOT of a filter, by its own form where it has one."""
+        """Returns NOT of a filter, in its own form if there is one."""
         if self.is_likely(0.7):
             match it:
                 case ("null", column):
@@ -61,7 +61,7 @@ class FilterText:
         return NOT, ["NOT", *self.tokens(it, NOT)]
 
     def atom(self, it: Filter) -> tuple[int, list[str]]:
-        """An atom."""
+        """Returns an atom."""
         if it[0] == "null":
             name = self.operand(it[1], 0)
             return TEST, [*name, "ISNULL"] if self.is_likely(0.3) else [*name, "IS", "NULL"]
@@ -77,7 +77,7 @@ class FilterText:
         return COMPARISON, [*sides[0], "!=" if operator == "<>" and self.is_likely(0.3) else operator, *sides[1]]
 
     def membership(self, it: Filter, negation: list[str]) -> tuple[int, list[str]]:
-        """IN, BETWEEN or IS DISTINCT FROM, or NOT of one."""
+        """Returns IN, BETWEEN or IS DISTINCT FROM, or a NOT of one."""
         term = self.operand(it[1], it[2])
         if it[0] == "distinct":
             return TEST, [*term, "IS", *negation, "DISTINCT", "FROM", *self.literal(it[3])]
@@ -89,14 +89,14 @@ class FilterText:
         return COMPARISON, [*term, *negation, "IN", "(", *found[1:], ")"]
 
     def operand(self, column: int, divisor: int) -> list[str]:
-        """A column, or its remainder."""
+        """Returns a column or its remainder."""
         found: list[str] = [Exact(spelled(self.table.columns[column].name, self.chance))]
         if divisor:
             found += ["%", *self.literal(divisor)]
         return ["(", *found, ")"] if self.is_likely(0.1) else found
 
     def literal(self, value: Value) -> list[str]:
-        """A literal."""
+        """Returns a literal."""
         if isinstance(value, bool):
             return ["TRUE" if value else "FALSE"]
         if isinstance(value, int):

@@ -1,4 +1,4 @@
-"""Filters by chance, of all forms."""
+"""Random filters of all forms."""
 
 import random
 
@@ -15,7 +15,7 @@ DIVISORS = [2, 3, 2, -3, 5, 1, -1, 10, 2**31, 2**63 - 1]
 
 
 class FilterMaker:
-    """Makes filters that name only some columns of a table."""
+    """Generates filters that name only some columns of a table."""
 
     def __init__(self, chance: random.Random, table: Table, columns: tuple[int, ...]) -> None:
         self.chance = chance
@@ -23,7 +23,7 @@ class FilterMaker:
         self.columns = columns
 
     def any(self) -> Filter:
-        """A filter: sometimes of many atoms, or below many NOTs."""
+        """Returns a filter, sometimes of many atoms, or below many NOTs."""
         chance, kind = self.chance, self.chance.random()
         found = self.filter(chance.randint(0, 3))
         if kind < 0.03:
@@ -35,7 +35,7 @@ class FilterMaker:
         return found
 
     def filter(self, depth: int) -> Filter:
-        """A filter that is nested at most so deeply."""
+        """Returns a filter that is nested at most this deeply."""
         chance = self.chance
         if depth == 0 or chance.random() < 0.2:
             return self.atom() if self.columns and chance.random() < 0.97 else ("const", chance.random() < 0.5)
@@ -49,7 +49,7 @@ class FilterMaker:
         return ("or", self.filter(depth - 1), self.filter(depth - 1))
 
     def atom(self) -> Filter:
-        """An atom of any form that the column has."""
+        """Returns an atom of any form that the column allows."""
         chance = self.chance
         column = chance.choice(self.columns)
         kind = self.table.columns[column].kind
@@ -67,7 +67,7 @@ class FilterMaker:
         return ("cmp", column, divisor, chance.choice(operators), self.literal(kind))
 
     def listed(self, kind: str) -> tuple[Value, ...]:
-        """The literals of a list."""
+        """Returns the literals of a list."""
         most = 100 if kind in ENDS and self.chance.random() < 0.03 else self.chance.randint(1, 4)
         found = {self.literal(kind) for _ in range(most)}
         if most == 100:
@@ -75,7 +75,7 @@ class FilterMaker:
         return tuple(sorted(found, key=lambda value: value.encode() if isinstance(value, str) else value))
 
     def literal(self, kind: str) -> Value:
-        """A literal."""
+        """Returns a literal."""
         chance = self.chance
         if kind == "boolean":
             return chance.random() < 0.5
@@ -88,5 +88,5 @@ class FilterMaker:
 
 
 def is_within(filters: list[Filter]) -> bool:
-    """Whether a table may have these filters."""
+    """Returns whether a table may have these filters."""
     return len(atoms_of(*filters)) <= MOST_ATOMS and sum(nodes_of(it) for it in filters) <= MOST_NODES

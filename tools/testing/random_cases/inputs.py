@@ -1,5 +1,5 @@
-"""Cases of inputs: each control character of ASCII in each part, and inputs with other parts, that are not UTF-8 or
-that end too early."""
+"""Cases of inputs: each ASCII control character in each part, and inputs with a wrong number of parts, that are not
+UTF-8, or that end too early."""
 
 import random
 from collections.abc import Callable
@@ -32,17 +32,17 @@ Maker = Callable[[random.Random, str], Case]
 
 
 def spaces_of(text: str) -> list[int]:
-    """The places of spaces that are between tokens of the texts here."""
+    """Returns the places of spaces between tokens in texts of this module."""
     return [at for at, letter in enumerate(text) if letter == " " and text[at - 1] != "'"]
 
 
 def faulty(part: str, place: int) -> tuple[int, str]:
-    """The status and the line of a character that begins no token."""
+    """Returns the status and the line for a character that begins no token."""
     return 3, f"{part} {place} BadToken\n"
 
 
 def in_catalog(chance: random.Random, control: str) -> Case:
-    """A character in place of a space of a catalog."""
+    """A character replaces a space of a catalog."""
     at = chance.choice(spaces_of(CATALOG))
     text = CATALOG[:at] + control + CATALOG[at + 1:]
     status, output = (0, "p=all\n") if control in WHITE else faulty("catalog", at)
@@ -50,7 +50,7 @@ def in_catalog(chance: random.Random, control: str) -> Case:
 
 
 def in_name(_: random.Random, control: str) -> Case:
-    """A character in a name between quotes."""
+    """A character in a quoted name."""
     text = CATALOG.replace(" p ", f' "a{control}b" ').replace(" p;", f' "a{control}b";')
     status, output = (0, f"a{control}b=all\n") if control != "\0" else faulty("catalog", CATALOG.index(" p ") + 1)
     return Case(("eval", "t"), parts(text, "(1, 'a')"), status, output)
@@ -79,7 +79,7 @@ def in_certificate(chance: random.Random, control: str) -> Case:
 
 
 def in_script(chance: random.Random, control: str) -> Case:
-    """A character in place of a space of a script."""
+    """A character replaces a space of a script."""
     at = chance.choice(spaces_of(SCRIPT))
     text = SCRIPT[:at] + control + SCRIPT[at + 1:]
     status, output = (0, "\n".join([*LINES, ""])) if control in WHITE else faulty("script", at)
@@ -95,7 +95,7 @@ def in_text_of_script(_: random.Random, control: str) -> Case:
 
 
 def in_rows(chance: random.Random, control: str) -> Case:
-    """A character in a row, in a text or elsewhere. A newline ends the row."""
+    """A character in a row, within a text or elsewhere. A newline ends the row."""
     if control == "\n":
         return Case(("eval", "t"), parts(CATALOG, "(1,\n'a')\n"), 1, "unreadable 3 Expected\nunreadable 0 Expected\n")
     if chance.random() < 0.5:
@@ -119,7 +119,7 @@ GOOD = {
 
 
 def other_parts(chance: random.Random) -> Case:
-    """An input with another number of parts, or that is not UTF-8."""
+    """An input with a wrong number of parts, or that is not UTF-8."""
     words, good = chance.choice(list(GOOD.items()))
     if chance.random() < 0.5:
         texts = [*good, chance.choice(good)] if chance.random() < 0.5 or len(good) == 1 else good[:-1]
@@ -131,7 +131,7 @@ def other_parts(chance: random.Random) -> Case:
 
 
 def ends_early(chance: random.Random) -> Case:
-    """A catalog or a script without its last semicolon, or without its last words."""
+    """A catalog or a script without its last semicolon or its last words."""
     if chance.random() < 0.5:
         text = CATALOG[:CATALOG.rindex(chance.choice([";", "p;", "PUBLICATION p;", "CONNECTION"]))]
         return Case(("make",), parts(text), 3, f"catalog {len(text)} Expected\n")
@@ -158,7 +158,7 @@ def bad_step(chance: random.Random) -> Case:
 
 
 def with_bad_token(chance: random.Random, statements: list[list[str]]) -> tuple[str, int]:
-    """A text in which some token is followed by a character that begins none, and its place."""
+    """Returns a text in which some token is followed by a character that begins none, and its position."""
     tokens = [token for statement in statements for token in statement]
     at = chance.randrange(len(tokens) + 1)
     before = "".join(f"{token} " for token in tokens[:at])
@@ -166,7 +166,7 @@ def with_bad_token(chance: random.Random, statements: list[list[str]]) -> tuple[
 
 
 def case(chance: random.Random, number: int) -> Case:
-    """The case of a number from 0: first each character in each part."""
+    """Returns the case with a number from 0. The first cases have each character in each part."""
     if number < len(CONTROLS) * len(BY_CONTROL):
         control, maker = CONTROLS[number // len(BY_CONTROL)], BY_CONTROL[number % len(BY_CONTROL)]
         found = maker(chance, control)

@@ -1,4 +1,4 @@
-"""Cases at declared limits, with something by chance in each."""
+"""Cases at the documented limits, each with some random content."""
 
 import random
 from collections.abc import Callable
@@ -15,7 +15,7 @@ MOST_COMMANDS = 1_000
 
 
 def two_halves(chance: random.Random, bound: int, kind: str = "integer") -> Catalog:
-    """A table that two subscribers share by its key."""
+    """Returns a catalog with a table that two subscribers share by its key."""
     columns = (Column("id", kind, False), Column("note", "text", False), Column("small", "smallint", True))
     table = Table("public", "t", columns, (0,), (), chance.choice([FULL, DEFAULT]))
     conditions: list[Filter] = [("cmp", 0, 0, "<", bound), ("cmp", 0, 0, ">=", bound)]
@@ -24,7 +24,8 @@ def two_halves(chance: random.Random, bound: int, kind: str = "integer") -> Cata
 
 
 def many_parts(subscribers: int, each: int) -> Catalog:
-    """A table that subscribers share by ranges of its key, one for each of their publications."""
+    """Returns a catalog with a table that subscribers share by ranges of its key, one for each of their
+    publications."""
     columns = (Column("id", "integer", False), Column("flag", "boolean", False))
     table = Table("public", "t", columns, (0,))
     number = subscribers * each
@@ -35,7 +36,7 @@ def many_parts(subscribers: int, each: int) -> Catalog:
 
 
 def range_of(at: int, number: int) -> Filter:
-    """One of this many ranges of ten numbers. The first and the last have no other end."""
+    """Returns one of this many ranges of ten numbers. The first and the last are unbounded on one side."""
     if number == 1:
         return ("const", True)
     if at == 0:
@@ -46,22 +47,22 @@ def range_of(at: int, number: int) -> Filter:
 
 
 def inserts(keys: list[int], text: str = "") -> list[Command]:
-    """Rows of the table of two halves."""
+    """Returns inserts into the table of two halves."""
     return [("insert", 0, (key, f"{text}{key}", key % 100)) for key in keys]
 
 
 def in_commits(commands: list[Command], most: int = MOST_COMMANDS) -> list[Step]:
-    """Commits of this many commands."""
+    """Returns commits of this many commands."""
     return [("commit", commands[at:at + most]) for at in range(0, len(commands), most)]
 
 
 def both(kind: str, *more: object) -> list[Step]:
-    """A step on both subscribers."""
+    """Returns the same step for both subscribers."""
     return [(kind, 0, *more), (kind, 1, *more)]
 
 
 def many_rows(chance: random.Random, number: int, first: float) -> tuple[Catalog, list[Step]]:
-    """A table of this many rows, in an order by chance, of which s0 has a first part; then half of them go."""
+    """Fills a table with this many rows, in random order, of which s0 has a first part; then deletes half of them."""
     keys = list(range(number))
     chance.shuffle(keys)
     pumps = both("pump")
@@ -72,7 +73,8 @@ def many_rows(chance: random.Random, number: int, first: float) -> tuple[Catalog
 
 
 def large_commits(chance: random.Random) -> tuple[Catalog, list[Step]]:
-    """Commits of 1,000 commands for one subscriber, of 1,001, of 1,000 with a faulty last one, and of all lengths."""
+    """Makes commits of 1,000 commands for one subscriber, of 1,001, of 1,000 with a fault in the last one, and of all
+    lengths."""
     keys = list(range(5_000))
     many = inserts(keys[:MOST_COMMANDS])
     steps: list[Step] = [*both("open"), ("commit", many), *both("hear", ALL), *both("take")]
@@ -86,7 +88,7 @@ def large_commits(chance: random.Random) -> tuple[Catalog, list[Step]]:
 
 
 def long_log(chance: random.Random, commits: int) -> tuple[Catalog, list[Step]]:
-    """This many commits on a few rows, and then the subscribers come, if there are steps left."""
+    """Makes this many commits on a few rows, and then connects the subscribers, if steps are left."""
     steps: list[Step] = []
     there: set[int] = set()
     for _ in range(commits):
@@ -105,7 +107,8 @@ def long_log(chance: random.Random, commits: int) -> tuple[Catalog, list[Step]]:
 
 
 def long_script(chance: random.Random) -> tuple[Catalog, list[Step]]:
-    """100,000 steps: first pieces of many statuses and keepalives, and then, by late clocks, steps of all kinds."""
+    """Makes 100,000 steps: first pieces of many statuses and keepalives, and then, with late clocks, steps of all
+    kinds."""
     steps: list[Step] = [*both("open"), *both("hear", ALL), ("commit", inserts([1, 30]))]
     steps += [("report", 0, True)] * 30_000 + [("keep", 1, True)] * 30_000
     steps += [*both("hear", ALL), *both("deliver", ALL)]
@@ -122,7 +125,7 @@ def long_script(chance: random.Random) -> tuple[Catalog, list[Step]]:
 
 
 def long_pieces(chance: random.Random) -> tuple[Catalog, list[Step]]:
-    """Long texts for both, that come in pieces of many lengths, over connections that are lost in between."""
+    """Sends long texts to both subscribers in pieces of many lengths, over connections that are lost in between."""
     texts = [chance.choice("abc") * chance.choice([65_535, 65_534, 30_000]) for _ in range(100)]
     steps: list[Step] = [("commit", [("insert", 0, (key, text, 1)) for key, text in enumerate(texts)])]
     for _ in range(3):
@@ -136,7 +139,7 @@ def long_pieces(chance: random.Random) -> tuple[Catalog, list[Step]]:
 
 
 def many_connections(chance: random.Random) -> tuple[Catalog, list[Step]]:
-    """Thousands of connections, one after another, each of which is lost after some bytes in both directions."""
+    """Makes thousands of connections, one after another, each of which is lost after some bytes in both directions."""
     steps: list[Step] = []
     for number in range(3_000):
         i = chance.randrange(2)
@@ -147,7 +150,7 @@ def many_connections(chance: random.Random) -> tuple[Catalog, list[Step]]:
 
 
 def parts_of_publications(chance: random.Random, subscribers: int, each: int) -> tuple[Catalog, list[Step]]:
-    """Rows of all ranges for subscribers of many publications, by one connection after another."""
+    """Sends rows of all ranges to subscribers with many publications, over one connection after another."""
     keys = chance.sample(range(-5, 10 * subscribers * each + 5), 8 * subscribers)
     steps: list[Step] = [("commit", [("insert", 0, (key, chance.choice([True, False, None]))) for key in keys])]
     for i in range(subscribers):
@@ -178,7 +181,7 @@ MAKERS: list[Maker] = [
 
 
 def case(chance: random.Random, number: int) -> Simulation:
-    """The case of a number from 0."""
+    """Returns the case with a number from 0."""
     catalog, steps = MAKERS[number](chance)
     made = ScriptMaker(chance, catalog, World(catalog))
     for step in steps:

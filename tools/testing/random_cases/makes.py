@@ -1,4 +1,4 @@
-"""Cases of `make`: what it prints of each table is tried by `check`, by the model and by rows."""
+"""Cases of `make`. What it prints for each table is checked by `check`, by the model and with rows."""
 
 import random
 from collections import Counter
@@ -18,13 +18,13 @@ from .meeting import meet_catalog
 from .reading_rows import read_row
 from .row_values import Values
 
-# How many nodes the model goes through.
+# The most nodes that the model examines.
 MOST_NODES = 300
 ROWS = 40
 
 
 def case(chance: random.Random) -> "MadeCase":
-    """A catalog that is sound by construction, one that is broken, or any."""
+    """Returns a catalog that is sound by construction, one that is broken, or an arbitrary one."""
     maker = CatalogMaker(chance, lines=False)
     number = tables(chance)
     if chance.random() < 0.7:
@@ -50,11 +50,11 @@ class MadeCase:
         self.compared = 0
 
     def lines(self) -> int:
-        """How many lines were compared."""
+        """Returns how many lines were compared."""
         return self.compared
 
     def check(self, run: Runner) -> Iterator[str]:
-        """Makes the runs, and tells what is wrong."""
+        """Makes the runs, and yields what is wrong."""
         answer = run(self.words, self.text)
         lines = answer.output.split("\n")[:-1]
         if len(lines) != len(self.catalog.tables):
@@ -70,7 +70,7 @@ class MadeCase:
             yield from self.checked(run, answer.output)
 
     def checked(self, run: Runner, certificates: str) -> Iterator[str]:
-        """What `check` says of the certificates."""
+        """Yields what `check` says of the certificates, if it is wrong."""
         answer = run(("check",), parts(self.catalog_text, certificates))
         refusal = catalog_refusal(self.catalog)
         expected = (0, "accepted\n") if refusal is None else (1, f"refused {refusal}\n")
@@ -80,7 +80,7 @@ class MadeCase:
             yield f"check answers {answer.status} and {shown(answer.output)}, and not {expected}"
 
     def faults_of(self, table: int, line: str) -> Iterator[str]:
-        """What is wrong with the line of a table."""
+        """Yields what is wrong with the line of a table."""
         shares = shares_of(self.catalog, table)
         name = self.catalog.tables[table].full_name()
         truth = counter_row(self.catalog.tables[table], shares)
@@ -100,7 +100,7 @@ class MadeCase:
             yield f"make says {line}, and the model finds a row or a certificate"
 
     def certificate_faults(self, table: int, shares: list[str | Filter | None], text: str) -> Iterator[str]:
-        """What is wrong with a certificate, by the model and by rows."""
+        """Yields what is wrong with a certificate, according to the model and to rows."""
         fault = reading_fault(text)
         if fault is not None:
             yield f"certificate {shown(text)} is {fault}"
@@ -115,7 +115,7 @@ class MadeCase:
                 return
 
     def counter_faults(self, table: int, shares: list[str | Filter | None], text: str) -> Iterator[str]:
-        """What is wrong with a row that shows a fault."""
+        """Yields what is wrong with a row that should show a fault."""
         row, rest = read_row(text)
         if row is None or row_fault(self.catalog.tables[table], row):
             yield f"{shown(text)} is no row of the table"
@@ -127,10 +127,10 @@ class MadeCase:
 
 
 def has_certificate(table: Table, shares: list[str | Filter | None]) -> bool:
-    """Whether the model's plain search finds a certificate."""
+    """Returns whether the model's plain search finds a certificate."""
     return len(Walk(table, shares).atoms) <= MOST_ATOMS and certificate(table, shares) is not None
 
 
 def is_certificate(line: str) -> bool:
-    """Whether a line begins as a certificate does."""
+    """Returns whether a line begins like a certificate."""
     return line[:2] in ("s ", "o ", "e ", "n ")

@@ -1,4 +1,4 @@
-"""What cases have: counted, so that it is seen that each thing is met which a program might give up on."""
+"""Counts the features of the cases, to make sure that each thing occurs for which a program might give up."""
 
 from collections import Counter
 
@@ -14,7 +14,7 @@ Met = Counter[str]
 
 
 def meet_catalog(met: Met, catalog: Catalog) -> None:
-    """What a catalog has."""
+    """Counts the features of a catalog."""
     met["several schemas"] += len(catalog.schemas) > 1
     names = [it.name for it in (*catalog.tables, *catalog.publications, *catalog.subscriptions)]
     met["a name between quotes"] += any(not BARE.fullmatch(name) for name in names)
@@ -39,7 +39,7 @@ def meet_catalog(met: Met, catalog: Catalog) -> None:
 
 
 def meet_table(met: Met, table: Table) -> None:
-    """What a table has."""
+    """Counts the features of a table."""
     for column in table.columns:
         met[f"a column of {column.kind}"] += 1
     met["a table of over 5 columns"] += len(table.columns) > 5
@@ -53,7 +53,7 @@ def meet_table(met: Met, table: Table) -> None:
 
 
 def meet_filter(met: Met, it: Filter) -> None:
-    """What a filter has."""
+    """Counts the features of a filter."""
     met["NOT of NOT of NOT of NOT"] += is_nested(it, 4)
     if it[0] in ("not", "and", "or"):
         met[f"a filter with {it[0]}"] += 1
@@ -68,12 +68,12 @@ def meet_filter(met: Met, it: Filter) -> None:
 
 
 def is_nested(it: Filter, times: int) -> bool:
-    """Whether a filter begins with this many NOTs."""
+    """Returns whether a filter begins with this many NOTs."""
     return times == 0 or it[0] == "not" and is_nested(it[1], times - 1)
 
 
 def meet_row(met: Met, table: Table, row: Row) -> None:
-    """What a row has."""
+    """Counts the features of a row."""
     for column, value in zip(table.columns, row):
         if isinstance(value, str):
             met["a text with a tab"] += "\t" in value
@@ -86,7 +86,7 @@ def meet_row(met: Met, table: Table, row: Row) -> None:
 
 
 def meet_script(met: Met, catalog: Catalog, made: ScriptMaker) -> None:
-    """What a script and its answers have."""
+    """Counts the features of a script and its answers."""
     met["a clock past 60,000"] += len(made.steps) > 60_000
     met["1,000 connections lost"] += made.lines.count("lost") > 1_000
     met["100,000 steps"] += len(made.steps) == 100_000
@@ -108,7 +108,7 @@ def meet_script(met: Met, catalog: Catalog, made: ScriptMaker) -> None:
     met["a log of 100,000 commits"] += log == 100_000
 
 
-# Numbers that are passed in some case.
+# Numbers that are exceeded in some case.
 MOST = {
     "bytes heard in a piece": [100, 65_600],
     "bytes delivered in a piece": [1_000, 65_600, 1_000_000],
@@ -120,7 +120,7 @@ MOST = {
 
 
 def meet_command(met: Met, catalog: Catalog, command: tuple) -> None:
-    """What a command has."""
+    """Counts the features of a command."""
     met[f"a command {command[0].upper()}"] += 1
     if command[0] == "truncate":
         met["a TRUNCATE of several tables"] += len(set(command[1])) > 1
@@ -131,7 +131,7 @@ def meet_command(met: Met, catalog: Catalog, command: tuple) -> None:
         meet_row(met, table, command[-1])
 
 
-# Answers to steps that have no number of their own.
+# Answers to steps that contain no number of their own.
 ANSWERS = (
     "opened", "already open", "not open", "not started", "idle", "kept", "reported", "lost", "no subscriber",
     "refused EmptyTransaction", "refused TooManyCommands", "refused LogFull")
@@ -140,7 +140,7 @@ FAULTS = ("NoSuchRow", "DuplicateKey", "Row Width", "Row NullInNotNull", "Row Wr
 
 
 def meet_line(met: Met, line: str) -> None:
-    """Which answer a line is."""
+    """Counts which answer a line is."""
     if line in ANSWERS:
         met[f"the answer {line}"] += 1
     elif line.startswith("refused At "):

@@ -1,4 +1,4 @@
-"""Names by chance, as they are stored, and as texts have them."""
+"""Random names, as they are stored and as they are written."""
 
 import random
 import re
@@ -10,13 +10,13 @@ SPECIAL = [
 ]
 PLAIN = ["t", "u", "orders", "items", "region", "code", "id", "flag", "note", "amount", "a", "b", "c$", "_d", "x1"]
 
-# Words that are names in this module only between quotes, so that no name is read as a keyword.
+# Names of this form may be written without quotes, except these keywords.
 BARE = re.compile("[a-z_][a-z0-9_$]*", re.A)
 WORDS = {"select", "table", "null", "true", "false"}
 
 
 class Names:
-    """Gives names, none of them twice."""
+    """Returns names, each only once."""
 
     def __init__(self, chance: random.Random, special: float, lines: bool = True) -> None:
         self.chance = chance
@@ -25,7 +25,7 @@ class Names:
         self.given: set[str] = set()
 
     def name(self) -> str:
-        """A name of at most 63 bytes."""
+        """Returns a name of at most 63 bytes."""
         found = self.chance.choice(SPECIAL if self.chance.random() < self.special else PLAIN)
         if self.chance.random() < 0.03:
             found = self.chance.choice("ab_") * self.chance.randint(1, 63)
@@ -41,14 +41,14 @@ class Names:
 
 
 def cut(text: str, most: int) -> str:
-    """The text's first characters, with at most this many bytes."""
+    """Returns the text's first characters, with at most this many bytes."""
     while len(text.encode()) > most:
         text = text[:-1]
     return text
 
 
 def spelled(name: str, chance: random.Random) -> str:
-    """A name as a text has it: between quotes where it needs them, and sometimes where it does not."""
+    """Returns a name as it is written: quoted if necessary, and sometimes if it is not."""
     if BARE.fullmatch(name) and name not in WORDS and chance.random() < 0.9:
         return name.upper() if chance.random() < 0.1 else name
     return '"' + name.replace('"', '""') + '"'

@@ -1,4 +1,4 @@
-"""Which case comes under which number: a seed and a number say all of a case."""
+"""Assigns cases to numbers: a seed and a number determine a case completely."""
 
 import random
 from collections.abc import Callable
@@ -8,7 +8,8 @@ from .case import Case
 
 Maker = Callable[[random.Random, int], object]
 
-# How many cases there are of each kind, in the order of their numbers, and what makes the case of a number from 0.
+# For each kind, in the order of their numbers, how many cases there are, and a function that makes the case with a
+# number from 0.
 PLAN: dict[str, tuple[int, Maker]] = {
     "large": (len(large.MAKERS), large.case),
     "inputs": (500, inputs.case),
@@ -23,7 +24,7 @@ CASES = sum(count for count, _ in PLAN.values())
 
 
 def kind_of(number: int) -> tuple[str, int]:
-    """The kind of a case, and its number among those of the kind."""
+    """Returns the kind of a case, and its number within the kind."""
     for kind, (count, _) in PLAN.items():
         if number < count:
             return kind, number
@@ -32,6 +33,6 @@ def kind_of(number: int) -> tuple[str, int]:
 
 
 def case_of(seed: int, number: int) -> Case:
-    """The case of a number from 0."""
+    """Returns the case with a number from 0."""
     kind, at = kind_of(number)
     return PLAN[kind][1](random.Random(f"{seed} {number}"), at)

@@ -1,4 +1,4 @@
-"""Reads a row as outputs have it."""
+"""Reads rows of outputs."""
 
 import re
 
@@ -9,7 +9,7 @@ WORDS: dict[str, Value] = {"NULL": None, "TRUE": True, "FALSE": False}
 
 
 def read_row(text: str) -> tuple[Row | None, str]:
-    """A row at the beginning of a text, if there is one, and what comes after it."""
+    """Returns the row at the beginning of a text, if there is one, and the rest of the text."""
     values: list[Value] = []
     at = 0
     opening = "("
@@ -26,7 +26,7 @@ def read_row(text: str) -> tuple[Row | None, str]:
 
 
 def value_of(word: str) -> Value:
-    """A value."""
+    """Returns a value."""
     if word in WORDS:
         return WORDS[word]
     return word[1:-1].replace("''", "'") if word.startswith("'") else int(word)

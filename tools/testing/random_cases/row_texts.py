@@ -1,4 +1,4 @@
-"""Rows as texts: some in another form than outputs have, and some that are no rows, with their fault."""
+"""Rows as text: some in a form that outputs do not have, and some that are malformed, with their fault."""
 
 import random
 
@@ -7,10 +7,10 @@ from model.values import LONGEST_TEXT, written, written_row
 
 from .texts import FLAT_SPACES, Exact, commas, joined
 
-# Characters that begin no token: the control characters but white space, and some others.
+# Characters that begin no token: control characters other than white space, and some others.
 NO_TOKENS = [*map(chr, range(9)), "\v", *map(chr, range(14, 32)), "\x7f", "{", "}", "[", "]", "$", "\\", "é", ":"]
 
-# Tokens that are no values, with the kind of their fault.
+# Tokens that are not values, with the kind of their fault.
 NO_VALUES = [
     ("maybe", "Expected"), (";", "Expected"), ("9223372036854775808", "NumberTooLarge"), ("5x", "BadToken"),
     ("1.5", "LeftOut"), ("E'a'", "LeftOut"), ("'nul\0'", "BadToken"), ("'" + "x" * (LONGEST_TEXT + 1) + "'", "TooMany"),
@@ -19,7 +19,7 @@ NO_VALUES = [
 
 
 def value_tokens(value: Value, chance: random.Random) -> list[str]:
-    """A value."""
+    """Returns the tokens of a value."""
     if isinstance(value, int) and not isinstance(value, bool):
         return ["-", str(-value)] if value < 0 else [str(value)]
     if isinstance(value, str) and chance.random() < 0.1:
@@ -28,12 +28,12 @@ def value_tokens(value: Value, chance: random.Random) -> list[str]:
 
 
 def row_tokens(row: Row, chance: random.Random) -> list[str]:
-    """A row."""
+    """Returns the tokens of a row."""
     return ["(", *commas([value_tokens(value, chance) for value in row]), ")"]
 
 
 def row_text(row: Row, chance: random.Random) -> str:
-    """A row on one line, if its texts have none."""
+    """Returns a row on one line, unless its texts contain newlines."""
     if chance.random() < 0.7:
         return written_row(row)
     if chance.random() < 0.5:
@@ -42,7 +42,7 @@ def row_text(row: Row, chance: random.Random) -> str:
 
 
 def no_row(row: Row, chance: random.Random) -> tuple[str, str]:
-    """A line that is no row, and how `eval` answers it."""
+    """Returns a line that is not a row, and the answer of `eval`."""
     tokens = row_tokens(row, chance)
     at = chance.randrange(len(tokens))
     before = " ".join(tokens[:at])
@@ -59,12 +59,12 @@ def no_row(row: Row, chance: random.Random) -> tuple[str, str]:
 
 
 def with_next(before: str, token: str) -> str:
-    """A text with one more token."""
+    """Appends a token to a text."""
     return f"{before} {token}" if before else token
 
 
 def with_value(row: Row, chance: random.Random) -> tuple[str, str]:
-    """A row with something that is no value, and how `eval` answers it."""
+    """Returns a row with something that is not a value, and the answer of `eval`."""
     at = chance.randrange(max(1, len(row)))
     values = [" ".join(value_tokens(value, chance)) for value in row[:at]]
     before = "( " + "".join(f"{value} , " for value in values)

@@ -1,4 +1,4 @@
-"""Rows and keys by chance: at the edges of types, beside what filters name, and plain ones."""
+"""Random rows and keys: at the limits of types, near the constants of filters, and plain ones."""
 
 import random
 
@@ -10,14 +10,14 @@ TEXTS = [
     "", "a", "b", "ab", "A", " a", "a ", "it's", "''", '"', "\\", "two words", "tab\there", "\t", "\x01\x02\x1f\x7f",
     "\r", "é漢😀", "%%", "--", "/*", "NULL", "null", "0", "(1, 2)", "\v\f\b",
 ]
-# All characters of ASCII but the zero byte and a newline.
+# All ASCII characters except the zero byte and the newline.
 ALL_ASCII = "".join(map(chr, [*range(1, 10), *range(11, 128)]))
-# The least bigint is no number that rows may have.
+# Rows cannot contain the least bigint.
 LOWEST = -(2**63) + 1
 
 
 class Values:
-    """Gives values for the columns of a table, which these filters tell apart."""
+    """Generates values for the columns of a table; these filters distinguish them."""
 
     def __init__(
             self, chance: random.Random, table: Table, filters: list[Filter], lines: bool, long: float = 0.003) -> None:
@@ -30,11 +30,11 @@ class Values:
             self.near[atom[1]] += literals_of(atom)
 
     def row(self) -> Row:
-        """A row that fits the table."""
+        """Returns a row that fits the table."""
         return tuple(self.value(number) for number in range(len(self.table.columns)))
 
     def value(self, number: int) -> Value:
-        """A value of a column."""
+        """Returns a value of a column."""
         column = self.table.columns[number]
         if not column.not_null and number not in self.table.key and self.chance.random() < 0.15:
             return None
@@ -43,7 +43,7 @@ class Values:
         return self.text(number) if column.kind == "text" else self.integer(column, number)
 
     def integer(self, column: Column, number: int) -> int:
-        """A number of the column's type."""
+        """Returns a number of the column's type."""
         chance, end = self.chance, ENDS[column.kind]
         found = chance.choice([0, 1, 2, 3, 4, -1, -2, 5, 7, 100])
         kind = chance.random()
@@ -54,7 +54,7 @@ class Values:
         return max(LOWEST, -end, min(end - 1, found))
 
     def text(self, number: int) -> str:
-        """A text."""
+        """Returns a text."""
         chance, kind = self.chance, self.chance.random()
         if kind < self.long:
             return chance.choice(["x" * LONGEST_TEXT, "'" * LONGEST_TEXT, "é" * (LONGEST_TEXT // 2)])
@@ -69,7 +69,7 @@ class Values:
         return chance.choice(TEXTS)
 
     def faulty_row(self) -> Row:
-        """A row that is written as one, and perhaps does not fit the table."""
+        """Returns a well-formed row that may not fit the table."""
         row = list(self.row())
         at = self.chance.randrange(len(row))
         match self.chance.randrange(5):
@@ -86,5 +86,5 @@ class Values:
         return tuple(row)
 
     def faulty_key(self) -> Row:
-        """A key that perhaps is none of the table."""
+        """Returns a key that may not fit the table."""
         return self.faulty_row()[:self.chance.randint(1, 3)] or (None,)

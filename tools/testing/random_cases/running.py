@@ -1,4 +1,4 @@
-"""Runs of the built program, with a library that counts what it was refused."""
+"""Runs the built program with a library that counts what the system refused."""
 
 import os
 import pathlib
@@ -11,25 +11,25 @@ from programs import program
 
 TESTING = pathlib.Path(__file__).resolve().parent.parent
 
-# How long a run may take, on a machine that does much else, too.
+# The time limit of a run in seconds, also on a busy machine.
 SECONDS = 300
 
 COUNTS = re.compile("([0-9]+) refused, ([0-9]+) failed")
 
-# Answers that only a refusal of the system may cause, as whole lines.
+# Answers that only a refusal by the system may cause, as whole lines.
 GIVEN_UP = re.compile("^(out of memory|refused OutOfMemory)$", re.M)
 
 
 @dataclass(frozen=True)
 class Answer:
-    """A run's status, or None if it took too long, its output, and how much the program was refused."""
+    """A run's status, or None if it took too long; its output; and how much the program was refused."""
 
     status: int | None
     output: str
     refused: int = 0
 
     def giving_up(self) -> str | None:
-        """How the program says that memory, its input or its output failed, if it does."""
+        """Returns how the program says that memory, its input or its output failed, if it does."""
         line = GIVEN_UP.search(self.output)
         if line is not None:
             return f"a line is {line[0]!r}"
@@ -39,7 +39,7 @@ class Answer:
 
 
 def compiled(folder: str, name: str = "watching") -> str | None:
-    """A library, that which counts if no other is named, if there is a C compiler."""
+    """Compiles a library, by default the one that counts, if there is a C compiler."""
     if shutil.which("cc") is None:
         return None
     library = f"{folder}/{name}.so"

@@ -1,4 +1,4 @@
-"""Scripts by chance, with the lines that the model answers."""
+"""Random scripts, with the lines that the model answers."""
 
 import random
 
@@ -12,7 +12,7 @@ from .row_texts import row_text, row_tokens
 from .row_values import Values
 from .texts import Exact, commas, joined
 
-# How often each step comes.
+# The relative frequency of each step.
 KINDS = {
     "commit": 30, "open": 8, "hear": 10, "take": 14, "keep": 5, "deliver": 14, "report": 7, "lose": 3, "pump": 6,
     "view": 3,
@@ -22,7 +22,7 @@ LARGE_COUNTS = [65_536, 65_601, 16_777_216, 2**31, 2**32, 2**63 - 1]
 
 
 class ScriptMaker:
-    """Makes steps one after another. The model makes them, too, so that later ones speak of what is there."""
+    """Generates steps one after another. The model makes them too, so that later steps refer to what exists."""
 
     def __init__(self, chance: random.Random, catalog: Catalog, world: World, faults: float = 0.04) -> None:
         self.chance = chance
@@ -38,7 +38,7 @@ class ScriptMaker:
         self.letters = 0
 
     def add(self, step: Step) -> None:
-        """One more step."""
+        """Appends a step."""
         self.steps.append(step)
         self.lines += self.world.step(step)
         if step[0] == "commit":
@@ -46,7 +46,7 @@ class ScriptMaker:
             self.letters += sum(len(value) for value in values if isinstance(value, str))
 
     def add_any(self) -> None:
-        """One more step by chance."""
+        """Appends a random step."""
         chance = self.chance
         kind = chance.choices(list(KINDS), list(KINDS.values()))[0]
         if kind == "commit":
@@ -62,7 +62,7 @@ class ScriptMaker:
         return self.add((kind, i))
 
     def subscriber(self, kind: str) -> int:
-        """The number of a subscriber: mostly one for whom the step does something."""
+        """Returns the number of a subscriber, mostly one for which the step has an effect."""
         number = len(self.world.subscribers)
         if self.chance.random() < 0.02 or not number:
             return self.chance.choice([number, number + 1, 31, 2**32, 2**63 - 1])
@@ -70,20 +70,20 @@ class ScriptMaker:
         return self.chance.choice(fit) if fit and self.chance.random() < 0.9 else self.chance.randrange(number)
 
     def count(self) -> int:
-        """How many bytes are to move at most."""
+        """Returns the most bytes to move."""
         kind = self.chance.random()
         if kind < 0.5:
             return self.chance.choice(COUNTS)
         return self.chance.choice(LARGE_COUNTS) if kind < 0.8 else self.chance.randrange(400)
 
     def commands(self) -> list[Command]:
-        """The commands of a commit, or none."""
+        """Returns the commands of a commit, which may be none."""
         if self.chance.random() < 0.02 or not self.catalog.tables:
             return []
         return [self.command() for _ in range(self.chance.randint(1, self.most_commands))]
 
     def command(self) -> Command:
-        """A command."""
+        """Returns a command."""
         chance = self.chance
         table = chance.randrange(len(self.catalog.tables))
         kind = chance.choices(["insert", "update", "delete", "truncate"], [50, 28, 18, 4])[0]
@@ -100,7 +100,7 @@ class ScriptMaker:
         return kind, table, key, row
 
     def key(self, table: int) -> tuple[Row, Row | None]:
-        """The key of a row that is there, with the row, or another one."""
+        """Returns the key of an existing row, with the row, or another key."""
         rows = self.world.database.tables[table]
         if rows.by_key and self.chance.random() > self.faults:
             row = self.chance.choice(list(rows.by_key.values()))
@@ -112,7 +112,7 @@ class ScriptMaker:
 
 
 class ScriptText:
-    """Writes a script."""
+    """Prints a script."""
 
     def __init__(self, catalog: Catalog, chance: random.Random, noise: bool) -> None:
         self.catalog = catalog
@@ -120,15 +120,15 @@ class ScriptText:
         self.noise = noise
 
     def text(self, steps: list[Step]) -> str:
-        """The script's text."""
+        """Returns the script's text."""
         return "".join(joined(self.statement(step), self.chance, self.noise) + "\n" for step in steps)
 
     def statement(self, step: Step) -> list[str]:
-        """A step with its end."""
+        """Returns a step with its semicolon."""
         return [*self.tokens(step), ";"]
 
     def tokens(self, step: Step) -> list[str]:
-        """A step."""
+        """Returns a step."""
         match step:
             case ("commit", commands):
                 return ["COMMIT", *commas([self.command(it) for it in commands])]
@@ -139,18 +139,18 @@ class ScriptText:
         return [step[0].upper(), *map(str, step[1:])]
 
     def command(self, command: Command) -> list[str]:
-        """A command."""
+        """Returns a command."""
         if command[0] == "truncate":
             return ["TRUNCATE", "(", *commas([self.table(number) for number in command[1]]), ")"]
         rows = [token for row in command[2:] for token in self.row(row)]
         return [command[0].upper(), *self.table(command[1]), *rows]
 
     def row(self, row: Row) -> list[str]:
-        """A row or a key."""
+        """Returns a row or a key."""
         return row_tokens(row, self.chance) if self.noise else [row_text(row, self.chance)]
 
     def table(self, number: int) -> list[str]:
-        """A table's name."""
+        """Returns a table's name."""
         table = self.catalog.tables[number]
         name = Exact(spelled(table.name, self.chance))
         if table.schema == "public" and self.chance.random() < 0.8:

@@ -1,4 +1,4 @@
-"""Cases of `show`: what it prints of a catalog, and that this is read as the same catalog."""
+"""Cases of `show`: what it prints of a catalog, and that its output is read as the same catalog."""
 
 import random
 from collections import Counter
@@ -15,8 +15,8 @@ from .meeting import meet_catalog
 
 
 def case(chance: random.Random) -> "ShownCase":
-    """A catalog of any kind, or one that is sound. Some publications also carry the schema of a table that they
-    name."""
+    """Returns an arbitrary catalog, or a sound one. Some publications carry a table both by name and through its
+    schema."""
     maker = CatalogMaker(chance)
     number = tables(chance)
     if chance.random() < 0.4:
@@ -28,7 +28,7 @@ def case(chance: random.Random) -> "ShownCase":
 
 
 def with_schema(chance: random.Random, catalog: Catalog, publication: Publication) -> Publication:
-    """A publication that sometimes carries a table by its name and with its schema."""
+    """Sometimes adds the schema of a table to a publication that names the table."""
     if publication.all_tables or not publication.entries or chance.random() < 0.8:
         return publication
     number, _ = chance.choice(publication.entries)
@@ -50,11 +50,11 @@ class ShownCase:
         self.text = self.catalog_text.encode()
 
     def lines(self) -> int:
-        """How many lines are compared."""
+        """Returns how many lines are compared."""
         return self.expected.count("\n")
 
     def check(self, run: Runner) -> Iterator[str]:
-        """Makes the runs, and tells what is wrong."""
+        """Makes the runs, and yields what is wrong."""
         answer = run(self.words, self.text)
         if answer.status != 0:
             yield f"status {answer.status}"
@@ -69,7 +69,7 @@ class ShownCase:
         yield from self.checked(run, answer.output, made.output)
 
     def checked(self, run: Runner, shown: str, certificates: str) -> Iterator[str]:
-        """What `check` says of the catalog and of what is shown of it, with some lines for its certificates."""
+        """Compares what `check` says of the catalog and of its shown text, with some lines as certificates."""
         lines = "".join(line if line[:2] in ("s ", "o ", "e ", "n ") else "o 0\n"
                         for line in certificates.splitlines(keepends=True))
         plain = run(("check",), parts(self.catalog_text, lines))

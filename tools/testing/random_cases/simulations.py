@@ -1,4 +1,4 @@
-"""Cases of `simulate`: scripts by chance over sound shardings."""
+"""Cases of `simulate`: random scripts for sound shardings."""
 
 import random
 from collections import Counter
@@ -19,12 +19,12 @@ from .scripts import ScriptMaker, ScriptText
 
 MOST_PUBLICATIONS = 64
 
-# No step is added to a script whose texts have more: an input has at most 16,777,216 bytes.
+# No step is added to a script whose texts have more characters: an input has at most 16,777,216 bytes.
 MOST_LETTERS = 3_000_000
 
 
 def case(chance: random.Random) -> "Simulation":
-    """A catalog, and a script of up to 300 steps."""
+    """Returns a catalog, and a script of up to 300 steps."""
     subscribers = chance.choices([1, 2, 3, 4, 6, chance.randint(5, 32)], [16, 32, 16, 16, 16, 4])[0]
     most = MOST_PUBLICATIONS // subscribers
     each = min(most, chance.choices([1, 2, 4, most], [32, 32, 32, 4])[0])
@@ -41,7 +41,7 @@ def case(chance: random.Random) -> "Simulation":
 
 
 def refused(chance: random.Random, catalog: Catalog, it: "Simulation") -> "Case | Simulation":
-    """The same script with certificates by chance. If these are refused, no step is made."""
+    """Returns the same script with random certificates. If these are refused, no step is made."""
     certificates = certificates_of(chance, catalog)
     status, line = check_lines(catalog, certificates)
     if status == 0:
@@ -51,7 +51,7 @@ def refused(chance: random.Random, catalog: Catalog, it: "Simulation") -> "Case 
 
 
 class Simulation:
-    """A script, with certificates of the model's own search, or of `make` where that finds none."""
+    """A script, with certificates from the model's own search, or from `make` if that finds none."""
 
     def __init__(self, chance: random.Random, catalog: Catalog, made: ScriptMaker, limit: int | None = None) -> None:
         noise = chance.random() < 0.15
@@ -65,7 +65,7 @@ class Simulation:
         meet_script(self.met, catalog, made)
 
     def own_certificates(self, chance: random.Random, catalog: Catalog) -> str | None:
-        """The certificates that the model finds, if it finds all."""
+        """Returns the model's certificates, if it finds them for all tables."""
         if chance.random() < 0.3:
             return None
         found = []
@@ -81,15 +81,15 @@ class Simulation:
 
     @property
     def text(self) -> bytes:
-        """The input."""
+        """Returns the input."""
         return parts(self.catalog_text, self.certificates or "", self.script_text)
 
     def lines(self) -> int:
-        """How many lines are compared."""
+        """Returns how many lines are compared."""
         return self.output.count("\n")
 
     def check(self, run: Runner) -> Iterator[str]:
-        """Makes the runs, and tells what is wrong."""
+        """Makes the runs, and yields what is wrong."""
         if self.certificates is None:
             made = run(("make",), self.catalog_text.encode())
             if made.status != 0:

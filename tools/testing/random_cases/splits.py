@@ -1,4 +1,4 @@
-"""Conditions that divide all rows of a table: of each row just one is true."""
+"""Conditions that divide all rows of a table: exactly one of them is true for each row."""
 
 import random
 
@@ -21,7 +21,7 @@ class Splitter:
         self.filters = FilterMaker(chance, table, columns)
 
     def conditions(self, fewest: int) -> Conditions:
-        """At least this many conditions, if some column can be split."""
+        """Returns at least this many conditions, if some column can be split."""
         found: Conditions = [("const", True)]
         while self.columns and len(found) < fewest:
             at = self.chance.randrange(len(found))
@@ -34,7 +34,7 @@ class Splitter:
         return found
 
     def split(self) -> Conditions:
-        """Two conditions or more, by one column or by a filter."""
+        """Returns two or more conditions, by one column or by a filter."""
         chance = self.chance
         column = chance.choice(self.columns)
         kind = self.table.columns[column].kind
@@ -44,12 +44,12 @@ class Splitter:
         return chance.choice(ways)(column)
 
     def by_atom(self, column: int) -> Conditions:
-        """An atom of the column, its negation, and a test of NULL where it may be null."""
+        """Returns an atom of the column, its negation, and a test for NULL if the column may be null."""
         filters = FilterMaker(self.chance, self.table, (column,))
         return self.both_sides(filters.atom())
 
     def both_sides(self, atom: Filter) -> Conditions:
-        """An atom, its negation, and where both are null."""
+        """Returns an atom, its negation, and a test for both being null."""
         found = [atom, ("not", atom)]
         if atom[0] in ("null", "distinct") or is_declared(self.table, atom[1]):
             return found
@@ -59,30 +59,30 @@ class Splitter:
         return [*found, unknown]
 
     def by_bound(self, column: int) -> Conditions:
-        """Numbers below one and from it on, each said by a comparison of its own."""
+        """Returns numbers below a bound and the others, expressed by two comparisons."""
         divisor = self.chance.choice(DIVISORS) if self.chance.random() < 0.1 else 0
         bound = self.filters.literal("integer")
         low, high = self.chance.choice([("<", ">="), ("<=", ">")])
         return self.with_null(column, [("cmp", column, divisor, it, bound) for it in (low, high)])
 
     def by_remainder(self, column: int) -> Conditions:
-        """Each remainder by itself."""
+        """Returns a condition for each remainder."""
         divisor = self.chance.choice([2, 3, -2])
         most = abs(divisor) - 1
         return self.with_null(column, [("cmp", column, divisor, "=", it) for it in range(-most, most + 1)])
 
     def by_list(self, column: int) -> Conditions:
-        """What is in a list, and what is not."""
+        """Returns what is in a list, and what is not."""
         kind = self.table.columns[column].kind
         return self.both_sides(("in", column, 0, self.filters.listed(kind)))
 
     def by_filter(self, _: int) -> Conditions:
-        """Whether a filter is true, false or null."""
+        """Returns conditions for a filter that is true, false or null."""
         it = self.filters.filter(1) if self.chance.random() < 0.97 else self.filters.any()
         if self.chance.random() < 0.5:
             return [("is", True, it), ("not", ("is", True, it))]
         return [it, ("not", it), ("is", None, it)]
 
     def with_null(self, column: int, conditions: Conditions) -> Conditions:
-        """The conditions, and NULL where the column may be null."""
+        """Returns the conditions, and a test for NULL if the column may be null."""
         return conditions if is_declared(self.table, column) else [*conditions, ("null", column)]

@@ -1,4 +1,4 @@
-"""Tables by chance."""
+"""Random tables."""
 
 import random
 from collections.abc import Callable
@@ -11,7 +11,7 @@ KINDS = ["smallint", "integer", "bigint", "boolean", "text"]
 
 
 class TableMaker:
-    """Makes tables for one catalog."""
+    """Generates tables for one catalog."""
 
     def __init__(self, chance: random.Random, new_names: Callable[[], Names]) -> None:
         self.chance = chance
@@ -21,13 +21,13 @@ class TableMaker:
         self.names = {"public": new_names()}
 
     def add_schemas(self, most: int) -> list[str]:
-        """Makes some schemas."""
+        """Creates some schemas."""
         found = [self.schemas.name() for _ in range(self.chance.randint(0, most))]
         self.names |= {name: self.new_names() for name in found}
         return found
 
     def table(self, with_nothing: bool = False) -> Table:
-        """A table in one of the schemas. If it may have no identity, it sometimes has none."""
+        """Returns a table in one of the schemas. Its identity may be NOTHING if that is allowed."""
         chance = self.chance
         schema = chance.choice(list(self.names))
         fewest, most = chance.choices([(1, 5), (6, 20), (100, 100)], [960, 35, 5])[0]
@@ -43,14 +43,14 @@ class TableMaker:
         return Table(schema, self.names[schema].name(), columns, key, indexes, chance.choice(identities))
 
     def columns(self, number: int) -> tuple[Column, ...]:
-        """This many columns. Some types come more often than others."""
+        """Returns this many columns. Some types are more frequent than others."""
         names = self.new_names()
         return tuple(
             Column(names.name(), self.chance.choice([*KINDS, "integer", "text"]), self.chance.random() < 0.3)
             for _ in range(number))
 
     def indexes(self, schema: str, columns: tuple[Column, ...]) -> tuple[Index, ...]:
-        """Some unique indexes."""
+        """Returns some unique indexes."""
         found = []
         for _ in range(self.chance.choice([0, 0, 0, 1, 1, 2])):
             of = self.chance.sample(range(len(columns)), self.chance.randint(1, min(2, len(columns))))

@@ -1,19 +1,19 @@
-"""Texts of tokens: with one space between each two, or with white space, comments and cases of letters by chance."""
+"""Joins tokens to texts, either with one space between tokens, or with random white space, comments and letter case."""
 
 import random
 
 SPACES = [
     " ", " ", " ", "  ", "\n", "\t", "\r\n", "\f", " /* a ; comment /* in one */ */ ", " -- ' to the end\n", " --\r"]
-# On one line.
+# White space within one line.
 FLAT_SPACES = [" ", " ", " ", "  ", "\t", "\r", "\f", " /* ( */ "]
 
 
 class Exact(str):
-    """A token whose letters stay as they are: a name or a literal."""
+    """A token whose letter case must not change: a name or a literal."""
 
 
 def joined(tokens: list[str], chance: random.Random, noise: bool, spaces: list[str] = SPACES) -> str:
-    """The text of tokens."""
+    """Returns the text of tokens."""
     if not noise:
         return " ".join(tokens)
     parts = []
@@ -24,12 +24,12 @@ def joined(tokens: list[str], chance: random.Random, noise: bool, spaces: list[s
 
 
 def any_case(word: str, chance: random.Random) -> str:
-    """A keyword in upper or lower case, or in both."""
+    """Returns a keyword in upper, lower or mixed case."""
     return chance.choice([word.upper(), word.lower(), word.capitalize()])
 
 
 def commas(items: list[list[str]]) -> list[str]:
-    """Lists of tokens with commas between them."""
+    """Returns lists of tokens, separated by commas."""
     found: list[str] = []
     for number, item in enumerate(items):
         found += [",", *item] if number else item
