@@ -1,1 +1,1 @@
-"""Which definitions give a theorem its meaning: what tools/reading is made of."""
+"""Finds which definitions give a theorem its meaning: the modules of tools/reading."""

@@ -1,4 +1,4 @@
-"""Files of code (.rt): types, what they are seen as, and contracts of functions."""
+"""Source files (.rt): types, their views, and contracts of functions."""
 
 import re
 from dataclasses import dataclass, field
@@ -26,9 +26,9 @@ COMMENTED = re.compile(r"^ *(?://|#\[).*$", re.M)
 
 @dataclass
 class Item:
-    """A type, a trait or a contract: its lines, the words that may be names of types and of definitions, its parameters
-    of types with the traits that bound each, and its premises: what a contract requires, or what holds of each value of
-    a type by its ghost fields and by the invariant of what it is seen as."""
+    """A type, a trait or a contract: its lines; the words that may be names of types and of definitions; its type
+    parameters with their trait bounds; and its premises, that is, what a contract requires, or what holds of each value
+    of a type because of its ghost fields and the invariant of its view."""
 
     lines: list[str]
     types: list[str]
@@ -39,7 +39,7 @@ class Item:
 
 @dataclass
 class Code:
-    """A file of code."""
+    """A source file."""
 
     lines: list[str]
     imports: list[Import]
@@ -48,7 +48,7 @@ class Code:
 
 @cache
 def read(path: Path) -> Code:
-    """A file of code: its lines, what its clauses import, and from which crate it uses a name."""
+    """Reads a source file: its lines, what its clauses import, and the crate of each name that it uses."""
     text = path.read_text(encoding="utf-8")
     lines = text.splitlines()
     found = [import_of(on_one_line(it)) for it in GHOST_USE.findall(text)]
@@ -61,12 +61,12 @@ def read(path: Path) -> Code:
 
 
 def on_one_line(text: str) -> str:
-    """An import that goes over several lines."""
+    """Joins an import that continues over several lines."""
     return re.sub(r"\s+", " ", text).replace("{ ", "{").replace(", }", "}")
 
 
 def documented(lines: list[str], at: int) -> int:
-    """Where the comments and attributes before a line begin."""
+    """Returns where the comments and attributes before a line begin."""
     begin = at
     while begin > 0 and lines[begin - 1].lstrip().startswith(("///", "#[")):
         begin -= 1
@@ -74,7 +74,7 @@ def documented(lines: list[str], at: int) -> int:
 
 
 def end_of(lines: list[str], at: int) -> int:
-    """Where an item ends that begins at a line: after its closing brace, or at its semicolon."""
+    """Returns where an item ends that begins at a line: after its closing brace, or at its semicolon."""
     depth = 0
     for number in range(at, len(lines)):
         depth += lines[number].count("{") - lines[number].count("}")
@@ -84,7 +84,7 @@ def end_of(lines: list[str], at: int) -> int:
 
 
 def item(path: Path, name: str) -> Item | None:
-    """The type or the trait of this name, with what its values are seen as."""
+    """Returns the type or the trait with this name, together with its view."""
     code = read(path)
     for number, line in enumerate(code.lines):
         match = ITEM.match(line)
@@ -99,8 +99,8 @@ def item(path: Path, name: str) -> Item | None:
 
 
 def typed(code: Code, name: str, kind: str, lines: list[str], text: str) -> Item:
-    """A type with this text: the types of what it shows, and the names of its ghost fields, which hold of each of its
-    values, of what its values are seen as, and of the invariant of that."""
+    """Returns a type with this text: the types of its public fields; and the names in its ghost fields, which hold of
+    each of its values, in its view, and in the invariant of the view."""
     seen, kept = model(code, name), ghosts(text)
     shown = text
     for its in kept:
@@ -116,7 +116,7 @@ def typed(code: Code, name: str, kind: str, lines: list[str], text: str) -> Item
 
 
 def ghosts(text: str) -> list[str]:
-    """The ghost fields of a type, or the ghost members of an impl: each from its first word to its end."""
+    """Returns the ghost fields of a type, or the ghost members of an impl, each from its first word to its end."""
     found = []
     for begin in GHOST.finditer(text):
         depth, end = 0, begin.end() - 1
@@ -128,7 +128,7 @@ def ghosts(text: str) -> list[str]:
 
 
 def generics(head: str) -> dict[str, list[str]]:
-    """The parameters of types of an item, each with the traits that bound it."""
+    """Returns the type parameters of an item, each with the traits that bound it."""
     head = head.replace("pub(crate)", "pub")
     opened = head.find("<")
     if opened < 0 or "(" in head[:opened]:
@@ -140,7 +140,7 @@ def generics(head: str) -> dict[str, list[str]]:
 
 
 def trait(code: Code, own: list[str], number: int) -> Item:
-    """A trait: its ghost members, and what its functions ensure."""
+    """Returns a trait: its ghost members, and what its functions ensure."""
     head = [it for it in code.lines[documented(code.lines, number):number] if "#[" not in it]
     text = "\n".join(it for it in own if not it.strip().startswith("//"))
     members = set(re.findall(r"(?m)^ *ghost (\w+):", text))
@@ -151,7 +151,7 @@ def trait(code: Code, own: list[str], number: int) -> Item:
 
 
 def model(code: Code, name: str) -> list[str]:
-    """The lines that say what a value of a type is seen as."""
+    """Returns the lines that define a type's view."""
     for number, line in enumerate(code.lines):
         match = MODEL.match(line)
         if match is not None and match[1] == name:
@@ -162,8 +162,8 @@ def model(code: Code, name: str) -> list[str]:
 
 
 def contract(path: Path, name: str, clauses: tuple[str, ...]) -> Item | None:
-    """The function of this name: its comment, its first lines with the types of its parameters, all that it requires,
-    and these clauses of what it ensures, or all if none is named."""
+    """Returns the function with this name: its comment, its first lines with the types of its parameters, everything
+    that it requires, and these clauses of what it ensures, or all of them if none is named."""
     code = read(path)
     for number, line in enumerate(code.lines):
         match = CALL.match(line)
@@ -190,18 +190,18 @@ def contract(path: Path, name: str, clauses: tuple[str, ...]) -> Item | None:
 
 
 def impl_head(code: Code, number: int) -> str:
-    """The first line of the impl that a function is in; nothing if it is in none."""
+    """Returns the first line of the impl that contains a function, or nothing."""
     heads = [line for line in code.lines[:number] if line.startswith(("impl", "}"))]
     return heads[-1] if heads and heads[-1].startswith("impl") else ""
 
 
 def premise(text: str) -> str:
-    """What a clause or a ghost member says, on one line."""
+    """Returns what a clause or a ghost member says, on one line."""
     return re.sub(r"\s+", " ", text.split("{", 1)[1].rsplit("}", 1)[0]).strip()
 
 
 def clauses_of(text: str, at: int) -> list[tuple[str, str | None, str]]:
-    """The clauses that follow one another from a place on: the kind, the label and the text of each."""
+    """Returns the consecutive clauses from a place on: the kind, the label and the text of each."""
     found = []
     while (match := CLAUSE.match(text, at)) is not None:
         depth, end = 0, match.end() - 1

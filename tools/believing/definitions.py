@@ -1,4 +1,4 @@
-"""Files of definitions (.antt): what each imports, and its definitions, each with its lines and its names."""
+"""Files of definitions (.antt): the imports of each, and its definitions, each with its lines and its names."""
 
 import re
 from dataclasses import dataclass, field
@@ -17,7 +17,7 @@ FIELD = re.compile(r"^ +(?:pub )?([A-Za-z_]\w*) :", re.M)
 
 @dataclass
 class Import:
-    """A path of a library, and either names from it, each with the name that it has here, or one name for the path."""
+    """A path of a library, and either names from it, each with its local name, or one name for the path."""
 
     path: str
     names: dict[str, str] = field(default_factory=dict)
@@ -33,9 +33,9 @@ class Definition:
     lines: list[str]
     names: list[str] = field(default_factory=list)
     constructors: list[str] = field(default_factory=list)
-    # Words in capitals to the left of `=`, each a constructor if one has its name, and otherwise a variable.
+    # Capitalized words to the left of `=`. Each is a constructor if one has its name, and otherwise a variable.
     patterns: set[str] = field(default_factory=set)
-    # The parameters of the module that it is in.
+    # The parameters of the enclosing module.
     parameters: set[str] = field(default_factory=set)
 
 
@@ -48,7 +48,7 @@ class File:
     definitions: dict[str, Definition]
 
     def defined(self, name: str) -> Definition | None:
-        """The definition of a name or of a constructor of data."""
+        """Returns the definition of a name or of a data constructor."""
         if name in self.definitions:
             return self.definitions[name]
         for definition in self.definitions.values():
@@ -58,12 +58,12 @@ class File:
 
 
 def is_operator(name: str, word: str) -> bool:
-    """Whether a word is the operator that is defined as `◌word◌`."""
+    """Returns whether a word is the operator that is defined as `◌word◌`."""
     return "◌" in name and word in name.split("◌")
 
 
 def import_of(line: str) -> Import | None:
-    """The import of a line, if it is one."""
+    """Returns the import in a line, if it is one."""
     match = USE.match(line.strip().removesuffix(";").removeprefix("ghost "))
     if match is None:
         return None
@@ -81,7 +81,7 @@ def import_of(line: str) -> Import | None:
 
 @cache
 def read(path: Path) -> File:
-    """A file of definitions."""
+    """Reads a file of definitions."""
     lines = path.read_text(encoding="utf-8").splitlines()
     imports = [found for found in map(import_of, lines) if found is not None]
     definitions, comment, current, parameters = {}, [], None, set()
@@ -106,7 +106,7 @@ def read(path: Path) -> File:
 
 
 def beginning(lines: list[str]) -> str:
-    """The comment that a file begins with."""
+    """Returns the comment at the beginning of a file."""
     return " ".join(line.removeprefix("-- ") for line in takewhile(lambda line: line.startswith("-- "), lines))
 
 
@@ -130,7 +130,8 @@ def find_names(definition: Definition) -> None:
 
 
 def parts_of(text: str, depth: int) -> list[str]:
-    """The type and the clauses of a definition: each begins at its depth, and goes on further in."""
+    """Returns the type and the clauses of a definition. Each begins at its own indentation, and continues further to
+    the right."""
     parts = []
     for line in text.split("\n"):
         if line.strip() and len(line) - len(line.lstrip()) <= depth:

@@ -1,4 +1,4 @@
-"""Where a name of a definition, a type or a contract comes from."""
+"""Finds where a name in a definition, a type or a contract comes from."""
 
 from dataclasses import dataclass
 from functools import cache
@@ -10,7 +10,7 @@ from believing.definitions import Import
 ROOT = Path(__file__).resolve().parent.parent.parent
 CRATES = ROOT / "crates"
 
-# What a file of code names without an import.
+# What a source file can name without an import.
 BUILT_IN = {
     "Option", "Some", "None", "Result", "Ok", "Err", "Vec", "Box", "String", "Self", "Drop", "Clone", "Copy", "Fn", "FnMut",
     "FnOnce", "Sync", "Send", "Sized", "AsRef", "Iterator"}
@@ -18,7 +18,7 @@ BUILT_IN = {
 
 @dataclass(frozen=True)
 class Place:
-    """A definition, a type or a contract: its file, its name, and of a contract the clauses."""
+    """A definition, a type or a contract: its file, its name, and the clauses of a contract."""
 
     path: Path
     name: str
@@ -31,13 +31,13 @@ class Place:
 
 
 def spec_file(crate: str, rest: list[str]) -> Path:
-    """The file of definitions of a crate by the parts of its name."""
+    """Returns a crate's file of definitions, given the parts of its name."""
     return CRATES.joinpath(crate, "specs", *rest).with_suffix(".antt")
 
 
 @cache
 def type_file(crate: str, name: str) -> Path | None:
-    """The file of a crate that has the type or the trait of this name."""
+    """Returns the file of a crate that contains the type or the trait of this name."""
     for path in sorted((CRATES / crate / "src").rglob("*.rt")):
         if code.item(path, name) is not None:
             return path
@@ -45,14 +45,14 @@ def type_file(crate: str, name: str) -> Path | None:
 
 
 def declared(crate: str, rest: list[str]) -> Place | None:
-    """The type whose data `declared` has, or whose laws `contracts`."""
+    """Returns the type whose data are in `declared`, or whose laws are in `contracts`."""
     parts = [part for part in rest if part != "TheVariants"]
     path = type_file(crate, parts[-1])
     return None if path is None else Place(path, parts[-1])
 
 
 def in_path(path: str, name: str) -> Place | None:
-    """What a path of a library has under this name; none if it is the standard library's."""
+    """Returns what a library path has under this name, or None for the standard library."""
     crate, specs, *rest = path.split(".")
     if crate == "std" or specs != "specs" or not (CRATES / crate).is_dir():
         return None
@@ -63,7 +63,7 @@ def in_path(path: str, name: str) -> Place | None:
 
 
 def in_file(file: Path, name: str) -> Place | None:
-    """What a file of definitions has under this name: a definition of its own, or one that it hands on."""
+    """Returns what a file of definitions has under this name: its own definition, or one that it re-exports."""
     read = definitions.read(file)
     found = read.defined(name)
     if found is not None:
@@ -72,7 +72,7 @@ def in_file(file: Path, name: str) -> Place | None:
 
 
 def imported(imports: list[Import], word: str) -> Place | None:
-    """What a word means by some imports."""
+    """Returns what a word means given some imports."""
     first, _, rest = word.partition(".")
     for it in imports:
         if it.alias == first and rest:
@@ -86,7 +86,7 @@ def imported(imports: list[Import], word: str) -> Place | None:
 
 
 def handed_on(it: Import, first: str, rest: str) -> Place | None:
-    """What an imported name means. It may be another file's name for a path."""
+    """Returns what an imported name means. It may be another file's name for a path."""
     name = it.names[first]
     found = in_path(it.path, name)
     if found is not None or not rest:
@@ -99,12 +99,12 @@ def handed_on(it: Import, first: str, rest: str) -> Place | None:
 
 
 def lines_of(place: Place) -> list[str]:
-    """The lines that are read of a place, without the empty ones."""
+    """Returns the lines that have to be read of a place, without empty ones."""
     return [line for line in found_at(place).lines if line.strip()]
 
 
 def found_at(place: Place) -> code.Item | definitions.Definition:
-    """The definition, the type or the contract of a place."""
+    """Returns the definition, the type or the contract at a place."""
     if place.path.suffix == ".antt":
         return definitions.read(place.path).definitions[place.name]
     found = code.item(place.path, place.name) if place.clauses is None else (
@@ -115,7 +115,8 @@ def found_at(place: Place) -> code.Item | definitions.Definition:
 
 
 def used_by(place: Place) -> list[Place]:
-    """What a place uses, each once, in the order of its words. A word that is not found is an error."""
+    """Returns what a place uses, without duplicates, in the order of its words. A word that is not found is an
+    error."""
     found = found_at(place)
     if isinstance(found, definitions.Definition):
         places = [used_in_definition(place, word) for word in found.names]
@@ -125,7 +126,7 @@ def used_by(place: Place) -> list[Place]:
 
 
 def used_in_definition(place: Place, word: str) -> Place | None:
-    """What a word of a definition means; none if it is the standard library's."""
+    """Returns what a word in a definition means, or None for the standard library."""
     read = definitions.read(place.path)
     first = word.split(".")[0]
     own = read.defined(first)
@@ -136,7 +137,7 @@ def used_in_definition(place: Place, word: str) -> Place | None:
 
 
 def used_in_code(place: Place, found: code.Item) -> list[Place | None]:
-    """What the types and the words of a type or a contract mean. A parameter's member is that of a trait."""
+    """Returns what the types and the words of a type or a contract mean. A parameter's member belongs to a trait."""
     read, crate = code.read(place.path), place.file.split("/")[0]
     traits = dict.fromkeys(bound for word in found.names for bound in found.generics.get(word.split(".")[0], []))
     places = [named_type(place, crate, read, name) for name in [*found.types, *traits]]
@@ -150,7 +151,7 @@ def used_in_code(place: Place, found: code.Item) -> list[Place | None]:
 
 
 def meant(place: Place, imports: list[Import], word: str) -> Place | None:
-    """What a word means by the imports of its file; none if it is the standard library's or the kit's."""
+    """Returns what a word means given the imports of its file, or None for the standard library or the kit."""
     found = imported(imports, word)
     if found is None and not is_of_kit(imports, word):
         raise LookupError(f"{place.file}: {place.name}: the word {word} is not found")
@@ -158,12 +159,12 @@ def meant(place: Place, imports: list[Import], word: str) -> Place | None:
 
 
 def is_imported(imports: list[Import], first: str) -> bool:
-    """Whether an import has this name."""
+    """Returns whether an import has this name."""
     return any(it.alias == first or first in it.names for it in imports)
 
 
 def is_of_kit(imports: list[Import], word: str) -> bool:
-    """Whether a word is imported from what is no crate of this repository."""
+    """Returns whether a word is imported from outside the crates of this repository."""
     first = word.split(".")[0]
     named = [
         it.path for it in imports
@@ -172,8 +173,8 @@ def is_of_kit(imports: list[Import], word: str) -> bool:
 
 
 def named_type(place: Place, crate: str, read: code.Code, name: str) -> Place | None:
-    """The type or the trait that a word of the code means, which another crate may hand on; none if it is the
-    kit's."""
+    """Returns the type or the trait that a word in a source file means, which another crate may re-export; or None for
+    the kit's."""
     first = read.uses.get(name, "crate")
     owner = crate if first in ("crate", "super", "self") else first
     if name in BUILT_IN or not (CRATES / owner).is_dir():

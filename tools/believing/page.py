@@ -1,4 +1,5 @@
-"""docs/READING.md: what is computed in it, between marks. The rest of it, and each file's sentence, is by hand."""
+"""Computes the parts of docs/READING.md that are between marks. The rest of the page, and each file's sentence, is
+written by hand."""
 
 import re
 
@@ -14,14 +15,15 @@ ROW = re.compile(r"\| `([^`]+)` \| .*? \| (.*) \|")
 
 
 def computed(text: str) -> str:
-    """The page with its parts computed anew."""
+    """Returns the page with its computed parts up to date."""
     sentences = dict(ROW.findall(text))
     parts = parts_of(sentences)
     return PART.sub(lambda match: f"<!-- computed: {match[1]} -->\n{parts[match[1]]}<!-- end -->\n", text)
 
 
 def parts_of(sentences: dict[str, str]) -> dict[str, str]:
-    """The computed part of each theorem. What an earlier theorem has is named, and not told again."""
+    """Returns the computed part of each theorem. What an earlier theorem has already listed is named, but not listed
+    again."""
     parts, before = {}, set()
     for theorem in THEOREMS:
         found = places(theorem)
@@ -31,7 +33,7 @@ def parts_of(sentences: dict[str, str]) -> dict[str, str]:
 
 
 def part(theorem: Theorem, found: list[Place], before: set[Place], sentences: dict[str, str]) -> str:
-    """Where a theorem is said, what is read for it, and which names are not."""
+    """Returns where a theorem is stated, what has to be read for it, and which names need not be read."""
     lines = ["Said by:", ""]
     lines.extend(f"- {said_in(place)}" for place in theorem.said)
     bounded = f", at most {theorem.most:,}" if theorem.most else ""
@@ -53,7 +55,7 @@ def part(theorem: Theorem, found: list[Place], before: set[Place], sentences: di
 
 
 def said_in(place: Place) -> str:
-    """A contract's clauses and its file."""
+    """Returns a contract's clauses and its file."""
     labels = ", ".join(f"`{label}`" for label in place.clauses or ())
     which = f" ({labels})" if labels else ""
     asked = " and ".join(f"`{its}`" for its in premises(place))
@@ -61,18 +63,18 @@ def said_in(place: Place) -> str:
 
 
 def premises(place: Place) -> list[str]:
-    """What a contract requires, or what holds of each value of a type."""
+    """Returns what a contract requires, or what holds of each value of a type."""
     found = found_at(place)
     return found.premises if isinstance(found, Item) else []
 
 
 def names(its: list[Place]) -> str:
-    """The names of some places of a file."""
+    """Returns the names of some places in a file."""
     return ", ".join(place.name for place in its)
 
 
 def sentence(its: list[Place]) -> str:
-    """What a file's first line says, where nobody wrote a sentence yet."""
+    """Returns the first line of a file, for use until a sentence is written."""
     if its[0].path.suffix == ".antt":
         said = definitions.read(its[0].path).first_line
     else:
@@ -81,7 +83,7 @@ def sentence(its: list[Place]) -> str:
 
 
 def reasons(theorem: Theorem) -> dict[str, list[str]]:
-    """The names that are not read, by the reason."""
+    """Returns the names that need not be read, by reason."""
     found: dict[str, list[str]] = {}
     for name, why in theorem.tokens.items():
         found.setdefault(why, []).append(name)

@@ -1,4 +1,4 @@
-"""The main theorems: which clauses of which contracts say each, and which names in them are not read."""
+"""The main theorems: which clauses of which contracts state each, and which names in them need not be read."""
 
 from dataclasses import dataclass, field
 
@@ -7,9 +7,9 @@ from believing.library import CRATES, Place
 
 @dataclass
 class Theorem:
-    """A theorem: its mark on the page, where it is said, at most how many lines it may need if that is bounded,
-    the names that are not read, each with the reason, and the traits whose members its clauses name, with the type
-    that is behind a lock."""
+    """A theorem: its mark on the page; where it is stated; the most lines that it may need, if that is bounded; the
+    names that need not be read, each with the reason; and the traits whose members its clauses name, with the type that
+    is behind a lock."""
 
     key: str
     said: list[Place]
@@ -19,12 +19,12 @@ class Theorem:
 
 
 def clauses(crate: str, file: str, name: str, *labels: str) -> Place:
-    """These clauses of a function, or all."""
+    """Returns these clauses of a function, or all of them."""
     return Place(CRATES / crate / "src" / file, name, labels)
 
 
 def trait(crate: str, file: str, name: str) -> Place:
-    """A trait, or a type."""
+    """Returns a trait, or a type."""
     return Place(CRATES / crate / "src" / file, name)
 
 

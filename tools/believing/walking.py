@@ -1,11 +1,11 @@
-"""What is read for a theorem: the places, and their files in the order in which they are read."""
+"""Finds what has to be read for a theorem: the places, and their files in reading order."""
 
 from believing.library import Place, lines_of, used_by
 from believing.theorems import Theorem
 
 
 def places(theorem: Theorem) -> list[Place]:
-    """All that is read for a theorem, each after what it uses."""
+    """Returns everything that has to be read for a theorem, each place after what it uses."""
     found, seen = [], set()
 
     def visit(place: Place) -> None:
@@ -22,13 +22,13 @@ def places(theorem: Theorem) -> list[Place]:
 
 
 def not_read(theorem: Theorem) -> list[Place]:
-    """The places that are met and not read."""
+    """Returns the places that are reached and need not be read."""
     return list(dict.fromkeys(
         used for place in places(theorem) for used in used_by(place) if used.name in theorem.tokens))
 
 
 def by_files(found: list[Place]) -> dict[str, list[Place]]:
-    """Places by their files, each file after those that it uses, where that can be."""
+    """Groups places by file. Each file comes after those that it uses, if possible."""
     files: dict[str, list[Place]] = {}
     for place in found:
         files.setdefault(place.file, []).append(place)
@@ -50,6 +50,6 @@ def by_files(found: list[Place]) -> dict[str, list[Place]]:
 
 
 def count(found: list[Place]) -> tuple[int, int]:
-    """How many lines are read, without comments and with them."""
+    """Returns how many lines have to be read, without comments and with them."""
     lines = [line.strip() for place in found for line in lines_of(place)]
     return sum(not line.startswith(("--", "//")) for line in lines), len(lines)

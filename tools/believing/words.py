@@ -1,8 +1,8 @@
-"""The words of a definition or a contract that may be names of other definitions."""
+"""Finds the words of a definition or a contract that may be names of other definitions."""
 
 import re
 
-# A name, with the names after its points; or an operator.
+# A name, with further names after its dots; or an operator.
 WORD = re.compile(r"«?[A-Za-z_][\w']*»?(?:\.[\w']+)*|[^\s\w(){}\[\],;.«»]+ℤ?")
 LAMBDA = re.compile(r"λ ([^.]*)\.(?=\s)")
 BOUND = re.compile(r"[({]([A-Za-z_][\w' ]*?) :")
@@ -12,21 +12,21 @@ STEP = re.compile(r"^ +([a-z_][\w']*) ←", re.M)
 LET = re.compile(r"\blet ([a-z_][\w']*) =")
 TYPED = re.compile(r"\(([\w' ]+) : [^)]*\)")
 
-# What is no name of a definition.
+# Words that are not names of definitions.
 LANGUAGE = {
     ":", "=", "→", "←", "×", "⊥", "¬", "∥", "∥₁", "_", '""', "Type", "Unit", "tt", "record", "let", "in", "ghost", "if", "then", "else"}
 
-# The names that begin a clause and are no variables, though they are in small letters.
+# Names that are constructors and not variables, although they are in lower case.
 CONSTRUCTORS = {"true", "false", "zero", "suc", "record"}
 
 
 def without_comments(lines: list[str]) -> str:
-    """The text of some lines, without comments and without what is between quotes."""
+    """Returns the text of some lines, without comments and quoted text."""
     return STRING.sub('""', "\n".join("" if line.lstrip().startswith("--") else line for line in lines))
 
 
 def bound_in(text: str) -> set[str]:
-    """The variables that a lambda, a let, a step of `do` or a type binds."""
+    """Returns the variables that a lambda, a let, a step of `do` or a type binds."""
     found = set(LET.findall(text)) | set(STEP.findall(text))
     for binders in LAMBDA.findall(text):
         names = TYPED.sub(r"\1", binders)
@@ -37,20 +37,20 @@ def bound_in(text: str) -> set[str]:
 
 
 def variables_of(left: str, is_operator: bool = False) -> set[str]:
-    """The variables of the left side of a clause, whose first word is the name that it defines, or is a variable where
-    an operator is defined."""
+    """Returns the variables on the left side of a clause. The first word is the name that is being defined, or, for an
+    operator, a variable."""
     words = WORD.findall(left)[0 if is_operator else 1:]
     return {word for word in words if word[0].islower() and "." not in word} - CONSTRUCTORS
 
 
 def patterns_of(clause: str) -> set[str]:
-    """The words in capitals on the left side of a clause."""
+    """Returns the capitalized words on the left side of a clause."""
     left, *body = EQUALS.split(clause, maxsplit=1)
     return {word for word in WORD.findall(left)[1:] if word[0].isupper()} if body else set()
 
 
 def names_in(text: str, bound: set[str]) -> list[str]:
-    """The words of a text that may be names of definitions, each once, in their order. `do` is another way to write
+    """Returns the words of a text that may be names of definitions, without duplicates, in order. `do` counts as
     `>>=`."""
     found = []
     for match in WORD.finditer(text):
@@ -63,7 +63,7 @@ def names_in(text: str, bound: set[str]) -> list[str]:
 
 
 def names_of_clause(text: str, is_operator: bool = False) -> list[str]:
-    """The names in a clause `name pattern = body`; without a body the whole is looked at."""
+    """Returns the names in a clause `name pattern = body`. Without a body, the whole clause is examined."""
     left, *body = EQUALS.split(text, maxsplit=1)
     bound = bound_in(text) | (variables_of(left, is_operator) if body else set())
     return names_in(left, bound) + names_in("".join(body), bound)

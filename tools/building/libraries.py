@@ -5,7 +5,7 @@ import pathlib
 import shutil
 import subprocess
 
-# What makes the text of a library, beside the line of crates.txt.
+# The text of a library, besides its line of crates.txt.
 SOURCES = ("src", "specs", "proofs")
 
 
@@ -16,7 +16,7 @@ class Repository:
         self.uses = {name: line.partition(":")[2].split() for name, line in self.lines.items()}
 
     def below(self, name):
-        """The repository's own libraries that this crate is built on, each after those that it uses itself."""
+        """Returns the repository's libraries that this crate depends on, each after those that it uses itself."""
         found = []
         for used in self.uses[name]:
             if used in self.uses:
@@ -27,8 +27,8 @@ class Repository:
         return self.root / "crates" / name
 
     def prove(self, name, place, before, jobs):
-        """Proves and builds the library in the folder `place`, by a command with these words before it, and takes what
-        was built. Returns the log if it failed."""
+        """Proves and builds the library in the folder `place`, with a command that begins with these words, and takes
+        over what was built. Returns the log if it failed."""
         copy, kept = pathlib.Path(place), self.folder(name) / "out"
         self.copy_to(copy, name)
         made = copy / "crates" / name / "out"
@@ -41,7 +41,7 @@ class Repository:
                 shutil.move(made, kept)
 
     def copy_to(self, copy, name):
-        """Copies the sources of the library and of those below it, and what was built of these."""
+        """Copies the sources of the library and of those below it, and what was built from these."""
         shutil.copy2(self.root / "HANDLES", copy / "HANDLES")
         here = [*self.below(name), name]
         (copy / "crates.txt").write_text("".join(f"{self.lines[it]}\n" for it in here))
@@ -54,7 +54,7 @@ class Repository:
 
 
 def link(source, target):
-    """The file under a second name, or a copy if the file system has no such names."""
+    """Creates a hard link to the file, or a copy if the file system does not allow that."""
     try:
         os.link(source, target)
     except OSError:
@@ -62,13 +62,13 @@ def link(source, target):
 
 
 def log_of(words, folder):
-    """Runs a command. Returns what it printed if it failed, and otherwise None."""
+    """Runs a command. Returns its output if it failed, and otherwise None."""
     given = {"stdin": subprocess.DEVNULL, "stdout": subprocess.PIPE, "stderr": subprocess.STDOUT}
     ran = subprocess.run(words, cwd=folder, **given)
     return None if ran.returncode == 0 else ran.stdout.decode(errors="replace")
 
 
 def lines_in(text):
-    """By each crate's name its line of crates.txt."""
+    """Returns the line of crates.txt for each crate name."""
     lines = [it for it in text.splitlines() if it and not it.startswith("#")]
     return {it.partition(":")[0].split()[0]: it for it in lines}

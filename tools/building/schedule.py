@@ -1,4 +1,4 @@
-"""Libraries built side by side."""
+"""Builds libraries concurrently."""
 
 import shutil
 import sys
@@ -8,20 +8,22 @@ from concurrent.futures import FIRST_COMPLETED, ThreadPoolExecutor, wait
 
 
 def say(text):
-    # (one write, since threads say something at the same time)
+    # One write, since several threads print at the same time.
     sys.stderr.write(f"pgshard: {text}\n")
     sys.stderr.flush()
 
 
-# What a line of code takes to prove beside a line of a definition or a proof, as whole builds told.
+# How much longer a line of code takes to prove than a line of a definition or a proof, measured on whole builds.
 CODE = 15
 
-# The word that a check is begun with where others wait for another one: it takes what processors that one leaves.
+# Begins the command of a check while others depend on another check. It uses the processors that the other one leaves
+# idle.
 WAITS = ["nice", "-n", "10"]
 
 
 def work_behind(repository, names):
-    """By each name what is to be proved from it on, up to the last library that waits for it, in lines of proofs."""
+    """Returns for each library the work of proving it and all that wait for it, along the longest chain, in lines of
+    proofs."""
     behind = {}
     for name in reversed(names):
         above = [it for it in names if name in repository.uses[it]]
@@ -39,18 +41,18 @@ def lines_of(folder, kind):
 
 
 def how_to_prove(behind, name, beside, lanes):
-    """The words that go before those that prove a library, and how many processes share the work.
+    """Returns the words that begin the command for a library, and how many processes share the work.
 
     The library that the most work waits for has as many processes as there may be checks, and others give way to it.
-    They have more than one too, so that none ends alone on one processor."""
+    These have more than one process too, so that none ends up alone on one processor.
+    """
     if all(behind[name] >= behind[it] for it in beside):
         return [], lanes
     return WAITS, max(1, lanes // 2)
 
 
 def build_all(repository, names, lanes):
-    """Builds each library once those that it uses are built, this many at a time. The status is 1 where one is not
-    proved."""
+    """Builds each library after those that it uses, this many at a time. Returns the status 1 if one is not proved."""
     clear(repository, names)
     behind, built, running = work_behind(repository, names), set(), {}
     left = sorted(names, key=lambda it: -behind[it])
@@ -75,14 +77,15 @@ def build_all(repository, names, lanes):
 
 
 def copies_in(repository):
-    """The folder of the copies, on the file system of what was built, so that files need not be copied."""
+    """Returns the folder of the copies. It is on the file system of the built libraries, so that files need not be
+    copied."""
     folder = repository.folder("publisher_main") / "out"
     folder.mkdir(exist_ok=True)
     return folder
 
 
 def clear(repository, names):
-    """Removes copies that a run left which was killed."""
+    """Removes copies that were left by a run that was killed."""
     for name in names:
         for place in copies_in(repository).glob(f"{name}-*"):
             shutil.rmtree(place)

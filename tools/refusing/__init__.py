@@ -1,2 +1,2 @@
-"""Where the program creates a value that says that memory or a device was refused: what tools/refusals_made is made
-of."""
+"""Finds where the program creates a value that reports that memory or a device was refused: the modules of
+tools/refusals_made."""

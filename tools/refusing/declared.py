@@ -1,4 +1,4 @@
-"""What may hide that a refusal is created: other names for it, constants, defaults, macros, and numbers for
+"""Finds what may hide that a refusal is created: other names for it, constants, defaults, macros, and numeric
 statuses."""
 
 import re
@@ -7,13 +7,13 @@ from collections.abc import Iterator
 from refusing.functions import Function, Source
 from refusing.places import WORDS, Place, digest
 
-# Makes a value of any type out of nothing.
+# Creates a value of any type from nothing.
 UNSAFE = {"transmute", "unsafe", "zeroed", "MaybeUninit", "from_raw", "macro_rules", "assume_init", "uninit"}
 NAMES = {word for word in WORDS if word[0] != '"'}
 
 
 def declared_places(source: Source) -> Iterator[Place]:
-    """What stands outside of functions, or hides a value wherever it is."""
+    """Yields what is outside of functions, or hides a value anywhere."""
     bodies = [range(it.begin, it.end) for it in source.functions]
     for at, token in enumerate(source.tokens):
         text = token.text
@@ -33,14 +33,14 @@ def declared_places(source: Source) -> Iterator[Place]:
 
 
 def other_name(source: Source, at: int) -> str:
-    """An import that gives a refusal another name."""
+    """Returns an import that gives a refusal another name."""
     end = source.after(at, {";"}, len(source.tokens))
     renamed = [it for it in range(at, end) if source.text(it) == "as" and source.text(it - 1) in NAMES]
     return source.written(renamed[0] - 1, renamed[0] + 2) if renamed else ""
 
 
 def named_by(source: Source, at: int) -> str:
-    """A constant or the name of a type that is a refusal, or has one in its value."""
+    """Returns a constant or a type alias that is a refusal, or whose value contains one."""
     end = source.after(at, {";"}, len(source.tokens))
     equal = source.after(at, {"="}, end)
     is_named = any(source.text(it) in NAMES for it in range(at, end))
@@ -48,7 +48,7 @@ def named_by(source: Source, at: int) -> str:
 
 
 def default_of(source: Source, at: int) -> str:
-    """A type of which a refusal is the default."""
+    """Returns a type whose default is a refusal."""
     closed = source.partners[at + 1]
     traits = [source.text(it) for it in range(at + 2, closed)]
     start = closed + 2
@@ -59,7 +59,7 @@ def default_of(source: Source, at: int) -> str:
 
 
 def status_places(source: Source, function: Function) -> Iterator[Place]:
-    """A function that answers a status as a number, of which any body may be a refusal."""
+    """Yields functions that return a numeric status, any of whose bodies may be a refusal."""
     whole = source.written(function.begin, function.end + 1)
     is_number = function.returns in ("u8", "ExitCode") or "ExitCode" in whole
     if is_number and re.search("[Ss]tatus|ExitCode|report", whole):

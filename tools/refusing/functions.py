@@ -1,4 +1,4 @@
-"""The functions of a file of code, and what is said outside of them."""
+"""The functions of a source file, and what is outside of them."""
 
 from dataclasses import dataclass
 from functools import cache
@@ -10,7 +10,7 @@ INTEGERS = {"u8", "u16", "u32", "u64", "u128", "usize", "i8", "i16", "i32", "i64
 
 @dataclass(frozen=True)
 class Function:
-    """A function: its name with that of its type, its parameters in order with their types, what it returns, and where
+    """A function: its name with that of its type, its parameters in order with their types, its return type, and where
     its body begins and ends."""
 
     name: str
@@ -20,16 +20,16 @@ class Function:
     end: int
 
     def is_number(self, name: str) -> bool:
-        """Whether a name is a parameter that is a number."""
+        """Returns whether a name is a parameter that is a number."""
         return any(name == own and kind in INTEGERS for own, kind in self.parameters)
 
     def place_of(self, name: str) -> int:
-        """Which argument a parameter is, without self."""
+        """Returns the position of a parameter among the arguments, without self."""
         return [own for own, _ in self.parameters if own != "self"].index(name)
 
 
 class Source:
-    """A file of code, taken apart."""
+    """A source file, split into functions."""
 
     def __init__(self, text: str) -> None:
         self.tokens = tokens_of(text)
@@ -38,21 +38,21 @@ class Source:
         self.walk(0, len(self.tokens), "")
 
     def text(self, at: int) -> str:
-        """The text of a token, or nothing if there is none."""
+        """Returns the text of a token, or nothing if there is none."""
         return self.tokens[at].text if 0 <= at < len(self.tokens) else ""
 
     def written(self, begin: int, end: int) -> str:
-        """The tokens of a range as one line."""
+        """Returns the tokens of a range as one line."""
         return written(self.tokens[begin:end])
 
     def after(self, at: int, marks: set[str], end: int) -> int:
-        """The next place of one of these marks that is in no bracket."""
+        """Returns the next place of one of these marks outside of brackets."""
         while at < end and self.text(at) not in marks:
             at = self.partners.get(at, at) + 1 if self.text(at) in "([{" else at + 1
         return at
 
     def walk(self, at: int, end: int, owner: str) -> None:
-        """Gathers the functions of a range, whose type is named by what comes before its braces."""
+        """Collects the functions of a range, whose type is named before its braces."""
         while at < end:
             word = self.text(at)
             if word == "fn":
@@ -67,7 +67,7 @@ class Source:
                 at += 1
 
     def function(self, at: int, end: int, owner: str) -> int:
-        """Gathers a function, and gives the place after it."""
+        """Collects a function, and returns the place after it."""
         name = self.text(at + 1)
         opened = self.after(at, {"("}, end) if self.text(at + 2) == "(" else self.parameters_at(at + 2, end)
         closed = self.partners[opened]
@@ -81,7 +81,7 @@ class Source:
         return self.partners[begin] + 1
 
     def parameters_at(self, at: int, end: int) -> int:
-        """Where parameters begin after those of types."""
+        """Returns where parameters begin, after type parameters."""
         depth = 0
         while at < end:
             depth += {"<": 1, ">": -1}.get(self.text(at), 0)
@@ -91,7 +91,7 @@ class Source:
         return at
 
     def parameters(self, at: int, end: int) -> list[tuple[str, str]]:
-        """The names and the types of parameters."""
+        """Returns the names and the types of parameters."""
         found = []
         while at < end:
             comma = self.comma(at, end)
@@ -102,7 +102,7 @@ class Source:
         return found
 
     def comma(self, at: int, end: int) -> int:
-        """The next comma that is in no bracket and between no angle brackets of types."""
+        """Returns the next comma outside of brackets, including the angle brackets of types."""
         angles = 0
         while at < end:
             text = self.text(at)
@@ -114,7 +114,7 @@ class Source:
 
 
 def header(tokens: list[Token]) -> str:
-    """The name of an impl or a trait, without the parameters of types that follow `impl`."""
+    """Returns the name of an impl or a trait, without the type parameters that follow `impl`."""
     text = written(tokens)
     word, rest = text.split(maxsplit=1) if text.startswith("trait") else ("impl", text[4:])
     if rest.startswith("<"):
@@ -129,5 +129,5 @@ def header(tokens: list[Token]) -> str:
 
 @cache
 def source_of(text: str) -> Source:
-    """A file of code, which is taken apart once."""
+    """Returns the functions of a source file, which is parsed only once."""
     return Source(text)

@@ -16,20 +16,20 @@ ROOT = Path(__file__).resolve().parent.parent.parent
 CRATES = ROOT / "crates"
 LIST = ROOT / "tools" / "testing" / "refusals_made.txt"
 
-# The tests, and the program that makes calls without memory, are no part of what is proved.
+# The tests, and the program that makes calls without memory, are not part of what is proved.
 LEFT_OUT = re.compile(r"\w+_tests$|refused_calls$")
 
 HEAD = """\
-# Where the program creates a value that says that memory or a device was refused, by file and function.
-# tools/refusals_made compares the list with the sources, and --write writes it anew; see docs/CONTRIBUTING.md.
+# Places where the program creates a value that reports that memory or a device was refused, by file and function.
+# tools/refusals_made compares the list with the sources, and --write rewrites it; see docs/CONTRIBUTING.md.
 #
-#   passed on [value] text   a refusal becomes another
+#   passed on [value] text   a refusal becomes another one
 #   From text                the conversion of an AllocError
 #   arm, else, if let, is_err, map_err [call] text
-#                            an error of this call
+#                            the error of this call
 #   sized [call] text        a request whose size is chosen
 #   other [functions] digest: reason
-#                            none of these: the body, and those of the functions in brackets, were read by a person
+#                            none of these: a person has reviewed the body, and those of the functions in brackets
 """
 ENTRY = re.compile(r"    (passed on|From|arm|else|if let|is_err|map_err|sized|other)(?: \[(.*?)\])? (.*)$")
 UNREAD = "?"
@@ -39,7 +39,7 @@ Texts = Mapping[str, str]
 
 @dataclass
 class Found:
-    """What the sources have: the places by their file, and the digest of each function's body by its name."""
+    """The places in the sources with their files, and the digest of each function's body by name."""
 
     places: list[tuple[str, Place]] = field(default_factory=list)
     digests: dict[str, str] = field(default_factory=dict)
@@ -57,7 +57,7 @@ class Entry:
 
     @property
     def key(self) -> tuple[str, str, str]:
-        """What is compared: not the file, so that a function may move to another."""
+        """What is compared. The file is left out, so that a function may move to another one."""
         return self.function, self.form, self.text.split(": ")[0] if self.form == "other" else self.text
 
     @property
@@ -67,18 +67,18 @@ class Entry:
 
 
 def sources() -> dict[str, str]:
-    """The text of each file of code of the program."""
+    """Returns the text of each source file of the program."""
     files = (path for path in sorted(CRATES.glob("*/src/**/*.rt")) if not LEFT_OUT.match(crate_of(path)))
     return {str(path.relative_to(CRATES)): path.read_text(encoding="utf-8") for path in files}
 
 
 def crate_of(path: Path) -> str:
-    """The crate of a file."""
+    """Returns the crate of a file."""
     return path.relative_to(CRATES).parts[0]
 
 
 def found_in(texts: Texts) -> Found:
-    """All places of some files."""
+    """Returns all places in some files."""
     found, files = Found(), {name: source_of(text) for name, text in texts.items()}
     parts = [(source, function) for source in files.values() for function in source.functions]
     passing, bodies = passing_in(parts), number_bodies(parts)
@@ -93,7 +93,7 @@ def found_in(texts: Texts) -> Found:
 
 @cache
 def alone_in(source: Source) -> tuple[Place, ...]:
-    """The places of a file that need no other file to be found."""
+    """Returns the places in a file that can be found without other files."""
     own = [*declared_places(source)]
     for function in source.functions:
         own += [*Forms(source, function).places(), *status_places(source, function)]
@@ -102,12 +102,12 @@ def alone_in(source: Source) -> tuple[Place, ...]:
 
 @cache
 def digests_in(source: Source) -> dict[str, str]:
-    """The digest of each function of a file, by its own name."""
+    """Returns the digest of each function of a file, by its own name."""
     return {function.name.rpartition("::")[2]: digest(source, function) for function in source.functions}
 
 
 def read_list(text: str) -> list[Entry]:
-    """The lines of a list."""
+    """Returns the lines of a list."""
     found, file, function = [], "", ""
     for line in text.splitlines():
         if line.startswith("#") or not line.strip():
@@ -123,7 +123,7 @@ def read_list(text: str) -> list[Entry]:
 
 
 def entry_of(file: str, place: Place, entries: list[Entry], digests: dict[str, str]) -> Entry:
-    """The line of a place. One of another form keeps its reason where nothing of it changed."""
+    """Returns the line for a place. A place of another form keeps its reason if nothing about it has changed."""
     if place.form != "other":
         return Entry(file, place.function, place.form, place.call, place.text)
     before = [it for it in entries if it.form == "other" and it.function == place.function]
@@ -134,17 +134,18 @@ def entry_of(file: str, place: Place, entries: list[Entry], digests: dict[str, s
 
 
 def names_of(entry: Entry) -> list[str]:
-    """The functions that an entry of another form names beside its own."""
+    """Returns the functions that an entry of another form names besides its own."""
     return [name.strip() for name in entry.call.split(",") if name.strip()]
 
 
 def pinned(text: str, carriers: str, digests: dict[str, str]) -> str:
-    """The text of a place of another form, with the digests of the functions that carry its refusal."""
+    """Returns the text of a place of another form, with the digests of the functions that pass its refusal on."""
     return " ".join([text, *(digests.get(name.strip(), "gone") for name in carriers.split(",") if name.strip())])
 
 
 def faults(found: Found, entries: list[Entry]) -> list[str]:
-    """What is wrong: a place that is not listed, one of another form that nobody read, and a line that is too much."""
+    """Returns what is wrong: places that are not listed, places of another form that nobody has reviewed, and lines
+    without a place."""
     lines = []
     made = [(place, entry_of(file, place, entries, found.digests)) for file, place in found.places]
     left = Counter(entry.key for entry in entries)
@@ -162,7 +163,7 @@ def faults(found: Found, entries: list[Entry]) -> list[str]:
 
 
 def written_list(found: Found, entries: list[Entry]) -> str:
-    """The list of these places."""
+    """Returns the list of these places."""
     lines, file, function = [HEAD], "", None
     for name, place in sorted(found.places, key=lambda it: (it[0], it[1].line)):
         entry = entry_of(name, place, entries, found.digests)

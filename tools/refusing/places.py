@@ -1,4 +1,4 @@
-"""Places where a value that says "refused" is created, and whether each has the form of a conversion."""
+"""Finds places where a value that means "refused" is created, and whether each has the form of a conversion."""
 
 import hashlib
 import re
@@ -12,19 +12,20 @@ from refusing.positions import Arm, Body
 WORDS = {
     "AllocError", "AllocFailed", "OutOfMemory", "Output", "Unread", "Failed", "WriteFault", "ReadFault", "SourceFailed",
     "Halted", '"out of memory"', '"out of memory\\n"', '"OutOfMemory"'}
-# Makes an error of a device.
+# These create an error of a device.
 MAKERS = {"from", "new", "other"}
-# The types of which a From may make such a value.
+# The types whose From may create such a value.
 SOURCES = re.compile(r"From<(AllocError|AllocFailed<T>)>for ")
 ANY_ERROR = re.compile(r"Err\((_|[a-z]\w*)\)$")
-# A path ends, and its arguments begin.
+# The end of a path, where its arguments begin.
 CALLED = re.compile(r"([A-Za-z_]\w*)(?:::<[^()]*>)?!?$")
 OPERATORS = {"==", "!=", "<=", ">=", "&&", "||", "+", "*", "/", "%", "|", "^", "=", "as", "if", "match", "?", "!"}
 
 
 @dataclass(frozen=True)
 class Place:
-    """A place: its function, its form, the call that is converted, and its text. The form "other" is no conversion."""
+    """A place: its function, its form, the call that is converted, and its text. The form "other" is not a
+    conversion."""
 
     function: str
     form: str
@@ -34,29 +35,29 @@ class Place:
 
     @property
     def key(self) -> tuple[str, str, str]:
-        """What identifies a place, whichever crate and line it is in."""
+        """Identifies a place, whichever crate and line it is in."""
         return self.function, self.form, self.text
 
 
 @cache
 def digest(source: Source, function: Function) -> str:
-    """What identifies a whole body: a digest of its tokens, so that any change of it is seen."""
+    """Returns a digest of the tokens of a whole body, so that any change of it is noticed."""
     whole = source.written(function.begin, function.end + 1)
     return hashlib.sha256(whole.encode()).hexdigest()[:16]
 
 
 class Forms:
-    """The places of one function."""
+    """Finds the places in one function."""
 
     def __init__(self, source: Source, function: Function) -> None:
         self.source, self.function, self.body = source, function, Body(source, function)
 
     def places(self) -> list[Place]:
-        """All places of the function, each text once for each time that it is there."""
+        """Returns all places in the function. A text that occurs several times is returned as often."""
         return [self.place(at) for at in range(self.function.begin, self.function.end) if self.creates(at)]
 
     def creates(self, at: int) -> bool:
-        """Whether the token at a place creates a value."""
+        """Returns whether the token at a place creates a value."""
         text = self.source.text(at)
         if text == "Error" and self.source.text(at + 1) == "::" and self.source.text(at + 2) in MAKERS:
             return True
@@ -67,20 +68,21 @@ class Forms:
         return not (self.body.is_pattern(at) or self.body.is_type(at) or self.body.is_compared(at))
 
     def place(self, at: int) -> Place:
-        """The place at a token, with its form."""
+        """Returns the place at a token, with its form."""
         begin, end = self.expression(self.body.path_begin(at), at + 1)
         form, call, text = self.in_closure(begin, end) or self.in_arm(begin, end) or self.in_block(begin, end) or (
             "other", "", digest(self.source, self.function))
         return Place(self.function.name, form, call, text, self.source.tokens[at].line)
 
     def expression(self, begin: int, end: int) -> tuple[int, int]:
-        """The largest expression that only wraps the value: constructors, tuples, records, functions and `return`."""
+        """Returns the largest expression that only wraps the value: constructors, tuples, records, functions and
+        `return`."""
         while (wider := self.wrapped(begin, end)) is not None:
             begin, end = wider
         return begin, end
 
     def wrapped(self, begin: int, end: int) -> tuple[int, int] | None:
-        """The next wrapper around an expression, if there is one."""
+        """Returns the next wrapper around an expression, if there is one."""
         source = self.source
         if source.text(end) == "(" and source.text(end - 1) in MAKERS | {"Error"} or source.text(end) == "::":
             stop = end + 2 if source.text(end) == "::" else source.partners[end] + 1
@@ -98,7 +100,8 @@ class Forms:
         return self.called(opened)
 
     def called(self, opened: int) -> tuple[int, int] | None:
-        """The call or the tuple whose parentheses open at a place, if it is no call of a method but a writer's."""
+        """Returns the call or the tuple whose parentheses open at a place, unless it is a method call other than a
+        writer's."""
         source, before = self.source, self.source.text(opened - 1)
         stop = source.partners[opened] + 1
         if before == "!" and source.text(opened - 2)[:1].isalpha():
@@ -114,7 +117,7 @@ class Forms:
         return opened, stop
 
     def opened(self, at: int) -> int | None:
-        """The bracket in which a place is, within the function."""
+        """Returns the bracket that encloses a place within the function."""
         at -= 1
         while at >= self.function.begin:
             if self.source.text(at) in "([{":
@@ -123,7 +126,7 @@ class Forms:
         return None
 
     def in_closure(self, begin: int, end: int) -> tuple[str, str, str] | None:
-        """A closure, or the value's own constructor, given to map_err directly on a call."""
+        """A closure, or the value's own constructor, that is passed to map_err directly on a call."""
         source = self.source
         if source.text(end) != ")":
             return None
@@ -137,7 +140,7 @@ class Forms:
         return None if name is None else ("map_err", name, source.written(start, end + 1))
 
     def receiver(self, stop: int) -> int:
-        """Where the expression begins that ends before the dot at a place."""
+        """Returns the beginning of the expression that ends before the dot at a place."""
         source, at = self.source, stop - 1
         while at > self.function.begin:
             if source.text(at) in ")]":
@@ -149,7 +152,7 @@ class Forms:
         return at + 1
 
     def call_in(self, begin: int, end: int) -> str | None:
-        """The name of the call that a range is, if it is one and nothing else."""
+        """Returns the name of the called function, if a range is a call and nothing else."""
         source = self.source
         if source.text(end - 1) not in (")", "]"):
             return None
@@ -172,7 +175,7 @@ class Forms:
         return None
 
     def is_statement(self, begin: int, end: int) -> bool:
-        """Whether an expression is a statement of its own, or what is assigned to a place by one."""
+        """Returns whether an expression is a statement of its own, or the value that a statement assigns."""
         before = self.source.text(begin - 1)
         if before == "=":
             start = begin - 1
@@ -182,7 +185,7 @@ class Forms:
         return before in ("{", ";", "}") and self.source.text(end) in (";", "}")
 
     def arm(self, arm: Arm) -> tuple[str, str, str] | None:
-        """An arm: of refusals alone, or of any error of a call."""
+        """An arm that matches only refusals, or any error of a call."""
         source = self.source
         bare = self.body.without_guard(arm.pattern)
         guard = source.written(bare[1], arm.pattern[1])
@@ -197,7 +200,7 @@ class Forms:
         return "arm", name, text
 
     def alternatives(self, pattern: tuple[int, int]) -> list[tuple[int, int]]:
-        """The parts of a pattern between bars."""
+        """Returns the alternatives of a pattern."""
         found, at = [], pattern[0]
         while at < pattern[1]:
             bar = self.source.after(at, {"|"}, pattern[1])
@@ -206,7 +209,7 @@ class Forms:
         return [part for part in found if part[0] < part[1]]
 
     def names_refusal(self, part: tuple[int, int]) -> bool:
-        """Whether a pattern matches nothing but a refusal."""
+        """Returns whether a pattern matches only refusals."""
         return re.fullmatch(
             r"(?:[\w:]+\()*(?:\w+::)+(?:OutOfMemory|Output|Unread|Failed|SourceFailed|WriteFault|ReadFault)\)*",
             self.source.written(*part)) is not None
@@ -224,7 +227,7 @@ class Forms:
         return self.condition(opened)
 
     def head(self, opened: int, word: str) -> int | None:
-        """Where the statement begins whose block opens at a place, if it begins with this word."""
+        """Returns the beginning of the statement whose block opens at a place, if it begins with this word."""
         at = opened - 1
         while at > self.function.begin and self.source.text(at) not in (";", "{", "}"):
             at = self.source.partners[at] if self.source.text(at) in ")]" else at

@@ -1,4 +1,5 @@
-"""Where in a function's body a word is a pattern, a type or one side of a comparison, and so creates nothing."""
+"""Finds where a word in a function's body is a pattern, a type or one side of a comparison, and thus creates
+nothing."""
 
 from dataclasses import dataclass
 from functools import cached_property
@@ -8,7 +9,7 @@ from refusing.functions import Function, Source
 
 @dataclass(frozen=True)
 class Arm:
-    """An arm of a match: what is matched, the pattern with its guard, and its body, each from and to a place."""
+    """An arm of a match: what is matched, the pattern with its guard, and the body, each with its beginning and end."""
 
     matched: tuple[int, int]
     pattern: tuple[int, int]
@@ -23,12 +24,12 @@ class Body:
         self.begin, self.end = function.begin, function.end + 1
 
     def places_of(self, word: str) -> list[int]:
-        """Where a word is."""
+        """Returns where a word occurs."""
         return [at for at in range(self.begin, self.end) if self.source.text(at) == word]
 
     @cached_property
     def arms(self) -> list[Arm]:
-        """The arms of all matches."""
+        """Returns the arms of all matches."""
         found = []
         for at in self.places_of("match"):
             opened = self.source.after(at + 1, {"{"}, self.end)
@@ -36,7 +37,7 @@ class Body:
         return found
 
     def arms_in(self, matched: tuple[int, int], at: int, end: int) -> list[Arm]:
-        """The arms of one match."""
+        """Returns the arms of one match."""
         found = []
         while at < end:
             arrow = self.source.after(at, {"=>"}, end)
@@ -50,7 +51,7 @@ class Body:
 
     @cached_property
     def patterns(self) -> list[tuple[int, int]]:
-        """The ranges of patterns: of arms, of `let`, and of `matches!`."""
+        """Returns the ranges of patterns: those of arms, of `let`, and of `matches!`."""
         found = [self.without_guard(arm.pattern) for arm in self.arms]
         for at in self.places_of("let"):
             found.append((at + 1, self.source.after(at + 1, {"=", ";"}, self.end)))
@@ -61,20 +62,20 @@ class Body:
         return found
 
     def without_guard(self, pattern: tuple[int, int]) -> tuple[int, int]:
-        """The part of an arm's pattern before `if`."""
+        """Returns the part of an arm's pattern before `if`."""
         return pattern[0], self.source.after(pattern[0], {"if"}, pattern[1])
 
     def is_pattern(self, at: int) -> bool:
-        """Whether a place is in a pattern."""
+        """Returns whether a place is in a pattern."""
         return any(begin <= at < end for begin, end in self.patterns)
 
     def is_type(self, at: int) -> bool:
-        """Whether the word at a place is a type: in angle brackets, or after the colon of a binding."""
+        """Returns whether the word at a place is a type: in angle brackets, or after the colon of a binding."""
         before, after = self.source.text(at - 1), self.source.text(at + 1)
         return after == ">" and before in ("<", ",") or before == "<" or before == ":" and after in ("=", "|")
 
     def path_begin(self, at: int) -> int:
-        """Where the path begins that ends with the word at a place."""
+        """Returns the beginning of the path that ends with the word at a place."""
         while self.source.text(at - 1) == "::" and at > self.begin:
             at -= 2
             if self.source.text(at) == ">":
@@ -83,7 +84,7 @@ class Body:
         return at
 
     def is_compared(self, at: int) -> bool:
-        """Whether the word at a place is one side of == or !=, alone or in a constructor."""
+        """Returns whether the word at a place is one side of == or !=, alone or in a constructor."""
         begin, end = self.path_begin(at), at + 1
         while self.source.text(begin - 1) == "(" and self.source.text(end) == ")" and (
                 self.source.text(begin - 2)[:1].isupper()):

@@ -1,7 +1,7 @@
-"""Requests for memory whose size is chosen: a request of an absurd size is refused while memory is available.
+"""Finds requests for memory whose size is chosen. A request of an absurd size is refused although memory is available.
 
-Calls of the library's functions that take a size are such requests, and calls of the program's own functions that pass
-a number on to one.
+Such requests are calls of library functions that take a size, and calls of the program's own functions that pass a
+number on to one.
 """
 
 import re
@@ -22,22 +22,22 @@ LIBRARY = {
 REQUESTING = LIBRARY | {"vec"}
 WORD = re.compile(r"\w+")
 
-# The names of the program's own functions that pass a number on to a request. A name that several functions have is not
-# followed.
+# The names of the program's own functions that pass a number on to a request. If several functions have a name, it is
+# not followed.
 Passing = frozenset[str]
 Part = tuple[Source, Function]
 
 
 @cache
 def words_of(source: Source) -> dict[Function, frozenset[str]]:
-    """The words of each function of a file."""
+    """Returns the words of each function of a file."""
     return {
         function: frozenset(token.text for token in source.tokens[function.begin:function.end])
         for function in source.functions}
 
 
 def passing_in(parts: list[Part]) -> Passing:
-    """The program's own functions that pass a number on, each found by those that it calls."""
+    """Returns the program's own functions that pass a number on, found through the functions that they call."""
     words = [words_of(source)[function] for source, function in parts]
     names = Counter(called_name(function.name) for _, function in parts)
     found: set[str] = set()
@@ -55,19 +55,19 @@ def passing_in(parts: list[Part]) -> Passing:
 
 
 def passes(source: Source, function: Function, passing: Passing) -> bool:
-    """Whether a function passes a number on."""
+    """Returns whether a function passes a number on."""
     return any(numbers_in(source, function, begin, end) for _, begin, end in requests(source, function, passing))
 
 
 def called_name(name: str) -> str:
-    """How a function is called: by its type where its own name is a common one."""
+    """Returns how a function is called: with its type if its own name is a common one."""
     owner, _, own = name.rpartition("::")
     kind = owner.split("for ")[-1].split("<")[0]
     return f"{kind}::{own}" if own == "new" and kind else own
 
 
 def requests(source: Source, function: Function, passing: Passing) -> Iterator[tuple[int, int, int]]:
-    """The place of each request's name, and from where to where its arguments are."""
+    """Yields the place of each request's name, and the range of its arguments."""
     for at in range(function.begin, function.end):
         text = source.text(at)
         if text == "vec" and source.text(at + 1) == "!":
@@ -84,7 +84,7 @@ def requests(source: Source, function: Function, passing: Passing) -> Iterator[t
 
 
 def numbers_in(source: Source, function: Function, begin: int, end: int) -> set[str]:
-    """The parameters that are numbers and that a range names, or what it names is made of."""
+    """Returns the numeric parameters that a range names, directly or through variables."""
     found, seen, waiting = set(), set(), words_in(source, begin, end)
     while waiting:
         name = waiting.pop()
@@ -99,14 +99,14 @@ def numbers_in(source: Source, function: Function, begin: int, end: int) -> set[
 
 
 def words_in(source: Source, begin: int, end: int) -> set[str]:
-    """The names in a range that are in small letters and no fields."""
+    """Returns the lower-case names in a range that are not fields."""
     return {
         source.text(at) for at in range(begin, end)
         if source.tokens[at].is_word and source.text(at)[0].islower() and source.text(at - 1) != "."}
 
 
 def definitions(source: Source, function: Function, name: str) -> list[tuple[int, int]]:
-    """The statements of a function that bind a name or assign to it."""
+    """Returns the statements of a function that bind a name or assign to it."""
     found = []
     for at in range(function.begin, function.end):
         if source.text(at) != name or source.text(at - 1) == ".":
@@ -120,7 +120,7 @@ def definitions(source: Source, function: Function, name: str) -> list[tuple[int
 
 
 def sized_places(source: Source, function: Function, passing: Passing, bodies: dict[str, str]) -> Iterator[Place]:
-    """The requests of a function. One that names the greatest number of its type has no form that passes."""
+    """Yields the requests of a function. A request that names the greatest number of its type has no permitted form."""
     if not words_of(source)[function] & (REQUESTING | {name.split("::")[-1] for name in passing}):
         return
     body = Body(source, function)
@@ -133,7 +133,7 @@ def sized_places(source: Source, function: Function, passing: Passing, bodies: d
 
 
 def made_of(source: Source, function: Function, begin: int, end: int) -> list[str]:
-    """The statements from which the numbers of a range come."""
+    """Returns the statements from which the numbers of a range come."""
     lines, seen, waiting = [], set(), sorted(words_in(source, begin, end))
     while waiting:
         name = waiting.pop(0)
@@ -145,7 +145,7 @@ def made_of(source: Source, function: Function, begin: int, end: int) -> list[st
 
 
 def number_bodies(parts: list[Part]) -> dict[str, str]:
-    """A digest of each function that answers a number, by its name, where no other has it."""
+    """Returns a digest of each function that returns a number, by its name, if the name is unique."""
     names = Counter(function.name.rpartition("::")[2] for _, function in parts)
     return {
         name: digest(source, function) for source, function in parts

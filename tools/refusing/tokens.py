@@ -1,4 +1,4 @@
-"""The tokens of a file of code, without comments and without what is only proved: contracts and ghost items."""
+"""Splits a source file into tokens, without comments and without what is only for proofs: contracts and ghost items."""
 
 import re
 from dataclasses import dataclass
@@ -19,19 +19,19 @@ PROVED = {"ensures", "requires"}
 
 @dataclass(frozen=True)
 class Token:
-    """A token, and the number of its line."""
+    """A token with its line number."""
 
     text: str
     line: int
 
     @property
     def is_word(self) -> bool:
-        """Whether it is a name or a keyword."""
+        """Returns whether it is a name or a keyword."""
         return self.text[0].isalpha() or self.text[0] == "_"
 
 
 def tokens_of(text: str) -> list[Token]:
-    """The tokens of a file."""
+    """Returns the tokens of a file."""
     found, at, line = [], 0, 1
     while at < len(text):
         match = TOKEN.match(text, at)
@@ -49,7 +49,7 @@ def tokens_of(text: str) -> list[Token]:
 
 
 def end_of_block(text: str, at: int) -> int:
-    """Where the next braces close."""
+    """Returns where the next braces close."""
     depth = 0
     for place in re.finditer(r'"(?:\\.|[^"\\])*"|[{}]', text[at:]):
         depth += {"{": 1, "}": -1}.get(place[0], 0)
@@ -59,7 +59,7 @@ def end_of_block(text: str, at: int) -> int:
 
 
 def end_of_ghost(text: str, at: int) -> int:
-    """Where a ghost item ends: at its semicolon, outside of braces."""
+    """Returns where a ghost item ends: at its semicolon, outside of braces."""
     depth = 0
     for place in re.finditer(r'"(?:\\.|[^"\\])*"|[{};]', text[at:]):
         depth += {"{": 1, "}": -1}.get(place[0], 0)
@@ -69,7 +69,7 @@ def end_of_ghost(text: str, at: int) -> int:
 
 
 def partners_of(tokens: list[Token]) -> dict[int, int]:
-    """For each bracket the place of the one that closes or opens it."""
+    """Returns the matching bracket of each bracket."""
     found, opened = {}, []
     for at, token in enumerate(tokens):
         if token.text in OPEN:
@@ -81,7 +81,7 @@ def partners_of(tokens: list[Token]) -> dict[int, int]:
 
 
 def written(tokens: list[Token]) -> str:
-    """Tokens as one line, with a space only between two words."""
+    """Returns tokens as one line, with a space only between two words."""
     parts: list[str] = []
     for token in tokens:
         if parts and parts[-1][-1].isalnum() and token.text[0].isalnum():

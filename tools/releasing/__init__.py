@@ -1,1 +1,1 @@
-"""The release in the repository: its manifest, and what it is compared with."""
+"""The release in the repository: its manifest, and its comparison with the sources."""

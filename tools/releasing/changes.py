@@ -10,7 +10,7 @@ RELEASE = re.compile(r"## \[(\d+\.\d+\.\d+)\] - (\d{4}-\d{2}-\d{2})")
 
 @dataclass(frozen=True)
 class Release:
-    """A section of the file: what a user notices of a version."""
+    """A section of the file, which tells users what is new in a version."""
 
     version: str
     date: str
@@ -18,12 +18,12 @@ class Release:
 
 
 def version() -> str:
-    """The version of this repository, or of this installed copy."""
+    """Returns the version of this repository, or of this installed copy."""
     return Repository().version
 
 
 def releases(text: str | None = None) -> list[Release]:
-    """The releases, the newest first, from the text of the file."""
+    """Returns the releases, the newest first, from the text of the file."""
     lines = ((ROOT / "CHANGELOG.md").read_text(encoding="utf-8") if text is None else text).splitlines()
     found: list[Release] = []
     changes: list[str] = []

@@ -30,7 +30,7 @@ def run(words: list[str], help: str, repository: Repository = Repository()) -> i
 
 
 def record(repository: Repository, sources: str) -> int:
-    """Notes that the built program has just been proved of these sources."""
+    """Records that the built program has just been proved from these sources."""
     if repository.sources() != sources:
         return differs("the sources were changed while they were proved, so no release can be made of the program")
     program, identity = sum_of(repository.built), kit()
@@ -44,7 +44,7 @@ def record(repository: Repository, sources: str) -> int:
 
 
 def release(repository: Repository) -> int:
-    """Makes a release of what has been proved here."""
+    """Makes a release of the program that has been proved here."""
     proved = manifest_in(repository.record)
     if proved is None or proved.sources != repository.sources():
         return differs(
@@ -76,8 +76,9 @@ def check(repository: Repository) -> int:
 
 
 def compare(repository: Repository) -> int:
-    """Compares the release with the program that the gate has just proved and built. A release of older sources and
-    one of another kit are no fault; a release that claims these sources and this kit has to be the same program."""
+    """Compares the release with the program that the gate has just proved and built. A release of older sources or of
+    another kit is not an error; a release that claims to be of these sources and this kit has to be the same
+    program."""
     said = manifest_in(repository.manifest)
     if said is None:
         print("release: there is none, or its manifest lacks a line, so nothing is compared")
@@ -106,12 +107,12 @@ def named(manifest: Manifest) -> str:
 
 
 def today() -> str:
-    """The date of a release, in UTC."""
+    """Returns the date of a release, in UTC."""
     return datetime.datetime.now(datetime.timezone.utc).strftime("%Y-%m-%d")
 
 
 def put(program: Path, path: Path) -> None:
-    """Copies a program in one step. The gate takes no links."""
+    """Copies a program atomically. A link would not do, since the gate refuses links."""
     new = path.with_name("new")
     shutil.copyfile(program, new)
     new.chmod(0o755)

@@ -1,4 +1,4 @@
-"""The released program and what its manifest says of it, and the same of a program that was proved here."""
+"""The released program with its manifest, and the same for a program that was proved here."""
 
 import hashlib
 import os
@@ -11,7 +11,8 @@ ROOT = Path(__file__).resolve().parent.parent.parent
 
 @dataclass(frozen=True)
 class Manifest:
-    """What is said about a program: SHA-256 of its file and of its sources, and who built it when. A line for each."""
+    """A description of a program, with one line per item: the SHA-256 of its file and of its sources, and who built it
+    and when."""
 
     version: str
     date: str
@@ -24,7 +25,7 @@ class Manifest:
 
 
 def manifest_in(path: Path) -> Manifest | None:
-    """What a file says, or None if there is none or it lacks a line."""
+    """Returns the manifest in a file, or None if there is none or it lacks a line."""
     try:
         lines = path.read_text(encoding="utf-8").splitlines()
     except OSError:
@@ -38,7 +39,7 @@ def manifest_in(path: Path) -> Manifest | None:
 
 @dataclass(frozen=True)
 class Repository:
-    """Where a repository has what belongs to a release."""
+    """The places in a repository that belong to a release."""
 
     root: Path = ROOT
 
@@ -52,32 +53,32 @@ class Repository:
 
     @property
     def built(self) -> Path:
-        """The program that was built here last, by a command of rt that proved it."""
+        """The program that was last built here by a command of rt that proved it."""
         return self.root / "crates" / "publisher_main" / "out" / "publisher_main"
 
     @property
     def record(self) -> Path:
-        """What is known about that program: a manifest that was written when it had been proved."""
+        """The manifest of that program, written when it had been proved."""
         return self.built.parent / "proved"
 
     @property
     def state(self) -> Path:
-        """What the script pgshard found of all this."""
+        """What the script pgshard has found out about all this."""
         return self.built.parent / "state"
 
     @property
     def version(self) -> str:
-        """The version that a release of these sources has."""
+        """Returns the version that a release of these sources has."""
         return (self.root / "VERSION").read_text(encoding="utf-8").strip()
 
     def sources(self) -> str:
-        """The SHA-256 of the sources as they are now."""
+        """Returns the SHA-256 of the present sources."""
         ran = subprocess.run([self.root / "tools" / "sources"], stdout=subprocess.PIPE, encoding="utf-8", check=True)
         return ran.stdout.strip()
 
 
 def sum_of(path: Path) -> str | None:
-    """The SHA-256 of a file, or None if it cannot be read."""
+    """Returns the SHA-256 of a file, or None if it cannot be read."""
     try:
         return hashlib.sha256(path.read_bytes()).hexdigest()
     except OSError:
@@ -85,7 +86,7 @@ def sum_of(path: Path) -> str | None:
 
 
 def kit() -> str | None:
-    """The line by which this machine's kit names itself, or None if there is no kit."""
+    """Returns the line with which this machine's kit identifies itself, or None if there is no kit."""
     try:
         ran = subprocess.run(["rt", "version"], stdout=subprocess.PIPE, encoding="utf-8")
     except OSError:
@@ -94,7 +95,7 @@ def kit() -> str | None:
 
 
 def version_of(program: Path) -> str | None:
-    """What a program says of its version, or None if it cannot be run."""
+    """Returns the version that a program reports, or None if it cannot be run."""
     try:
         ran = subprocess.run([os.path.abspath(program), "--version"], stdout=subprocess.PIPE, encoding="utf-8")
     except OSError:

@@ -1,5 +1,5 @@
-"""The manual pages. Their lists of commands, options and exit statuses are those that the commands print as their
-help; the rest is in packaging/man."""
+"""Writes the manual pages. Their lists of commands, options and exit statuses come from the commands' own help; the
+rest is in packaging/man."""
 
 import gzip
 import os
@@ -10,7 +10,7 @@ from pathlib import Path
 from releasing.changes import releases, version
 from releasing.manifest import ROOT
 
-# By each page the words that print its help.
+# The words that print the help for each page.
 PAGES = {
     "pgshard": ("help",),
     "pgshard-judge": ("judge", "--help"),
@@ -20,12 +20,12 @@ PAGES = {
 }
 
 HEADING = re.compile(r"([A-Za-z][\w ,']*):")
-# An item of a list, whose text may begin in the next line.
+# An item of a list, whose text may begin on the next line.
 ITEM = re.compile(r"( {1,6})(\S+(?: \S+)*)(?: {2,}(\S.*))?")
 
 
 def sections_of(help: str) -> list[tuple[str, list[str]]]:
-    """The indented parts of a help, each with its heading, such as `Options`, or none."""
+    """Returns the indented parts of a help, each with its heading, such as `Options`, or without one."""
     found: list[tuple[str, list[str]]] = [("", [])]
     for line in help.splitlines():
         heading = HEADING.fullmatch(line)
@@ -39,12 +39,12 @@ def sections_of(help: str) -> list[tuple[str, list[str]]]:
 
 
 def section_of(help: str, name: str) -> list[str]:
-    """The lines below a heading."""
+    """Returns the lines below a heading."""
     return next((lines for heading, lines in sections_of(help) if heading.lower() == name), [])
 
 
 def items_of(lines: list[str]) -> list[tuple[str, str]]:
-    """The items of a list, each with its text. All are as far in as the first, or begin with a dash."""
+    """Returns the items of a list, each with its text. Items are indented as the first one is, or begin with a dash."""
     found: list[tuple[str, str]] = []
     first = lines[0][:len(lines[0]) - len(lines[0].lstrip())] if lines else ""
     for line in lines:
@@ -58,14 +58,14 @@ def items_of(lines: list[str]) -> list[tuple[str, str]]:
 
 
 def literal(text: str) -> str:
-    """Text that means itself in a page."""
+    """Returns text in which no character is special in a page."""
     for plain, escaped in ("\\", "\\e"), ("-", "\\-"), ("'", "\\(aq"), ("`", "\\(ga"), ("^", "\\(ha"), ("~", "\\(ti"):
         text = text.replace(plain, escaped)
     return f"\\&{text}" if text.startswith(".") else text
 
 
 def listed(items: list[tuple[str, str]]) -> str:
-    """A list as a page has it."""
+    """Returns a list in the form of a page."""
     lines = []
     for name, text in items:
         lines += [".TP", " ".join(map(word_of, name.split())), literal(text)]
@@ -73,13 +73,13 @@ def listed(items: list[tuple[str, str]]) -> str:
 
 
 def word_of(word: str) -> str:
-    """A word of an item: in italics where something is put in place of it, and otherwise in bold type."""
+    """Returns a word of an item: in italics if it is a placeholder, and in bold otherwise."""
     plain = word.strip("<>")
     return f"\\fI{literal(plain)}\\fR" if plain.isupper() and plain.isalpha() else f"\\fB{literal(word)}\\fR"
 
 
 def options_of(help: str) -> str:
-    """All options; those of a second group have a heading of their own."""
+    """Returns all options; a second group of options has a heading of its own."""
     parts: list[str] = []
     for heading, lines in sections_of(help):
         if lines[0].strip().startswith("-"):
@@ -89,7 +89,7 @@ def options_of(help: str) -> str:
 
 
 def page(source: str, help: str, values: dict[str, str]) -> str:
-    """A page, from its source and the command's help."""
+    """Returns a page, from its source and the command's help."""
     values = values | {
         "OPTIONS": options_of(help),
         "COMMANDS": listed(items_of(section_of(help, "commands"))),
@@ -99,7 +99,7 @@ def page(source: str, help: str, values: dict[str, str]) -> str:
 
 
 def write_pages(script: Path, folder: Path, prefix: str) -> None:
-    """Writes all pages, compressed, of the commands of this script, which is to be installed below a folder."""
+    """Writes all pages, compressed, for the commands of this script, which will be installed below the prefix."""
     values = {"VERSION": version(), "DATE": releases()[0].date, "PREFIX": prefix}
     folder.mkdir(parents=True, exist_ok=True)
     for name, words in PAGES.items():

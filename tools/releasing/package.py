@@ -1,4 +1,4 @@
-"""The Debian package: what make installs, and the files that Debian wants beside it."""
+"""Builds the Debian package: the files that make installs, and the files that Debian requires in addition."""
 
 import argparse
 import calendar
@@ -49,12 +49,12 @@ License: none-named
  The owner of pgshard has not named a licence yet.
 """
 
-# The program is the one that was proved and built, to the last bit, so nothing is stripped or added here.
+# The program is bit for bit the one that was proved and built, so nothing is stripped or added here.
 OVERRIDES = """\
 pgshard: unstripped-binary-or-object [usr/lib/pgshard/release/pgshard]
 """
 
-# The maintainer of a package that nobody is known to make.
+# The maintainer of a package if none is known.
 NOBODY = "nobody <nobody@pgshard.invalid>"
 
 GLIBC = re.compile(rb"GLIBC_2\.(\d+)\0")
@@ -81,7 +81,7 @@ def run(words: list[str], help: str) -> int:
 
 
 def write_package(path: Path, program: Path) -> None:
-    """Writes the package, in which all times are that of the release."""
+    """Writes the package. All times in it are that of the release."""
     seconds = str(seconds_of(releases()[0].date))
     with tempfile.TemporaryDirectory() as folder:
         root = Path(folder) / "root"
@@ -95,7 +95,7 @@ def write_package(path: Path, program: Path) -> None:
 
 
 def add_debian_files(root: Path, program: Path) -> None:
-    """What Debian wants of each package."""
+    """Adds the files that Debian requires of each package."""
     for script in (root / "usr" / "lib" / "pgshard" / "tools").iterdir():
         if script.is_file() and os.access(script, os.X_OK):
             text = script.read_text(encoding="utf-8")
@@ -121,7 +121,8 @@ def write(path: Path, text: str) -> None:
 
 
 def libraries_of(program: Path) -> str:
-    """The packages of the C library that the program needs, by the names of versions and of libraries in its file."""
+    """Returns the packages of the C library that the program needs, according to the version and library names in its
+    file."""
     data = program.read_bytes()
     newest = max((int(it) for it in GLIBC.findall(data)), default=17)
     others = ", libgcc-s1" if b"\0libgcc_s.so.1\0" in data else ""
@@ -129,7 +130,8 @@ def libraries_of(program: Path) -> str:
 
 
 def maintainer() -> str:
-    """Who makes the package: whom Debian's variables name, or else who made the last commit."""
+    """Returns the maintainer of the package: the one that Debian's variables name, or else the author of the last
+    commit."""
     name, address = os.environ.get("DEBFULLNAME"), os.environ.get("DEBEMAIL")
     if name and address:
         return f"{name} <{address}>"
@@ -143,7 +145,7 @@ def maintainer() -> str:
 
 
 def debian_changes() -> str:
-    """CHANGELOG.md in Debian's form."""
+    """Returns CHANGELOG.md in Debian's format."""
     return "\n".join(entry(it) for it in releases())
 
 
@@ -155,5 +157,5 @@ def entry(release: Release) -> str:
 
 
 def seconds_of(date: str) -> int:
-    """The begin of a day, in seconds since 1970."""
+    """Returns the beginning of a day, in seconds since 1970."""
     return calendar.timegm(time.strptime(date, "%Y-%m-%d"))

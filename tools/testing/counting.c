@@ -1,7 +1,7 @@
-/* Counts the memory that a program has: how many blocks it was given and has not freed, and their bytes. A shared
- * library, which LD_PRELOAD loads before the C library. The program's C library is glibc.
+/* Counts the memory that a program uses: the blocks that it has allocated and not freed, and their bytes. This is a
+ * shared library, which LD_PRELOAD loads before the C library. The program's C library is glibc.
  *
- * At each write to standard output a line on standard error has both numbers.
+ * At each write to standard output, both numbers are printed in a line on standard error.
  */
 
 #include <errno.h>

@@ -1,10 +1,10 @@
-/* Has a read of standard input, or a write to standard output, fail: a shared library, which LD_PRELOAD loads before the
- * C library. The program's C library is glibc.
+/* Makes a read of standard input, or a write to standard output, fail. This is a shared library, which LD_PRELOAD loads
+ * before the C library. The program's C library is glibc.
  *
- * The environment says which: FAILED_FILE is 0 for reads and 1 for writes, FAILED_CALL the number of the call, from 1,
- * and FAILED_ERROR the error, as errno has it, or 0 for a call that moves no byte. No other call fails, or with
- * FAILED_AFTER all after it too. MOST_BYTES is how many bytes a call on that file moves at most.
- * When the program ends, a line on standard error says whether the call came.
+ * The call is chosen by environment variables: FAILED_FILE is 0 for reads and 1 for writes, FAILED_CALL is the number of
+ * the call, from 1, and FAILED_ERROR is the value of errno, or 0 for a call that moves no bytes. No other call fails,
+ * unless FAILED_AFTER is set: then all later ones fail too. A call on that file moves at most MOST_BYTES bytes.
+ * When the program ends, a line on standard error says whether the call was made.
  */
 
 #include <errno.h>
@@ -77,7 +77,7 @@ __attribute__((destructor)) static void tell(void)
     dprintf(STDERR_FILENO, calls >= chosen_call ? "failed\n" : "not failed\n");
 }
 
-/* Ends the program without what is done at an end otherwise. pgshard ends by this call. */
+/* Ends the program without the usual cleanup. pgshard ends with this call. */
 void _exit(int status)
 {
     tell();

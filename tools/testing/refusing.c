@@ -1,14 +1,14 @@
-/* Refuses allocations or threads to a program that is tested: a shared library with malloc and the like and
+/* Refuses allocations or threads to a program under test. This is a shared library with malloc and similar functions and
  * pthread_create, which LD_PRELOAD loads before the C library. The program's C library is glibc.
  *
- * The program says itself which allocation is refused: by an allocation of SIGNAL + number bytes, which is granted.
- * Of the allocations after it, the one of that number, from 1, is refused, and no other one. Number 0 takes back a
- * refusal that has not come yet. An allocation of QUESTION bytes asks whether it has come: then it is refused too, which
- * does not count. Where the environment has REFUSED_REQUEST, the program says nothing of it: the allocation of that
- * number, from the start of the program, is refused, and with REFUSED_AFTER all after it too. Where it has
- * REFUSED_THREAD, the same is done with threads that are to be started.
+ * The program itself chooses the allocation that is refused, by an allocation of SIGNAL + number bytes, which succeeds.
+ * Of the later allocations, the one with that number, from 1, is refused, and no other one. Number 0 cancels a refusal
+ * that has not happened yet. With an allocation of QUESTION bytes, the program asks whether it has happened: if so, that
+ * allocation is refused too, without being counted. If the environment has REFUSED_REQUEST, the program does not choose:
+ * the allocation with that number, from the start of the program, is refused, and with REFUSED_AFTER all later ones too.
+ * REFUSED_THREAD does the same for threads that are started.
  * When the program ends, a line on standard error says how many allocations and threads were refused, so that a test
- * sees whether there were any, and whether the program has told of each.
+ * knows whether there were any, and whether the program has reported each.
  */
 
 #define _GNU_SOURCE
@@ -21,7 +21,7 @@
 #include <sys/syscall.h>
 #include <unistd.h>
 
-/* As crates/refused_calls/src/refusals.rt has them, with numbers up to 10,000. */
+/* The values in crates/refused_calls/src/refusals.rt. Numbers are at most 10,000. */
 enum { SIGNAL = 1000003, MOST = 10000, QUESTION = 2000003 };
 
 void *__libc_malloc(size_t size);
@@ -31,8 +31,8 @@ void *__libc_memalign(size_t alignment, size_t size);
 
 typedef int start_thread(pthread_t *, const pthread_attr_t *, void *(*)(void *), void *);
 
-/* Which of some requests is refused: how many there are up to it, which goes on below 0, and whether all after it
- * are. */
+/* Which request is refused: how many requests are left up to it, which continues below 0, and whether all later ones
+ * are refused too. */
 struct choice {
     long left;
     int are_all_after;
@@ -40,17 +40,17 @@ struct choice {
 
 static struct choice allocations, threads;
 
-/* How many were refused, in all and since the program said which is. */
+/* How many were refused, in all and since the program made its choice. */
 static size_t refused;
 static size_t refused_since;
 
-/* Whether the environment says which allocation is refused. */
+/* Whether the environment chooses the allocation. */
 static int is_chosen;
 
-/* The C library's own. */
+/* The C library's own function. */
 static start_thread *start;
 
-/* Whether the environment has a choice. */
+/* Reads a choice from the environment. Returns whether there is one. */
 static int choose_by(const char *name, struct choice *choice)
 {
     const char *number = getenv(name);
@@ -69,7 +69,7 @@ __attribute__((constructor)) static void choose(void)
     is_chosen = choose_by("REFUSED_REQUEST", &allocations);
 }
 
-/* Whether the next request is one that is refused. */
+/* Returns whether the next request is refused. */
 static int is_next_refused(struct choice *choice)
 {
     long number = __atomic_fetch_sub(&choice->left, 1, __ATOMIC_RELAXED);
@@ -136,7 +136,7 @@ __attribute__((destructor)) static void tell(void)
     dprintf(STDERR_FILENO, "%zu refused\n", refused);
 }
 
-/* Ends the program without what is done at an end otherwise. pgshard ends by this call. */
+/* Ends the program without the usual cleanup. pgshard ends with this call. */
 void _exit(int status)
 {
     tell();

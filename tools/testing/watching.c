@@ -1,8 +1,8 @@
-/* Counts what a program was refused: allocations, and reads and writes that failed. A shared library, which LD_PRELOAD
- * loads before the C library. The program's C library is glibc.
+/* Counts what a program was refused: allocations, and reads and writes that failed. This is a shared library, which
+ * LD_PRELOAD loads before the C library. The program's C library is glibc.
  *
- * When the program ends, a line on standard error has both numbers. So a test sees whether an answer that memory ran
- * out, or that the input or the output failed, has a cause.
+ * When the program ends, both numbers are printed in a line on standard error. From these, a test knows whether an
+ * answer that memory ran out, or that the input or the output failed, has a cause.
  */
 
 #include <errno.h>
@@ -77,7 +77,7 @@ __attribute__((destructor)) static void tell(void)
     dprintf(STDERR_FILENO, "%zu refused, %zu failed\n", refused, failed);
 }
 
-/* Ends the program without what is done at an end otherwise. pgshard ends by this call. */
+/* Ends the program without the usual cleanup. pgshard ends with this call. */
 void _exit(int status)
 {
     tell();

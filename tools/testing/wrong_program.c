@@ -1,5 +1,5 @@
-/* Runs the program that REAL names, and answers wrongly as WRONG says. It is linked statically, so that the libraries of
-   LD_PRELOAD are loaded by the real program alone. */
+/* Runs the program that REAL names, and answers wrongly in the way that WRONG says. It is linked statically, so that
+   only the real program loads the libraries of LD_PRELOAD. */
 
 #include <stdio.h>
 #include <stdlib.h>
@@ -13,7 +13,7 @@ static int is_wrong(const char *how)
     return wrong != NULL && strcmp(wrong, how) == 0;
 }
 
-/* As a program that was refused memory would end, though the library that refuses would count none. */
+/* Ends like a program that was refused memory, although the library would have counted no refusal. */
 static int give_up(void)
 {
     fputs("out of memory\n", stdout);
@@ -37,7 +37,7 @@ int main(int count, char **words)
     }
     if (child < 0 || waitpid(child, &status, 0) != child || !WIFEXITED(status))
         return 126;
-    /* A fault of a write has status 4, and one of a read 3. */
+    /* The status is 4 if a write failed, and 3 if a read failed. */
     if (is_wrong("swallows a write fault") && WEXITSTATUS(status) == 4)
         return 0;
     if (is_wrong("swallows a refusal") && WEXITSTATUS(status) == 5)

@@ -1,4 +1,4 @@
-"""Where pgshard is, and which version: in a repository, in an installed copy, or in an environment of Python."""
+"""Finds where pgshard is, and its version: in a repository, in an installed copy, or in a Python environment."""
 
 import os
 import pathlib
@@ -6,12 +6,12 @@ import shutil
 
 ROOT = str(pathlib.Path(__file__).resolve().parents[3])
 
-# The name of the tools as a package of Python (pyproject.toml).
+# The name of the tools as a Python package (pyproject.toml).
 PACKAGE = "pgshard-tools"
 
 
 def version() -> str:
-    """The version, from the file VERSION, or from Python's record of the package."""
+    """Returns the version, from the file VERSION, or from Python's record of the package."""
     try:
         with open(os.path.join(ROOT, "VERSION"), encoding="utf-8") as file:
             return file.read().strip()
@@ -20,7 +20,7 @@ def version() -> str:
 
 
 def version_of_package() -> str:
-    """The version of the installed package, if there is one."""
+    """Returns the version of the installed package, if there is one."""
     from importlib import metadata
     try:
         return metadata.version(PACKAGE)
@@ -29,6 +29,6 @@ def version_of_package() -> str:
 
 
 def script() -> str:
-    """The script pgshard: the one beside the tools, or otherwise the one on the path."""
+    """Returns the script pgshard: the one next to the tools, or otherwise the one on the path."""
     own = os.path.join(ROOT, "pgshard")
     return own if os.path.exists(own) else shutil.which("pgshard") or "pgshard"

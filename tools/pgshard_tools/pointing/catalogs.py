@@ -1,11 +1,11 @@
-"""Where the tables and the publications of a catalog are created."""
+"""Finds where the tables and the publications of a catalog are created."""
 
 from pgshard_tools.judging.catalog_tokens import Table, placed_tokens, stored, table_of
 
 
 def made_in(text: str) -> tuple[list[tuple[int, Table]], dict[str, int], list[str]]:
-    """The tables and the publications of a catalog that pgshard reads, with the places of their names in characters,
-    and the names of its subscriptions."""
+    """Returns the tables and the publications of a catalog that pgshard reads, with the places of their names in
+    characters, and the names of its subscriptions."""
     tables, publications, subscriptions = [], {}, []
     for statement in placed_statements(text):
         words = [token for _, token in statement]
@@ -20,7 +20,7 @@ def made_in(text: str) -> tuple[list[tuple[int, Table]], dict[str, int], list[st
 
 
 def placed_statements(text: str) -> list[list[tuple[int, str]]]:
-    """The statements of a catalog, as lists of tokens with their places."""
+    """Returns the statements of a catalog, as lists of tokens with their places."""
     found: list[list[tuple[int, str]]] = []
     statement: list[tuple[int, str]] = []
     for at, token in placed_tokens(text):

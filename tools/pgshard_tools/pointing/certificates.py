@@ -1,4 +1,4 @@
-"""Places in the text of a certificate."""
+"""Finds places in the text of a certificate."""
 
 import re
 
@@ -6,7 +6,7 @@ NUMBER = re.compile(r"(?:0|[1-9]\d*)\Z")
 
 
 def place_of_fault(line: str) -> int:
-    """Where a line stops being a certificate, in characters from 0."""
+    """Returns where the fault in a certificate is, in characters from 0."""
     at, wanted, is_letter = 0, 1, True
     while wanted > 0 or not is_letter:
         word = line[at:].split(" ", 1)[0]
@@ -24,6 +24,6 @@ def place_of_fault(line: str) -> int:
 
 
 def place_of_node(line: str, node: int) -> int:
-    """Where a node begins, in characters from 0."""
+    """Returns where a node begins, in characters from 0."""
     words = line.split(" ")
     return sum(len(word) + 1 for word in words[:2 * node])

@@ -19,24 +19,24 @@ Runs pgshard, and explains its answer on standard error in sentences, with posit
 
 PIECE = 65_536
 
-# Of an output only so much is looked at.
+# At most this many bytes of an output are examined.
 MOST_LOOKED_AT = 1 << 26
 
 
 class Input:
-    """The input of a run, of which everything that the program reads is kept. A file is passed to the program as it is.
-    A pipe or a terminal is read no earlier than the program could read it."""
+    """The input of a run. Everything that the program reads is kept. A file is passed to the program as it is. A pipe
+    or a terminal is not read earlier than the program could read it."""
 
     def __init__(self) -> None:
         self.is_pipe = not (stat.S_ISREG(os.fstat(0).st_mode) or stat.S_ISDIR(os.fstat(0).st_mode))
         self.pieces: list[bytes] = []
 
     def handle(self) -> int | None:
-        """What the program gets as its standard input: a pipe, or this process's own."""
+        """Returns what the program gets as its standard input: a pipe, or this process's own."""
         return subprocess.PIPE if self.is_pipe else None
 
     def begin(self, running: "subprocess.Popen[bytes]") -> None:
-        """Passes on what arrives, while the program runs."""
+        """Passes on what arrives while the program runs."""
         if self.is_pipe:
             threading.Thread(target=self.hand_on, args=[running.stdin], daemon=True).start()
         elif stat.S_ISREG(os.fstat(0).st_mode):
@@ -54,7 +54,7 @@ class Input:
             pass
 
     def data(self) -> bytes:
-        """What was read so far."""
+        """Returns what has been read so far."""
         return b"".join(self.pieces)
 
 
@@ -83,8 +83,8 @@ def run(program: str, words: list[str]) -> int:
 
 
 def handed_on(program: str, words: list[str], given: Input) -> tuple[int, bytes]:
-    """The status and the output of a run, whose output is written as it comes. If that fails, no more of it is read, so
-    that the program meets the same failure."""
+    """Returns the status and the output of a run, whose output is written as it comes. If writing fails, no more of the
+    output is read, so that the program meets the same failure."""
     kept = bytearray()
     running = subprocess.Popen([program, *words], stdin=given.handle(), stdout=subprocess.PIPE)
     printed = running.stdout

@@ -16,12 +16,12 @@ UNREAD = re.compile(r"unreadable (\d+) (\w+)")
 UNFIT = re.compile(r"invalid (\w+)(?: (\d+))?")
 VALUE = re.compile(r"'(?:[^']|'')*'|[^,()']+")
 
-# Of bad rows this many are told.
+# At most this many bad rows are reported.
 MOST_TOLD = 20
 
 
 def explained(words: list[str], source: Source, status: int, output: str) -> list[str]:
-    """The sentences about a run."""
+    """Returns the sentences about a run."""
     subcommand = next((word for word in words if word in sentences.PARTS), "")
     lines = output.split("\n")[:-1]
     last = lines[-1] if lines else ""
@@ -42,7 +42,7 @@ def explained(words: list[str], source: Source, status: int, output: str) -> lis
 
 
 def of_input(subcommand: str, source: Source, line: str) -> str:
-    """The sentence about an input that cannot be read."""
+    """Returns the sentence about an input that cannot be read."""
     parts = source.parts()
     if (placed := PLACED.fullmatch(line)) is not None:
         part = parts[0 if placed[1] == "catalog" else 2]
@@ -59,14 +59,15 @@ def of_input(subcommand: str, source: Source, line: str) -> str:
 
 
 def line_of(part: Part, number: int) -> tuple[int, str]:
-    """A line of a part, by its number from 0: where it begins in the input, in bytes, and its text."""
+    """Returns a line of a part, by its number from 0: where it begins in the input, in bytes, and its text."""
     lines = part.data.split(b"\n")
     begin = part.begin + sum(len(line) + 1 for line in lines[:number])
     return begin, lines[number].decode("utf-8", "replace") if number < len(lines) else ""
 
 
 def of_rows(source: Source, words: list[str], lines: list[str]) -> list[str]:
-    """Rows that cannot be read or do not fit. If a name has a newline, it is unknown which line is about which row."""
+    """Explains rows that cannot be read or do not fit. If a name contains a newline, it is unknown which line is about
+    which row."""
     catalog, rows = source.parts()[:2]
     texts = rows.data.removesuffix(b"\n").split(b"\n")
     if len(texts) != len(lines):
@@ -89,7 +90,7 @@ def of_rows(source: Source, words: list[str], lines: list[str]) -> list[str]:
 
 
 def of_unfit(source: Source, columns: list[str], begin: int, row: str, fault: str, number: str | None) -> str:
-    """The sentence about a row that does not fit its table, at the value that is wrong."""
+    """Returns the sentence about a row that does not fit its table, at the wrong value."""
     sentence = sentences.ROWS.get(fault, fault)
     if number is None:
         return f"{source.at(begin)}: {sentence}"
@@ -101,14 +102,14 @@ def of_unfit(source: Source, columns: list[str], begin: int, row: str, fault: st
 
 
 def columns_of(catalog: Part, words: list[str]) -> list[str]:
-    """The names of the columns of the table that a word names, with its schema or in public."""
+    """Returns the names of the columns of the table that a word names, with its schema or in public."""
     tables, _, _ = made_in(catalog.text)
     named = {name for word in words for name in (word, f"public.{word}")}
     return next((table.columns for _, table in tables if table.name in named), [])
 
 
 def of_tables(source: Source, output: str) -> list[str]:
-    """The sentences about tables that have no certificate."""
+    """Returns the sentences about tables without a certificate."""
     tables, _, subscriptions = made_in(source.parts()[0].text)
     found: list[str] = []
     at = 0
@@ -123,7 +124,7 @@ def of_tables(source: Source, output: str) -> list[str]:
 
 
 def why_not(made: Made) -> str:
-    """Why a table has no certificate."""
+    """Returns why a table has no certificate."""
     if made.row is None:
         is_large = made.word == "too large"
         reason = "the certificate would exceed its limits" if is_large else "the search ended without one"
@@ -135,12 +136,12 @@ def why_not(made: Made) -> str:
 
 
 def at_character(source: Source, place: int) -> str:
-    """The position of a character of the first part."""
+    """Returns the position of a character of the first part."""
     return source.at(len(source.parts()[0].text[:place].encode("utf-8", "surrogateescape")))
 
 
 def of_refusal(source: Source, line: str) -> list[str]:
-    """The sentence about a sharding that is refused, or a publisher that cannot be closed."""
+    """Returns the sentence about a sharding that is refused, or a publisher that cannot be closed."""
     parts = source.parts()
     tables, publications, _ = made_in(parts[0].text)
     if line.startswith("close "):
@@ -165,7 +166,7 @@ def of_refusal(source: Source, line: str) -> list[str]:
 
 
 def of_table(source: Source, parts: list[Part], tables: list[tuple[int, Table]], line: str) -> list[str]:
-    """The sentence about a sharding that is refused for a table or a node of its certificate."""
+    """Returns the sentence about a sharding that is refused because of a table or a node of its certificate."""
     for number, (place, table) in enumerate(tables):
         if line == f"refused NoIdentity {table.name}":
             return [f"{at_character(source, place)}: the replica identity of {table.name} does not identify its rows"]

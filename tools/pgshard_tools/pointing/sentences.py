@@ -38,12 +38,12 @@ MAX_BYTES = 16_777_216
 
 
 def of_text(kind: str, there: str) -> str:
-    """The sentence for a fault of a catalog, a script or a row, at a token."""
+    """Returns the sentence for a fault of a catalog, a script or a row, at a token."""
     return f"{KINDS.get(kind, kind)}: {there}"
 
 
 def of_input(subcommand: str, data: bytes, parts: int) -> str:
-    """Why an input cannot be read, as far as the input shows it."""
+    """Returns why an input cannot be read, as far as the input shows it."""
     if len(data) > MAX_BYTES:
         return "the input is longer than 16,777,216 bytes"
     try:

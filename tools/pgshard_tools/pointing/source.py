@@ -36,7 +36,8 @@ class Source:
         return [*found, Part(self.data[begin:], begin)]
 
     def at(self, place: int) -> str:
-        """The file, the line and the column of a position in bytes. Columns are counted in characters, from 1."""
+        """Returns the file, the line and the column of a position in bytes. Columns are counted in characters, from
+        1."""
         name, begin = self.file_at(place)
         before = self.data[begin:place]
         begin = before.rfind(b"\n") + 1
@@ -44,15 +45,15 @@ class Source:
         return f"{name}:{before.count(10) + 1}:{column}"
 
     def file_at(self, place: int) -> tuple[str, int]:
-        """The name of the file that has a place, and where it begins. If there are more parts than files, it is not
-        known which file has which parts."""
+        """Returns the name of the file that contains a place, and where the file begins. If there are more parts than
+        files, it is not known which file has which parts."""
         parts = self.parts()
         if len(self.files) != len(parts):
             return self.name, 0
         return next((name, part.begin) for name, part in reversed([*zip(self.files, parts)]) if part.begin <= place)
 
     def there(self, place: int) -> str:
-        """The token at a place, for a sentence."""
+        """Returns the token at a place, for a sentence."""
         rest = self.data[place:place + 4096].decode("utf-8", "replace")
         token = TOKEN.match(rest)
         if token is None or not token[0].strip():
@@ -62,7 +63,7 @@ class Source:
 
 
 def name_of_input() -> str:
-    """The name of the file that standard input is, or `input`."""
+    """Returns the name of the file that is the standard input, or `input`."""
     try:
         path = os.readlink("/proc/self/fd/0")
     except OSError:
@@ -74,6 +75,6 @@ def name_of_input() -> str:
 
 
 def files_of_input() -> tuple[str, ...]:
-    """The files that the script pgshard joined to the standard input."""
+    """Returns the files that the script pgshard has joined as the standard input."""
     named = os.environ.get("PGSHARD_PARTS")
     return tuple("input" if name == "-" else name for name in named.split("\n")) if named else ()
