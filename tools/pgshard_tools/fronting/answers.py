@@ -1,4 +1,4 @@
-"""What clients ask before they start a stream, and the answers."""
+"""The queries that clients send before they start a stream, and their answers."""
 
 from collections.abc import Callable, Sequence
 from dataclasses import dataclass
@@ -20,14 +20,14 @@ COMMIT = Form("COMMIT")
 CREATE_SLOT = [Form(f"CREATE_REPLICATION_SLOT $name {kind} LOGICAL pgoutput $rest") for kind in ("", "TEMPORARY")]
 CREATE_QUOTED = [Form(f'CREATE_REPLICATION_SLOT $name {kind} LOGICAL "pgoutput" $rest') for kind in ("", "TEMPORARY")]
 DROP_SLOT, DROP_FREE_SLOT = Form("DROP_REPLICATION_SLOT $name"), Form("DROP_REPLICATION_SLOT $name WAIT")
-# What a subscriber asks when it is created, and when its publications are refreshed.
+# What a subscriber asks when a subscription is created, and when its publications are refreshed.
 PUBLICATIONS = Form("SELECT t.pubname FROM pg_catalog.pg_publication t WHERE t.pubname IN ($names)")
 TABLES, TABLES_WITH_COLUMNS = [Form(f"""
     SELECT DISTINCT t.schemaname, t.tablename {columns} FROM pg_catalog.pg_publication_tables t
     WHERE t.pubname IN ($names)
 """) for columns in ("", ", t.attnames")]
 
-# A longer name is nobody's, and is not repeated in full.
+# Longer names do not exist, and are not repeated in full.
 LONGEST_NAME = 63
 
 NO_COPY = frames.error(
@@ -70,7 +70,7 @@ class Answers:
             "integer_datetimes": "on",
             "standard_conforming_strings": "on",
         }
-        # What pg_recvlogical asks beside these.
+        # Further settings that pg_recvlogical asks for.
         self.shown = {name.lower(): value for name, value in self.settings.items()} | {
             "data_directory_mode": "0700", "wal_segment_size": "16MB"}
         self.forms: list[tuple[Form, Callable[[Found, Asker], bytes]]] = [
@@ -116,7 +116,7 @@ class Answers:
 
     @staticmethod
     def identity(found: Found, asker: Asker) -> bytes:
-        """Where the log begins, and which database it is."""
+        """Answers IDENTIFY_SYSTEM: where the log begins, and which database it is."""
         columns = [("systemid", TEXT), ("timeline", INTEGER), ("xlogpos", TEXT), ("dbname", TEXT)]
         return frames.rows(columns, [("0", "1", "0/0", asker.database)], "IDENTIFY_SYSTEM")
 

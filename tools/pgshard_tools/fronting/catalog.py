@@ -67,11 +67,11 @@ class Catalog:
             self.put(table, with_identity(table, tokens))
 
     def put(self, before: Table, after: Table) -> None:
-        """Replaces a table by another."""
+        """Replaces a table in the catalog."""
         self.tables[self.tables.index(before)] = after
 
     def table(self, schema: str, name: str) -> Table:
-        """The table of a name."""
+        """Returns the table with a name."""
         for table in self.tables:
             if (table.schema, table.name) == (schema, name):
                 return table

@@ -42,7 +42,7 @@ class Copying:
         return frames.selected([("oid", OID), ("relreplident", CHARACTER), ("relkind", CHARACTER)], listed)
 
     def column_lists(self, found: Found) -> bytes:
-        """No publication has a column list."""
+        """Answers that no publication has a column list."""
         return frames.selected([("attrs", VECTOR)], [(None,)])
 
     def columns(self, found: Found) -> bytes:
@@ -52,7 +52,7 @@ class Copying:
         return frames.selected(described, listed)
 
     def row_filters(self, found: Found) -> bytes:
-        """Reports no filter, since there are no rows."""
+        """Answers that there is no filter, since there are no rows."""
         return frames.selected([("pg_get_expr", TEXT)], [(None,)])
 
     def copy(self, found: Found) -> bytes | None:

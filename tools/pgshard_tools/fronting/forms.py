@@ -1,12 +1,12 @@
-"""Forms of queries, with which a client's query is compared token by token."""
+"""Forms of queries. A client's query is compared with them token by token."""
 
 from collections.abc import Callable, Sequence
 
 from pgshard_tools.fronting.tokens import Kind, Token, tokens_of
 
-# What a query has at the places of a form, by their names.
+# The tokens of a query at the placeholders of a form, by name.
 Found = dict[str, list[str]]
-# How many tokens of a place there are at the front of some tokens, and what they say; None if there are none.
+# How many of the next tokens fill a placeholder, and what they contain; None if they do not fit.
 Reading = tuple[int, list[str]] | None
 
 
@@ -21,7 +21,7 @@ def one_string(tokens: Sequence[Token]) -> Reading:
 
 
 def strings(tokens: Sequence[Token]) -> Reading:
-    """Strings with commas between them."""
+    """Strings separated by commas."""
     found = []
     for at in range(0, len(tokens), 2):
         if tokens[at].kind is not Kind.STRING:
@@ -33,7 +33,7 @@ def strings(tokens: Sequence[Token]) -> Reading:
 
 
 def number(tokens: Sequence[Token]) -> Reading:
-    """A number that an OID may have."""
+    """A number in the range of OIDs."""
     if tokens and tokens[0].kind is Kind.WORD and tokens[0].text.isdecimal() and len(tokens[0].text) <= 10:
         return 1, [tokens[0].text]
     return None
@@ -50,13 +50,13 @@ PLACES: dict[str, Callable[[Sequence[Token]], Reading]] = {
 
 
 class Form:
-    """The words of a query, with `$` before the parts that differ from query to query."""
+    """The words of a query, with `$` before the parts that vary."""
 
     def __init__(self, words: str) -> None:
         self.tokens = tokens_of(words)
 
     def match(self, tokens: Sequence[Token]) -> Found | None:
-        """The parts of a query of this form, or None if it has another form."""
+        """Returns the variable parts of a query of this form, or None if it has another form."""
         found: Found = {}
         at = 0
         for wanted in self.tokens:
@@ -74,5 +74,5 @@ class Form:
 
 
 def is_same(token: Token, wanted: Token) -> bool:
-    """Whether a token is that of the form; a keyword may not be quoted."""
+    """Returns whether a token matches that of the form. A keyword must not be quoted."""
     return token.kind is wanted.kind and token.text == wanted.text

@@ -14,7 +14,7 @@ EXTENDED = (b"P", b"B", b"D", b"E", b"C", b"H", b"F")
 
 XLOG_DATA, KEEPALIVE, STATUS = b"w", b"k", b"r"
 
-# The seconds from 1970 to 2000, from where clocks count.
+# The seconds from 1970 to 2000, when clocks start.
 EPOCH = 946_684_800
 
 Frame = tuple[bytes, bytes]
@@ -26,7 +26,8 @@ def frame(kind: bytes, body: bytes = b"") -> bytes:
 
 
 def text(word: str) -> bytes:
-    """A string with its zero byte. Zero bytes and what is not UTF-8 are replaced by question marks."""
+    """Returns a string with its zero byte. Zero bytes in it, and bytes that are not UTF-8, are replaced by question
+    marks."""
     return word.encode(errors="replace").replace(b"\0", b"?") + b"\0"
 
 
@@ -94,20 +95,20 @@ def clock() -> int:
 
 
 def xlog_data(position: int, message: bytes) -> bytes:
-    """A message that is sent with a position."""
+    """Returns the frame of a message with a position."""
     return frame(COPY_DATA, XLOG_DATA + struct.pack("!QQQ", position, position, clock()) + message)
 
 
 def keepalive(position: int, wants_reply: bool = False) -> bytes:
-    """A keepalive, which tells a client the position up to which it was sent the log."""
+    """Returns a keepalive, which gives the log position up to which the client has been sent changes."""
     return frame(COPY_DATA, KEEPALIVE + struct.pack("!QQB", position, clock(), wants_reply))
 
 
 def status(position: int, wants_reply: bool) -> bytes:
-    """A standby status update, as clients send it, that confirms up to a position."""
+    """Returns a standby status update, as clients send it, that confirms a position."""
     return frame(COPY_DATA, STATUS + struct.pack("!QQQQB", position, position, position, clock(), wants_reply))
 
 
 def position_text(position: int) -> str:
-    """A position, written as a pg_lsn."""
+    """Returns a position in the text form of pg_lsn."""
     return f"{position >> 32:X}/{position & 0xFFFFFFFF:X}"

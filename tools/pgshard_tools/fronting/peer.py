@@ -8,17 +8,17 @@ from collections.abc import Callable
 from pgshard_tools.fronting import frames
 from pgshard_tools.fronting.frames import Frame
 
-# No client has more to say at once: a start with the names of 64 publications is shorter.
+# No client sends longer frames: even a start with the names of 64 publications is shorter.
 LONGEST_FROM_CLIENT = 1 << 15
-# That of PostgreSQL for a startup packet.
+# The limit that PostgreSQL has for a startup packet.
 LONGEST_STARTUP = 10_000
 # No frame of pgshard serve is longer.
 LONGEST_FROM_PUBLISHER = 1 << 24
 
-# How many bytes may wait to be taken before no more are read, unless somebody waits for them.
+# How many unread bytes may be buffered before reading pauses, unless somebody waits for them.
 MOST_WAITING = 1 << 17
 
-# After how many seconds of silence, and then how often, the system asks whether the other end is still there.
+# After how many seconds of silence, and then how often, the system checks whether the other end still exists.
 PROBES = {"TCP_KEEPIDLE": 60, "TCP_KEEPINTVL": 10, "TCP_KEEPCNT": 3}
 
 
@@ -41,12 +41,12 @@ class Peer(asyncio.Protocol):
     ) -> None:
         self.name = name
         self.longest = longest
-        # How many seconds it may take no bytes.
+        # How many seconds the other end may accept no bytes.
         self.patience = patience
         self.on_made = on_made
         self.waiting = bytearray()
         self.ended = asyncio.Event()
-        # Set when something has come, and while bytes may be sent.
+        # Set when bytes have arrived, and while bytes may be sent.
         self.news = asyncio.Event()
         self.room = asyncio.Event()
         self.room.set()
@@ -63,7 +63,7 @@ class Peer(asyncio.Protocol):
         self.on_made(self)
 
     def data_received(self, data: bytes) -> None:
-        """Keeps the bytes that have arrived."""
+        """Stores the bytes that have arrived."""
         self.waiting += data
         if len(self.waiting) >= MOST_WAITING:
             self.transport.pause_reading()
@@ -78,26 +78,26 @@ class Peer(asyncio.Protocol):
         self.end()
 
     def end(self) -> None:
-        """Wakes whoever waits."""
+        """Wakes all that wait."""
         self.ended.set()
         self.news.set()
         self.room.set()
 
     def pause_writing(self) -> None:
-        """Too many bytes wait to be sent."""
+        """Too many bytes are waiting to be sent."""
         self.room.clear()
 
     def resume_writing(self) -> None:
-        """The bytes that waited were sent."""
+        """The waiting bytes have been sent."""
         self.room.set()
 
     def write(self, sent: bytes) -> None:
-        """Sends some bytes, as soon as they can be sent."""
+        """Sends bytes as soon as possible."""
         if not self.ended.is_set():
             self.transport.write(sent)
 
     async def send(self, sent: bytes) -> None:
-        """Sends some bytes, and waits while too many are on their way."""
+        """Sends bytes, and waits while too many are on their way."""
         self.write(sent)
         try:
             async with asyncio.timeout(None if self.room.is_set() else self.patience):
@@ -118,7 +118,7 @@ class Peer(asyncio.Protocol):
         await self.news.wait()
 
     async def take(self, count: int) -> bytes:
-        """The next bytes, exactly this many."""
+        """Returns exactly this many of the next bytes."""
         while len(self.waiting) < count:
             await self.fill()
         taken = bytes(self.waiting[:count])
@@ -126,7 +126,7 @@ class Peer(asyncio.Protocol):
         return taken
 
     async def startup_body(self) -> bytes:
-        """The body of a first packet, which has no kind."""
+        """Returns the body of a first packet, which has no type byte."""
         return await self.take(self.length_of(await self.take(4), LONGEST_STARTUP))
 
     async def frame(self) -> Frame:
@@ -140,8 +140,8 @@ class Peer(asyncio.Protocol):
         return found
 
     def whole_frames(self, most: int | None) -> list[Frame]:
-        """The complete frames among the bytes that have arrived. A frame of invalid length is answered once it is the
-        first."""
+        """Returns the complete frames among the bytes that have arrived. A frame with an invalid length is reported
+        when it is the first."""
         found: list[Frame] = []
         at = 0
         while len(self.waiting) >= at + 5 and len(found) != most:
@@ -168,8 +168,8 @@ class Peer(asyncio.Protocol):
         return int.from_bytes(number, "big") - 4
 
     async def secure(self, context: ssl.SSLContext, seconds: float) -> None:
-        """Continues with TLS, which the client has requested. Bytes that came with the request would be taken for
-        encrypted ones, so they end the connection."""
+        """Continues with TLS, which the client has requested. Bytes that arrived together with the request would be
+        mistaken for encrypted ones, so they end the connection."""
         if self.waiting:
             raise Lost(self, "sent bytes before the TLS handshake")
         self.transport.pause_reading()
@@ -184,7 +184,7 @@ class Peer(asyncio.Protocol):
         self.transport = secured
 
     def close(self) -> None:
-        """Ends the connection when everything was sent, or after some time."""
+        """Ends the connection when everything has been sent, or after some time."""
         if hasattr(self, "transport") and not self.transport.is_closing():
             self.transport.close()
             asyncio.get_running_loop().call_later(min(self.patience, 5), self.transport.abort)

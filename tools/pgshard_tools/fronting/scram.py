@@ -10,7 +10,8 @@ import secrets
 MECHANISM = "SCRAM-SHA-256"
 ITERATIONS = 4096
 
-# What a client may say of channel binding: that it cannot, or that it could if the server did.
+# The client's channel binding flag: it does not support channel binding, or it does but believes that the server does
+# not.
 HEADERS = ("n", "y")
 
 
@@ -72,7 +73,7 @@ def signed(key: bytes, message: bytes) -> bytes:
 
 
 def text_of(message: bytes) -> str:
-    """The text of a message. A user's name may have any bytes, and is ignored."""
+    """Returns the text of a message. A user name may contain any bytes, and is ignored."""
     return message.decode("latin-1")
 
 

@@ -13,8 +13,8 @@ from pgshard_tools.fronting.greeting import Denied, Terms
 from pgshard_tools.fronting.peer import LONGEST_FROM_CLIENT, Peer
 from pgshard_tools.fronting.session import Backend, Session
 
-# How many clients there may be at a time, and how many files are open beside their connections. A client in a stream
-# has a connection to the publisher, too.
+# The most clients at a time, and how many files are open besides their connections. A client in a stream also has a
+# connection to the publisher.
 MOST_CLIENTS = 500
 OTHER_FILES = 16
 FILES = 2
@@ -39,7 +39,7 @@ class Front:
     numbers: "count[int]" = field(default_factory=lambda: count(1))
 
     async def listen(self, address: str, port: int, on_listening: Callable[[int], None]) -> None:
-        """Serves clients until it is cancelled."""
+        """Serves clients until cancelled."""
         loop = asyncio.get_running_loop()
         loop.set_exception_handler(tell_fault)
         make = partial(Peer, "the client", LONGEST_FROM_CLIENT, self.backend.patience or 60, self.begin)
@@ -68,7 +68,7 @@ class Front:
         task.add_done_callback(partial(self.ended, session, address))
 
     def make_room(self) -> bool:
-        """Ends the oldest connection that is not in a stream, so that idle clients keep no subscriber out."""
+        """Ends the oldest connection that is not in a stream, so that idle clients cannot keep subscribers out."""
         for session in self.sessions:
             if not session.is_streaming:
                 self.end(session, TOO_MANY)
@@ -100,7 +100,7 @@ def name_of(client: Peer) -> str:
 
 
 def most_clients() -> int:
-    """How many clients the number of files that the process may open allows."""
+    """Returns how many clients are possible with the number of files that the process may open."""
     most, _ = resource.getrlimit(resource.RLIMIT_NOFILE)
     if most == resource.RLIM_INFINITY:
         return MOST_CLIENTS

@@ -36,8 +36,8 @@ TOO_LATE = frames.error("57014", "canceling authentication due to timeout", seve
 
 @dataclass(frozen=True)
 class Backend:
-    """The port of pgshard serve, how many seconds it has for an answer, and how many a client in a stream may be
-    silent."""
+    """The port of pgshard serve, how many seconds it has for an answer, and how many seconds a client in a stream may
+    be silent."""
 
     port: int
     seconds: float
@@ -45,7 +45,7 @@ class Backend:
 
 
 class Session:
-    """A client, which is answered until it starts a stream, and between streams."""
+    """A client, whose queries are answered until it starts a stream, and between streams."""
 
     def __init__(self, client: Peer, answers: Answers, backend: Backend, terms: Terms, number: int) -> None:
         self.client = client
@@ -55,7 +55,7 @@ class Session:
         self.terms = terms
         self.number = number
         self.asker = Asker("")
-        # What the log says that it did, and whether it is a stream now.
+        # What the log will report that the client did, and whether it is in a stream now.
         self.story = "no startup"
         self.is_streaming = False
 
@@ -88,7 +88,7 @@ class Session:
         return "the client ended the connection"
 
     async def answer_queries(self) -> None:
-        """Answers queries until the client ends. After each, the other clients get their turn."""
+        """Answers queries until the client ends. After each query, other clients get their turn."""
         while True:
             await asyncio.sleep(0)
             kind, body = await self.client.frame()
@@ -134,7 +134,7 @@ class Session:
             self.is_streaming = False
 
     async def wait_for_slot(self, tokens: Sequence[Token]) -> None:
-        """Waits a while for a slot that is to be dropped to become free."""
+        """Waits a while for a slot that should be dropped to become free."""
         found = DROP_FREE_SLOT.match(tokens)
         slot = self.slots.known.get(found["$name"][0]) if found is not None else None
         if slot is not None:
@@ -191,7 +191,8 @@ class Session:
             slot.publications = start.publications
             self.slots.keep(slot)
             self.story = f"{slot.name} from {position_text(begin)}"
-            # One that does not know what is confirmed has to hear it first: it may have tables that catch up to there.
+            # A client that does not know the confirmed position has to be told first: it may have tables that catch up
+            # to that position.
             stream.position = begin if begin > start.position else 0
             first = frames.keepalive(begin) if stream.position else b""
             await self.client.send(frames.frame(kind, body) + first)
@@ -239,7 +240,7 @@ class Session:
             raise Refused("08001", f"no pgshard serve is at port {self.backend.port}: {why}") from fault
 
     async def answer_of(self, publisher: Peer, query: bytes) -> Frame:
-        """The publisher's answer, unless it takes too long, or the client leaves first."""
+        """Returns the publisher's answer, unless it takes too long, or the client leaves first."""
         await publisher.send(query)
         answer = asyncio.create_task(publisher.frame())
         gone = asyncio.create_task(self.client.ended.wait())
@@ -256,8 +257,8 @@ class Session:
             await asyncio.gather(answer, gone, return_exceptions=True)
 
     async def first_told(self, publisher: Peer, slot: Slot, begin: int) -> list[Frame]:
-        """The first frames of a stream that has to start where it is requested. The first one, a keepalive, says where
-        the stream starts; a later start is refused."""
+        """Returns the first frames of a stream that has to start at the requested position. The first one, a keepalive,
+        gives the position at which the stream starts; a later start is refused."""
         try:
             async with asyncio.timeout(self.backend.seconds):
                 told = await publisher.frames()

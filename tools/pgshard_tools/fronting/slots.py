@@ -1,7 +1,7 @@
-"""The slots of pgshard serve, as clients see them: made, started from, confirmed, dropped and made again.
+"""The slots of pgshard serve, as clients see them: created, started, confirmed, dropped and created again.
 
-The slots themselves are fixed by the catalog, and what is confirmed of one stays confirmed. So a slot that a client
-drops starts from the beginning, out of what was recorded of its streams.
+The slots themselves are fixed by the catalog, and a confirmation cannot be undone. So if a client drops a slot and
+creates it again, it starts from the beginning, out of the recording of its streams.
 """
 
 import asyncio
@@ -13,10 +13,9 @@ from pgshard_tools.fronting.frames import position_text
 from pgshard_tools.fronting.recording import BEGIN_OF_LOG, Recording, Spool
 from pgshard_tools.fronting.starting import Start
 
-# The slot by which a subscriber copies a table.
+# The slot with which a subscriber copies a table.
 COPIES = re.compile(r"pg_[0-9]{1,10}_sync_[0-9]{1,10}_[0-9]{1,20}", re.ASCII)
-# How many of those there may be; the oldest goes where there are more. And how many others, where no catalog names
-# them.
+# The most such slots; if there are more, the oldest is removed. And the most other slots, if no catalog names them.
 MOST_COPIES = 1_000
 MOST_UNNAMED = 1_000
 
@@ -38,11 +37,12 @@ class Slot:
     name: str
     recording: Recording
     publications: frozenset[str] = frozenset()
-    # How far clients have confirmed since it was made.
+    # The position that clients have confirmed since the slot was created.
     confirmed: int = 0
-    # Up to where streams come from the recording, since the slot was dropped and pgshard serve continues from there.
+    # The position up to which streams come from the recording, since the slot was dropped and pgshard serve continues
+    # from there.
     before: int = 0
-    # Whether a client was promised that it starts from the beginning, before that was known.
+    # Whether a client was promised that the slot starts from the beginning, before that was known.
     is_promised: bool = False
     # Set while no client uses it.
     is_free: asyncio.Event = field(default_factory=asyncio.Event)
@@ -51,11 +51,11 @@ class Slot:
         self.is_free.set()
 
     def begin_of(self, start: Start) -> int:
-        """Where a stream starts that is requested from a position on."""
+        """Returns where a stream starts that is requested from this position on."""
         return max(start.position, self.confirmed)
 
     def why_not_afresh(self) -> str | None:
-        """Why it cannot be started from the beginning of the log, if that is known."""
+        """Returns why the slot cannot be started from the beginning of the log, if that is known."""
         if self.recording.fault is not None:
             return self.recording.fault
         if self.recording.reach == 0 or self.recording.covers(BEGIN_OF_LOG):
@@ -69,12 +69,12 @@ class Slot:
 class Slots:
     """The slots that clients have used, by name."""
 
-    # The names that the catalog has, if it is known.
+    # The names in the catalog, if it is known.
     names: list[str] | None
     spool: Spool = field(default_factory=Spool)
     known: dict[str, Slot] = field(default_factory=dict)
-    # The slots of copies, and whether each is there. One that was dropped may be started again: a subscriber that loses
-    # its connection before it hears that its slot is dropped starts from that slot until it succeeds.
+    # The slots of copies, and whether each exists. A dropped one may be started again: a subscriber that loses its
+    # connection before it learns that its slot has been dropped retries from that slot until it succeeds.
     copies: dict[str, bool] = field(default_factory=dict)
 
     def slot(self, name: str) -> Slot:

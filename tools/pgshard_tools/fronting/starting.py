@@ -6,9 +6,10 @@ from dataclasses import dataclass, replace
 from pgshard_tools.fronting.frames import position_text
 from pgshard_tools.fronting.tokens import Kind, Token, tokens_of
 
-# Later versions only permit the publisher more, and require nothing more of it.
+# Later protocol versions only permit the publisher more, and require nothing more of it.
 LATER_VERSIONS = {"2", "3"}
-# These allow it to send transactions before they are committed, values in binary form and messages that are no changes.
+# These permit the publisher to send transactions before they are committed, values in binary form, and messages other
+# than changes.
 PERMISSIONS = {"streaming", "binary", "two_phase", "messages"}
 
 # The tokens of a start before its options: START_REPLICATION SLOT s LOGICAL 0 / 0.
@@ -38,7 +39,7 @@ class Start:
 
 
 def start_of(query: str, tokens: Sequence[Token], in_version_1: bool) -> Start | None:
-    """The start that a query requests, if it does. It is rewritten to protocol version 1 if that is wanted and its
+    """Returns the start that a query requests, if any. It is rewritten to protocol version 1 if that is wanted and its
     options can be read."""
     if len(tokens) < HEAD or [tokens[at].text for at in (0, 1, 3)] != ["start_replication", "slot", "logical"]:
         return None
@@ -64,7 +65,7 @@ def position_of(tokens: Sequence[Token]) -> int | None:
 
 
 def is_hexadecimal(token: Token) -> bool:
-    """Whether a token is half of a position."""
+    """Returns whether a token is half of a position."""
     return token.kind is Kind.WORD and 1 <= len(token.text) <= 8 and set(token.text) <= set("0123456789abcdef")
 
 

@@ -12,12 +12,13 @@ from pgshard_tools.fronting.peer import Lost, Peer
 from pgshard_tools.fronting.recording import BEGIN_OF_LOG, COMMIT_END, KEPT_POSITION, LETTER, Recording, number
 from pgshard_tools.fronting.slots import Slot
 
-# The two positions of an XLogData. The flushed position of a status, and its last byte: whether a reply is wanted.
+# The two positions in an XLogData; and in a status, the flushed position, and the last byte, which says whether a reply
+# is requested.
 POSITIONS = slice(1, 17)
 FLUSHED = slice(9, 17)
 WANT = 33
 
-# A connection to pgshard serve from a position on, once it streams.
+# Opens a connection to pgshard serve that streams from a position on.
 Connect = Callable[[int], Awaitable[Peer]]
 
 
@@ -28,13 +29,13 @@ class Stream:
         self.client = client
         # The slot that the client's statuses confirm.
         self.slot = slot
-        # How many seconds the client may say nothing, 0 for any number, and how many pgshard serve has for an answer.
+        # How many seconds the client may be silent, or 0 for no limit, and how many pgshard serve has for an answer.
         self.patience = patience
         self.limit = limit
         self.publisher: Peer | None = None
         self.heard = time.monotonic()
         self.is_done = asyncio.Event()
-        # How far the client is told to be.
+        # The position that the client has been sent.
         self.position = 0
 
     async def relay(self, publisher: Peer, recording: Recording, told: Sequence[Frame]) -> bool:
@@ -44,7 +45,7 @@ class Stream:
         return await self.run(self.relay_down(publisher, recording, told))
 
     async def repeat(self, recording: Recording, position: int) -> bool:
-        """Sends the recording from a position on, as it grows, to a subscriber that catches up."""
+        """Sends the recording from a position on, as it grows, to a subscriber that is catching up."""
         return await self.run(self.repeat_down(recording, position))
 
     async def resume(self, recording: Recording, position: int, connect: Connect) -> bool:
@@ -52,7 +53,7 @@ class Stream:
         return await self.run(self.resume_down(recording, position, connect))
 
     async def run(self, speaking: Awaitable[None]) -> bool:
-        """Sends to the client, listens to it, and watches for its silence."""
+        """Sends to the client, reads from it, and watches for silence."""
         up = asyncio.create_task(self.listen())
         down = asyncio.ensure_future(speaking)
         watch = asyncio.create_task(self.watch())
@@ -73,7 +74,7 @@ class Stream:
             if not done and self.publisher is not None:
                 raise Lost(self.publisher, f"did not end the stream within {self.limit:g} seconds")
             if down.done() and self.client.ended.is_set():
-                # What the client said before it went is still passed on.
+                # What the client sent before it disconnected is still passed on.
                 await asyncio.wait([up], timeout=self.limit)
             if up.done() and not up.result():
                 return False
@@ -83,17 +84,17 @@ class Stream:
         return True
 
     async def listen(self) -> bool:
-        """Passes on what the client says. Returns whether it said that the stream is done, and waits for that.
+        """Passes on what the client sends. Returns whether the client has ended the stream, after waiting for that.
 
-        A reply that is wanted is given here, too: pgshard serve gives none once it has made and sent all commits, and a
-        subscriber does not wait longer than a minute.
+        Requested replies are also given here: pgshard serve gives none after it has made and sent all commits, and a
+        subscriber waits for at most a minute.
         """
         while True:
             await asyncio.sleep(0)
             kind, body = await self.client.frame()
             self.heard = time.monotonic()
             is_status = kind == COPY_DATA and body[:1] == STATUS
-            # Nobody confirms what was not sent; pgshard serve ends the stream then.
+            # What was not sent cannot be confirmed: pgshard serve would end the stream.
             if is_status and self.slot is not None and number(body[FLUSHED]) <= self.position:
                 self.slot.confirmed = max(self.slot.confirmed, number(body[FLUSHED]))
             if kind == COPY_DONE:
@@ -106,8 +107,8 @@ class Stream:
                 await self.client.send(frames.keepalive(self.position))
 
     async def watch(self) -> None:
-        """Asks a silent client for a reply, as a server does after half of wal_sender_timeout, and disconnects it if
-        none comes."""
+        """Requests a reply from a silent client, as a server does after half of wal_sender_timeout, and disconnects it
+        if there is none."""
         asked = 0.0
         while True:
             silence = time.monotonic() - self.heard
@@ -124,7 +125,7 @@ class Stream:
                 await asyncio.sleep(self.patience / 2 - silence)
 
     async def relay_down(self, publisher: Peer, recording: Recording, told: Sequence[Frame] = ()) -> None:
-        """Relays what pgshard serve sends, to its end."""
+        """Relays everything that pgshard serve sends."""
         while True:
             said = [as_server_says(it) for it in told or await publisher.frames()]
             recording.take(said)
@@ -147,7 +148,7 @@ class Stream:
 
     async def repeat_down(self, recording: Recording, position: int) -> None:
         """Sends the recording, as it grows, until the client has what it needs. A subscriber whose connection is lost
-        while a table catches up may need more than was recorded when this stream began."""
+        while a table catches up may need more than had been recorded when this stream began."""
         while not self.is_done.is_set():
             grown = recording.grown
             await self.replay(recording, position)
@@ -177,7 +178,7 @@ async def first_of(*events: asyncio.Event) -> None:
 
 
 def position_of(told: Frame) -> int:
-    """The position that a frame gives the client, if it is a Commit or a keepalive; otherwise 0."""
+    """Returns the position that a frame gives the client, if it is a Commit or a keepalive; otherwise 0."""
     kind, body = told
     if kind == COPY_DATA and body[:1] == XLOG_DATA and body[LETTER] == b"C":
         return number(body[COMMIT_END])
@@ -185,8 +186,8 @@ def position_of(told: Frame) -> int:
 
 
 def as_server_says(told: Frame) -> Frame:
-    """A frame with the positions that a server sends: that of a Commit is the end of its transaction, which clients
-    confirm, and not its own position."""
+    """Returns a frame with the positions that a server sends: that of a Commit is the end of its transaction, which
+    clients confirm, and not the Commit's own position."""
     kind, body = told
     if kind == COPY_DATA and body[:1] == XLOG_DATA and body[LETTER] == b"C":
         body = body[:POSITIONS.start] + 2 * body[COMMIT_END] + body[POSITIONS.stop:]

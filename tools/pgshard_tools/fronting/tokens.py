@@ -1,19 +1,19 @@
-"""The words of a query, cut in one pass, in time proportional to its length, whatever a client sends."""
+"""Splits a query into tokens in one pass, in time proportional to its length, whatever a client sends."""
 
 import string
 from collections.abc import Iterator
 from enum import Enum, auto
 from typing import NamedTuple
 
-# Letters that fold; PostgreSQL folds no others in UTF8.
+# The letters that are folded to lower case. PostgreSQL folds no others in UTF8.
 FOLDED = str.maketrans(string.ascii_uppercase, string.ascii_lowercase)
 
-# No query of a client has more tokens: a COPY of a table of 100 columns has some 200.
+# No client's query has more tokens: a COPY of a table of 100 columns has about 200.
 MOST_TOKENS = 1_000
 
 
 class TooManyTokens(Exception):
-    """The query is longer than any that is answered."""
+    """The query is longer than any that can be answered."""
 
 
 class Kind(Enum):
@@ -26,7 +26,7 @@ class Kind(Enum):
 
 
 class Token(NamedTuple):
-    """A word in lower case, a quoted name or a string without its quotes, or a mark, with its place in the query."""
+    """A word in lower case, a quoted name or a string without its quotes, or a mark, with its position in the query."""
 
     kind: Kind
     text: str
@@ -34,11 +34,11 @@ class Token(NamedTuple):
     end: int
 
     def is_mark(self, mark: str) -> bool:
-        """Whether it is this mark."""
+        """Returns whether it is this mark."""
         return self.kind is Kind.MARK and self.text == mark
 
     def is_name(self) -> bool:
-        """Whether it can name something."""
+        """Returns whether it can be a name."""
         return self.kind in (Kind.WORD, Kind.NAME)
 
 
@@ -55,7 +55,7 @@ def tokens_of(query: str) -> list[Token]:
 
 
 def cut(query: str) -> Iterator[Token]:
-    """The tokens from the left. A quote that is not closed is a mark, with the rest of the query."""
+    """Yields the tokens from the left. A quote that is not closed is a mark that includes the rest of the query."""
     at = 0
     while at < len(query):
         letter = query[at]
@@ -74,7 +74,7 @@ def cut(query: str) -> Iterator[Token]:
 
 
 def word_end(query: str, begin: int) -> int:
-    """The end of the word that begins at a place; the place itself if no word begins there."""
+    """Returns the end of the word that begins at a place, or the place itself if no word begins there."""
     end = begin
     while end < len(query) and (query[end].isalnum() or query[end] in "_$"):
         end += 1

@@ -1,4 +1,4 @@
-"""Calls about which more is known than that they are functions: what a comparison of the result says about an
+"""Calls about which more is known than for functions in general: what a comparison of the result means for an
 argument."""
 
 from dataclasses import dataclass, replace
@@ -18,23 +18,24 @@ FIRST_LETTERS = {"substr(text,int4,int4)", "substring(text,int4,int4)"}
 CONTAINS = {"@>(anyrange,anyelement)", "<@(anyelement,anyrange)"}
 DAYS = {"+(date,int4)", "-(date,int4)"}
 TIMES = {"+(timestamp,interval)", "-(timestamp,interval)"}
-# Of more arguments the NULLs are not counted.
+# If there are more arguments, their NULLs are not counted.
 MOST_COUNTED = 5
 
 
 @dataclass
 class Context:
-    """What is known while an expression is read: the server, where it fails, and where what gets a column is NULL."""
+    """What is known while an expression is read: the server, where it fails, and where an expression with a column of
+    its own is NULL."""
 
     meanings: Meanings
     failing: Failing
     null_of: comparing.NullOf
-    # Formulas that are TRUE where a subject is NULL, and otherwise FALSE.
+    # For each subject, a formula that is TRUE if the subject is NULL, and otherwise FALSE.
     nulls: dict[Subject, Formula]
 
 
 def function(call: Call, form: str, arguments: Sequence[Operand], context: Context) -> Operand | None:
-    """A function, None if nothing more is known about it."""
+    """Reads a function call. Returns None if nothing more is known about it."""
     meanings, failing = context.meanings, context.failing
     if call.signature in PARTS_OF:
         return part(call, form, arguments, context)
@@ -66,7 +67,7 @@ def function(call: Call, form: str, arguments: Sequence[Operand], context: Conte
 
 
 def in_utc(form: str, moment: Ref, failing: Failing) -> Operand:
-    """A timestamptz in UTC is the timestamp of the same microsecond. The last one has none."""
+    """A timestamptz in UTC is the timestamp with the same microsecond. The last timestamptz has no such timestamp."""
     failing.note(form, moments.is_last(form, moment), moment.subject.columns)
     return Ref(moment.subject, "timestamp")
 
@@ -76,12 +77,13 @@ def is_utc(zone: Operand) -> bool:
 
 
 def own(form: str, call: Call, is_total: bool, arguments: Sequence[Operand]) -> Operand:
-    """The column that the call gets."""
+    """Returns the column of its own that represents the call."""
     return functions.opaque(form, call.result, is_total, arguments)
 
 
 def part(call: Call, form: str, arguments: Sequence[Operand], context: Context) -> Operand | None:
-    """extract, or date_part. For a date it is that of its midnight, which is not a timestamp for every date."""
+    """Reads extract, or date_part. The part of a date is that of its midnight, which is not a timestamp for every
+    date."""
     name = arguments[0].value if isinstance(arguments[0], Value) else None
     if not isinstance(name, str) or name not in PARTS[call.arguments[1]] or isinstance(arguments[1], Choice):
         return None
@@ -99,7 +101,7 @@ def part(call: Call, form: str, arguments: Sequence[Operand], context: Context) 
 
 
 def as_whole(form: str, type: str, operand: Operand, context: Context) -> Operand | None:
-    """A function with whole numbers as a value of a type that has room for them."""
+    """Reads a function of whole numbers as a value of a type that has room for them."""
     if type not in ("int4", "int8"):
         return None
     if isinstance(operand, Derived) and operand.too_large is not None:
@@ -112,7 +114,7 @@ def as_whole(form: str, type: str, operand: Operand, context: Context) -> Operan
 
 def beginning(
         call: Call, form: str, arguments: Sequence[Operand], length: int | None, meanings: Meanings) -> Operand | None:
-    """The first letters of a text."""
+    """Reads a function that returns the first characters of a text."""
     if length is None or length < 1:
         return None
     ref = own(form, call, True, arguments)
@@ -120,7 +122,7 @@ def beginning(
 
 
 def starts(text: Operand, prefix: Operand, meanings: Meanings) -> Formula | None:
-    """Whether a text begins with a constant."""
+    """Returns whether a text begins with a constant."""
     subject = prefixes.subject_of(text)
     if subject is None or not isinstance(prefix, Value) or not isinstance(prefix.value, str):
         return None
@@ -129,8 +131,8 @@ def starts(text: Operand, prefix: Operand, meanings: Meanings) -> Formula | None
 
 def operator(call: Call, name: str, form: str, one: Operand, other: Operand, span: str | None,
              context: Context) -> Operand | None:
-    """An operator. `name` is the operator of which it is the negation, if there is one, and `span` the text of an
-    interval on the right."""
+    """Reads an operator. `name` is its negator if it is a negation, and `span` is the text of an interval on the
+    right."""
     signature, meanings, failing = f"{name}({','.join(call.arguments)})", context.meanings, context.failing
     found: Formula | None = None
     if signature == "~~(text,text)" and isinstance(other, Value) and isinstance(other.value, str):
@@ -149,7 +151,7 @@ def operator(call: Call, name: str, form: str, one: Operand, other: Operand, spa
 
 
 def moved(call: Call, form: str, one: Operand, other: Operand, span: str | None, failing: Failing) -> Operand | None:
-    """A date and a number of days, or a timestamp and an interval."""
+    """Reads a date plus or minus a number of days, or a timestamp plus or minus an interval."""
     days = functions.whole(other) if call.arguments[1] == "int4" else None
     steps = (days,) if days is not None else moments.steps_of(span)
     if steps is None or moments.subject_of(one) is None:
@@ -160,7 +162,7 @@ def moved(call: Call, form: str, one: Operand, other: Operand, span: str | None,
 
 
 def days_since(call: Call, form: str, one: Operand, other: Operand, failing: Failing) -> Operand | None:
-    """A date minus a constant date."""
+    """Reads a date minus a constant date."""
     if not isinstance(other, Value) or other.value is None or not other.value.is_finite:
         return None
     ref = own(form, call, True, [one])
@@ -170,7 +172,7 @@ def days_since(call: Call, form: str, one: Operand, other: Operand, failing: Fai
 
 
 def nulls(arguments: Sequence[Operand], is_of_nulls: bool, null_of: comparing.NullOf, found: int = 0) -> Operand | None:
-    """The number of arguments that are NULL, or that are not."""
+    """Reads num_nulls or num_nonnulls: the number of arguments that are NULL, or that are not."""
     if len(arguments) > MOST_COUNTED:
         return None
     if not arguments:

@@ -1,8 +1,8 @@
-"""Arithmetic of whole numbers: of constants, of one column step by step, and of more than one column.
+"""Arithmetic of whole numbers: of constants, of one column step by step, and of several columns.
 
-The server fails where a result does not fit its type, or a divisor is 0. A filter is read as if the number went on;
-that has the server's value wherever the server does not fail, since what it does not evaluate does not count for the
-filter's value either. Where it may fail is noted separately.
+The server fails if a result does not fit its type, or a divisor is 0. A filter is read as if there were no limits. This
+gives the server's value wherever the server does not fail, since a part that the server does not evaluate does not
+affect the filter's value. Where the server may fail is recorded separately.
 """
 
 import math
@@ -36,27 +36,27 @@ NEVER_FAILING = "&|#"
 NUMBERS = ("int2", "int4", "int8", "numeric", "float4", "float8")
 
 
-# Two numbers between which a column is, if they are known.
+# Two numbers between which a column is, or None if they are not known.
 Bounds: TypeAlias = tuple[Fraction, Fraction] | None
 BoundsOf: TypeAlias = Callable[[Subject], Bounds]
 
 
 @dataclass(frozen=True)
 class Failure:
-    """A part of a filter at which the server fails where a formula is TRUE. Without a formula it is not known where,
-    but it may be known that it fails nowhere if columns are between some numbers."""
+    """A part of a filter for which the server fails if a formula is TRUE. Without a formula it is not known when it
+    fails, but it may be known that it never fails if columns are between certain numbers."""
 
     form: str
     where: Formula | None
     columns: tuple[str, ...]
     is_nowhere: "Callable[[BoundsOf], bool]" = field(default=lambda _: False, compare=False)
-    # Whether the server evaluates the part at some rows alone.
+    # Whether the server evaluates the part only for some rows.
     is_guarded: bool = False
 
 
 @dataclass
 class Failing:
-    """What is recorded while a filter is read: the conditions under which a part is evaluated, and where it fails."""
+    """What is recorded while a filter is read: the conditions under which a part is evaluated, and when it fails."""
 
     path: list[Formula] = field(default_factory=list)
     found: list[Failure] = field(default_factory=list)
@@ -71,7 +71,7 @@ class Failing:
 
 
 def is_arithmetic(name: str, arguments: Sequence[str]) -> bool:
-    """Whether an operator is an arithmetic operator that is read here."""
+    """Returns whether an operator is an arithmetic operator that is read here."""
     if name not in OPERATORS:
         return False
     is_whole = all(it in INTEGERS for it in arguments)
@@ -88,27 +88,27 @@ def fits(number: int, type: str) -> bool:
 
 
 def numbers_of(type: str) -> tuple[int, int]:
-    """The least and the greatest number of an integer type."""
+    """Returns the least and the greatest number of an integer type."""
     limit = int(2 ** (INTEGERS[type][0] - 1))
     return -limit, limit - 1
 
 
 def number_of(operand: Operand) -> int | None:
-    """A constant that is a whole number of an integer type."""
+    """Returns the number if the operand is a constant of an integer type."""
     if not isinstance(operand, Value) or operand.type not in INTEGERS or operand.value is None:
         return None
     return int(operand.value.value)
 
 
 def whole_of(operand: Operand) -> Whole | None:
-    """A column of whole numbers, with the steps that are applied to it."""
+    """Returns a column of whole numbers, with the steps that have been applied to it."""
     if isinstance(operand, Ref) and operand.type in INTEGERS and operand.subject.type in INTEGERS:
         return Whole(operand.subject, (), operand.type, operand.subject.sql)
     return operand if isinstance(operand, Whole) and operand.type in INTEGERS else None
 
 
 def combined(form: str, op: str, one: Operand, other: Operand, type: str, failing: Failing) -> Operand:
-    """An operand for `one op other`, whose result has this type."""
+    """Returns an operand for `one op other`, whose result has this type."""
     for side in one, other:
         if isinstance(side, Value) and side.value is None:
             return Value(type, None)
@@ -127,7 +127,7 @@ def combined(form: str, op: str, one: Operand, other: Operand, type: str, failin
 
 
 def distributed(choice: Choice, change: Callable[[Operand], Operand], failing: Failing) -> Operand:
-    """An operation on a CASE, applied in each branch, where it is evaluated only if the branch is taken."""
+    """Applies an operation to each branch of a CASE. There it is evaluated only if the branch is taken."""
     taken = tested("TRUE", choice.condition)
     failing.path.append(taken)
     one = change(choice.one)
@@ -149,7 +149,7 @@ def folded(form: str, op: str, left: int, right: int, type: str) -> Value:
 
 
 def of_one_column(form: str, op: str, one: Operand, other: Operand, type: str) -> Whole | None:
-    """The next step, or None if it is not one of the known ones."""
+    """Returns the operand with one more step, or None if the step is not one of the known ones."""
     left, right = whole_of(one), whole_of(other)
     if left is not None and right is not None:
         return of_remainders(form, op, left, right, type)
@@ -163,7 +163,7 @@ def of_one_column(form: str, op: str, one: Operand, other: Operand, type: str) -
 
 
 def next_steps(form: str, op: str, number: int, is_turned: bool, type: str) -> tuple[Step, ...] | None:
-    """The steps of `x op number`, or of `number op x` if it is turned around."""
+    """Returns the steps of `x op number`, or of `number op x` if the sides are swapped."""
     if op in "/%" and not is_turned and number == 0:
         raise Unread(form, BY_ZERO)
     match op:
@@ -193,8 +193,8 @@ def masking(number: int) -> tuple[Step, ...] | None:
 
 
 def of_remainders(form: str, op: str, left: Whole, right: Whole, type: str) -> Whole | None:
-    """Two results that depend on remainders of one column depend on its remainder by a common multiple of the
-    moduli."""
+    """If two results depend on remainders of one column, their combination depends on its remainder by a common
+    multiple of the moduli."""
     moduli = [steps.modulus_of(it.steps) for it in (left, right)]
     known = [it for it in moduli if it is not None]
     if left.subject != right.subject or len(known) < 2 or op == ">>":
@@ -209,7 +209,7 @@ def of_remainders(form: str, op: str, left: Whole, right: Whole, type: str) -> W
 
 
 def note_failures(form: str, found: Whole, failing: Failing) -> None:
-    """Where the last result does not fit its type."""
+    """Records when the last result does not fit its type."""
     least, greatest = numbers_of(found.type)
     low, high = steps.bounds(found.steps, *numbers_of(found.subject.type))
     if least <= low and high <= greatest:
@@ -225,7 +225,7 @@ def note_failures(form: str, found: Whole, failing: Failing) -> None:
 
 
 def is_never(formula: Formula) -> bool:
-    """Whether a comparison obviously holds for no number of its type."""
+    """Returns whether a comparison obviously holds for no number of its type."""
     if isinstance(formula, Remainder):
         return not formula.ranges
     is_below = isinstance(formula, Compare) and formula.op == "<" and formula.subject.type in INTEGERS
@@ -233,7 +233,8 @@ def is_never(formula: Formula) -> bool:
 
 
 def of_columns(form: str, op: str, one: Operand, other: Operand, type: str, failing: Failing) -> Operand:
-    """Arithmetic that gets a column of its own: NULL exactly if one side is, and any value where the server fails."""
+    """Reads arithmetic that gets a column of its own: it is NULL exactly if one side is, and has an arbitrary value
+    where the server fails."""
     if not (type in NUMBERS and op in OPERATORS):
         raise Unread(form, "it is not arithmetic that judge knows")
     found = functions.opaque(form, type, True, (one, other))
@@ -244,7 +245,7 @@ def of_columns(form: str, op: str, one: Operand, other: Operand, type: str, fail
 
 
 def where_zero(op: str, one: Operand, other: Operand, type: str) -> Formula | None:
-    """Where the divisor is 0, if a division fails exactly there. The least number divided by -1 does not fit its
+    """Returns when the divisor is 0, if a division fails exactly then. The least number divided by -1 does not fit its
     type."""
     divisor, left = whole_of(other), bounds_of(one, type_bounds)
     if op not in "/%" or type not in INTEGERS or divisor is None:
@@ -258,8 +259,8 @@ def where_zero(op: str, one: Operand, other: Operand, type: str) -> Formula | No
 
 
 def type_bounds(subject: Subject) -> Bounds:
-    """The ends of a column's type. NaN and infinity make no numeric fail, and a numeric with a limit has no
-    infinity."""
+    """Returns the limits of a column's type. No numeric operation fails because of NaN or infinity, and a numeric with
+    a precision has no infinity."""
     if subject.type in INTEGERS:
         low, high = numbers_of(subject.type)
         return Fraction(low), Fraction(high)
@@ -271,7 +272,7 @@ def type_bounds(subject: Subject) -> Bounds:
 
 
 def is_within(op: str, one: Operand, other: Operand, type: str, bounds: BoundsOf) -> bool:
-    """Whether the results for all numbers of both sides fit the type, and no divisor is 0."""
+    """Returns whether the results for all numbers of both sides fit the type, and no divisor is 0."""
     left, right = bounds_of(one, bounds), bounds_of(other, bounds)
     if left is None or right is None:
         return False
@@ -283,7 +284,7 @@ def is_within(op: str, one: Operand, other: Operand, type: str, bounds: BoundsOf
     if type in INTEGERS:
         least, greatest = numbers_of(type)
         return least <= min(corners) and max(corners) <= greatest
-    # A numeric has room for 131072 digits before its point; of a float nothing is said.
+    # A numeric has room for 131072 digits before the decimal point; for floats nothing is claimed.
     return type == "numeric" and max(abs(it) for it in corners) < 10**100
 
 
@@ -299,7 +300,7 @@ def exact(op: str, one: Fraction, other: Fraction) -> Fraction:
 
 
 def bounds_of(operand: Operand, bounds: BoundsOf) -> Bounds:
-    """Two numbers between which the operand is, or None if they are not known."""
+    """Returns two numbers between which the operand is, or None if they are not known."""
     match operand:
         case Value(value=Point() as point) if point.is_finite:
             return point.value, point.value
@@ -309,14 +310,14 @@ def bounds_of(operand: Operand, bounds: BoundsOf) -> Bounds:
             found = bounds(operand.subject)
             if found is None or operand.type not in INTEGERS:
                 return None
-            # Where a step fails is noted for itself.
+            # Whether a step fails is recorded separately.
             low, high = steps.bounds(operand.steps, math.ceil(found[0]), math.floor(found[1]))
             return Fraction(low), Fraction(high)
     return None
 
 
 def negated(form: str, operand: Operand, type: str, failing: Failing) -> Operand:
-    """-x."""
+    """Reads -x."""
     if isinstance(operand, Choice):
         return distributed(operand, lambda it: negated(form, it, type, failing), failing)
     if isinstance(operand, Value) and (operand.value is None or operand.value.is_finite):
@@ -325,7 +326,7 @@ def negated(form: str, operand: Operand, type: str, failing: Failing) -> Operand
 
 
 def absolute(form: str, operand: Operand, type: str, failing: Failing) -> Operand:
-    """abs(x)."""
+    """Reads abs(x)."""
     if isinstance(operand, Choice):
         return distributed(operand, lambda it: absolute(form, it, type, failing), failing)
     number = number_of(operand)
@@ -335,7 +336,7 @@ def absolute(form: str, operand: Operand, type: str, failing: Failing) -> Operan
 
 
 def complement(form: str, operand: Operand, type: str, failing: Failing) -> Operand:
-    """~x is -x - 1, and never fails."""
+    """Reads ~x, which is -x - 1 and never fails."""
     if isinstance(operand, Choice):
         return distributed(operand, lambda it: complement(form, it, type, failing), failing)
     number = number_of(operand)
@@ -345,7 +346,7 @@ def complement(form: str, operand: Operand, type: str, failing: Failing) -> Oper
 
 
 def stepped(form: str, operand: Operand, done: tuple[Step, ...], type: str, failing: Failing) -> Operand:
-    """A column with further steps."""
+    """Returns a column with further steps."""
     column = whole_of(operand)
     if column is None or len(column.steps) + len(done) > steps.MOST_STEPS:
         raise Unread(form, "it is not arithmetic of one column of whole numbers")

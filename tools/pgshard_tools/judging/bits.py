@@ -1,7 +1,7 @@
-"""Bits of columns: each run of bits that the masks of a table tell apart gets a column of its own.
+"""Bits of columns: each run of bits that the masks of a table distinguish gets a column of its own.
 
-Any bits of a number below its sign go with any others, so such columns are free of each other, and a mask of any width
-is a few comparisons of them.
+The bits of a number below its sign can be combined arbitrarily, so such columns are independent of each other, and a
+mask of any width becomes a few comparisons of them.
 """
 
 from typing import Iterable
@@ -15,7 +15,7 @@ TYPE = "bits"
 
 
 def expanded(listed: list[Formula | None]) -> list[Formula | None]:
-    """The formulas with comparisons of such columns instead of masks."""
+    """Returns the formulas with comparisons of such columns instead of masks."""
     masks: dict[Subject, set[int]] = {}
     for formula in listed:
         for leaf in formulas.leaves_of(formula) if formula is not None else ():
@@ -30,7 +30,7 @@ def expanded(listed: list[Formula | None]) -> list[Formula | None]:
 
 
 def runs_of(masks: Iterable[int]) -> list[tuple[int, int]]:
-    """Runs of bits from the first to the last, highest first, none of which a mask contains only in part."""
+    """Returns runs of bits, each from the first to the last bit, highest first. No mask contains a run only in part."""
     listed = list(masks)
     last = max(it.bit_length() for it in listed)
     runs: list[tuple[int, int]] = []
@@ -47,7 +47,7 @@ def runs_of(masks: Iterable[int]) -> list[tuple[int, int]]:
 
 
 def subject_of(base: Subject, low: int, high: int) -> Subject:
-    """A run of bits, whose modifier is its length."""
+    """Returns the subject for a run of bits. Its modifier is the length of the run."""
     mask = 2 ** (high + 1) - 2**low
     return Subject(
         sql=f"({base.sql} & {mask})", type=TYPE, columns=base.columns, modifier=high - low + 1,
@@ -56,20 +56,20 @@ def subject_of(base: Subject, low: int, high: int) -> Subject:
 
 
 def of_masked(leaf: Masked, runs: list[tuple[int, int]]) -> Formula:
-    """Whether the bits of the mask are in the ranges, by comparisons of its runs, highest first."""
+    """Returns whether the bits of the mask are in the ranges, as comparisons of its runs, highest first."""
     kept = [(low, high) for low, high in runs if leaf.mask >> low & 1]
     parts = []
     for low, high in ranges.intersection(leaf.ranges, [(0, leaf.mask)]):
         parts.append(both(negation(at_most(leaf.subject, kept, low - 1)), at_most(leaf.subject, kept, high)))
     first = subject_of(leaf.subject, *kept[0])
-    # No bits are below zero; this is NULL where the column is, and so is what is here beside it.
+    # Bits are never below zero. This is NULL if the column is, as are the other parts here.
     never = Compare(first, "<", finite(0))
     return either(never, *parts)
 
 
 def at_most(base: Subject, runs: list[tuple[int, int]], number: int) -> Formula:
-    """Whether the bits in the runs are at most a number: those in the first run are less, or they are equal, and the
-    others are at most the rest of the number."""
+    """Returns whether the bits in the runs are at most a number: either those in the first run are less, or they are
+    equal and the others are at most the rest of the number."""
     subject = subject_of(base, *runs[0])
     if number < 0:
         return Compare(subject, "<", finite(0))
@@ -86,7 +86,7 @@ def at_most(base: Subject, runs: list[tuple[int, int]], number: int) -> Formula:
 
 
 def bits_in(low: int, high: int, below: int, width: int) -> Ranges:
-    """The values of some bits of the numbers between two ends."""
+    """Returns the values of some bits of the numbers between two ends."""
     first, last, count = low >> below, high >> below, 1 << width
     if last - first + 1 >= count:
         return ((0, count - 1),)

@@ -1,5 +1,5 @@
-"""The bounds of a column, by the constraints that the server enforces: the least and the greatest number at which none
-of them is FALSE."""
+"""The bounds of a column according to the constraints that the server enforces: the least and the greatest number for
+which none of them is FALSE."""
 
 from fractions import Fraction
 from typing import Iterable
@@ -8,13 +8,13 @@ from pgshard_tools.judging.arithmetic import Bounds, type_bounds
 from pgshard_tools.judging.formulas import And, Compare, Const, Formula, Not, Or, Subject
 from pgshard_tools.judging.points import Point
 
-# The ends of an interval, None for an end that is not known; and None for no number at all.
+# The ends of an interval, each None if it is not known; or None if there is no number at all.
 Interval = tuple[Fraction | None, Fraction | None]
 EVERYTHING: Interval = (None, None)
 
 
 def bounds_of(constraints: Iterable[Formula], subject: Subject) -> Bounds:
-    """The ends of the column, or None if one of them is not known."""
+    """Returns the ends of the column, or None if one of them is not known."""
     found: Interval | None = type_bounds(subject) or EVERYTHING
     for constraint in constraints:
         found = common(found, where(constraint, subject, True))
@@ -25,8 +25,8 @@ def bounds_of(constraints: Iterable[Formula], subject: Subject) -> Bounds:
 
 
 def where(part: Formula, subject: Subject, is_true: bool) -> Interval | None:
-    """An interval in which the column is where a formula may be TRUE, or may be FALSE, and the column is not NULL. What
-    another column decides may be either."""
+    """Returns an interval that contains the column if the column is not NULL and a formula may be TRUE, or may be
+    FALSE. What depends on another column may be either."""
     match part:
         case Not():
             return where(part.part, subject, not is_true)
@@ -51,7 +51,7 @@ def of_comparison(op: str, number: Fraction, is_true: bool) -> Interval:
 
 
 def common(one: Interval | None, other: Interval | None) -> Interval | None:
-    """The intersection of two intervals."""
+    """Returns the intersection of two intervals."""
     if one is None or other is None:
         return None
     lows = [it for it in (one[0], other[0]) if it is not None]
@@ -61,7 +61,7 @@ def common(one: Interval | None, other: Interval | None) -> Interval | None:
 
 
 def hull(one: Interval | None, other: Interval | None) -> Interval | None:
-    """The least interval that contains two others."""
+    """Returns the least interval that contains two others."""
     if one is None or other is None:
         return other if one is None else one
     low = None if one[0] is None or other[0] is None else min(one[0], other[0])

@@ -17,7 +17,7 @@ class Call:
 
     @property
     def signature(self) -> str:
-        """The name that judge's tables have for it, such as `lower(text)`."""
+        """Returns its name in judge's tables, such as `lower(text)`."""
         return f"{self.name}({','.join(self.arguments)})"
 
     @property

@@ -1,4 +1,4 @@
-"""Judges a catalog text as it is."""
+"""Judges a catalog text directly."""
 
 import re
 from collections.abc import Sequence
@@ -24,7 +24,7 @@ class Names:
 
 @dataclass
 class Source:
-    """What a report says about the source of the catalog."""
+    """What a report says about the catalog's source."""
 
     name: str
     unpublished: tuple[str, ...] = ()
@@ -32,7 +32,7 @@ class Source:
 
 
 def judge(path: str, options: Options) -> int:
-    """Judges the catalog of a file, and returns the exit status."""
+    """Judges the catalog in a file, and returns the exit status."""
     only_of_servers = (options.copied, options.partial, options.catalog, options.subscriber, options.migration,
                        options.intent, options.repair, options.keep, options.count, options.html)
     if options.explain or any(only_of_servers):
@@ -63,7 +63,7 @@ def read_file(path: str) -> str:
 
 
 def run(subcommand: str, text: str, catalog: str) -> str:
-    """The output of a run of pgshard that read its input."""
+    """Returns the output of a run of pgshard that could read its input."""
     output = program.run(subcommand, text)
     if isinstance(output, program.Unreadable):
         raise Fault(NOT_READ, why_not_read(output, catalog))
@@ -71,7 +71,7 @@ def run(subcommand: str, text: str, catalog: str) -> str:
 
 
 def why_not_read(fault: program.Unreadable, catalog: str) -> str:
-    """A fault of the catalog, with its line."""
+    """Returns a fault of the catalog, with its line."""
     if fault.part != "catalog":
         return "refused: the catalog is not UTF-8, has over 16,777,216 bytes, or has a line that is %% and nothing else"
     before = catalog.encode("utf-8", "surrogateescape")[:fault.place].decode("utf-8", "surrogateescape")
@@ -79,7 +79,7 @@ def why_not_read(fault: program.Unreadable, catalog: str) -> str:
     begin = before.rfind("\n") + 1
     line = catalog[begin:].split("\n", 1)[0].rstrip("\r")
     there = " ".join(catalog[at:].split("\n", 1)[0][:60].split()) or "the end of the text"
-    # A long line is shown from a little before the place on.
+    # Of a long line, only the part around the fault is shown.
     cut = max(0, at - begin - 70)
     return "\n".join([
         f"refused: line {before.count(chr(10)) + 1} of the catalog, {fault.kind} at: {there}",
@@ -89,7 +89,7 @@ def why_not_read(fault: program.Unreadable, catalog: str) -> str:
 
 
 def names_of(catalog: str) -> Names:
-    """The names in a catalog that pgshard reads."""
+    """Returns the names in a catalog that pgshard reads."""
     names = Names([], [], [], set())
     for statement in statements_of(catalog):
         match [word.upper() for word in statement[:2]]:
@@ -104,8 +104,8 @@ def names_of(catalog: str) -> Names:
 
 
 def verdicts_of(catalog: str, names: Names, made: str) -> list[Verdict]:
-    """What is found about each table. `make` prints only certificates that the check accepts; the check of all tables
-    together says what else is refused."""
+    """Returns the verdict on each table. `make` prints only certificates that `check` accepts; a check of all tables
+    together shows what else is refused."""
     answers, at = [], 0
     for table in names.tables:
         answer, at = program.made_of(made, at, table.name, names.subscriptions)
@@ -125,7 +125,7 @@ def verdicts_of(catalog: str, names: Names, made: str) -> list[Verdict]:
 
 
 def verdict_of(table: Table, answer: program.Made, names: Names) -> Verdict:
-    """The verdict on a table by the answer of `make`."""
+    """Returns the verdict on a table according to the answer of `make`."""
     if answer.certificate:
         return Verdict(table.name, verdicts.SOUND, certificate=answer.certificate)
     if answer.row is None:
@@ -136,9 +136,9 @@ def verdict_of(table: Table, answer: program.Made, names: Names) -> Verdict:
 
 
 def check(catalog: str, names: Names, certificates: Sequence[str]) -> tuple[dict[str, str], str]:
-    """Why tables are refused, by their names, and the last answer of `pgshard check`.
+    """Returns why tables are refused, by their names, and the last answer of `pgshard check`.
 
-    The check answers its first reason alone. To see those of other tables, too, it is asked again with an identity by
+    The check reports only its first reason. To find those of other tables too, it is repeated with an identity for
     which the first table has no such reason.
     """
     refused: dict[str, str] = {}
@@ -154,7 +154,7 @@ def check(catalog: str, names: Names, certificates: Sequence[str]) -> tuple[dict
 
 
 def refusal_of(line: str, names: Names) -> tuple[Table, str] | None:
-    """The table whose identity the check refuses, if it refuses one, and the message about it."""
+    """Returns the table whose identity the check refuses, if any, and the message about it."""
     for table in names.tables:
         if line == f"refused NoIdentity {table.name}":
             return table, "it has no replica identity that can be used, so the server refuses its updates and deletes"
@@ -169,6 +169,6 @@ def refusal_of(line: str, names: Names) -> tuple[Table, str] | None:
 
 
 def words_of_missing(line: str) -> str:
-    """The message that an operation is not published."""
+    """Returns the message that an operation is not published."""
     publication, operation = line.removeprefix("refused PublishMissing ").rsplit(" ", 1)
     return f"publication {publication}, which has a subscriber, does not publish {operation}"

@@ -9,7 +9,7 @@ TOKEN = re.compile(r"""\s+|--[^\n\r]*|/\*|'(?:[^']|'')*'|"(?:[^"]|"")*"|[\w$]+|.
 
 @dataclass
 class Table:
-    """The name of a table, as stored and as written, and its columns."""
+    """A table's name, as stored and as written, and its columns."""
 
     name: str
     written: str
@@ -17,11 +17,11 @@ class Table:
 
 
 def placed_tokens(text: str) -> Iterator[tuple[int, str]]:
-    """The tokens of a catalog with their places, without white space and comments."""
+    """Yields the tokens of a catalog with their positions, without white space and comments."""
     at = 0
     while at < len(text):
         found = TOKEN.match(text, at)
-        # A character that is nothing else is a token.
+        # A character that begins no longer token is a token itself.
         token = found[0] if found else text[at]
         if token == "/*":
             at = end_of_comment(text, at)
@@ -32,12 +32,12 @@ def placed_tokens(text: str) -> Iterator[tuple[int, str]]:
 
 
 def tokens_of(text: str) -> Iterable[str]:
-    """The tokens of a catalog, without white space and comments."""
+    """Returns the tokens of a catalog, without white space and comments."""
     return (token for _, token in placed_tokens(text))
 
 
 def end_of_comment(text: str, begin: int) -> int:
-    """The place after a comment, in which there may be others."""
+    """Returns the position after a comment, which may contain other comments."""
     depth = 0
     for mark in re.finditer(r"/\*|\*/", text[begin:]):
         depth += 1 if mark.group() == "/*" else -1
@@ -47,7 +47,7 @@ def end_of_comment(text: str, begin: int) -> int:
 
 
 def statements_of(text: str) -> Iterator[list[str]]:
-    """The statements, without their semicolons."""
+    """Yields the statements, without their semicolons."""
     statement: list[str] = []
     for token in tokens_of(text):
         if token == ";":
@@ -58,12 +58,12 @@ def statements_of(text: str) -> Iterator[list[str]]:
 
 
 def stored(token: str) -> str:
-    """A name as it is stored."""
+    """Returns a name as it is stored."""
     return token[1:-1].replace('""', '"') if token.startswith('"') else token.lower()
 
 
 def table_of(tokens: list[str]) -> Table:
-    """The table that CREATE TABLE creates, by the tokens after these words."""
+    """Returns the table that CREATE TABLE creates, from the tokens after these words."""
     begin = tokens.index("(")
     name = ".".join(stored(token) for token in tokens[:begin] if token != ".")
     columns: list[str] = []

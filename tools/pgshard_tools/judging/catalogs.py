@@ -10,23 +10,23 @@ from pgshard_tools.judging.printing import name_text
 from pgshard_tools.judging.rewriting import free_name
 from pgshard_tools.judging.shares import Shares, Takers
 
-# Rows that the server refuses have a subscriber of their own, so that the others need not have them. So have rows that
-# are published to nobody on purpose.
+# Rows that the server refuses have a subscriber of their own, so that the others need not get them. So have rows that
+# nobody gets on purpose.
 REFUSED_ROWS = "no row, since the server refuses it"
 NOBODY = "nobody, on purpose"
 KEY = "the row's number"
 
 
 def subscriber_names(takers: Takers, purpose: str | None) -> list[str]:
-    """All names that an answer may have, in the order of the catalog."""
+    """Returns all subscriber names that an answer may contain, in the order of the catalog."""
     return [*takers, REFUSED_ROWS, NOBODY]
 
 
 def catalog_of(shares: Shares, takers: Takers, purpose: str | None, trial: Any) -> str:
-    """A catalog with the table, its publications that are taken, and who takes them.
+    """Returns a catalog with the table, those of its publications that are taken, and who takes them.
 
-    The table's key is a column that no filter names, since a key tells nothing of where a row goes; what the replica
-    identity has is compared with the filters by judge itself, so the identity here has all columns.
+    The table's key is a column that no filter names, since a key does not decide where a row goes. Judge itself
+    compares the columns of the replica identity with the filters, so the identity here has all columns.
     """
     table = table_name(shares.table)
     taken = list(dict.fromkeys(name for names in takers.values() for name in names))
@@ -50,12 +50,12 @@ def catalog_of(shares: Shares, takers: Takers, purpose: str | None, trial: Any) 
 
 
 def table_name(table: Table) -> str:
-    """The name of a table as written."""
+    """Returns the name of a table as written."""
     return f"{name_text(table['schema'])}.{name_text(table['name'])}"
 
 
 def table_text(table: str, listed: Sequence[Any]) -> str:
-    """CREATE TABLE, with a column for each coding."""
+    """Returns CREATE TABLE with a column for each coding."""
     key = name_text(free_name(KEY, {coded.name for coded in listed}))
     columns = [f"{key} bigint"]
     for coded in listed:
@@ -75,7 +75,7 @@ def origin_text(coded: Any) -> str:
 
 
 def filter_text(formula: Any, held: Any) -> Any:
-    """A filter, restricted to rows that meet the constraints; None for no filter."""
+    """Returns a filter restricted to rows that satisfy the constraints, or None if there is no filter."""
     if held is None:
         return formula
     is_held = negation(tested("FALSE", held))
@@ -83,7 +83,7 @@ def filter_text(formula: Any, held: Any) -> Any:
 
 
 def extra_publications(trial: Any, taken: Sequence[str], held: Any, purpose: str | None) -> dict[str, Any]:
-    """Additional publications, which the server does not have, with their filters."""
+    """Returns additional publications, which the server does not have, with their filters."""
     extras: dict[str, Any] = {}
     if held is not None:
         extras[REFUSED_ROWS] = tested("FALSE", held)
@@ -95,7 +95,7 @@ def extra_publications(trial: Any, taken: Sequence[str], held: Any, purpose: str
 
 
 def publication_text(table: str, name: str, formula: Any, operations: Sequence[str] | None) -> str:
-    """CREATE PUBLICATION."""
+    """Returns CREATE PUBLICATION."""
     where = "" if formula is None else f" WHERE ({printing.text_of(formula)})"
     is_whole = operations is None or set(operations) == {"insert", "update", "delete", "truncate"}
     options = "" if is_whole else f" WITH (publish = '{', '.join(operations or ())}')"

@@ -1,8 +1,8 @@
-"""How what is compared becomes a column that pgshard reads: each value has a code, which is a whole number.
+"""How a compared value becomes a column that pgshard reads: each value has a code, which is a whole number.
 
-A coding answers for each comparison the ranges of codes of which it is TRUE. It is exact in both directions: two values
-with one code are told apart by no comparison that was made, and each code between the ends has a value, or says that it
-has none.
+For each comparison, a coding gives the ranges of codes for which it is TRUE. This is exact in both directions: two
+values with the same code are distinguished by no comparison that occurs, and each code between the ends has a value, or
+is known to have none.
 """
 
 import math
@@ -15,7 +15,7 @@ from pgshard_tools.judging.points import GREATEST, LEAST, NOT_A_NUMBER, Point
 from pgshard_tools.judging.ranges import Ranges
 from pgshard_tools.judging.server_types import INTEGERS, WHOLE
 
-# Of these no value is below zero.
+# Values of these types are never below zero.
 FROM_ZERO = {"uuid", "inet", "cidr", "macaddr", "pg_lsn"}
 
 
@@ -23,14 +23,14 @@ class Coding:
     """A printed column, or a remainder of one."""
 
     modulus: int | None = None
-    # Whether pgshard knows by the printed type that there is no code past the ends.
+    # Whether pgshard knows from the printed type that there is no code beyond the ends.
     is_tight = False
 
     def __init__(self, subject: Subject, printed_type: str, low: int, high: int) -> None:
         self.subject = subject
         self.printed_type = printed_type
         self.low, self.high = low, high
-        # The printed name and whether it is NOT NULL are settled for a table.
+        # The printed name, and whether the column is NOT NULL, are determined later for the whole table.
         self.name = ""
         self.not_null = False
 
@@ -39,36 +39,36 @@ class Coding:
         return ((self.low, self.high),)
 
     def ranges_of(self, op: str, point: Any) -> Ranges:
-        """The codes at which a comparison with a value is TRUE: `op` is one of = < <=."""
+        """Returns the codes for which a comparison with a value is TRUE. `op` is one of = < <=."""
         raise NotImplementedError
 
     def literal(self, code: int) -> str:
-        """A code as it is printed."""
+        """Returns a code as it is printed."""
         return str(code)
 
     def code_printed(self, text: str) -> int:
-        """The code of a printed value, or the nearest one that a value of the server has."""
+        """Returns the code of a printed value, or the nearest code that has a value on the server."""
         return min(max(int(text), self.low), self.high)
 
     def value(self, code: int) -> Any:
-        """A value of the server with this code, or None if none is known."""
+        """Returns a server value with this code, or None if none is known."""
         raise NotImplementedError
 
     def encoded(self, text: str) -> str:
-        """What is printed for a value of the server, given as the server writes it."""
+        """Returns what is printed for a value, given in the server's text form."""
         value = server_types.value_of(self.subject.type, text)
         (low, _), = self.ranges_of("=", value)
         return self.literal(low)
 
     def constant(self, code: int) -> str:
-        """The value of a code as a constant of SQL."""
+        """Returns the value of a code as an SQL constant."""
         return server_types.literal(self.subject.type, self.value(code))
 
 
 class Steps(Coding):
-    """Values that are the whole multiples of a unit, with one code past each end for what is infinite.
+    """Values that are integer multiples of a unit, with one code beyond each end for infinite values.
 
-    A number need not be a multiple: values below it are those whose multiple is below the number in units.
+    A compared number need not be a multiple: the values below it are those whose multiple is below the number in units.
     """
 
     def __init__(self, subject: Subject, printed_type: str, low: int, high: int, unit: int | Fraction = 1,
@@ -90,7 +90,7 @@ class Steps(Coding):
         return self.past(op, point, last)
 
     def past(self, op: str, point: Point, last: int) -> Ranges:
-        """A point above all finite ones: the value past the end is this point, or a greater or a lesser one."""
+        """A point above all finite ones: the value beyond the end is this point, or a greater or a lesser one."""
         if op == "=":
             return ((self.high, self.high),) if self.above == point else ()
         if self.above is None:
@@ -117,7 +117,7 @@ class Integers(Steps):
 
 
 class Signs(Coding):
-    """How two subjects compare."""
+    """The result of comparing two subjects."""
 
     def __init__(self, subject: Subject) -> None:
         super().__init__(subject, "smallint", -1, 1)
@@ -136,7 +136,7 @@ class Signs(Coding):
 
 
 class Bits(Coding):
-    """A run of bits of a column as a number, which is scaled where it is written as SQL: the mask leaves it there."""
+    """A run of bits of a column as a number. In SQL it is scaled, since the mask leaves the bits in their places."""
 
     def __init__(self, subject: Subject) -> None:
         super().__init__(subject, "integer" if subject.modifier < 32 else "bigint", 0, 2**subject.modifier - 1)
@@ -155,7 +155,7 @@ class Bits(Coding):
 
 
 class Remainders(Coding):
-    """A column of integers of which only the remainder by a modulus matters. It is null where the column is."""
+    """An integer column of which only the remainder by a modulus matters. It is NULL exactly if the column is."""
 
     is_tight = True
     modulus: int
@@ -166,8 +166,8 @@ class Remainders(Coding):
         self.modulus = modulus
 
     def lifted(self, modulus: int, found: Ranges) -> Ranges:
-        """Ranges of remainders by a divisor of this modulus, as ranges of remainders by this one: where n divides m,
-        c % n is (c % m) % n."""
+        """Converts ranges of remainders by a divisor of this modulus to ranges of remainders by this modulus: if n
+        divides m, c % n is (c % m) % n."""
         if modulus == self.modulus:
             return ranges.intersection(found, self.full)
         wanted = set(ranges.numbers_of(found))
@@ -222,10 +222,10 @@ class Nulls(Coding):
 
 
 class Labels(Coding):
-    """Values that are only tested for equality, as texts: one code for each constant, and one for all other values.
+    """Values that are only compared for equality, as texts: one code for each constant, and one for all other values.
 
-    A constant that no value of the type can be, as it is too long for it or ends with blanks that the type drops, has
-    none.
+    A constant has no code if no value of the type can equal it, because it is too long or ends with blanks that the
+    type drops.
     """
 
     def __init__(self, subject: Subject, constants: Iterable[Any]) -> None:
@@ -257,7 +257,7 @@ class Labels(Coding):
         return next(it for it in self.others() if it not in self.words)
 
     def others(self) -> Iterator[str]:
-        """Plain values of the type, the simplest first."""
+        """Yields plain values of the type, the simplest first."""
         type = self.subject.type
         for number in range(len(self.words) + 1):
             match type:
@@ -306,10 +306,11 @@ class Enumerated(Coding):
 
 
 class Ranks(Coding):
-    """Values of a type whose order is dense: each constant has a code, and so has what is between two neighbours.
+    """Values of a type with a dense order: each constant has a code, and so does each gap between two neighboring
+    constants.
 
-    The order decides each comparison, so values between the same neighbours are told apart by none. If there is no
-    value between two neighbours, or past the first or the last, there is no code.
+    The order decides each comparison, so values between the same neighbors are never distinguished. If there is no
+    value between two neighbors, or beyond the first or the last constant, there is no code.
     """
 
     def __init__(self, subject: Subject, constants: list[Any]) -> None:
@@ -344,7 +345,8 @@ class Ranks(Coding):
         return ranges.normal([(self.low, code if op == "<=" else code - 1)])
 
     def place(self, code: int) -> tuple[int, bool]:
-        """The place of a code's constant, or of the last constant below it, and whether it is that constant."""
+        """Returns the index of a code's constant, or of the last constant below it, and whether the code is that
+        constant."""
         place = sum(it <= code for it in self.codes) - 1
         return place, place >= 0 and self.codes[place] == code
 
@@ -357,7 +359,7 @@ class Ranks(Coding):
         return self.between(low, high)
 
     def between(self, low: Any, high: Any) -> Any:
-        """A plain value between two neighbours, one of which may be None. The least text is the empty one."""
+        """Returns a plain value between two neighbors, one of which may be None. The least text is the empty one."""
         if isinstance(low if low is not None else high, str):
             return "" if low is None else self.text_above(low)
         if low is None or low == LEAST:
@@ -369,8 +371,8 @@ class Ranks(Coding):
         return Point(0, Fraction(math.floor(middle))) if is_whole else Point(0, middle)
 
     def text_above(self, low: str) -> str:
-        """A longer text that begins with this one is above it; so is one with a later last letter, if there is no room
-        for a longer one. A char drops blanks at its end."""
+        """Returns a text above this one: a longer text that begins with it, or, if there is no room, one with a later
+        last letter. A char drops trailing blanks."""
         limit = server_types.length_limit(self.subject.type, self.subject.modifier)
         if limit is not None and len(low) >= limit:
             return low[:limit - 1] + chr(ord(low[limit - 1]) + 1)

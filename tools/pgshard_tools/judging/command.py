@@ -1,4 +1,4 @@
-"""The command line of tools/judge, and what it does."""
+"""The command line of tools/judge."""
 
 import contextlib
 import io
@@ -61,17 +61,17 @@ def run(words: Sequence[str]) -> int:
         sys.stdout.flush()
         return SOUND
     except BrokenPipeError:
-        # Nothing more can be written, and Python would say so once more at its end.
+        # Nothing more can be written, and Python would report that again when it exits.
         os.dup2(os.open(os.devnull, os.O_WRONLY), sys.stdout.fileno())
         print("judge: the output was closed", file=sys.stderr)
         return NO_OUTPUT
 
 
 def ended(fault: Fault, words: Sequence[str], options: Options | None) -> int:
-    """Reports why there is no judgement. The form of the report is found in the arguments, even if they are not
-    understood."""
+    """Reports why there is no judgment. The requested form of the report is looked up in the arguments even if they are
+    invalid."""
     if options is not None and options.prometheus is not None:
-        # A file that cannot be written is what the first fault may be of.
+        # The first fault may be that this file cannot be written.
         with contextlib.suppress(Fault):
             monitoring.write_metrics(options.prometheus, monitoring.run_metrics(fault.status))
     if "--nagios" in words:
@@ -102,7 +102,7 @@ def judge(options: Options) -> int:
 
 
 def judge_database(options: Options) -> int:
-    """Judges a database as it is, or as it would be."""
+    """Judges a database as it is, or as it would be after a migration."""
     if options.keep and not options.repair:
         raise Fault(BAD_COMMAND, "--keep needs --repair")
     if options.repair and (options.nagios or options.prometheus is not None):
@@ -114,7 +114,7 @@ def judge_database(options: Options) -> int:
 
 
 def file_of(options: Options) -> str | None:
-    """The file to be judged, if any: a single argument that is neither an option nor a connection string."""
+    """Returns the file to be judged, if any: a single argument that is neither an option nor a connection string."""
     if len(options.names) != 1:
         return None
     word = options.names[0]

@@ -1,4 +1,4 @@
-"""Comparisons between operands, as formulas. Each function says why its result is exact."""
+"""Comparisons between operands, as formulas. Each function explains why its result is exact."""
 
 from fractions import Fraction
 from typing import Callable, Sequence, TypeAlias
@@ -27,18 +27,18 @@ from pgshard_tools.judging.server_types import LABELS, collation_sql, family, is
 
 TURNED = {"=": "=", "<>": "<>", "<": ">", "<=": ">=", ">": "<", ">=": "<="}
 UNKNOWN = Const(None)
-# The formula of `subject IS NULL`.
+# Returns the formula of `subject IS NULL`.
 NullOf: TypeAlias = Callable[[Subject], Formula]
 
 
 def comparison(form: str, op: str, one: Operand, other: Operand, null_of: NullOf) -> Formula:
-    """`one op other`, by the kinds of its sides. A constant is moved to the right."""
+    """Returns `one op other`, depending on the kinds of its sides. A constant is moved to the right."""
     if isinstance(one, Extreme):
         return of_extreme(form, op, one, other, null_of)
     if isinstance(other, Extreme):
         return of_extreme(form, TURNED[op], other, one, null_of)
     if isinstance(one, Choice):
-        # A CASE, or what is one, has the value of one branch, so the comparison is made in each branch.
+        # A CASE or a similar expression has the value of one branch, so the comparison is made in each branch.
         return chosen(
             one.condition, comparison(form, op, one.one, other, null_of),
             comparison(form, op, one.other, other, null_of))
@@ -57,23 +57,23 @@ def comparison(form: str, op: str, one: Operand, other: Operand, null_of: NullOf
 
 
 def as_ref(operand: Operand) -> Ref | None:
-    """An operand that is compared with something other than a constant: a result of arithmetic gets a column of its
-    own."""
+    """Returns an operand that can be compared with something other than a constant. A result of arithmetic gets a
+    column of its own."""
     if isinstance(operand, Derived):
         return operand.ref
     return opaque_of(operand) if isinstance(operand, Whole) else operand if isinstance(operand, Ref) else None
 
 
 def opaque_of(whole: Whole) -> Ref:
-    """A result of arithmetic as a column of its own, which is NULL exactly where its column is."""
+    """Returns a result of arithmetic as a column of its own, which is NULL exactly if its column is."""
     subject = whole.subject
     return Ref(Subject(sql=f"({whole.sql})", type=whole.type, columns=subject.columns, is_strict=subject.is_strict,
                        is_total=subject.is_total), whole.type)
 
 
 def of_extreme(form: str, op: str, extreme: Extreme, other: Operand, null_of: NullOf) -> Formula:
-    """The greatest of some operands is less exactly if all that are not NULL are less, and is NULL if all are NULL. The
-    least is less if one of them is."""
+    """GREATEST is less exactly if all operands that are not NULL are less, and NULL if all are NULL. LEAST is less if
+    one of them is."""
     if op in (">", ">=", "<>"):
         return negation(of_extreme(form, {">": "<=", ">=": "<", "<>": "="}[op], extreme, other, null_of))
     if op == "=":
@@ -83,7 +83,7 @@ def of_extreme(form: str, op: str, extreme: Extreme, other: Operand, null_of: Nu
     is_all_null = is_null(extreme.parts[-1], null_of)
     for part in reversed(extreme.parts[:-1]):
         its, is_part_null = of_known(form, op, part, other, null_of), is_null(part, null_of)
-        # Of NULL and another operand, that other one is the greatest and the least.
+        # The greatest and the least of NULL and another operand is the other one.
         joint = both(its, found) if extreme.is_greatest else either(its, found)
         found = chosen(is_part_null, found, chosen(is_all_null, its, joint))
         is_all_null = both(is_part_null, is_all_null)
@@ -95,9 +95,8 @@ def of_known(form: str, op: str, part: Operand, other: Operand, null_of: NullOf)
 
 
 def rows(form: str, op: str, pairs: Sequence[tuple[Operand, Operand]], null_of: NullOf) -> Formula:
-    """The order of two rows goes by their first pair that is not equal, and is NULL where that pair has a NULL: (a, b)
-    <
-    (c, d) is a < c OR (a = c AND b < d), which is NULL just then, too."""
+    """The order of two rows is decided by their first unequal pair, and is NULL if that pair contains a NULL: (a, b) <
+    (c, d) is a < c OR (a = c AND b < d), which is NULL in exactly these cases, too."""
     (one, other), *rest = pairs
     if not rest:
         return comparison(form, op, one, other, null_of)
@@ -108,7 +107,7 @@ def rows(form: str, op: str, pairs: Sequence[tuple[Operand, Operand]], null_of: 
 
 
 def truths(form: str, op: str, one: Operand, other: Operand) -> Formula:
-    """`=` and `<>` between conditions: NULL where one of them is. A constant may be one of the two."""
+    """`=` and `<>` between conditions: NULL if one of them is. One of the two may be a constant."""
     if op in ("<", "<=", ">", ">="):
         return order_of_truths(form, op, one, other)
     sides = []
@@ -125,19 +124,19 @@ def truths(form: str, op: str, one: Operand, other: Operand) -> Formula:
 
 
 def order_of_truths(form: str, op: str, one: Operand, other: Operand) -> Formula:
-    """FALSE is less than TRUE. So a <= b is NOT a OR b, but NULL where one of them is."""
+    """FALSE is less than TRUE. So a <= b is NOT a OR b, but NULL if one of them is."""
     if op in (">", ">="):
         return order_of_truths(form, TURNED[op], other, one)
     equal = truths(form, "=", one, other)
     less = both(negation(truths(form, "=", one, Value("bool", True))), truths(form, "=", other, Value("bool", True)))
-    # Where one of the two is NULL, so is the equality of both.
+    # If one of the two is NULL, so is their equality.
     is_known = negation(tested("UNKNOWN", equal))
     found = less if op == "<" else either(less, equal)
     return either(both(is_known, found), both(negation(is_known), UNKNOWN))
 
 
 def with_constant(form: str, op: str, operand: Operand, constant: Value) -> Formula:
-    """A comparison with NULL is NULL. Any other depends on the kind of the left side."""
+    """A comparison with NULL is NULL. Any other one depends on the kind of the left side."""
     if constant.value is None:
         return UNKNOWN
     if isinstance(operand, Value):
@@ -154,7 +153,7 @@ def with_constant(form: str, op: str, operand: Operand, constant: Value) -> Form
 
 
 def of_derived(form: str, op: str, operand: Derived, constant: Value) -> Formula:
-    """The comparison as the function defines it, or otherwise a comparison of the column that the function gets."""
+    """Returns the comparison as the function defines it, or otherwise a comparison of the function's own column."""
     if op in (">", ">=", "<>"):
         return negation(of_derived(form, {">": "<=", ">=": "<", "<>": "="}[op], operand, constant))
     found = operand.means(operand.ref, op, constant)
@@ -176,7 +175,8 @@ def of_constants(form: str, op: str, one: Value, other: Value) -> Formula:
 
 
 def of_whole(form: str, op: str, whole: Whole, constant: Value) -> Formula:
-    """A result of arithmetic: which numbers of the column have a result in the ranges that the comparison means."""
+    """A result of arithmetic: determines for which numbers of the column the result is in the ranges that the
+    comparison means."""
     point = constant.value
     if not isinstance(point, points.Point):
         raise Unread(form)
@@ -194,7 +194,7 @@ def of_whole(form: str, op: str, whole: Whole, constant: Value) -> Formula:
 
 def of_day(op: str, subject: Subject, constant: Value) -> Formula:
     """The date of a timestamp. It is before a date exactly if the timestamp is before that date's midnight, and after
-    it if the timestamp is not before the next midnight; infinities are dates, too."""
+    it exactly if the timestamp is not before the next midnight. This includes infinite dates."""
     if constant.type != "date":
         raise Unread(f"({subject.sql})::date compared with {constant.type}")
     point = constant.value
@@ -234,8 +234,8 @@ def of_subject(form: str, op: str, operand: Ref, constant: Value) -> Formula:
 
 
 def midnight_of(day: Point) -> Point:
-    """A date as it is compared with timestamps. A date that is too late to be a timestamp is above all finite ones,
-    also above the last one, which is its midnight."""
+    """Returns a date as it is compared with timestamps. A date that is too late for a timestamp is above all finite
+    timestamps, including the last one, which is its midnight."""
     if not day.is_finite:
         return day
     midnight = day.value * points.DAY
@@ -243,16 +243,16 @@ def midnight_of(day: Point) -> Point:
 
 
 def of_date_and_time(op: str, subject: Subject, point: Point) -> Formula:
-    """A date and a timestamp: the date counts as its midnight. So it is before the timestamp exactly where its day is
-    below the timestamp's time in days, which need not be whole. The last timestamp is below the date of its own day."""
+    """A date and a timestamp: the date counts as its midnight. So it is before the timestamp exactly if its day is
+    below the timestamp in days, which need not be whole. The last timestamp is below the date of its own day."""
     if not point.is_finite:
         return compared(subject, op, point)
     return compared(subject, op, finite(min(point.value, Fraction(points.LAST_READ)) / points.DAY))
 
 
 def of_two(form: str, op: str, one: Ref, other: Ref) -> Formula:
-    """Two columns. Their comparison gets a column of its own with -1, 0 or 1, as the left one is less than the right
-    one, equal to it, or greater: the order of a type is total, so one of the three holds where neither is NULL."""
+    """Two columns. Their comparison gets a column of its own: -1, 0 or 1 if the left one is less than the right one,
+    equal to it, or greater. The order of a type is total, so one of the three holds if neither is NULL."""
     if one.subject == other.subject:
         return of_itself(op, one.subject)
     if family(one.type) != family(other.type) and {one.type, other.type} != {"date", "timestamp"}:
@@ -272,7 +272,7 @@ def of_itself(op: str, subject: Subject) -> Formula:
 
 def sign_of(one: Ref, other: Ref) -> Subject:
     a, b = one.subject, other.subject
-    # Another order is another question.
+    # Under another collation, the comparison is a different one.
     is_own = a.collation is None or a.collation == a.own_collation == b.own_collation
     order = "" if a.collation is None or is_own else f" COLLATE {collation_sql(a.collation)}"
     return Subject(
@@ -284,7 +284,7 @@ def sign_of(one: Ref, other: Ref) -> Subject:
 
 
 def is_null(operand: Operand, null_of: NullOf) -> Formula:
-    """`operand IS NULL`; null_of gives the formula for a subject."""
+    """Returns `operand IS NULL`; null_of gives the formula for a subject."""
     match operand:
         case Value():
             return Const(operand.value is None)
@@ -302,7 +302,7 @@ def is_null(operand: Operand, null_of: NullOf) -> Formula:
 
 
 def distinct(form: str, one: Operand, other: Operand, null_of: NullOf) -> Formula:
-    """IS DISTINCT FROM: TRUE if exactly one side is NULL, or neither is and they differ. It is never NULL."""
+    """IS DISTINCT FROM: TRUE if exactly one side is NULL, or if neither is and they differ. It is never NULL."""
     if isinstance(one, Truth) and isinstance(other, Truth):
         return unlike_truth(one.formula, other.formula)
     if isinstance(one, Value):

@@ -1,4 +1,4 @@
-"""Constants as the server writes them, and casts of constants that change nothing."""
+"""Constants as the server prints them, and casts of constants that change nothing."""
 
 import re
 from typing import Any
@@ -24,19 +24,19 @@ SAME_VALUE = {
     "inet": {"inet"},
 }
 TEXTS = ("text", "varchar", "bpchar")
-# Without quotes these names are those of other types: bit(1), and character(1).
+# Without quotes, these names denote other types: bit(1), and character(1).
 QUOTED = ("bit", "char")
 NUMBER = re.compile(r"-?\d+")
 
 
 def as_value(operand: Operand) -> Operand:
-    """A constant condition as a constant."""
+    """Returns a constant condition as a constant."""
     is_constant = isinstance(operand, Truth) and isinstance(operand.formula, Const)
     return Value("bool", operand.formula.value) if is_constant else operand  # type: ignore[union-attr]
 
 
 def number(text: str) -> Value:
-    """A number without a type: an int4 if it fits, and otherwise an int8 or a numeric."""
+    """Returns a number without a type: an int4 if it fits, and otherwise an int8 or a numeric."""
     point = server_types.value_of("numeric", text)
     if NUMBER.fullmatch(text):
         for type in ("int4", "int8"):
@@ -46,7 +46,7 @@ def number(text: str) -> Value:
 
 
 def typed(type: str, text: str | None, is_enum: bool) -> Operand:
-    """A constant of a type, by its text."""
+    """Returns a constant of a type, given its text."""
     if text is None:
         return Value(type, None)
     if type == "bool":
@@ -55,7 +55,7 @@ def typed(type: str, text: str | None, is_enum: bool) -> Operand:
 
 
 def cast_value(form: str, type: str, operand: Value) -> Value:
-    """A constant as one of another type, if that changes nothing."""
+    """Returns a constant as one of another type, if that changes nothing."""
     if operand.value is None:
         return Value(type, None)
     if operand.type in INTEGERS and type in INTEGERS:
@@ -72,14 +72,14 @@ def cast_value(form: str, type: str, operand: Value) -> Value:
 
 
 def text_of(part: Value) -> str:
-    """A constant as parser.faithful writes it."""
+    """Returns a constant as parser.faithful writes it."""
     text = server_types.literal(part.type, part.value)
     type = f'"{part.type}"' if part.type in QUOTED else part.type
     return text if part.type in INTEGERS or part.type == "text" else f"CAST({text} AS {type})"
 
 
 def array_parts(text: str) -> list[str | None] | None:
-    """The elements of an array's text, with None for NULL; or None if the text is not a plain list."""
+    """Returns the elements of an array's text, with None for NULL; or None if the text is not a plain list."""
     if not (text.startswith("{") and text.endswith("}")) or "{" in text[1:]:
         return None
     parts: list[str | None] = []
@@ -92,7 +92,7 @@ def array_parts(text: str) -> list[str | None] | None:
 
 
 def array_part(inner: str, at: int) -> tuple[str, int, bool]:
-    """The element at a place, where it ends, and whether it has quotes."""
+    """Returns the element at a place, where it ends, and whether it is quoted."""
     if inner[at] != '"':
         end = inner.find(",", at)
         end = len(inner) if end < 0 else end

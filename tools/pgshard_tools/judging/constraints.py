@@ -1,5 +1,4 @@
-"""What the server enforces for each row of a table: validated CHECKs, and the bounds of a partition, or of one of
-several.
+"""What the server enforces for each row of a table: validated CHECKs, and the bounds of one or several partitions.
 
 Each is a condition in SQL, and refuses a row for which it is FALSE.
 """
@@ -14,8 +13,8 @@ BOUNDS, BOUNDS_OF_ALL = "the bounds of the partition", "the bounds of the partit
 
 
 def constraint_texts(shares: Shares) -> Iterator[tuple[str, str]]:
-    """The constraints by name. The server does not enforce those of a foreign table, and its bounds only for rows that
-    arrive through a table above it."""
+    """Yields the constraints by name. The server does not enforce those of a foreign table, and its bounds only for
+    rows that are routed through a table above it."""
     table = shares.table
     for name, text in checks_of(table).items() if table["kind"] != "f" else ():
         yield f"CHECK {name}", text
@@ -27,7 +26,7 @@ def constraint_texts(shares: Shares) -> Iterator[tuple[str, str]]:
 
 
 def is_open(shares: Shares, leaf: Table) -> bool:
-    """Whether a partition takes each row of its table, as a DEFAULT one without others does."""
+    """Returns whether a partition accepts each row of its table, as a DEFAULT partition without others does."""
     return not (leaf["partition"] or leaf_checks(shares, leaf) or leaf_columns(shares, leaf))
 
 
@@ -37,7 +36,8 @@ def bounds_of(leaf: Table) -> str:
 
 
 def leaf_text(shares: Shares, leaf: Table) -> str:
-    """The condition that a row may be in a partition, without its CHECKs that call functions of the database's own."""
+    """Returns the condition that a row may be in a partition, without its CHECKs that call functions of the
+    database."""
     asked = [it for it in leaf_checks(shares, leaf) if is_of_server(it, [leaf])]
     parts = [f"({bounds_of(leaf)})", *(f"(({it}) IS NOT FALSE)" for it in asked),
              *(f"({it} IS NOT NULL)" for it in leaf_columns(shares, leaf))]
@@ -45,30 +45,31 @@ def leaf_text(shares: Shares, leaf: Table) -> str:
 
 
 def is_of_server(text: str, tables: Sequence[Table]) -> bool:
-    """Whether a constraint of some tables calls only the server's own functions and operators. IS DISTINCT FROM, NULLIF
-    and CASE name no operator in the text; the server says for each CHECK whether it calls others."""
+    """Returns whether a constraint of some tables calls only the server's own functions and operators. The texts of IS
+    DISTINCT FROM, NULLIF and CASE name no operator; for each CHECK, the server says whether it calls others."""
     are_own = (it["is_own"] for table in tables for it in table["checks"] if it["text"] == text)
     return all(are_own) and is_built_in(text)
 
 
 def leaf_checks(shares: Shares, leaf: Table) -> list[str]:
-    """The CHECKs that a partition has in addition to those of its table."""
+    """Returns the CHECKs that a partition has in addition to those of its table."""
     own = set(checks_of(shares.table).values())
     return [it for it in checks_of(leaf).values() if it not in own]
 
 
 def leaf_columns(shares: Shares, leaf: Table) -> list[str]:
-    """The columns that are NOT NULL only in a partition, as written."""
+    """Returns the columns that are NOT NULL only in a partition, as written."""
     own = {it["name"] for it in shares.table["columns"] if it["not_null"]}
     return [it["quoted"] for it in leaf["columns"] if it["not_null"] and it["name"] not in own]
 
 
 def unvalidated_checks(shares: Shares) -> dict[str, str]:
-    """The CHECKs that are NOT VALID, by name: older rows need not meet them, but the server refuses new rows."""
+    """Returns the CHECKs that are NOT VALID, by name: older rows need not satisfy them, but the server refuses new rows
+    that do not."""
     tables = [it for it in (shares.table, *shares.leaves) if it["kind"] != "f"]
     return {check["name"]: check["text"] for it in tables for check in it["checks"] if not check["is_valid"]}
 
 
 def checks_of(table: Table) -> dict[str, str]:
-    """The validated CHECKs of a table by their names."""
+    """Returns the validated CHECKs of a table by name."""
     return {it["name"]: it["text"] for it in table["checks"] if it["is_valid"]}

@@ -1,4 +1,4 @@
-"""Operands as others: lists by their texts, conditions as values, and texts in the order of a collation."""
+"""Conversions of operands: lists from their texts, conditions to values, and texts to the order of a collation."""
 
 from dataclasses import replace
 from typing import Any
@@ -15,14 +15,14 @@ SORTED = ORDERED | LABELS | {"bool", "jsonb", "timetz", "money", "bit", "varbit"
 
 
 def is_sorted(operand: Operand) -> bool:
-    """Whether the server can find the greatest of such operands, since their type has an order."""
+    """Returns whether the server can find the greatest of such operands, that is, whether their type has an order."""
     if isinstance(operand, Ref):
         return operand.type in SORTED or bool(operand.subject.labels)
     return isinstance(operand, (Whole, Derived, Value))
 
 
 def listed(node: Any, type: str, text: str | None, is_enum: bool) -> Array:
-    """A list by its text."""
+    """Returns a list, given its text."""
     parts = array_parts(text) if text is not None else None
     if parts is None:
         raise Unread(written(node), "write the list with IN")
@@ -30,19 +30,19 @@ def listed(node: Any, type: str, text: str | None, is_enum: bool) -> Array:
 
 
 def text_in(node: Any) -> str | None:
-    """The text of a constant that is written with its type."""
+    """Returns the text of a constant that is written with its type."""
     constant = node.arg if kind_of(node) == "TypeCast" else None
     is_text = kind_of(constant) == "A_Const" and not constant.isnull and kind_of(constant.val) == "String"
     return constant.val.sval if is_text and constant is not None else None
 
 
 def of_type(subject: Subject) -> Operand:
-    """A subject as an operand; a subject with truth values is a condition."""
+    """Returns a subject as an operand. A boolean subject is a condition."""
     return Truth(Compare(subject, "=", True)) if subject.type == "bool" else Ref(subject, subject.type)
 
 
 def collated(operand: Operand, collation: str) -> Operand:
-    """An operand whose texts are ordered as the server compares them there."""
+    """Returns an operand whose texts are ordered as the server compares them in this context."""
     match operand:
         case Ref(subject=subject) if subject.collation is not None:
             return replace(operand, subject=replace(subject, collation=collation))
@@ -64,7 +64,7 @@ def truth_of(operand: Operand) -> Formula:
 
 
 def cast_truth(form: str, type: str, operand: Truth) -> Operand:
-    """A condition as a truth value, or as 1 and 0; NULL where it is NULL."""
+    """Returns a condition as a boolean, or as 1 and 0. It is NULL if the condition is."""
     if type == "bool":
         return operand
     if type == "int4":

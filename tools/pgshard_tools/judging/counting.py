@@ -1,4 +1,5 @@
-"""How many rows of a table go to nobody or to several now: the server evaluates the filters on its rows itself."""
+"""Counts how many present rows of a table go to nobody or to several. The server itself evaluates the filters on its
+rows."""
 
 import json
 from collections.abc import Iterable, Sequence
@@ -27,8 +28,8 @@ class Key:
 
 @dataclass
 class Counts:
-    """What the server counted, or why it did not. `each` is how many rows each subscriber gets, `where` how many rows
-    meet each condition, and `lacking` how many rows each subscriber lacks, if it is to get all."""
+    """What the server counted, or why it did not. `each` is how many rows each subscriber gets, `where` is how many
+    rows satisfy each condition, and `lacking` is how many rows each subscriber lacks if it should get all."""
 
     rows: int = 0
     nobody: int = 0
@@ -45,7 +46,7 @@ def counts_of(session: Session, shares: Shares, conditions: Sequence[str], purpo
     """Asks the server in one query, which only reads the table."""
     question = Question(shares, list(dict.fromkeys(conditions)), purpose, rows)
     timeout = f"SET LOCAL statement_timeout = '{max(1, int(seconds * 1000))}ms'"
-    # Policies would hide rows from the count; the server then says so instead.
+    # Row security policies would hide rows from the count; with this setting, the server reports an error instead.
     answer = session.ask_for(1, f"{timeout}; SET LOCAL row_security = off; {question.text()};\n{TOLD}")
     found, _, told = answer.rpartition("\n")
     error, state, message = (*told.split(maxsplit=2), "", "")[:3]
@@ -57,7 +58,7 @@ def counts_of(session: Session, shares: Shares, conditions: Sequence[str], purpo
 
 
 def advice(state: str) -> str:
-    """What to do if the server does not count."""
+    """Returns what to do if the server does not count."""
     if state == "42501":
         return "try it as a role that may read all rows of the table"
     return "a filter that fails at a row stops the replication there" if state.startswith("22") else "try it again"
@@ -65,7 +66,7 @@ def advice(state: str) -> str:
 
 @dataclass
 class Question:
-    """What is asked of a table."""
+    """The query about a table."""
 
     shares: Shares
     conditions: Sequence[str]
@@ -73,7 +74,7 @@ class Question:
     rows: int
 
     def text(self) -> str:
-        """The query, whose answer is one JSON object."""
+        """Returns the query, whose answer is one JSON object."""
         each = counted(self.takers().values())
         where = counted(map(condition_text, self.conditions))
         parts = {
@@ -87,7 +88,7 @@ class Question:
         return f"SELECT json_build_object({listed}) FROM ({self.source()}) AS {TABLE}"
 
     def keys_text(self) -> str:
-        """Some of the rows that show a fault, by their keys."""
+        """Returns a query for the keys of some rows that show a fault."""
         takers = ", ".join(self.takers().values())
         keys = ", ".join(f"{quoted(name)}, ({text})::text" for name, text in self.key().items())
         one = f"SELECT json_build_array(json_build_object({keys}), ARRAY[{takers}]::boolean[]) AS one"
@@ -97,14 +98,15 @@ class Question:
         return f"SELECT json_agg(one) FROM ({listed}) AS keys"
 
     def source(self) -> str:
-        """The table's rows, and how many subscribers take each."""
+        """Returns a query for the table's rows, and how many subscribers take each."""
         table = self.shares.table
         only = "" if table["kind"] == "p" else "ONLY "
         count = " + ".join(f"({it})::integer" for it in self.takers().values()) or "0"
         return f"SELECT {TABLE}.*, tableoid, ctid, {count} AS {COUNT} FROM {only}{table['quoted']} AS {TABLE}"
 
     def takers(self) -> dict[str, str]:
-        """For each subscriber, whether it takes a row. The server sends nothing of some partitions."""
+        """Returns for each subscriber an expression for whether it takes a row. The server sends nothing of some
+        partitions."""
         silent = ", ".join(str(it.table["oid"]) for it in self.shares.silent)
         sent = f"tableoid NOT IN ({silent}) AND " if silent else ""
         return {name: f"({sent}({self.any_filter(names)}))" for name, names in self.shares.takers.items()}
@@ -114,7 +116,7 @@ class Question:
         return "true" if None in texts else " OR ".join(f"({it}) IS TRUE" for it in texts) or "false"
 
     def key(self) -> dict[str, str]:
-        """The columns that identify a row, or otherwise its physical location."""
+        """Returns the columns that identify a row, or otherwise its physical location."""
         table = self.shares.table
         numbers = table.get("key_numbers") or table["identity_numbers"]
         names = names_of(table, numbers) if numbers else []
@@ -122,7 +124,7 @@ class Question:
         return {it: by_name[it] for it in names} or {"tableoid": "tableoid::regclass", "ctid": "ctid"}
 
     def counts(self, answer: dict[str, Any]) -> Counts:
-        """The counts as they are reported."""
+        """Returns the counts as they are reported."""
         names = list(self.shares.takers)
         columns = {it["name"]: it for it in self.shares.table["columns"]}
         keys = [Key({name: constant(columns.get(name), value) for name, value in key.items()},
@@ -134,15 +136,16 @@ class Question:
 
 
 def counted(conditions: Iterable[str]) -> str:
-    """How often each of some conditions is TRUE. An array may have more entries than a call has arguments."""
+    """Returns an expression that counts how often each condition is TRUE. It is an array, since an array may have more
+    elements than a call has arguments."""
     return f"ARRAY[{', '.join(f'count(*) FILTER (WHERE {it})' for it in conditions)}]::bigint[]"
 
 
 def condition_text(condition: str) -> str:
-    """Whether a condition is TRUE for a row."""
+    """Returns an expression for whether a condition is TRUE for a row."""
     return "true" if condition == "all rows" else f"({condition}) IS TRUE"
 
 
 def constant(column: Column | None, value: str | None) -> str:
-    """A value as a constant of SQL."""
+    """Returns a value as an SQL constant."""
     return quoted(value or "") if column is None else values.constant(column, value)

@@ -1,4 +1,4 @@
-"""What a server's catalog says about tables and publications, as psql reads it."""
+"""What a server's catalog says about tables and publications, as read by psql."""
 
 import json
 import os
@@ -10,11 +10,12 @@ from typing import Any
 from pgshard_tools.judging.faults import NO_ANSWER, Fault
 
 FOLDER = os.path.dirname(os.path.realpath(__file__))
-# The versions that are judged, by the rules of the first of them.
+# The versions that are judged, all by the rules of the first of them.
 VERSIONS = range(15, 19)
 OPERATIONS = ["insert", "update", "delete", "truncate"]
 
-# A table, a column of one, a publication, and a table of a publication, each with the keys that reading.sql gives it.
+# A table, a column of a table, a publication, and a publication's entry for a table, each with the keys that
+# reading.sql gives it.
 Table = dict[str, Any]
 Column = dict[str, Any]
 Publication = dict[str, Any]
@@ -23,8 +24,8 @@ Entry = dict[str, Any]
 
 @dataclass
 class Subscriber:
-    """A subscriber, which takes publications. `missing` are those that do not exist, at which the server ends its
-    stream."""
+    """A subscriber, which takes publications. `missing` are those that do not exist, because of which the server ends
+    its stream."""
 
     name: str
     publications: list[str]
@@ -34,7 +35,7 @@ class Subscriber:
 
 
 def run_psql(words: Sequence[str], script: str | None = None, text: str | None = None) -> str:
-    """What psql prints."""
+    """Returns what psql prints."""
     command = ["psql", "-X", *(["-f", script] if script else []), *words]
     try:
         answer = subprocess.run(command, stdout=subprocess.PIPE, input=text, encoding="utf-8", errors="surrogateescape")
@@ -46,7 +47,7 @@ def run_psql(words: Sequence[str], script: str | None = None, text: str | None =
 
 
 def read_database(words: Sequence[str]) -> "Database":
-    """What reading.sql returns for the database that psql's arguments name."""
+    """Returns what reading.sql reads from the database that psql's arguments name."""
     printed = run_psql(words, script=os.path.join(FOLDER, "reading.sql"))
     try:
         found = json.loads(printed)
@@ -59,7 +60,7 @@ def read_database(words: Sequence[str]) -> "Database":
 
 
 def version_text(number: int) -> str:
-    """A version in its usual form."""
+    """Returns a version in its usual form."""
     return f"{number // 10000}.{number % 10000}"
 
 
@@ -78,25 +79,25 @@ class Database:
 
     @property
     def note(self) -> str | None:
-        """The remark that the server is later than the rules by which it is judged."""
+        """Returns the remark that the server is later than the rules by which it is judged."""
         if self.version // 10000 == VERSIONS[0]:
             return None
         return f"the server has version {version_text(self.version)}: judged by the rules of {VERSIONS[0]}"
 
     def has(self, publication: Publication, oid: int) -> bool:
-        """Whether a publication names a table, or its schema."""
+        """Returns whether a publication contains a table by its name or its schema."""
         table = self.by_oid.get(oid)
         is_in_schema = table is not None and table["schema"] in publication["schemas"]
         return is_in_schema or self.entry(publication, oid) is not None
 
     @staticmethod
     def entry(publication: Publication, oid: int) -> Entry | None:
-        """What a publication says about a table that it names."""
+        """Returns a publication's entry for a table that it names."""
         entries: list[Entry] = publication["entries"]
         return next((it for it in entries if it["oid"] == oid), None)
 
     def published_as(self, publication: Publication, table: Table) -> int | None:
-        """The OID of the table in whose name a publication sends the rows of a table that stores rows, or None.
+        """Returns the OID of the table in whose name a publication sends the rows of a table that stores rows, or None.
 
         Rows of a partition are sent as those of the topmost partitioned table above it that the publication contains,
         if it publishes via the root.
@@ -108,11 +109,11 @@ class Database:
         return int(table["oid"]) if is_carried else None
 
     def ancestors_in(self, publication: Publication, table: Table) -> list[int]:
-        """The partitioned tables above a partition that a publication has, the nearest first."""
+        """Returns the partitioned tables above a partition that a publication contains, the nearest first."""
         return [oid for oid in table["ancestors"] if publication["all"] or self.has(publication, oid)]
 
     def filter_of(self, publication: Publication, oid: int) -> str | None:
-        """The filter under which a publication sends rows as those of a table, None if it sends them all."""
+        """Returns the filter under which a publication sends rows as those of a table, or None if it sends them all."""
         if publication["all"] or self.by_oid[oid]["schema"] in publication["schemas"]:
             return None
         entry = self.entry(publication, oid)
@@ -120,11 +121,11 @@ class Database:
 
 
 def full_name(table: Table) -> str:
-    """The name of a table with its schema, both as stored."""
+    """Returns the name of a table with its schema, both as stored."""
     return f"{table['schema']}.{table['name']}"
 
 
 def names_of(table: Table, numbers: Iterable[int]) -> list[str]:
-    """The names of columns by their numbers."""
+    """Returns the names of columns, given their numbers."""
     by_number = {column["number"]: column["name"] for column in table["columns"]}
     return [by_number[it] for it in numbers if it in by_number]

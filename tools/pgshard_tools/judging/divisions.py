@@ -1,5 +1,4 @@
-"""Who gets which rows of a table, sound or not: divides all its rows into pieces, each with the subscribers that get
-it."""
+"""Divides all rows of a table, whether it is sound or not, into pieces, each with the subscribers that get it."""
 
 from collections.abc import Iterator, Sequence
 from dataclasses import dataclass
@@ -12,11 +11,11 @@ from pgshard_tools.judging.formulas import And, Const, Formula, Is, IsNull, Leaf
 from pgshard_tools.judging.printing import Condition
 from pgshard_tools.judging.shares import Takers
 
-# This many regions are looked at of one table.
+# The most regions of a table that are examined.
 MOST_STEPS = 20_000
-# Of more pieces those of the same subscribers are not joined.
+# If there are more pieces, those of the same subscribers are not joined.
 MOST_JOINED = 2_000
-# This many remainders are looked at one by one.
+# The most remainders that are examined one by one.
 MOST_REMAINDERS = 64
 
 # The values that a condition may have in a region.
@@ -34,26 +33,27 @@ class Piece:
 
     @property
     def condition(self) -> str:
-        """The rows as a condition in SQL."""
+        """Returns the rows as a condition in SQL."""
         return explaining.text_of(Region(self.codes, ""))
 
 
 @dataclass
 class Division:
-    """The pieces of a table, and what holds for its rows. If it is not whole, there are more pieces."""
+    """The pieces of a table, and what holds for its rows. If `is_whole` is false, there are more pieces."""
 
     pieces: list[Piece]
     constraints: Sequence[Formula]
     is_whole: bool = True
 
     def allowed(self, codes: Codes) -> Codes | None:
-        """The part of a region that may have rows, by all that is known, or None."""
+        """Returns the part of a region that may contain rows, according to all that is known, or None."""
         walk = Walk(self.constraints)
         found = walk.allowed(codes, self.constraints)
         return codes if walk.steps > MOST_STEPS else found
 
     def parts(self, piece: Piece) -> Iterator[tuple[Codes, Codes]]:
-        """The parts of a piece that may have rows, each with one condition for a column, and where rows may be."""
+        """Yields the parts of a piece that may contain rows, each with one condition per column, and where the rows may
+        be."""
         for codes in plain_parts(piece):
             kept = self.without_remainders_of_none(codes)
             allowed = self.allowed(kept) if kept is not None else None
@@ -61,7 +61,7 @@ class Division:
                 yield kept, allowed
 
     def without_remainders_of_none(self, codes: Codes) -> Codes | None:
-        """A region without the remainders that no row in it has, or None if no row is left."""
+        """Returns a region without the remainders that no row in it has, or None if no row is left."""
         for coded, (found, may_be_null) in codes.items():
             if isinstance(coded, Remainders) and found != coded.full and ranges.size(found) <= MOST_REMAINDERS:
                 kept = [it for it in ranges.numbers_of(found)
@@ -73,7 +73,8 @@ class Division:
 
 
 def divided(trial: Any, takers: Takers) -> Division:
-    """All rows that the constraints may allow. A subscriber gets a row if a filter of its publications is TRUE."""
+    """Returns the division of all rows that the constraints may allow. A subscriber gets a row if a filter of its
+    publications is TRUE."""
     walk = Walk(trial.constraints)
     found = Division([], trial.constraints)
     shares = {name: share_of(trial.filters, names) for name, names in takers.items()}
@@ -85,7 +86,7 @@ def divided(trial: Any, takers: Takers) -> Division:
 
 
 def share_of(filters: dict[str, Any], names: Sequence[str]) -> Formula:
-    """The condition that is TRUE for exactly the rows that a subscriber gets."""
+    """Returns the condition that is TRUE for exactly the rows that a subscriber gets."""
     formulas = [filters[it] for it in names]
     return Const(True) if None in formulas else either(*formulas)
 
@@ -98,7 +99,8 @@ class Walk:
     steps: int = 0
 
     def pieces(self, codes: Codes, shares: dict[str, Formula], takers: tuple[str, ...]) -> Iterator[Piece]:
-        """The pieces of a region for which some takers are known, and for the others their conditions."""
+        """Yields the pieces of a region for which some takers are already known; for the others, their conditions are
+        given."""
         if self.is_over() or any(possible(it, codes) == FALSE for it in self.constraints):
             return
         values = {name: possible(formula, codes) for name, formula in shares.items()}
@@ -113,7 +115,7 @@ class Walk:
             yield Piece(codes, takers)
 
     def allowed(self, codes: Codes, constraints: Sequence[Formula]) -> Codes | None:
-        """The part of a region in which no constraint is FALSE, or None."""
+        """Returns the part of a region in which no constraint is FALSE, or None."""
         values = [possible(it, codes) for it in constraints]
         if self.is_over() or FALSE in values:
             return None
@@ -131,12 +133,12 @@ class Walk:
 
 
 def open_leaves(formula: Formula, codes: Codes) -> Iterator[Leaf]:
-    """The conditions that have several values in a region."""
+    """Yields the conditions that may have several values in a region."""
     return (it for it in leaves_of(formula) if len(possible(it, codes)) > 1)
 
 
 def cuts(codes: Codes, leaf: Leaf) -> Iterator[Codes]:
-    """The parts of a region by the values of a condition."""
+    """Yields the parts of a region in which a condition has one value each."""
     assert isinstance(leaf, (Within, IsNull))
     condition = (Condition("", "", leaf.subject, None) if isinstance(leaf, IsNull)
                  else Condition("", "", leaf.coded, leaf.ranges))
@@ -147,7 +149,7 @@ def cuts(codes: Codes, leaf: Leaf) -> Iterator[Codes]:
 
 
 def possible(part: Formula, codes: Codes) -> Values:
-    """The values that a formula may have in a region: exactly one if each of its conditions has one."""
+    """Returns the values that a formula may have in a region: exactly one if each of its conditions has one."""
     match part:
         case Const():
             return frozenset([part.value])
@@ -168,7 +170,7 @@ def possible(part: Formula, codes: Codes) -> Values:
 
 
 def values_within(part: Within, codes: Codes) -> Values:
-    """Whether a code is in some ranges."""
+    """Returns whether a code is in some ranges."""
     known, may_be_null = codes[getattr(part.coded, "base", part.coded)]
     found = codes[part.coded][0] if known else ()
     inside = ranges.intersection(found, part.ranges)
@@ -183,7 +185,7 @@ def negative(values: Values) -> Values:
 
 
 def any_of(listed: Sequence[Values]) -> Values:
-    """The values of OR, part by part."""
+    """Returns the values of OR, part by part."""
     found: Values = FALSE
     for values in listed:
         found = frozenset(True if True in (a, b) else None if None in (a, b) else False for a in found for b in values)
@@ -206,13 +208,13 @@ def joined(pieces: list[Piece]) -> list[Piece]:
 
 
 def both_of(one: Piece, other: Piece, coded: Coding) -> Piece:
-    """Two pieces that differ in one column."""
+    """Returns the union of two pieces that differ in one column."""
     (a, a_null), (b, b_null) = one.codes[coded], other.codes[coded]
     return Piece(one.codes | {coded: (ranges.union(a, b), a_null or b_null)}, one.takers)
 
 
 def plain_parts(piece: Piece) -> list[Codes]:
-    """A piece in parts, each with one condition for a column: NULL by itself, and each interval by itself."""
+    """Splits a piece into parts with one condition per column: NULL separately, and each interval separately."""
     parts = [piece.codes]
     for coded, (found, may_be_null) in piece.codes.items():
         choices = choices_of(coded, found, may_be_null)
@@ -221,7 +223,7 @@ def plain_parts(piece: Piece) -> list[Codes]:
 
 
 def choices_of(coded: Coding, found: ranges.Ranges, may_be_null: bool) -> list[tuple[ranges.Ranges, bool]]:
-    """The part of a column that a piece has, divided further."""
+    """Splits the part of a column that a piece has."""
     if isinstance(coded, Remainders) or not found or found == coded.full:
         return [(found, may_be_null)]
     nulls: list[tuple[ranges.Ranges, bool]] = [((), True)] if may_be_null else []

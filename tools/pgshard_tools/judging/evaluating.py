@@ -1,5 +1,4 @@
-"""What the server says about rows: whether it accepts them, the values of their generated columns, and who gets
-them."""
+"""Asks the server about rows: whether it accepts them, the values of their generated columns, and who gets them."""
 
 import json
 from collections.abc import Iterator, Sequence
@@ -14,14 +13,14 @@ from pgshard_tools.judging.session import Session
 from pgshard_tools.judging.shares import Takers
 from pgshard_tools.judging.trials import Read
 
-# So often rows are asked of in smaller lots, where the server fails at some of them.
+# How often the server is asked again about smaller batches of rows, because it failed for some of them.
 MOST_QUESTIONS = 40
 NUMBER = '"the row\'s number"'
 
 
 @dataclass
 class Outcome:
-    """What the server does with a row. If it is taken and a filter fails at it, the stream ends there."""
+    """What the server does with a row. If it accepts the row and a filter fails for it, the stream ends there."""
 
     is_accepted: bool = False
     is_failing: bool = False
@@ -41,9 +40,9 @@ class Questions:
 
 
 def confirmed(session: Session, read: Read, takers: Takers, row: Row) -> Confirmed:
-    """Whether the constraints take a row, and which of the takers get it, by the server's own evaluation.
+    """Returns whether the constraints accept a row, and which takers get it, evaluated by the server itself.
 
-    A row counts as refused if the server cannot say, for example because a type or a domain refuses a value, or if a
+    A row counts as refused if the server cannot tell, for example because a type or a domain refuses a value, or if a
     filter or constraint names a generated column whose expression is not read, because the column's value is unknown.
     """
     questions = questions_of(read)
@@ -61,7 +60,7 @@ def confirmed(session: Session, read: Read, takers: Takers, row: Row) -> Confirm
 
 
 def refuses(session: Session, read: Read, row: Row, check: str) -> bool:
-    """Whether a CHECK may refuse a row. Functions of the database's own are never called here."""
+    """Returns whether a CHECK may refuse a row. Functions of the database are never called here."""
     if not is_of_server(check, [read.shares.table, *read.shares.leaves]):
         return True
     questions = Questions(*columns_named(read, [check]), [], {})
@@ -70,26 +69,28 @@ def refuses(session: Session, read: Read, row: Row, check: str) -> bool:
 
 
 def takers_of(takers: Takers, outcome: Outcome) -> list[str]:
-    """The subscribers that get a row."""
+    """Returns the subscribers that get a row."""
     return [name for name, names in takers.items() if outcome.passed & set(names)]
 
 
 def is_value(session: Session, column: Column, literal: str) -> bool:
-    """Whether a type of the database's own accepts a value. A domain may refuse NULL."""
+    """Returns whether a type of the database accepts a value. A domain may refuse NULL."""
     if literal == "DEFAULT" or literal == "NULL" and column["kind"] != "d":
         return True
     return session.ask(f"SELECT ({literal})::{column['written']} IS NULL") != ""
 
 
 def questions_of(read: Read) -> Questions:
-    """The filters of the subscribers, the constraints that may be evaluated, and the columns that these name."""
+    """Returns the filters of the subscribers, the constraints that may be evaluated, and the columns that these
+    name."""
     filters = {name: text or "true" for name, text in read.shares.filters.items() if name in read.filters}
     checks = checks_of(read)
     return Questions(*columns_named(read, [*filters.values(), *checks]), checks, filters)
 
 
 def columns_named(read: Read, texts: Sequence[str]) -> tuple[list[Column], list[Column]]:
-    """The columns that expressions name, those that the server computes apart. One that is not read may name each."""
+    """Returns the columns that expressions name, with those that the server computes separately. An expression that is
+    not read may name any column."""
     is_known = all(is_parsed(it) for it in texts)
     named = {name for text in texts for name in columns_of(text)} if is_known else {
         it["name"] for it in read.shares.table["columns"]}
@@ -100,15 +101,15 @@ def columns_named(read: Read, texts: Sequence[str]) -> tuple[list[Column], list[
 
 
 def checks_of(read: Read) -> list[str]:
-    """The constraints that the server is asked to evaluate: not those with functions of the database's own, which are
-    never called here."""
+    """Returns the constraints that the server is asked to evaluate. Those with functions of the database are left out,
+    since these are never called here."""
     texts = dict(constraint_texts(read.shares))
     unread = [it.text for it in read.unread.values() if it.is_built_in]
     return [*(texts[name] for name in read.constraints if name in texts), *unread]
 
 
 def outcomes(session: Session, questions: Questions, listed: Sequence[Row]) -> list[Outcome]:
-    """What the server does with each row. Rows at which it fails are found by bisection."""
+    """Returns what the server does with each row. Rows for which it fails are found by bisection."""
     found = [Outcome() for _ in listed]
     taken = []
     checks = [f"({text}) IS NOT FALSE" for text in [*questions.checks, *lengths_of(questions.computed)]]
@@ -119,7 +120,7 @@ def outcomes(session: Session, questions: Questions, listed: Sequence[Row]) -> l
             found[place].generated = {it["name"]: "NULL" if value is None else str(value) for it, value in computed}
             taken += [place] if not any(value is None and it["not_null"] for it, value in computed) else []
     filters = [f"({text}) IS TRUE" for text in questions.filters.values()]
-    # Of a row that was not asked of, nothing is known.
+    # Nothing is known about a row about which the server was not asked.
     for place in taken:
         found[place].is_accepted = False
     for place, answer in asked(session, questions, listed, taken, filters):
@@ -132,7 +133,7 @@ def outcomes(session: Session, questions: Questions, listed: Sequence[Row]) -> l
 
 
 def lengths_of(computed: Sequence[Column]) -> list[str]:
-    """The condition that a computed text fits its column: only blanks may exceed it."""
+    """Returns the condition that a computed text fits its column: only blanks may exceed it."""
     limits = [(it, length_limit(it["type"], it["modifier"])) for it in computed]
     return [f"rtrim(substr(({it['generation']})::text, {limit + 1}), ' ') = ''"
             for it, limit in limits if limit is not None]
@@ -141,7 +142,7 @@ def lengths_of(computed: Sequence[Column]) -> list[str]:
 def asked(
         session: Session, questions: Questions, listed: Sequence[Row], places: Sequence[int], texts: Sequence[str]
 ) -> Iterator[tuple[int, list[object] | None]]:
-    """What the server answers about some of the rows, or None if it fails at a row. Too many failures end the
+    """Returns the server's answers about some of the rows, or None if it fails for a row. Too many failures end the
     search."""
     lots = [list(places)] if places else []
     while lots and questions.asked < MOST_QUESTIONS:
@@ -157,8 +158,8 @@ def asked(
 
 
 def query_of(questions: Questions, listed: Sequence[Row], texts: Sequence[str]) -> str:
-    """Asks for the values of some expressions on each row. OFFSET keeps the server from computing them of constants, by
-    which it would not come upon what it cannot prepare."""
+    """Returns a query for the values of some expressions for each row. OFFSET keeps the server from inlining the rows
+    as constants, which would hide expressions that it cannot prepare."""
     names = [NUMBER, *(it["quoted"] for it in questions.columns)]
     values = ", ".join(
         f"({', '.join([str(number), *(value_text(it, row[it['name']]) for it in questions.columns)])})"
@@ -169,7 +170,8 @@ def query_of(questions: Questions, listed: Sequence[Row], texts: Sequence[str]) 
 
 
 def value_text(column: Column, literal: str) -> str:
-    """A value of a column. Without parentheses the least number would be cast before its minus."""
+    """Returns a value of a column. Without parentheses, the least number would be cast before its minus sign is
+    applied."""
     collation = f" COLLATE {collation_sql(column['collation'])}" if column["collation"] not in (None, "default") else ""
     value = "NULL" if literal == "DEFAULT" else literal
     return f"({value})::{column['written']}{collation}"

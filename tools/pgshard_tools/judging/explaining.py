@@ -1,4 +1,4 @@
-"""Who gets which rows, by the certificate of a sound table: regions that together are exactly all rows."""
+"""Explains who gets which rows, by the certificate of a sound table: regions that together are exactly all rows."""
 
 from dataclasses import dataclass
 from typing import Any, TypeAlias
@@ -15,14 +15,15 @@ Codes: TypeAlias = dict[Coding, tuple[Ranges, bool]]
 
 @dataclass
 class Region:
-    """For each coding, the ranges of codes, and whether NULL is included. Remainders are NULL where their column is."""
+    """For each coding, the ranges of codes, and whether NULL is included. Remainders are NULL exactly if their column
+    is."""
 
     codes: Codes
     owner: str
 
 
 def regions(verdict: Any) -> list[tuple[str, str]]:
-    """Pairs of a condition in SQL and a subscriber."""
+    """Returns pairs of a condition in SQL and a subscriber."""
     trial, takers = verdict.trial, verdict.takers_of_rows
     if trial is None or verdict.certificate is None:
         return []
@@ -34,8 +35,8 @@ def regions(verdict: Any) -> list[tuple[str, str]]:
 
 
 def guarded_part(verdict: Any) -> str | None:
-    """A part of the filters that no region may contain, since the server fails at it and evaluates it only for some
-    rows."""
+    """Returns a part of the filters that no region may contain, because the server evaluates it only for some rows and
+    may fail for others."""
     codings = verdict.trial.rewritten.codings if verdict.trial is not None else []
     expressions = [it.subject.sql for it in codings if not it.subject.is_column]
     return next((parser.shown(it) for it in verdict.guarded if any(it in text for text in expressions)), None)
@@ -43,7 +44,8 @@ def guarded_part(verdict: Any) -> str | None:
 
 def owners_and_atoms(trial: Any, takers: dict[str, list[str]], purpose: str | None) -> tuple[
         list[str], list[Condition]]:
-    """The subscribers of the catalog in order, and its conditions in the order in which the filters have them."""
+    """Returns the subscribers in the order of the catalog, and the conditions of the catalog in the order of the
+    filters."""
     held = both(*trial.constraints) if trial.constraints else None
     taken = list(dict.fromkeys(name for names in takers.values() for name in names))
     shares = {owner: [filter_text(trial.filters[it], held) for it in names] for owner, names in takers.items() if names}
@@ -58,7 +60,7 @@ def owners_and_atoms(trial: Any, takers: dict[str, list[str]], purpose: str | No
 
 
 def start(trial: Any) -> Codes:
-    """All rows."""
+    """Returns the region of all rows."""
     codes = {coded: (coded.full, not coded.not_null) for coded in trial.rewritten.codings}
     for by_modulus in trial.rewritten.remainders.values():
         codes |= {coded: (coded.full, True) for coded in by_modulus.values()}
@@ -67,7 +69,7 @@ def start(trial: Any) -> Codes:
 
 def walk(nodes: list[str], at: int, atoms: list[Condition], codes: Codes | None, names: list[str],
          found: list[Region]) -> int:
-    """Goes through a certificate's nodes from a place on. Returns where the next one begins."""
+    """Reads a certificate's nodes from a place on. Returns where the next node begins."""
     letter, number = nodes[at], int(nodes[at + 1])
     at += 2
     if letter == "o" and codes is not None:
@@ -80,7 +82,7 @@ def walk(nodes: list[str], at: int, atoms: list[Condition], codes: Codes | None,
 
 
 def cut(codes: Codes, atom: Condition, value: bool | None) -> Codes | None:
-    """What is left of a region where a condition has a value, None if that is no row."""
+    """Returns the part of a region in which a condition has a value, or None if it has no rows."""
     coded = atom.coded
     base = getattr(coded, "base", coded)
     if atom.ranges is None:
@@ -118,7 +120,7 @@ def merged(found: list[Region]) -> list[Region]:
 
 
 def joint(one: Region, other: Region) -> Region | None:
-    """Both regions as one, or None."""
+    """Returns the union of two regions as one region, or None."""
     unlike = [coded for coded in one.codes if one.codes[coded] != other.codes[coded]]
     if one.owner != other.owner or len(unlike) > 1:
         return None
@@ -135,12 +137,12 @@ def text_of(region: Region) -> str:
 
 
 def may_be_null(region: Region, coded: Coding) -> bool:
-    """Whether NULL is in a region. A remainder is NULL where its column is."""
+    """Returns whether NULL is in a region. A remainder is NULL exactly if its column is."""
     return region.codes[getattr(coded, "base", coded)][1]
 
 
 def is_implied(region: Region, coded: Coding) -> bool:
-    """Whether what is known about other columns implies as much about this one."""
+    """Returns whether what is known about other columns implies what the region says about this one."""
     found, with_null = region.codes[coded]
     if isinstance(coded, Remainders):
         low_and_high, _ = region.codes[coded.base]
@@ -148,7 +150,7 @@ def is_implied(region: Region, coded: Coding) -> bool:
         return ranges.intersection(possible, found) == possible
     others = [it for it in region.codes if it is not coded and set(it.subject.columns) & set(coded.subject.columns)]
     if not found:
-        # An expression is NULL, since a column of it is.
+        # An expression is NULL because one of its columns is.
         is_null = any(it.subject.is_column and region.codes[it] == ((), True) for it in others)
         return is_null and not coded.subject.is_column and coded.subject.is_strict
     is_only_not_null = coded.subject.is_column and (found, with_null) == (coded.full, False)
@@ -156,7 +158,7 @@ def is_implied(region: Region, coded: Coding) -> bool:
 
 
 def is_said(region: Region, coded: Coding) -> bool:
-    """Whether the text of a region has a condition that is NULL if this column is."""
+    """Returns whether the text of a region has a condition that is NULL if this column is."""
     if isinstance(coded, Remainders):
         return region.codes[coded][0] != coded.full and not is_implied(region, coded)
     return coded.subject.is_strict and bool(region.codes[coded][0]) and not region.codes[coded][1]

@@ -11,25 +11,25 @@ from pgshard_tools.judging.formulas import Formula, IsNull, Subject, Within, bot
 from pgshard_tools.judging.ranges import Range, Ranges
 from pgshard_tools.judging.rewriting import Rewritten, free_name
 
-# Facts of more pieces of a column than these would only make the filters long.
+# Facts about more pieces of a column than this would only make the filters long.
 MOST_PIECES = 100
 
 
 def facts_of(rewritten: Rewritten, not_null_columns: set[str]) -> list[Formula]:
-    """All facts that connect what is asked about a table's columns."""
+    """Returns all facts that connect a table's columns in the filters."""
     return [*facts_of_remainders(rewritten), *facts_of_bits(rewritten), *facts_of_bounds(rewritten),
             *facts_of_nulls(rewritten, not_null_columns)]
 
 
 def facts_of_bounds(rewritten: Rewritten) -> list[Formula]:
-    """The fact that a function with few results has only these."""
+    """Returns the fact that a function with few results has only these."""
     return [Within(coded, (coded.subject.bounds,)) for coded in rewritten.codings
             if coded.subject.bounds is not None and isinstance(coded, codings.Integers)]
 
 
 def facts_of_remainders(rewritten: Rewritten) -> list[Formula]:
-    """In each piece between the constants that a column is compared with, only some remainders occur: above zero none
-    that is negative, below zero none that is positive, and in a short piece only those of its numbers."""
+    """Returns which remainders occur in each piece between the constants with which a column is compared: above zero no
+    negative ones, below zero no positive ones, and in a short piece only those of its numbers."""
     facts: list[Formula] = []
     for by_modulus in rewritten.remainders.values():
         for coded in dict.fromkeys(by_modulus.values()):
@@ -41,8 +41,8 @@ def facts_of_remainders(rewritten: Rewritten) -> list[Formula]:
 
 
 def facts_of_bits(rewritten: Rewritten) -> list[Formula]:
-    """In each piece between the constants that a column is compared with, or its remainder by a multiple of the bits'
-    power of two, only some bits occur."""
+    """Returns which bits occur in each piece between the constants with which a column is compared, or with which its
+    remainder by a multiple of the bits' power of two is compared."""
     facts: list[Formula] = []
     by_sql = {it.subject.sql: it for it in rewritten.codings}
     for coded in rewritten.codings:
@@ -52,7 +52,7 @@ def facts_of_bits(rewritten: Rewritten) -> list[Formula]:
         base = by_sql.get(coded.subject.sides[0])
         remainders = {
             it for by_modulus in rewritten.remainders.values() for it in by_modulus.values() if it.base is base}
-        # In two's complement numbers of one class by 2^k have the same last k bits.
+        # In two's complement, numbers that are congruent modulo 2^k have the same last k bits.
         others = [it for it in remainders if it.modulus % 2 ** (below + width) == 0]
         for other in [*([base] if isinstance(base, codings.Integers) else []), *others]:
             pieces = pieces_of(rewritten, other)
@@ -63,7 +63,7 @@ def facts_of_bits(rewritten: Rewritten) -> list[Formula]:
 
 
 def pieces_of(rewritten: Rewritten, base: Coding) -> list[Range]:
-    """The column's numbers, divided at the ends of all ranges in formulas."""
+    """Returns the column's numbers, divided at the ends of all ranges in formulas."""
     cuts: set[int] = set()
     for formula in rewritten.formulas:
         for leaf in leaves_of(formula) if formula is not None else ():
@@ -76,7 +76,7 @@ def pieces_of(rewritten: Rewritten, base: Coding) -> list[Range]:
 
 def facts_between(one: Coding, other: Coding, pieces: list[Range],
                   possible: Callable[[int, int], Ranges]) -> list[Formula]:
-    """The fact that if one coding is in some pieces, the other is in what is possible there."""
+    """Returns the fact that if one coding is in some pieces, the other one has a value that is possible there."""
     by_ranges: dict[Ranges, list[Range]] = {}
     for piece in pieces:
         found = possible(*piece)
@@ -87,7 +87,7 @@ def facts_between(one: Coding, other: Coding, pieces: list[Range],
 
 
 def remainders_in(coded: Remainders, low: int, high: int) -> Ranges:
-    """The remainders of the numbers between two ends."""
+    """Returns the remainders of the numbers between two ends."""
     if low < 0 < high:
         return ranges.union(remainders_in(coded, low, 0), remainders_in(coded, 0, high))
     if high - low + 1 >= coded.modulus:
@@ -100,7 +100,7 @@ def remainders_in(coded: Remainders, low: int, high: int) -> Ranges:
 
 
 def wrapped(coded: Remainders, low: int, high: int) -> list[Range]:
-    """Remainders of a short run of numbers that passes a multiple of the modulus."""
+    """Returns the remainders of a short run of numbers that crosses a multiple of the modulus."""
     begin, end = ranges.remainder(low, coded.modulus), ranges.remainder(high, coded.modulus)
     if high > 0:
         return [(begin, coded.modulus - 1), (0, end)]
@@ -108,8 +108,7 @@ def wrapped(coded: Remainders, low: int, high: int) -> list[Range]:
 
 
 def facts_of_nulls(rewritten: Rewritten, not_null_columns: set[str]) -> list[Formula]:
-    """The fact that an expression is NULL if one of its columns is, if it is strict, and only then, if it is also
-    total."""
+    """Returns the fact that a strict expression is NULL if one of its columns is, and only then if it is also total."""
     by_column: dict[str, list[Coding]] = {}
     for coding in rewritten.codings:
         for name in coding.subject.columns:
@@ -133,7 +132,7 @@ def facts_of_nulls(rewritten: Rewritten, not_null_columns: set[str]) -> list[For
 
 
 def column_coding(rewritten: Rewritten, name: str, shared: list[Coding]) -> Coding:
-    """The coding of a column itself, which is made if only expressions over it occur."""
+    """Returns the coding of a column itself, which is created if only expressions of it occur."""
     for coding in [*shared, *rewritten.codings]:
         if coding.subject.is_column and coding.subject.columns == (name,):
             return coding

@@ -1,5 +1,5 @@
-"""Rows at which a filter fails: the server accepts such a row, and then ends the replication of everyone who takes the
-publication."""
+"""Finds rows for which a filter fails: the server accepts such a row, and then ends the replication of every subscriber
+to the publication."""
 
 import itertools
 from dataclasses import replace
@@ -17,16 +17,17 @@ from pgshard_tools.judging.session import Session
 from pgshard_tools.judging.shares import filters_for
 from pgshard_tools.judging.trials import Read
 
-# Operations with filters, beside INSERT.
+# Operations with filters, besides INSERT.
 CHANGES = ("update", "delete")
-# This many rows at the ends of types are tried.
+# The most rows at the limits of types that are tried.
 MOST_CORNERS = 400
 EDGES = {"numeric": ["9e131071", "-9e131071", "0", "1e-16383"], "float8": ["1.7e308", "-1.7e308", "5e-324", "0"],
          "float4": ["3.4e38", "-3.4e38", "1e-45", "0"]}
 
 
 def words_of(db: Database, read: Read, session: Session) -> list[str]:
-    """The messages: rows that stop the replication, and filters for which it is not known whether there are any."""
+    """Returns the messages: rows that stop the replication, and filters for which it is not known whether there are
+    such rows."""
     stopped: dict[str, list[str]] = {}
     unknown: dict[str, bool] = {}
     for name, failures in read.failures.items():
@@ -47,8 +48,8 @@ def words_of(db: Database, read: Read, session: Session) -> list[str]:
 
 
 def unprepared(db: Database, read: Read, session: Session) -> Iterator[str]:
-    """Filters of publications without INSERT that the server cannot even prepare, as it does before it sends the first
-    row. One that publishes INSERT and fails at each row is not read."""
+    """Yields filters of publications without INSERT that the server cannot even prepare, which it does before it sends
+    the first row. A filter of a publication with INSERT that fails for each row is not read."""
     for subscriber, stream in read.shares.streams.items():
         for name in stream:
             text = read.shares.filters[name]
@@ -60,14 +61,14 @@ def unprepared(db: Database, read: Read, session: Session) -> Iterator[str]:
 
 
 def is_prepared(read: Read, text: str, session: Session) -> bool:
-    """Whether the server can evaluate a filter when all columns are NULL."""
+    """Returns whether the server can evaluate a filter when all columns are NULL."""
     questions = evaluating.Questions(*evaluating.columns_named(read, [text]), [], {})
     row = {it["name"]: "NULL" for it in questions.columns}
     return session.ask(evaluating.query_of(questions, [row], [f"({text}) IS TRUE"])) != ""
 
 
 def rows_of(db: Database, read: Read, name: str, failure: Failure, session: Session) -> Iterator[Row]:
-    """Rows that the server accepts and at which it then fails."""
+    """Yields rows that the server accepts and for which it then fails."""
     questions = evaluating.questions_of(read)
     questions.filters = {name: questions.filters[name]}
     listed = list(corners(read, failure) if failure.where is None else found_rows(db, read, name, failure, session))
@@ -77,8 +78,8 @@ def rows_of(db: Database, read: Read, name: str, failure: Failure, session: Sess
 
 
 def trial_of(db: Database, read: Read, name: str, failure: Failure, session: Session) -> trials.Trial | None:
-    """A sharding in which nobody gets the rows at which the filter fails, and one subscriber gets all others: it is
-    sound exactly if there are no such rows."""
+    """Returns a sharding in which nobody gets the rows for which the filter fails, and one subscriber gets all others:
+    it is sound exactly if there are no such rows."""
     if failure.where is None:
         return None
     never = replace(read, filters={name: negation(tested("TRUE", failure.where))})
@@ -100,7 +101,7 @@ def found_rows(db: Database, read: Read, name: str, failure: Failure, session: S
 
 
 def is_nowhere(db: Database, read: Read, name: str, failure: Failure, session: Session) -> bool:
-    """Whether no row that the server accepts makes the filter fail."""
+    """Returns whether the filter fails for no row that the server accepts."""
     if failure.where is None:
         constraints = list(read.constraints.values())
         return failure.is_nowhere(lambda subject: bounding.bounds_of(constraints, subject))
@@ -109,7 +110,7 @@ def is_nowhere(db: Database, read: Read, name: str, failure: Failure, session: S
 
 
 def corners(read: Read, failure: Failure) -> Iterator[Row]:
-    """Rows at the ends of the types, and at the ends of what constraints leave of them."""
+    """Yields rows at the limits of the types, and at the limits of what constraints allow."""
     columns = read.shares.table["columns"]
     plain = {it["name"]: rows.values_of(it, {})[0] for it in columns}
     named = [it for it in columns if it["name"] in failure.columns]

@@ -2,12 +2,12 @@
 
 SOUND, NOT_SOUND, BAD_COMMAND, NOT_READ, NO_ANSWER, NO_PROGRAM, NO_OUTPUT = range(7)
 
-# What a form that was not foreseen may end in.
+# The exceptions in which an unforeseen form may end.
 FAILURES = (ArithmeticError, AttributeError, LookupError, RecursionError, StopIteration, TypeError, ValueError)
 
 
 class Fault(Exception):
-    """An exit status, and the line that is printed."""
+    """An exit status, and the line to print."""
 
     def __init__(self, status: int, words: str) -> None:
         super().__init__(words)
@@ -16,7 +16,7 @@ class Fault(Exception):
 
 
 class Undecided(Exception):
-    """Why nothing is known about one table. The others are judged."""
+    """Why nothing is known about a table. The others are judged."""
 
     def __init__(self, words: str) -> None:
         super().__init__(words)
@@ -24,7 +24,7 @@ class Undecided(Exception):
 
 
 class Unread(Exception):
-    """A form of filter that is not read, and how to write it otherwise, if that is known."""
+    """A form of filter that is not read, and another way to write it, if one is known."""
 
     def __init__(self, form: str, advice: str = "") -> None:
         super().__init__(form)

@@ -1,5 +1,5 @@
-"""The regions of a table that is not sound: rows that reach nobody or several subscribers, each with a row that the
-server accepts."""
+"""Finds the regions of a table that is not sound: rows that reach nobody or several subscribers, each with a row that
+the server accepts."""
 
 import itertools
 from collections.abc import Sequence
@@ -15,21 +15,22 @@ from pgshard_tools.judging.session import Session
 from pgshard_tools.judging.shares import Takers
 from pgshard_tools.judging.trials import Read
 
-# This many regions are listed of a table.
+# The most regions of a table that are listed.
 MOST_LISTED = 200
-# In how many regions rows are looked for, and among how many rows, if the first ones are not in them.
+# In how many regions rows are searched for, and among how many rows, if the first candidates are not in them.
 MOST_SEARCHED = 40
 MOST_TRIED = 1_000
-# This many rows are asked of at once, each with a condition of its own: a call of the server has 100 arguments at most.
+# How many rows are sent in one query, each with a condition of its own: a function call has at most 100 arguments.
 LOT = 80
 MOST_COMBINED = 100_000
 
 
 @dataclass
 class FaultyRegion:
-    """Rows that go to nobody or to several, as a condition in SQL, and one of them, if the server confirms one.
+    """Rows that go to nobody or to several subscribers, as a condition in SQL, and one of them, if the server confirms
+    one.
 
-    Of a table that is to be copied, `lacking` has the subscribers that do not get the rows.
+    If the table is to be copied to all, `lacking` has the subscribers that do not get the rows.
     """
 
     condition: str
@@ -42,7 +43,8 @@ class FaultyRegion:
 
 @dataclass
 class FaultyRegions:
-    """The regions of a table. `more` counts those that are not listed; if not all are counted, `is_whole` is False."""
+    """The regions of a table. `more` counts those that are not listed; if not all have been counted, `is_whole` is
+    False."""
 
     listed: list[FaultyRegion] = field(default_factory=list)
     more: int = 0
@@ -50,7 +52,7 @@ class FaultyRegions:
 
 
 def division_of(db: Database, read: Read, takers: Takers, purpose: str | None, session: Session) -> Division:
-    """Who gets which rows of a table, by all that is known about its rows."""
+    """Returns who gets which rows of a table, according to all that is known about its rows."""
     trial = trials.trial_of(
         db, read, takers, purpose, True, read.constraints | read.samples, session.sorted_texts)
     return divisions.divided(trial, takers)
@@ -58,7 +60,7 @@ def division_of(db: Database, read: Read, takers: Takers, purpose: str | None, s
 
 def faulty_regions(
         division: Division, read: Read, purpose: str | None, session: Session) -> FaultyRegions:
-    """The regions of a division that show a fault, each with a row."""
+    """Returns the regions of a division that show a fault, each with a row."""
     faults = [it for it in division.pieces if is_fault(it.takers, read, purpose)]
     names = read.shares.takers if purpose == "copied" else ()
     found = []
@@ -74,14 +76,14 @@ def faulty_regions(
 
 
 def is_fault(takers: Sequence[str], read: Read, purpose: str | None) -> bool:
-    """Whether rows that go to these subscribers show a fault."""
+    """Returns whether rows that go to these subscribers show a fault."""
     if purpose == "copied":
         return len(takers) < len(read.shares.takers)
     return rows.is_fault(takers, purpose)
 
 
 def in_order(takers: Sequence[str], read: Read) -> list[str]:
-    """Subscribers as they are listed elsewhere."""
+    """Returns subscribers in the order in which they are listed elsewhere."""
     return [it for it in read.shares.takers if it in takers]
 
 
@@ -91,7 +93,7 @@ def condition_of(codes: Codes) -> str:
 
 
 def set_rows(regions: Sequence[FaultyRegion], read: Read, session: Session) -> None:
-    """Finds for each region a row that the server accepts, and sends where the region says."""
+    """Finds for each region a row that the server accepts and sends where the region says."""
     questions = evaluating.questions_of(read)
     tried = [(region, row) for region in regions for row in picking.rows_in(read, region.allowed)]
     confirm(tried, questions, read, session)
@@ -114,7 +116,7 @@ def confirm(tried: Sequence[tuple[FaultyRegion, Row]], questions: Questions, rea
 
 def inside(tried: Sequence[tuple[FaultyRegion, Row]], questions: Questions, session: Session
            ) -> list[tuple[FaultyRegion, Row]]:
-    """Those that the server says are in their region."""
+    """Returns those that, according to the server, are in their region."""
     conditions = {it.condition: number for number, it in enumerate({it.condition: it for it, _ in tried}.values())}
     texts = [f"({it.replace('all rows', 'true')}) IS TRUE" for it in conditions]
     listed = [row for _, row in tried]
@@ -129,7 +131,8 @@ def inside(tried: Sequence[tuple[FaultyRegion, Row]], questions: Questions, sess
 
 
 def search(regions: Sequence[FaultyRegion], questions: Questions, read: Read, session: Session) -> None:
-    """Looks among values near the constants for rows of regions whose expressions say nothing about their columns."""
+    """Searches among values near the constants for rows of regions whose expressions say nothing about their
+    columns."""
     chance = witnesses.chance_of(read)
     choices = witnesses.choices_of(session, questions, chance)
     for region in regions[:MOST_SEARCHED]:
@@ -148,12 +151,12 @@ def search(regions: Sequence[FaultyRegion], questions: Questions, read: Read, se
 
 def values_in(region: FaultyRegion, name: str, listed: Sequence[str], plain: Row, questions: Questions,
               session: Session) -> list[str]:
-    """The values of a column that are in a region by what the region says about this column alone."""
+    """Returns the values of a column that are in a region, judging by what the region says about this column only."""
     condition = condition_of({it: its for it, its in region.codes.items() if it.subject.columns == (name,)})
     own = replace(region, condition=condition)
     return [row[name] for _, row in inside([(own, plain | {name: it}) for it in listed], questions, session)]
 
 
 def is_of(read: Read, table: str) -> bool:
-    """Whether what was read is the table itself, and not a partition whose rows the server never sends."""
+    """Returns whether this is the table itself, and not a partition whose rows the server never sends."""
     return full_name(read.shares.table) == table

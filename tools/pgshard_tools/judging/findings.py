@@ -8,8 +8,8 @@ from pgshard_tools.judging.subscribers import COPYING
 
 
 def findings_of(db: Database, listed: Sequence[Subscriber]) -> list[str]:
-    """Subscriptions that get nothing, and slots that nobody uses. A slot is reported with its subscription if that has
-    a problem."""
+    """Returns subscriptions that get nothing, and slots that nobody uses. A slot is reported together with its
+    subscription if that has a problem."""
     told = {it.slot for it in listed if it.remarks}
     waiting = [it for it, is_active in db.slots.items()
                if not is_active and it not in told and not COPYING.fullmatch(it)]
@@ -18,5 +18,5 @@ def findings_of(db: Database, listed: Sequence[Subscriber]) -> list[str]:
 
 
 def status_with(status: int, findings: Sequence[str]) -> int:
-    """The exit status for tables, and for problems with subscriptions and slots."""
+    """Returns the exit status for tables, and for problems with subscriptions and slots."""
     return NOT_SOUND if findings else status

@@ -1,4 +1,4 @@
-"""Filters as trees: what is compared, and the logic of three values above it."""
+"""Filters as trees: comparisons, combined in three-valued logic."""
 
 from dataclasses import dataclass, field
 from typing import Any, Callable, Iterator, TypeAlias
@@ -8,10 +8,10 @@ from pgshard_tools.judging.ranges import Ranges
 
 @dataclass(frozen=True)
 class Subject:
-    """What is compared: a column, or an expression of the server that gets a column of its own.
+    """What is compared: a column, or an expression that gets a column of its own.
 
-    It is null where one of its columns is, if `is_strict`, and there alone, if `is_total` too. A subject that is not
-    a column is opaque: nothing is known about it but that.
+    If `is_strict`, it is NULL if one of its columns is; if it is also `is_total`, only then. A subject that is not a
+    column is opaque: nothing else is known about it.
     """
 
     sql: str
@@ -21,20 +21,20 @@ class Subject:
     is_column: bool = False
     is_strict: bool = True
     is_total: bool = True
-    # Whether it is NULL nowhere, though a column is.
+    # Whether it is never NULL, even if a column is.
     is_never_null: bool = False
-    # For the order of texts, the collation.
+    # The collation, for the order of texts.
     collation: str | None = None
-    # The collation that the text has by itself; by another one SQL says COLLATE.
+    # The collation that the text has by itself; for another one, SQL needs COLLATE.
     own_collation: str | None = None
-    # Of an enum all that it has, in order.
+    # All labels of an enum, in order.
     labels: tuple[str, ...] = field(default=(), compare=False)
-    # Of whole numbers that a function has, the least and the greatest.
+    # The least and the greatest whole number that a function returns.
     bounds: tuple[int, int] | None = None
-    # Of the type `sign`, which is that of a comparison of two subjects, their texts, and the COLLATE that it needs.
+    # For the type `sign`, which is that of a comparison of two subjects: their texts, and the COLLATE that it needs.
     sides: tuple[str, ...] = ()
     order: str = ""
-    # Of the type `bits`, which are those of a column between two places, how many there are below.
+    # For the type `bits`, which are those of a column between two places: how many bits are below.
     bits_below: int = 0
 
 
@@ -70,7 +70,7 @@ class Is:
 
 @dataclass(frozen=True)
 class Compare:
-    """A subject with a value: `op` is one of = < <=."""
+    """A comparison of a subject with a value. `op` is one of = < <=."""
 
     subject: Subject
     op: str
@@ -102,7 +102,7 @@ class IsNull:
 
 @dataclass(frozen=True)
 class Within:
-    """Whether the code of a subject is in some ranges, both ends included. Codings turn the leaves above into this
+    """Whether the code of a subject is in some ranges, both ends included. Codings convert the leaves above to this
     one."""
 
     coded: Any
@@ -123,7 +123,7 @@ def either(*parts: Formula) -> Formula:
 
 
 def joined(kind: type[And] | type[Or], strong: bool, parts: tuple[Formula, ...]) -> Formula:
-    """AND or OR of parts, without constants that have no effect."""
+    """Returns AND or OR of parts, without constants that have no effect."""
     kept: list[Formula] = []
     for part in parts:
         if isinstance(part, (And, Or)) and isinstance(part, kind):
@@ -152,7 +152,7 @@ def tested(test: str, part: Formula) -> Formula:
 
 
 def compared(subject: Subject, op: str, value: Any) -> Formula:
-    """A comparison by any of the six operators, expressed by three of them."""
+    """Returns a comparison with any of the six operators, expressed by three of them."""
     match op:
         case "<>":
             return Not(Compare(subject, "=", value))
@@ -164,14 +164,16 @@ def compared(subject: Subject, op: str, value: Any) -> Formula:
 
 
 def chosen(condition: Formula, part: Formula, other: Formula) -> Formula:
-    """CASE WHEN condition THEN part ELSE other END. One of the two sides is FALSE, so the other one decides."""
+    """Returns CASE WHEN condition THEN part ELSE other END. One of the two operands is FALSE, so the other one
+    decides."""
     return either(
         both(tested("TRUE", condition), part),
         both(negation(tested("TRUE", condition)), other))
 
 
 def same_truth(one: Formula, other: Formula) -> Formula:
-    """`=` between two conditions: NULL where one of them is, since neither AND is TRUE then, nor are both FALSE."""
+    """Returns `=` between two conditions: NULL if one of them is, since then neither AND is TRUE, nor are both
+    FALSE."""
     return either(both(one, other), both(negation(one), negation(other)))
 
 
@@ -192,7 +194,7 @@ def leaves_of(part: Formula) -> Iterator[Leaf]:
 
 
 def replaced(part: Formula, change: Callable[[Any], Formula]) -> Formula:
-    """The formula with each leaf replaced."""
+    """Returns the formula with each leaf replaced."""
     if isinstance(part, LEAVES):
         return change(part)
     match part:
@@ -208,7 +210,7 @@ def replaced(part: Formula, change: Callable[[Any], Formula]) -> Formula:
 
 
 def has_null(part: Formula) -> bool:
-    """Whether a formula contains NULL as a constant."""
+    """Returns whether a formula contains NULL as a constant."""
     match part:
         case Const():
             return part.value is None
@@ -220,9 +222,9 @@ def has_null(part: Formula) -> bool:
 
 
 def is_true(part: Formula) -> Formula:
-    """A formula without NULL that is TRUE where the part is, and otherwise FALSE or NULL.
+    """Returns a formula without NULL that is TRUE if the part is, and otherwise FALSE or NULL.
 
-    Exact, since AND is TRUE where all parts are, and OR where one is; and a filter counts only where it is TRUE.
+    This is exact, since AND is TRUE if all parts are, and OR if one is; and a filter passes a row only if it is TRUE.
     """
     if not has_null(part):
         return part
@@ -239,7 +241,7 @@ def is_true(part: Formula) -> Formula:
 
 
 def is_false(part: Formula) -> Formula:
-    """A formula without NULL that is TRUE where the part is FALSE, and otherwise FALSE or NULL."""
+    """Returns a formula without NULL that is TRUE if the part is FALSE, and otherwise FALSE or NULL."""
     if not has_null(part):
         return negation(part)
     match part:
@@ -255,7 +257,7 @@ def is_false(part: Formula) -> Formula:
 
 
 def is_tested(part: Is) -> Formula:
-    """An IS test of a part with NULL in it. It is never NULL itself."""
+    """Returns an IS test of a part that contains NULL. It is never NULL itself."""
     true = tested("TRUE", is_true(part.part))
     false = tested("TRUE", is_false(part.part))
     return {"TRUE": true, "FALSE": false, "UNKNOWN": both(negation(true), negation(false))}[part.test]

@@ -1,9 +1,9 @@
-"""Functions and operators of the server that are immutable: each use gets a column of its own.
+"""Immutable functions and operators of the server: each use gets a column of its own.
 
-Of such a column nothing is known but its type, where it is NULL, and that equal texts of SQL are equal values. So only
-a proof counts where it is named. The server says which function is called, its result, and whether it is strict; the
-tables of signatures.py add what it does not say. If a function may fail, that is noted, since a filter that fails
-ends the replication.
+About such a column, only its type is known, when it is NULL, and that equal SQL texts have equal values. So only a
+proof counts if such a column is named. The server says which function is called, its result type, and whether it is
+strict; the tables in signatures.py add what the server does not say. If a function may fail, that is recorded, since a
+filter that fails ends the replication.
 """
 
 from dataclasses import replace
@@ -23,13 +23,13 @@ class Evaluating(Protocol):
 
 
 class Noting(Protocol):
-    """Notes where the server fails: where a formula is TRUE, or None if that is not known."""
+    """Records when the server fails: if a formula is TRUE, or None if that is not known."""
 
     def note(self, form: str, where: Formula | None, columns: Sequence[str]) -> None: ...
 
 
 def call(found: Call, form: str, arguments: Sequence[Operand], server: Evaluating, failing: Noting) -> Operand:
-    """A function of the server, by the table of signatures."""
+    """Reads a function of the server, according to the table of signatures."""
     row = FUNCTIONS.get(found.signature)
     if row is None:
         raise Unread(form, advice_of(found))
@@ -38,8 +38,8 @@ def call(found: Call, form: str, arguments: Sequence[Operand], server: Evaluatin
 
 def operator(found: Call, name: str, form: str, arguments: Sequence[Operand], server: Evaluating,
              failing: Noting) -> Operand:
-    """An operator of the server, by the table of signatures. `name` is the operator of which it is the negation, if
-    there is one."""
+    """Reads an operator of the server, according to the table of signatures. `name` is its negator, if it is a
+    negation."""
     row = OPERATORS.get(f"{name}({','.join(found.arguments)})")
     if row is None:
         raise Unread(form, advice_of(found))
@@ -48,7 +48,7 @@ def operator(found: Call, name: str, form: str, arguments: Sequence[Operand], se
 
 def checked(found: Call, row: Row, form: str, arguments: Sequence[Operand], server: Evaluating,
             failing: Noting) -> Operand:
-    """The column of its own, if the server agrees with the table. Notes where it may fail."""
+    """Returns the column of its own, if the server agrees with the table. Records where the function may fail."""
     if not found.is_immutable or not (found.is_strict or row.null_at):
         raise Unread(form, "the server does not say that it is immutable and NULL where an argument is")
     others = [it for place, it in enumerate(arguments) if place not in row.null_at] if row.null_at else []
@@ -61,7 +61,7 @@ def checked(found: Call, row: Row, form: str, arguments: Sequence[Operand], serv
 
 
 def is_within(found: Call, row: Row, form: str, arguments: Sequence[Operand], server: Evaluating) -> bool:
-    """Whether the arguments are valid. An invalid constant makes each row fail, and is not read."""
+    """Returns whether the arguments are valid. An invalid constant makes each row fail, and is not read."""
     is_so = True
     for (place, limit), argument in ((it, arguments[it[0]]) for it in row.limits if it[0] < len(arguments)):
         if not LIMITS[limit](argument, found, server):
@@ -84,19 +84,20 @@ def is_field(operand: Operand, found: Call, server: Evaluating) -> bool:
 
 
 def whole(operand: Operand) -> int | None:
-    """A constant's number, None for NULL."""
+    """Returns a constant's number, or None for NULL."""
     value = operand.value if isinstance(operand, Value) else None
     return None if value is None else int(value.value)
 
 
 def is_part(operand: Operand, found: Call, server: Evaluating) -> bool:
-    """Whether each value of the type has the part of this name."""
+    """Returns whether each value of the type has the part with this name."""
     name = operand.value if isinstance(operand, Value) else None
     return name in PARTS.get(found.arguments[1], ())
 
 
 def is_like(operand: Operand, found: Call, server: Evaluating) -> bool:
-    """A constant whose last backslash has something to escape; the server sees that only where it comes so far."""
+    """Accepts a constant pattern whose last backslash escapes something. The server notices that only when matching
+    gets that far."""
     if not isinstance(operand, Value):
         return False
     text = operand.value or ""
@@ -104,7 +105,7 @@ def is_like(operand: Operand, found: Call, server: Evaluating) -> bool:
 
 
 def is_regex(operand: Operand, found: Call, server: Evaluating) -> bool:
-    """A constant that the server reads as a regular expression."""
+    """Accepts a constant that the server reads as a regular expression."""
     if not isinstance(operand, Value):
         return False
     sql = (operand.value or "").replace("'", "''")
@@ -113,7 +114,7 @@ def is_regex(operand: Operand, found: Call, server: Evaluating) -> bool:
 
 
 def is_array(operand: Operand, found: Call, server: Evaluating) -> bool:
-    """A constant list, or a column of a type whose elements are compared without a failure."""
+    """Accepts a constant list, or a column of a type whose elements are compared without a failure."""
     if isinstance(operand, Array):
         return operand.parts is not None and all(
             isinstance(it, Value) and it.type in ELEMENTS for it in operand.parts)
@@ -121,12 +122,12 @@ def is_array(operand: Operand, found: Call, server: Evaluating) -> bool:
 
 
 def is_short(operand: Operand, found: Call, server: Evaluating) -> bool:
-    """A length far below the greatest that a text may have."""
+    """Accepts a length far below the greatest length of a text."""
     return is_number(operand, found, server) and (whole(operand) is None or (whole(operand) or 0) <= 10_000)
 
 
 def is_zone(operand: Operand, found: Call, server: Evaluating) -> bool:
-    """The name of a time zone that the server has."""
+    """Accepts the name of a time zone that the server has."""
     if not isinstance(operand, Value) or not isinstance(operand.value, str):
         return False
     sql = operand.value.replace("'", "''")
@@ -134,7 +135,7 @@ def is_zone(operand: Operand, found: Call, server: Evaluating) -> bool:
 
 
 def is_name(listed: set[str]) -> "Limit":
-    """One of some constants."""
+    """Accepts one of some constants."""
     return lambda operand, found, server: isinstance(operand, Value) and operand.value in listed
 
 
@@ -158,9 +159,8 @@ ADVICE = {
 
 
 def member(form: str, arguments: Sequence[Operand]) -> Operand:
-    """`x = ANY (column)` is NULL where the column is, and maybe elsewhere. Where x is NULL and the list is empty it is
-    not
-    NULL; so of an x that may be NULL nothing is said."""
+    """Reads `x = ANY (column)`, which is NULL if the column is, and possibly otherwise. If x is NULL and the list is
+    empty, it is not NULL; so nothing is claimed for an x that may be NULL."""
     if any(isinstance(it, Value) and it.value is None for it in arguments):
         raise Unread(form, "NULL in a list that is a column")
     found = opaque(form, "bool", False, arguments)
@@ -173,7 +173,7 @@ def advice_of(found: Call) -> str:
 
 
 def opaque(form: str, type: str, is_total: bool, arguments: Sequence[Operand]) -> Operand:
-    """A column of its own. NULL as an argument makes it NULL, since each function here is strict."""
+    """Returns a column of its own. It is NULL if an argument is, since each function here is strict."""
     if any(isinstance(it, Value) and it.value is None for it in arguments):
         return Value(type, None)
     subjects = [subject for it in arguments for subject in subjects_of(form, it)]
@@ -191,7 +191,7 @@ def opaque(form: str, type: str, is_total: bool, arguments: Sequence[Operand]) -
 
 
 def subjects_of(form: str, argument: Operand) -> list[Subject]:
-    """What an argument is computed from. For the result of a CASE it is only known whether it is never NULL."""
+    """Returns what an argument is computed from. For the result of a CASE it is only known whether it is never NULL."""
     match argument:
         case Value():
             return []
@@ -212,7 +212,7 @@ def subjects_of(form: str, argument: Operand) -> list[Subject]:
 
 
 def subjects_in(form: str, argument: Operand) -> list[Subject]:
-    """The subjects of a CASE, those of its conditions, too."""
+    """Returns the subjects of a CASE, including those of its conditions."""
     if not isinstance(argument, Choice):
         return subjects_of(form, argument)
     named = [leaf.subject for leaf in leaves_of(argument.condition) if not isinstance(leaf, Within)]
@@ -220,8 +220,8 @@ def subjects_in(form: str, argument: Operand) -> list[Subject]:
 
 
 def is_never_null(argument: Operand) -> bool:
-    """Whether an operand has a value at each row: in each branch a constant, or what the branch is taken for not being
-    NULL, as in coalesce."""
+    """Returns whether an operand is never NULL: each branch is a constant, or is taken only if it is not NULL, as in
+    coalesce."""
     match argument:
         case Choice(condition=Not(part=IsNull(subject=subject)), one=Ref(subject=own), other=other) if own == subject:
             return is_never_null(other)
@@ -233,7 +233,7 @@ def is_never_null(argument: Operand) -> bool:
 
 
 def collation_of(arguments: Sequence[Operand]) -> str | None:
-    """The collation of a text result: that of the texts that it is of, or None if these differ."""
+    """Returns the collation of a text result: that of the texts from which it is computed, or None if these differ."""
     refs = [it.ref if isinstance(it, Derived) else it for it in arguments]
     subjects = [it.subject for it in refs if isinstance(it, Ref)]
     found = {it.collation for it in subjects if it.collation}
