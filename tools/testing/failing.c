@@ -1,9 +1,9 @@
 /* Makes a read of standard input, or a write to standard output, fail. This is a shared library, which LD_PRELOAD loads
  * before the C library. The program's C library is glibc.
  *
- * The call is chosen by environment variables: FAILED_FILE is 0 for reads and 1 for writes, FAILED_CALL is the number of
- * the call, from 1, and FAILED_ERROR is the value of errno, or 0 for a call that moves no bytes. No other call fails,
- * unless FAILED_AFTER is set: then all later ones fail too. A call on that file moves at most MOST_BYTES bytes.
+ * The call is chosen by environment variables: FAILED_FILE is 0 for reads and 1 for writes, FAILED_CALL is the number
+ * of the call, from 1, and FAILED_ERROR is the value of errno, or 0 for a call that moves no bytes. No other call
+ * fails, unless FAILED_AFTER is set: then all later ones fail too. A call on that file moves at most MOST_BYTES bytes.
  * When the program ends, a line on standard error says whether the call was made.
  */
 

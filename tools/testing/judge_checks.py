@@ -57,7 +57,7 @@ def check_no_server(tally: Tally) -> None:
 
 
 def check_files(tally: Tally) -> None:
-    """Tests inputs that yield no judgment: a file or a program that does not exist."""
+    """Tests inputs that yield no judgement: a file or a program that does not exist."""
     with tempfile.TemporaryDirectory() as folder:
         file = pathlib.Path(folder) / "catalog.sql"
         file.write_bytes(b"CREATE SCHEMA \"\xe9\";")

@@ -1,12 +1,12 @@
-/* Refuses allocations or threads to a program under test. This is a shared library with malloc and similar functions and
- * pthread_create, which LD_PRELOAD loads before the C library. The program's C library is glibc.
+/* Refuses allocations or threads to a program under test. This is a shared library with malloc and similar functions
+ * and pthread_create, which LD_PRELOAD loads before the C library. The program's C library is glibc.
  *
  * The program itself chooses the allocation that is refused, by an allocation of SIGNAL + number bytes, which succeeds.
  * Of the later allocations, the one with that number, from 1, is refused, and no other one. Number 0 cancels a refusal
- * that has not happened yet. With an allocation of QUESTION bytes, the program asks whether it has happened: if so, that
- * allocation is refused too, without being counted. If the environment has REFUSED_REQUEST, the program does not choose:
- * the allocation with that number, from the start of the program, is refused, and with REFUSED_AFTER all later ones too.
- * REFUSED_THREAD does the same for threads that are started.
+ * that has not happened yet. With an allocation of QUESTION bytes, the program asks whether it has happened: if so,
+ * that allocation is refused too, without being counted. If the environment has REFUSED_REQUEST, the program does not
+ * choose: the allocation with that number, from the start of the program, is refused, and with REFUSED_AFTER all later
+ * ones too. REFUSED_THREAD does the same for threads that are started.
  * When the program ends, a line on standard error says how many allocations and threads were refused, so that a test
  * knows whether there were any, and whether the program has reported each.
  */

@@ -306,11 +306,11 @@ class Enumerated(Coding):
 
 
 class Ranks(Coding):
-    """Values of a type with a dense order: each constant has a code, and so does each gap between two neighboring
+    """Values of a type with a dense order: each constant has a code, and so does each gap between two neighbouring
     constants.
 
-    The order decides each comparison, so values between the same neighbors are never distinguished. If there is no
-    value between two neighbors, or beyond the first or the last constant, there is no code.
+    The order decides each comparison, so values between the same neighbours are never distinguished. If there is no
+    value between two neighbours, or beyond the first or the last constant, there is no code.
     """
 
     def __init__(self, subject: Subject, constants: list[Any]) -> None:
@@ -359,7 +359,7 @@ class Ranks(Coding):
         return self.between(low, high)
 
     def between(self, low: Any, high: Any) -> Any:
-        """Returns a plain value between two neighbors, one of which may be None. The least text is the empty one."""
+        """Returns a plain value between two neighbours, one of which may be None. The least text is the empty one."""
         if isinstance(low if low is not None else high, str):
             return "" if low is None else self.text_above(low)
         if low is None or low == LEAST:

@@ -68,8 +68,8 @@ def run(words: Sequence[str]) -> int:
 
 
 def ended(fault: Fault, words: Sequence[str], options: Options | None) -> int:
-    """Reports why there is no judgment. The requested form of the report is looked up in the arguments even if they are
-    invalid."""
+    """Reports why there is no judgement. The requested form of the report is looked up in the arguments even if they
+    are invalid."""
     if options is not None and options.prometheus is not None:
         # The first fault may be that this file cannot be written.
         with contextlib.suppress(Fault):

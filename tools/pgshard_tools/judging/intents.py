@@ -1,4 +1,4 @@
-"""The intentions in a file of --intent: what a schema cannot say."""
+"""The intentions in a file of --intent: what a schema cannot express."""
 
 from collections.abc import Mapping, Sequence
 from dataclasses import dataclass, field, replace
@@ -27,31 +27,31 @@ class Intent:
     subscribers: Mapping[str, Sequence[str]] = field(default_factory=dict)
 
     def listed(self, word: str) -> list[str]:
-        """The tables of a list by their full names."""
+        """Returns the tables of a list by their full names."""
         return [full(it) for it in self.lists.get(word, ())]
 
     def operations(self) -> dict[str, frozenset[str]]:
-        """The operations that tables leave out on purpose, by full names."""
+        """Returns the operations that tables leave out on purpose, by full names."""
         found = {full(name): frozenset(operations) for name, operations in self.omitted.items()}
         return found | dict.fromkeys(self.listed(APPEND_ONLY), frozenset(OMISSIBLE))
 
     def says(self, word: str) -> str:
-        """How an answer cites the file."""
+        """Returns how an answer cites the file."""
         return f"as {word} in {self.path} says"
 
     def named(self) -> list[tuple[str, str]]:
-        """All tables that the file names, by their full names, each with the key that names it."""
+        """Returns all tables that the file names, by their full names, each with the key that names it."""
         listed = [(word, it) for word in LISTS for it in self.listed(word)]
         return [*listed, *((OMITTED, full(it)) for it in self.omitted)]
 
 
 def full(name: str) -> str:
-    """A table's name with its schema, which is public if none is given."""
+    """Returns a table's name with its schema, which is public if none is given."""
     return name if "." in name else f"public.{name}"
 
 
 def read(path: str | None) -> Intent:
-    """The contents of the file, or nothing if there is none."""
+    """Returns the contents of the file, or nothing if there is none."""
     if path is None:
         return Intent()
     found = parsed(path)
@@ -69,7 +69,7 @@ def read(path: str | None) -> Intent:
 
 
 def parsed(path: str) -> dict[str, Any]:
-    """The file as Python reads it, from version 3.11 on."""
+    """Returns the file as parsed by Python, which can do so from version 3.11 on."""
     try:
         import tomllib
     except ImportError as fault:
@@ -82,7 +82,7 @@ def parsed(path: str) -> dict[str, Any]:
 
 
 def mapping(path: str, key: str, found: Mapping[str, Any]) -> list[tuple[str, Any]]:
-    """The lists, by name, in a table of the file."""
+    """Returns the lists, by name, in a table of the file."""
     value = found.get(key, {})
     if not isinstance(value, dict):
         raise Fault(BAD_COMMAND, f"{path}: {key} is a table of lists, as in [{key}]")
@@ -90,20 +90,21 @@ def mapping(path: str, key: str, found: Mapping[str, Any]) -> list[tuple[str, An
 
 
 def names(path: str, key: str, value: Any) -> list[str]:
-    """A list of names."""
+    """Returns a list of names."""
     if not isinstance(value, list) or not all(isinstance(it, str) for it in value):
         raise Fault(BAD_COMMAND, f"{path}: {key} is a list of texts, as in {key} = [\"public.orders\"]")
     return value
 
 
 def with_intent(options: Options, intent: Intent) -> Options:
-    """The options, with those that the file implies."""
+    """Returns the options, with those that the file implies."""
     return replace(options, copied=[*options.copied, *intent.listed(COPIED)],
                    partial=[*options.partial, *intent.listed(PARTIAL)])
 
 
 def subscribers_of(db: Database, options: Options, intent: Intent) -> tuple[list[Subscriber], str]:
-    """The subscribers, and a line that says how they are known. The command line takes precedence over the file."""
+    """Returns the subscribers, and a line that says how they are known. The command line takes precedence over the
+    file."""
     if intent.subscribers and options.subscriptions is None and not options.subscriber:
         return subscribers.from_intent(db, intent.path, intent.subscribers)
     return subscribers.subscribers_of(db, options.subscriptions, options.subscriber)
@@ -117,7 +118,7 @@ def want_published(intent: Intent, tables: Sequence[Shares]) -> None:
 
 
 def taken(db: Database, intent: Intent, tables: Sequence[Shares]) -> list[Shares]:
-    """The tables to be judged, with the operations that are left out on purpose."""
+    """Returns the tables to be judged, with the operations that are left out on purpose."""
     skipped = set(intent.listed(SKIP))
     found = [it for it in tables if not skipped & it.names]
     leave_out(db, found, intent.operations())
@@ -125,13 +126,13 @@ def taken(db: Database, intent: Intent, tables: Sequence[Shares]) -> list[Shares
 
 
 def skipped(intent: Intent) -> list[str]:
-    """What is said about tables that are not judged."""
+    """Returns the lines about tables that are not judged."""
     return [f"{name}: not judged, {intent.says(SKIP)}" for name in intent.listed(SKIP)]
 
 
 def cite(
         intent: Intent, found: Sequence[Verdict], listed: Sequence[Subscriber], purposes: Mapping[str, str]) -> None:
-    """Adds to each verdict the intention that it depends on, or the one that would allow what it refuses."""
+    """Adds to each verdict the intention that it depends on, or the one that would allow what is refused."""
     if not intent.path:
         return
     for verdict in found:

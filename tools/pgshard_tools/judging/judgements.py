@@ -1,4 +1,4 @@
-"""The verdicts of all tables, each within its time."""
+"""Judges all tables, each within its time limit."""
 
 from collections.abc import Mapping, Sequence
 
@@ -15,10 +15,10 @@ from pgshard_tools.judging.verdicts import Verdict
 def judged_all(
         db: database.Database, tables: Sequence[Shares], purposes: Mapping[str, str], session: Session,
         options: Options) -> tuple[list[Verdict], Regions]:
-    """The verdict of each table and, with --explain, who gets which rows of those that are sound."""
+    """Returns the verdict of each table and, with --explain, who gets which rows of the sound ones."""
     found: list[Verdict] = []
     regions: Regions = {}
-    # What the server says of calls is read before the first table's time begins.
+    # The server's information about calls is read before the first table's time begins.
     session.meanings(db)
     for table in tables:
         found.append(judged_in_time(db, table, purposes.get(database.full_name(table.table)), session, options))
@@ -64,7 +64,7 @@ def add_regions(
 
 def judged_in_time(
         db: database.Database, table: Shares, purpose: str | None, session: Session, options: Options) -> Verdict:
-    """The verdict on a table, which is not decided if it takes too long."""
+    """Returns the verdict on a table, which is not decided if it takes too long."""
     try:
         with time_limit(options.seconds):
             return verdicts.judged(db, table, purpose, session)
@@ -88,7 +88,7 @@ def explain(verdict: Verdict, regions: Regions, options: Options) -> None:
 
 
 def purposes_of(options: Options, tables: Sequence[Shares]) -> dict[str, str]:
-    """What is published to all, or in part, on purpose, by the full names of tables."""
+    """Returns what is published to all, or in part, on purpose, by the full names of tables."""
     names = {database.full_name(it.table) for it in tables}
     found = {}
     for purpose, words in ("copied", options.copied), ("partial", options.partial):
@@ -101,7 +101,7 @@ def purposes_of(options: Options, tables: Sequence[Shares]) -> dict[str, str]:
 
 
 def status_of(found: Sequence[Verdict], is_strict: bool) -> int:
-    """The exit status. If nothing is published, that is not sound, either."""
+    """Returns the exit status. If nothing is published, that is not sound either."""
     answers = {it.answer for it in found}
     if not found or answers & {verdicts.NOT_SOUND, verdicts.NOT_DECIDED, verdicts.REFUSED}:
         return NOT_SOUND

@@ -1,4 +1,4 @@
-"""Faults of a catalog in the words of an operator, the limits by name."""
+"""Faults of a catalog in the words of an operator, with the limits by name."""
 
 from typing import Any
 
@@ -16,7 +16,7 @@ ATOMS = 64
 
 
 def words(trial: Any, unreadable: Unreadable) -> str:
-    """Why a catalog that judge made is past a limit of pgshard."""
+    """Returns why a catalog that judge has created exceeds a limit of pgshard."""
     place = trial.catalog.encode("utf-8", "surrogateescape")[unreadable.place:].decode("utf-8", "surrogateescape")
     if unreadable.kind == "TooMany":
         return f"it exceeds a limit of pgshard: {LIMITS[limit_of(trial, place)]}"
@@ -27,7 +27,8 @@ def words(trial: Any, unreadable: Unreadable) -> str:
 
 
 def limit_of(trial: Any, place: str) -> str:
-    """Which limit a TooMany is of: by where it is, and for filters by how many conditions there are."""
+    """Returns which limit a TooMany concerns: it depends on where the fault is, and for filters on the number of
+    conditions."""
     if place.startswith("WHERE"):
         listed = [*trial.filters.values(), *trial.constraints]
         atoms = {it.atom for formula in listed if formula is not None for it in printing.atoms_of(formula)}

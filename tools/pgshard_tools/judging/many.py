@@ -25,8 +25,8 @@ WORST = (NOT_SOUND, monitoring.REFUSED, monitoring.NOT_DECIDED, monitoring.FAILI
 WORST_OF_PLUGINS = (monitoring.CRITICAL, monitoring.WARNING, monitoring.UNKNOWN, monitoring.OK)
 NO_JUDGEMENT, NOT_PUBLISHED = "no judgement", "not published"
 
-# What may change, by the name of the database, which is '' where it is the only one: the answers of tables, findings,
-# each with '', and why there is no judgement.
+# What may change, by the name of the database, which is '' if it is the only one, and by table: the answers of tables;
+# and under the table name '', the findings, and why there is no judgement.
 States = dict[tuple[str, str], str]
 # Judges the database that the options name.
 Judge = Callable[[Options], Report]
@@ -34,14 +34,14 @@ Judge = Callable[[Options], Report]
 
 @dataclass
 class Answer:
-    """What is said about a database, or why nothing is."""
+    """The answer for a database, or the reason why there is none."""
 
     name: str
     found: Report | Fault
 
     @property
     def is_judged(self) -> bool:
-        """Whether something is published there, or that is not known."""
+        """Returns whether something is published there, or whether that is not known."""
         return isinstance(self.found, Fault) or bool(self.found.verdicts) or bool(self.found.findings)
 
     def status(self, options: Options) -> int:
@@ -52,7 +52,7 @@ class Answer:
 
 
 def judge(options: Options, judged: Judge) -> int:
-    """Judges all databases, or one, once or again and again; returns the exit status of the last time."""
+    """Judges all databases, or one, once or repeatedly. Returns the exit status of the last time."""
     want_alone(options)
     answers = answers_of(options, judged)
     if options.watch is None:
@@ -71,7 +71,7 @@ def judge(options: Options, judged: Judge) -> int:
 
 
 def want_alone(options: Options) -> None:
-    """Refuses options for one database or one judgement only."""
+    """Refuses options that are only for one database or one judgement."""
     given: dict[str, object]
     if options.databases:
         given = {"--with": options.migration, "--catalog": options.catalog, "--copied": options.copied,
@@ -89,7 +89,7 @@ def want_alone(options: Options) -> None:
 
 
 def answers_of(options: Options, judged: Judge) -> list[Answer]:
-    """The present judgements."""
+    """Returns the present answers."""
     if not options.databases:
         return [answer_of("", options, judged)]
     try:
@@ -102,7 +102,7 @@ def answers_of(options: Options, judged: Judge) -> list[Answer]:
 
 
 def answer_of(name: str, options: Options, judged: Judge) -> Answer:
-    """The judgement of one database. A fault of one does not affect the others."""
+    """Returns the answer for a database. A fault of one does not affect the others."""
     try:
         found = judged(options)
         return Answer(found.database.name, found)
@@ -113,7 +113,7 @@ def answer_of(name: str, options: Options, judged: Judge) -> Answer:
 
 
 def names_of(options: Options) -> list[str]:
-    """The databases of the server that accept connections, except templates."""
+    """Returns the databases of the server that accept connections, except templates."""
     words = options.words if "-d" in options.words else [*options.words, "-d", "postgres"]
     try:
         found: list[str] = json.loads(run_psql([*words, "-q", "-A", "-t", "-c", NAMES]))
@@ -123,7 +123,7 @@ def names_of(options: Options) -> list[str]:
 
 
 def words_of(words: Sequence[str], name: str) -> list[str]:
-    """The arguments with which psql connects to another database of the server."""
+    """Returns the arguments with which psql connects to another database of the server."""
     found = list(words)
     given = ""
     if "-d" in found:
@@ -137,7 +137,7 @@ def words_of(words: Sequence[str], name: str) -> list[str]:
 
 
 def status_of(answers: Sequence[Answer], options: Options) -> int:
-    """The worst status of the databases in which something is published."""
+    """Returns the worst status of the databases in which something is published."""
     judged = [it for it in answers if it.is_judged]
     if options.nagios:
         found = (plugin_status(it, options) for it in judged)
@@ -147,7 +147,7 @@ def status_of(answers: Sequence[Answer], options: Options) -> int:
 
 
 def plugin_status(answer: Answer, options: Options) -> int:
-    """The status of a database for Nagios."""
+    """Returns the status of a database for Nagios."""
     if isinstance(answer.found, Fault):
         return monitoring.UNKNOWN
     return monitoring.PLUGIN[monitoring.detailed(answer.found, options.strict)]
@@ -166,14 +166,14 @@ def say(answers: Sequence[Answer], options: Options) -> None:
 
 
 def write_metrics(answers: Sequence[Answer], options: Options) -> None:
-    """Writes the file for Prometheus, if one is asked for."""
+    """Writes the file for Prometheus, if one was requested."""
     if options.prometheus is not None:
         reports = [it.found for it in answers if isinstance(it.found, Report)]
         monitoring.write_metrics(options.prometheus, monitoring.metrics(reports, status_of(answers, options)))
 
 
 def lines_of(answers: Sequence[Answer], options: Options) -> Iterator[str]:
-    """The lines that an operator reads: with --databases, those of a database below its name."""
+    """Yields the lines that an operator reads. With --databases, those of a database follow its name."""
     for answer in answers:
         said = answer.found.words if isinstance(answer.found, Fault) else report.text(answer.found, options.all)
         if not options.databases:
@@ -186,7 +186,7 @@ def lines_of(answers: Sequence[Answer], options: Options) -> Iterator[str]:
 
 
 def plugin_line(answers: Sequence[Answer], options: Options) -> str:
-    """The line of a Nagios plugin for all databases in which something is published."""
+    """Returns the line of a Nagios plugin for all databases in which something is published."""
     judged = [it for it in answers if it.is_judged]
     texts, data = [], dict[str, int]()
     for answer in judged:
@@ -201,13 +201,13 @@ def plugin_line(answers: Sequence[Answer], options: Options) -> str:
 
 
 def object_of(answers: Sequence[Answer], options: Options) -> dict[str, Any]:
-    """All as an object of JSON."""
+    """Returns everything as a JSON object."""
     found = [json_of(it, options) for it in answers]
     return {"status": status_of(answers, options), "databases": found} if options.databases else found[0]
 
 
 def json_of(answer: Answer, options: Options) -> dict[str, Any]:
-    """A database as an object of JSON."""
+    """Returns a database as a JSON object."""
     if isinstance(answer.found, Fault):
         named = {"database": answer.name} if options.databases else {}
         return named | report.fault_object(answer.found)
@@ -215,7 +215,7 @@ def json_of(answer: Answer, options: Options) -> dict[str, Any]:
 
 
 def states_of(answers: Sequence[Answer], known: States, options: Options) -> States:
-    """What may change. If there is no judgement, the previous one remains."""
+    """Returns what may change. If there is no judgement, the previous one is kept."""
     states: States = {}
     for answer in answers:
         name = answer.name if options.databases else ""
@@ -229,7 +229,7 @@ def states_of(answers: Sequence[Answer], known: States, options: Options) -> Sta
 
 
 def say_changes(before: States, after: States, answers: Sequence[Answer], options: Options) -> None:
-    """Prints what changes, with the time, and everything about each table whose answer changes."""
+    """Prints what has changed, with the time, and everything about each table whose answer has changed."""
     changed = [it for it in sorted({*before, *after}) if before.get(it) != after.get(it)]
     if not changed:
         return
@@ -246,7 +246,7 @@ def say_changes(before: States, after: States, answers: Sequence[Answer], option
 
 
 def change_words(what: str, before: str | None, after: str | None) -> str:
-    """One change: of a problem, of a table, or that there is no judgement."""
+    """Returns the line for a change: of a problem, of a table, or of whether there is a judgement."""
     if what == NO_JUDGEMENT:
         return "judged again" if after is None else f"{NO_JUDGEMENT}: {after}"
     if "" in (before, after):

@@ -1,4 +1,4 @@
-"""Prints the position of a fault or a table in a file at a terminal, as `file:line:column: sentence`, which editors and
+"""Prints the position of a fault or a table in a file to a terminal, as `file:line:column: sentence`, which editors and
 terminals can open."""
 
 import sys
@@ -30,11 +30,11 @@ def mark_tables(path: str, catalog: str, found: Sequence[Verdict]) -> None:
 
 
 def source_of(path: str, catalog: str) -> Source:
-    """The file, for positions in it."""
+    """Returns the file, for positions in it."""
     return Source(path, catalog.encode("utf-8", "surrogateescape"))
 
 
 def mark(line: str) -> None:
-    """Prints nothing if standard error is not a terminal: the judgement itself is on standard output."""
+    """Prints a line, but only if standard error is a terminal. The judgement itself is on standard output."""
     if sys.stderr.isatty():
         print(line.encode("utf-8", "replace").decode(), file=sys.stderr)

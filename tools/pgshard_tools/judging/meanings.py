@@ -1,7 +1,7 @@
-"""What the server says about constants, and about the functions and operators that filters and constraints call.
+"""What the server reports about constants, and about the functions and operators that filters and constraints call.
 
-All of it comes from the judged server: the trees of its expressions have OIDs, and pg_proc and pg_operator say what
-these are. Nothing is concluded from a name.
+All of it comes from the judged server: the trees of its expressions contain OIDs, and pg_proc and pg_operator describe
+these. Nothing is concluded from a name.
 """
 
 import json
@@ -60,7 +60,7 @@ SELECT json_build_object(
 
 
 class Asking(Protocol):
-    """A session with the server: the answer of a query, '' where it fails."""
+    """A session with the server. Returns the answer of a query, or '' if it fails."""
 
     def ask(self, query: str) -> str: ...
 
@@ -68,7 +68,7 @@ class Asking(Protocol):
 
 
 class Meanings:
-    """What the server says; each question is asked once."""
+    """What the server reports. Each question is asked only once."""
 
     def __init__(self, session: Asking, db: Database) -> None:
         self.session = session
@@ -82,29 +82,30 @@ class Meanings:
         self.types: dict[int, str] = dict(answer["types"])
         self.functions = {it["oid"]: call_of(it) for it in answer["functions"]}
         self.operators = {it["oid"]: call_of(it) for it in answer["operators"]}
-        # The collations that tell texts apart just as their bytes are.
+        # The collations that distinguish texts exactly as their bytes do.
         self.collations: dict[str, str] = {str(oid): name for oid, name, is_deterministic in found["collations"]
                                            if is_deterministic}
         # Whether the database's own order of texts is that of their bytes, and whether these are UTF8.
         self.is_bytewise, self.is_utf8 = bool(found["is_bytewise"]), found["encoding"] == "UTF8"
-        # Tables whose partitions are told apart by another order of texts than that of their columns.
+        # Tables whose partitions are distinguished by another collation than that of their columns.
         self.ordered_otherwise = set(found["ordered_otherwise"])
         self.values: dict[str, Any] = {}
 
     def asked(self, query: str) -> Any:
-        # This is part of reading the catalog, for which the server has as long as for the rest of it.
+        # This is part of reading the catalog, and has the same time limit as the rest of it.
         answer = self.session.ask_for(120, query)
         if not answer:
             raise Fault(NO_ANSWER, "the server does not say what its filters call, so nothing is judged")
         return json.loads(answer)
 
     def top(self, relations: list[int], text: str) -> Tree | None:
-        """The server's tree of a text, or None if it has none."""
+        """Returns the server's tree of a text, or None if there is none."""
         found = [it for relation in relations for it in self.texts.get((relation, text), ())]
         return tree_of(found[0]) if found else None
 
     def of(self, raw: Any, text: str, relations: list[int], columns: dict[str, dict[str, Any]]) -> dict[int, Tree]:
-        """The trees of a text's nodes. Bounds of partitions have no tree: their operators are those of the types."""
+        """Returns the trees of a text's nodes. Bounds of partitions have no tree: their operators are those of the
+        types."""
         found = [it for relation in relations for it in self.texts.get((relation, text), ())]
         if not found:
             if self.ordered_otherwise & set(relations):
@@ -124,17 +125,17 @@ class Meanings:
         return self.with_result(self.operators.get(tree.number("opno")), tree, "opresulttype")
 
     def with_result(self, found: Call | None, tree: Tree, name: str) -> Call | None:
-        """A call whose declared result is any type has the type in the tree."""
+        """Returns the call. If its declared result type is polymorphic, it is replaced by the type in the tree."""
         if found is None or not found.result.startswith("any") or not tree.word(name):
             return found
         return replace(found, result=self.types.get(tree.number(name), found.result))
 
     def is_of_bytes(self, tree: Tree) -> bool:
-        """Whether a call has no texts, or only texts that differ exactly if their bytes do."""
+        """Returns whether a call involves no texts, or only texts that differ exactly if their bytes do."""
         return tree.word("inputcollid") in ("", "0") or tree.word("inputcollid") in self.collations
 
     def constant(self, raw: Any, sql: str) -> str | None:
-        """The value of an expression without columns, as the server writes it; Unread if it fails."""
+        """Returns the value of an expression without columns, as the server prints it; raises Unread if it fails."""
         if sql not in self.values:
             answer = self.session.ask(f"SELECT json_build_array(({sql})::text)")
             self.values[sql] = json.loads(answer) if answer else None
@@ -145,7 +146,7 @@ class Meanings:
         return text
 
     def is_evaluated(self, sql: str) -> bool:
-        """Whether the server evaluates an expression without columns."""
+        """Returns whether the server can evaluate an expression without columns."""
         if sql not in self.values:
             answer = self.session.ask(f"SELECT json_build_array(({sql})::text)")
             self.values[sql] = json.loads(answer) if answer else None
@@ -153,8 +154,8 @@ class Meanings:
 
 
 def texts_of(found: Any, db: Database) -> dict[tuple[int, str], set[str]]:
-    """The trees of each text of a filter or a CHECK, by the relation and the text. They are looked up by name, since
-    asking for the texts once more would wait for tables that are locked."""
+    """Returns the trees of each text of a filter or a CHECK, by the relation and the text. They are looked up by name,
+    since asking for the texts again would wait for locked tables."""
     trees = {("filter", name, relation): tree for name, relation, tree in found["filters"]}
     for kind in "check", "generated":
         trees |= {(kind, name, relation): tree for name, relation, tree in found[kind]}
@@ -183,7 +184,7 @@ PLACES = {"location", "varattno", "varattnosyn", "varnosyn"}
 
 
 def without_places(part: Any) -> Any:
-    """A tree without the positions of its parts in the text, and of its columns in the table."""
+    """Returns a tree without the positions of its parts in the text, and of its columns in the table."""
     if isinstance(part, Tree):
         return part.kind, [(name, without_places(it)) for name, it in part.fields.items() if name not in PLACES]
     return [without_places(it) for it in part] if isinstance(part, list) else part

@@ -1,6 +1,6 @@
-"""Whether the result of some steps is in some ranges, as a formula of the column with which they begin.
+"""Formulas for whether the result of some steps is in some ranges, in terms of the column with which the steps begin.
 
-Each formula here is NULL exactly where the column is, and each function says why its result is exact.
+Each formula is NULL exactly if the column is, and each function explains why its result is exact.
 """
 
 import math
@@ -13,17 +13,17 @@ from pgshard_tools.judging.ranges import Ranges
 from pgshard_tools.judging.server_types import INTEGERS
 from pgshard_tools.judging.steps import END, Absolute, Mask, Modulo, Quotient, Shift, Step, Times
 
-# Remainders by a greater modulus are not gone through one by one, nor are more ranges than these made of one.
+# Remainders by a greater modulus are not enumerated, nor are more ranges than this made from one.
 MOST_REMAINDERS = 4096
 MOST_RANGES = 1000
 
 
 class TooWide(Exception):
-    """A set of numbers that would take too many ranges."""
+    """A set of numbers that would need too many ranges."""
 
 
 def member(subject: Subject, done: Sequence[Step], found: Ranges) -> Formula:
-    """Whether the result is in the ranges."""
+    """Returns whether the result is in the ranges."""
     if not done:
         return within(subject, found)
     if is_of_bits(subject, done):
@@ -45,7 +45,7 @@ def member(subject: Subject, done: Sequence[Step], found: Ranges) -> Formula:
 
 
 def is_of_bits(subject: Subject, done: Sequence[Step]) -> bool:
-    """Whether the steps mask the column, or a shifted column. A mask of a few last bits is a remainder."""
+    """Returns whether the steps mask the column, or a shifted column. A mask of the last few bits is a remainder."""
     *before, last = done
     if not isinstance(last, Mask) or last.mask == 0:
         return False
@@ -61,12 +61,12 @@ def shifted_by(step: Step) -> int:
 
 
 def width_of(subject: Subject) -> int:
-    """The bits of an integer column."""
+    """Returns the number of bits of an integer column."""
     return INTEGERS[subject.type][0]
 
 
 def within(subject: Subject, found: Ranges) -> Formula:
-    """Whether the column itself is in the ranges."""
+    """Returns whether the column itself is in the ranges."""
     least = -(2 ** (width_of(subject) - 1))
     inside = ranges.intersection(found, [(least, -least - 1)])
     if len(inside) > MOST_RANGES:
@@ -83,7 +83,7 @@ def within(subject: Subject, found: Ranges) -> Formula:
 
 
 def residue(subject: Subject, done: Sequence[Step], modulus: int, found: Ranges) -> Formula:
-    """Whether the remainder of the result, which goes toward zero, is in the ranges."""
+    """Returns whether the remainder of the result, which truncates toward zero, is in the ranges."""
     if not done:
         return residue_of_column(subject, modulus, found)
     before, last = done[:-1], done[-1]
@@ -94,7 +94,7 @@ def residue(subject: Subject, done: Sequence[Step], modulus: int, found: Ranges)
         case Times(-1):
             return residue(subject, before, modulus, steps.negative(found))
         case Quotient(divisor):
-            # y = q * d * n + r, with the sign of y for both, so (y / d) % n = r / d.
+            # y = q * d * n + r, where both terms have the sign of y, so (y / d) % n = r / d.
             wide = abs(divisor) * modulus
             return residue(subject, before, wide, ranges.intersection(last.before(found), [(1 - wide, wide - 1)]))
         case Shift(bits):
@@ -111,8 +111,8 @@ def residue(subject: Subject, done: Sequence[Step], modulus: int, found: Ranges)
 
 
 def residue_of_column(subject: Subject, modulus: int, found: Ranges) -> Formula:
-    """The remainder of the column; by a number that is past the column's it is the column itself, but that of the least
-    number by its opposite is 0."""
+    """The remainder of the column. By a number beyond the column's range it is the column itself, except that the least
+    number has the remainder 0 by its opposite."""
     if len(found) > MOST_RANGES:
         raise TooWide
     end = 2 ** (width_of(subject) - 1)
@@ -124,16 +124,15 @@ def residue_of_column(subject: Subject, modulus: int, found: Ranges) -> Formula:
 
 def residue_of_shift(subject: Subject, before: Sequence[Step], shift: Shift, wide: int, found: Ranges,
                      modulus: int) -> Formula:
-    """y = q * 2^s * n + r, with the sign of y for both, so y >> s = q * n + (r >> s). r >> s is from -n to n - 1, and
-    its
-    remainder by n is itself, but 0 for -n; it has the sign of y, or is 0."""
+    """y = q * 2^s * n + r, where both terms have the sign of y, so y >> s = q * n + (r >> s). r >> s is from -n to n -
+    1. Its remainder by n is itself, but 0 for -n; it has the sign of y, or is 0."""
     values = ranges.union(found, [(-modulus, -modulus)] if steps.contains(found, 0) else [])
     return residue(subject, before, wide, ranges.intersection(shift.before(values), [(1 - wide, wide - 1)]))
 
 
 def residue_of_product(subject: Subject, before: Sequence[Step], factor: int, modulus: int, found: Ranges) -> Formula:
-    """(y * a) % n goes by the remainder of y by n / gcd(a, n), since that many times a is a multiple of n, and the sign
-    of the product of a and the remainder is that of y * a, or it is 0."""
+    """(y * a) % n depends on the remainder of y by n / gcd(a, n), since a times that modulus is a multiple of n. The
+    product of a and the remainder has the sign of y * a, or is 0."""
     short = modulus // math.gcd(factor, modulus)
     if short > MOST_REMAINDERS:
         raise TooWide
@@ -143,8 +142,8 @@ def residue_of_product(subject: Subject, before: Sequence[Step], factor: int, mo
 
 
 def residue_of_sum(subject: Subject, done: Sequence[Step], number: int, modulus: int, found: Ranges) -> Formula:
-    """The remainder of y + a has the sign of y + a, and otherwise depends on the remainder of y: y + a is in the class
-    of the remainder v exactly if y is in that of v - a. So the two signs are treated one by one."""
+    """The remainder of y + a has the sign of y + a, and otherwise depends on the remainder of y: y + a is congruent to
+    the remainder v exactly if y is congruent to v - a. So the two signs are treated separately."""
     is_above = member(subject, done, ((0, END),))
     above = classes(ranges.intersection(found, [(0, modulus - 1)]), number, modulus)
     below = classes(ranges.intersection(found, [(1 - modulus, 0)]), number, modulus)
@@ -155,7 +154,8 @@ def residue_of_sum(subject: Subject, done: Sequence[Step], number: int, modulus:
 
 
 def classes(found: Ranges, number: int, modulus: int) -> Ranges:
-    """The remainders toward zero of the numbers that are of one class with v - a, of the v in some ranges."""
+    """Returns the remainders, truncated toward zero, of the numbers that are congruent to v - a for some v in the
+    ranges."""
     plain: list[tuple[int, int]] = []
     for low, high in found:
         begin = (low - number) % modulus
@@ -165,14 +165,15 @@ def classes(found: Ranges, number: int, modulus: int) -> Ranges:
 
 
 def representatives(plain: Ranges, modulus: int) -> Ranges:
-    """The remainders toward zero of the classes of some numbers from 0 to n - 1: these, and those less n."""
+    """Returns the remainders, truncated toward zero, that are congruent to numbers from 0 to n - 1: these, and the same
+    minus n."""
     below = ranges.intersection([(low - modulus, high - modulus) for low, high in plain], [(1 - modulus, -1)])
     return ranges.union(plain, below)
 
 
 def residue_of_bounded(subject: Subject, done: Sequence[Step], low: int, high: int, modulus: int,
                        found: Ranges) -> Formula:
-    """A result between two numbers is examined multiple by multiple of the modulus."""
+    """A result between two numbers is examined for each multiple of the modulus."""
     first, last = -(-low // modulus) if low < 0 else 0, high // modulus
     if (last - first + 1) * len(found) > MOST_RANGES:
         raise TooWide
@@ -183,7 +184,7 @@ def residue_of_bounded(subject: Subject, done: Sequence[Step], low: int, high: i
 
 
 def masked(subject: Subject, done: Sequence[Step], mask: int, found: Ranges) -> Formula:
-    """Whether the bits of the result that are in the mask are in the ranges."""
+    """Returns whether the bits of the result that are in the mask are in the ranges."""
     is_low = mask & (mask + 1) == 0
     found = ranges.intersection(found, [(0, mask)])
     if not done and (not is_low or mask >= MOST_REMAINDERS):
@@ -193,12 +194,12 @@ def masked(subject: Subject, done: Sequence[Step], mask: int, found: Ranges) -> 
         return Masked(subject, mask << bits, tuple((low << bits, high << bits) for low, high in found))
     if not is_low:
         raise TooWide
-    # The last k bits of a number are its remainder by 2^k, or that and 2^k where it is negative.
+    # The last k bits of a number are its remainder by 2^k, or that plus 2^k if it is negative.
     return residue(subject, done, mask + 1, representatives(found, mask + 1))
 
 
 def masked_column(subject: Subject, mask: int, found: Ranges) -> Formula:
-    """The bits of the column. From the sign on all bits of a wider mask are that of the sign."""
+    """The bits of the column. If a mask is wider, all bits from the sign bit on equal the sign bit."""
     last = width_of(subject) - 1
     low, high = mask & (2**last - 1), mask >> last << last
     if high == 0:

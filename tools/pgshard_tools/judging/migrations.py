@@ -1,4 +1,4 @@
-"""The statements of a migration, each with its line, and why some cannot be tried in a transaction."""
+"""The statements of a migration, each with its line, and why some of them cannot be tried in a transaction."""
 
 from collections.abc import Iterator
 from dataclasses import dataclass
@@ -8,7 +8,7 @@ from pgshard_tools.judging.catalog_tokens import placed_tokens
 from pgshard_tools.judging.faults import BAD_COMMAND, NOT_READ, Fault
 from pgshard_tools.judging.parser import kind_of
 
-# Functions whose effects a rollback does not undo, where a statement calls them by name.
+# Functions whose effects are not undone by a rollback, if a statement calls them by name.
 OUTSIDE = {
     "dblink", "dblink_connect", "dblink_connect_u", "dblink_exec", "dblink_send_query", "lo_export", "lo_import",
     "nextval", "pg_advisory_lock", "pg_advisory_lock_shared", "pg_backup_start", "pg_backup_stop", "pg_cancel_backend",
@@ -29,7 +29,7 @@ class Statement:
 
 
 def statements_of(path: str) -> list[Statement]:
-    """The statements of a file, all of which can be tried."""
+    """Returns the statements of a file, all of which can be tried."""
     import pglast  # type: ignore[import]
     text = read_file(path)
     try:
@@ -51,7 +51,7 @@ def statements_of(path: str) -> list[Statement]:
 
 
 def read_file(path: str) -> str:
-    """The text of a file."""
+    """Returns the text of a file."""
     try:
         with open(path, encoding="utf-8") as file:
             return file.read()
@@ -60,17 +60,17 @@ def read_file(path: str) -> str:
 
 
 def place_of(path: str, text: str, at: int) -> str:
-    """The line in which a character is."""
+    """Returns the position of a character, as file:line."""
     return f"{path}:{text.count(chr(10), 0, at) + 1}"
 
 
 def refused(place: str, words: str) -> Fault:
-    """The fault of a migration that is not tried, or that fails."""
+    """Returns the fault of a migration that is not tried, or that fails."""
     return Fault(NOT_READ, f"refused: {place}: {words}")
 
 
 def why_not_tried(tree: Any) -> str | None:
-    """Why a rollback might not undo a statement, or None."""
+    """Returns why a rollback might not undo a statement, or None."""
     match kind_of(tree):
         case "TransactionStmt":
             return ("--with runs the file in one transaction, which is rolled back, so the file can't begin or end "
@@ -82,7 +82,7 @@ def why_not_tried(tree: Any) -> str | None:
 
 
 def called(node: Any) -> Iterator[str]:
-    """The names of the functions that a tree calls."""
+    """Yields the names of the functions that a tree calls."""
     if isinstance(node, tuple):
         for part in node:
             yield from called(part)

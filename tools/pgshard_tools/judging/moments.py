@@ -1,5 +1,5 @@
-"""Functions of dates and timestamps that preserve the order: comparing the result with a constant is comparing the
-argument."""
+"""Functions of dates and timestamps that preserve the order: comparing the result with a constant amounts to comparing
+the argument."""
 
 import math
 from dataclasses import replace
@@ -14,7 +14,7 @@ from pgshard_tools.judging.points import DAY, GREATEST, LEAST, Point, finite
 from pgshard_tools.judging.signatures import INFINITE_PARTS
 
 TYPES = ("date", "timestamp")
-# The least and the greatest number that a part has.
+# The least and the greatest number of each part.
 BOUNDS = {"month": (1, 12), "day": (1, 31), "dow": (0, 6), "isodow": (1, 7), "doy": (1, 366), "quarter": (1, 4),
           "week": (1, 53), "hour": (0, 23), "minute": (0, 59)}
 BOUNDS_OF_TIME = {"hour": (0, 24), "minute": (0, 59)}
@@ -25,7 +25,7 @@ MONDAY = 2
 
 
 def subject_of(operand: Operand) -> Subject | None:
-    """The subject of a date or a timestamp."""
+    """Returns the subject of a date or a timestamp."""
     match operand:
         case Ref(subject=subject, type=type) if type in TYPES:
             return subject
@@ -42,17 +42,17 @@ def type_of(operand: Operand) -> str:
 
 
 def compared(form: str, op: str, operand: Operand, point: Point) -> Formula:
-    """A comparison of the argument with a point of its type."""
+    """Returns a comparison of the argument with a point of its type."""
     return comparing.with_constant(form, op, operand, Value(type_of(operand), point))
 
 
 def never(form: str, operand: Operand) -> Formula:
-    """FALSE, or NULL where the argument is: nothing is below -infinity."""
+    """Returns FALSE, or NULL if the argument is: nothing is below -infinity."""
     return compared(form, "<", operand, LEAST)
 
 
 def is_last(form: str, operand: Operand) -> Formula:
-    """Whether it is the last timestamp, at which arithmetic fails."""
+    """Returns whether it is the last timestamp, for which arithmetic fails."""
     return compared(form, "=", operand, finite(points.LAST_TIME))
 
 
@@ -62,8 +62,8 @@ def is_infinite(form: str, operand: Operand) -> Formula:
 
 def derived(form: str, operand: Operand, ref: Ref, below: Callable[[Fraction], Point | None],
             up_to: Callable[[Fraction], Point | None]) -> Derived:
-    """A function that keeps the order, infinity too. `below` says from which argument on it is not below a number, and
-    `up_to` from which on it is above it."""
+    """Returns a function that preserves the order, including infinity. `below` gives the first argument for which the
+    result is not below a number, and `up_to` the first one for which it is above the number."""
 
     def means(_: Ref, op: str, constant: Value) -> Formula | None:
         point = constant.value
@@ -84,8 +84,8 @@ def derived(form: str, operand: Operand, ref: Ref, below: Callable[[Fraction], P
 
 
 def part(form: str, name: str, operand: Operand, ref: Ref) -> Operand:
-    """A part of a date, a timestamp or a time. Its column is NULL where the argument is. At infinity the parts that
-    repeat are NULL, and the others are infinite."""
+    """Reads a part of a date, a timestamp or a time. Its column is NULL if the argument is. For infinity, cyclic parts
+    are NULL, and the others are infinite."""
     subject = subject_of(operand)
     if subject is None:
         found = BOUNDS_OF_TIME.get(name) if isinstance(operand, Ref) and operand.type == "time" else None
@@ -99,7 +99,7 @@ def part(form: str, name: str, operand: Operand, ref: Ref) -> Operand:
 
 
 def where_null(form: str, operand: Operand, null_of: comparing.NullOf) -> Formula:
-    """Where a part that repeats is NULL: where the argument is NULL, and at infinity."""
+    """Returns when a cyclic part is NULL: if the argument is NULL or infinite."""
     subject = subject_of(operand)
     assert subject is not None
     return tested("TRUE", either(null_of(subject), is_infinite(form, operand)))
@@ -110,11 +110,11 @@ def bounded(ref: Ref, bounds: tuple[int, int]) -> Ref:
 
 
 def year(form: str, operand: Operand, ref: Ref) -> Derived:
-    """The year; -1 is followed by 1."""
+    """Reads the year; -1 is followed by 1."""
     unit = 1 if type_of(operand) == "date" else DAY
 
     def begin(number: int) -> Point:
-        # The year before 1 is 0 for days_of, and -1 for the server.
+        # The year before 1 is 0 in days_of, and -1 on the server.
         return finite(unit * points.days_of(number if number > 0 else 1 if number == 0 else number + 1, 1, 1))
 
     found = derived(form, operand, ref, lambda it: begin(math.ceil(it)), lambda it: begin(math.floor(it) + 1))
@@ -122,7 +122,8 @@ def year(form: str, operand: Operand, ref: Ref) -> Derived:
 
 
 def truncated(form: str, unit: str, operand: Operand, ref: Ref, failing: Failing) -> Operand:
-    """date_trunc of a timestamp. It fails where the unit begins before the first timestamp, and at the last one."""
+    """Reads date_trunc of a timestamp. It fails if the unit begins before the first timestamp, and for the last
+    timestamp."""
     if unit not in UNITS and unit not in MONTHS and unit != "week":
         failing.note(form, None, ref.subject.columns)
         return ref
@@ -140,7 +141,7 @@ def truncated(form: str, unit: str, operand: Operand, ref: Ref, failing: Failing
 
 
 def last_begin(unit: str, number: Fraction) -> int:
-    """The beginning of the unit that contains a moment."""
+    """Returns the beginning of the unit that contains a moment."""
     if unit in UNITS:
         return math.floor(number / UNITS[unit]) * UNITS[unit]
     days = math.floor(number / DAY)
@@ -152,7 +153,7 @@ def last_begin(unit: str, number: Fraction) -> int:
 
 
 def next_begin(unit: str, begin: int) -> int:
-    """The beginning of the unit after the one that begins then."""
+    """Returns the beginning of the next unit."""
     if unit in UNITS:
         return begin + UNITS[unit]
     if unit == "week":
@@ -163,7 +164,7 @@ def next_begin(unit: str, begin: int) -> int:
 
 
 def as_timestamp(form: str, operand: Operand, ref: Ref, failing: Failing) -> Operand:
-    """A date as its midnight. It fails at dates that no timestamp has."""
+    """Reads a date as its midnight. It fails for dates that are not timestamps."""
     end = points.LAST_READ // DAY + 1
     late = both(negation(compared(form, "<", operand, finite(end))), compared(form, "<", operand, GREATEST))
     failing.note(form, late, ref.subject.columns)
@@ -175,14 +176,14 @@ def as_timestamp(form: str, operand: Operand, ref: Ref, failing: Failing) -> Ope
 
 
 def as_date(form: str, operand: Derived, ref: Ref) -> Operand:
-    """The date of a function of a timestamp."""
+    """Reads the date of a function of a timestamp."""
     return derived(
         form, operand, ref, lambda it: finite(math.ceil(it) * DAY), lambda it: finite((math.floor(it) + 1) * DAY))
 
 
 def moved(form: str, operand: Operand, steps: Sequence[int], ref: Ref, failing: Failing) -> Operand:
-    """A date or timestamp moved by this many days or microseconds, in one or two steps. It fails if a step leads past
-    an end of the type."""
+    """Reads a date or timestamp moved by this many days or microseconds, in one or two steps. It fails if a step leads
+    beyond the limits of the type."""
     is_date = type_of(operand) == "date"
     low, high = (points.FIRST_DAY, points.LAST_DAY) if is_date else (points.FIRST_TIME, points.LAST_READ)
     by = 0
@@ -196,19 +197,19 @@ def moved(form: str, operand: Operand, steps: Sequence[int], ref: Ref, failing: 
 
 
 def after(operand: Operand, number: Fraction) -> Point:
-    """The first day, or microsecond, after a number."""
+    """Returns the first day, or microsecond, after a number."""
     return finite(math.floor(number) + 1)
 
 
 def days_since(form: str, operand: Operand, begin: Point, ref: Ref, failing: Failing) -> Operand:
-    """The number of days from one date to another, which fails if one of them is infinite."""
+    """Reads the number of days from one date to another, which fails if one of them is infinite."""
     failing.note(form, is_infinite(form, operand), ref.subject.columns)
     return derived(form, operand, ref, lambda it: finite(it + begin.value), lambda it: after(operand, it + begin.value))
 
 
 def steps_of(text: str | None) -> tuple[int, ...] | None:
-    """The microseconds that an interval adds: first those of its days, if it has any, then those of its clock. None for
-    an interval with months, whose length varies."""
+    """Returns the microseconds that an interval adds: first those of its days, if it has any, then those of its time.
+    Returns None for an interval with months, whose length varies."""
     try:
         months, days, clock = wholes.parts(text or "")
     except ValueError:

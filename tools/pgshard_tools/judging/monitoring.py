@@ -12,9 +12,9 @@ from pgshard_tools.judging.report import Report
 
 ANSWERS = (verdicts.SOUND, verdicts.NOT_SOUND, verdicts.REFUSED, verdicts.NOT_DECIDED, verdicts.NOT_READ)
 
-# The statuses of --detailed-status, the worst first. They go on after those of docs/JUDGING.md.
+# The statuses of --detailed-status, the worst first. They continue those of docs/JUDGING.md.
 REFUSED, NOT_DECIDED, NOTHING, FAILING, FINDING = 7, 8, 9, 10, 11
-# Those of a plugin of Nagios.
+# The statuses of a Nagios plugin.
 OK, WARNING, CRITICAL, UNKNOWN = range(4)
 WORDS = ("OK", "WARNING", "CRITICAL", "UNKNOWN")
 PLUGIN = {SOUND: OK, NOT_SOUND: CRITICAL, REFUSED: CRITICAL, NOT_DECIDED: WARNING, NOTHING: WARNING, FAILING: WARNING,
@@ -22,7 +22,7 @@ PLUGIN = {SOUND: OK, NOT_SOUND: CRITICAL, REFUSED: CRITICAL, NOT_DECIDED: WARNIN
 
 
 def detailed(report: Report, is_strict: bool) -> int:
-    """The status of the worst answer."""
+    """Returns the status of the worst answer."""
     answers = {it.answer for it in report.verdicts}
     listed = ((verdicts.NOT_SOUND, NOT_SOUND), (verdicts.REFUSED, REFUSED), (verdicts.NOT_DECIDED, NOT_DECIDED))
     for answer, status in listed:
@@ -38,23 +38,23 @@ def detailed(report: Report, is_strict: bool) -> int:
 
 
 def counts(report: Report) -> dict[str, int]:
-    """How many tables have each answer."""
+    """Returns how many tables have each answer."""
     return {answer: sum(it.answer == answer for it in report.verdicts) for answer in ANSWERS}
 
 
 def plugin_line(report: Report, is_strict: bool) -> tuple[str, int]:
-    """The line of a plugin of Nagios with its performance data, and its status."""
+    """Returns the line of a Nagios plugin with its performance data, and its status."""
     status = PLUGIN[detailed(report, is_strict)]
     return plugin_whole(status, plugin_text(report), plugin_data(report)), status
 
 
 def plugin_whole(status: int, text: str, data: Mapping[str, int]) -> str:
-    """The line of a text and its numbers."""
+    """Returns the line for a text and its numbers."""
     return f"{plugin_words(status, text)} | {' '.join(f'{name}={number}' for name, number in data.items())}"
 
 
 def plugin_text(report: Report) -> str:
-    """What the line says about a database."""
+    """Returns what the line says about a database."""
     found = counts(report)
     tables = "1 table" if len(report.verdicts) == 1 else f"{len(report.verdicts)} tables"
     parts = [f"{tables}, {found[verdicts.SOUND]} sound"] if report.verdicts else ["no table is published"]
@@ -68,7 +68,7 @@ def plugin_text(report: Report) -> str:
 
 
 def plugin_data(report: Report) -> dict[str, int]:
-    """The numbers of a database."""
+    """Returns the numbers of a database."""
     return {
         "tables": len(report.verdicts), **{label(it): number for it, number in counts(report).items()},
         "failing": sum(bool(it.failing) for it in report.verdicts), "not_published": len(report.database.unpublished),
@@ -76,28 +76,29 @@ def plugin_data(report: Report) -> dict[str, int]:
 
 
 def plugin_words(status: int, text: str) -> str:
-    """One line, in which only the performance data has the character before it."""
+    """Returns one line of text, in which `|` occurs only before the performance data."""
     cleaned = re.sub(r"\s+", " ", text).replace("|", "/")
     return f"PGSHARD {WORDS[status]} - {cleaned}"
 
 
 def plugin_fault(fault: Fault) -> tuple[str, int]:
-    """The line if there is no judgement."""
+    """Returns the line if there is no judgement."""
     return plugin_words(UNKNOWN, fault.words), UNKNOWN
 
 
 def written(answer: str) -> str:
-    """An answer as the lines of a report have it."""
+    """Returns an answer as written in the lines of a report."""
     return answer.upper() if answer in (verdicts.NOT_SOUND, verdicts.REFUSED) else answer
 
 
 def label(answer: str) -> str:
-    """An answer as the name of a number."""
+    """Returns an answer as the name of a number."""
     return answer.replace(" ", "_")
 
 
 def metrics(reports: Sequence[Report], status: int) -> str:
-    """The text for Prometheus. A table has 1 for its answer, and 0 for the others, so that each series continues."""
+    """Returns the text for Prometheus. A table has 1 for its answer, and 0 for the others, so that each series
+    continues."""
     tables, failing, numbers, unpublished, findings = [], [], [], [], []
     for report in reports:
         database = {"database": report.database.name}
@@ -118,7 +119,7 @@ def metrics(reports: Sequence[Report], status: int) -> str:
 
 
 def run_metrics(status: int) -> str:
-    """The metrics of each run, also of one without a judgement."""
+    """Returns the metrics of each run, including one without a judgement."""
     return "".join([
         family("pgshard_judge_status", "The exit status of the last run of judge.", [
             sample("pgshard_judge_status", {}, status)]),
@@ -127,24 +128,24 @@ def run_metrics(status: int) -> str:
 
 
 def family(name: str, says: str, samples: Sequence[str]) -> str:
-    """A metric with its help and its type."""
+    """Returns a metric with its help and its type."""
     return f"# HELP {name} {says}\n# TYPE {name} gauge\n{''.join(samples)}" if samples else ""
 
 
 def sample(name: str, labels: Mapping[str, str], value: int) -> str:
-    """One line."""
+    """Returns one line."""
     listed = ",".join(f'{key}="{escaped(text)}"' for key, text in labels.items())
     return f"{name}{'{' if listed else ''}{listed}{'}' if listed else ''} {value}\n"
 
 
 def escaped(text: str) -> str:
-    """The value of a label."""
+    """Returns the value of a label."""
     return text.replace("\\", "\\\\").replace('"', '\\"').replace("\n", "\\n")
 
 
 def write_metrics(path: str, text: str) -> None:
-    """Writes a file atomically, so that nobody reads a part of it. Everyone may read it, since another user collects
-    it."""
+    """Writes a file atomically, so that nobody reads a part of it. Everyone may read it, since it is collected by
+    another user."""
     folder = os.path.dirname(os.path.abspath(path))
     try:
         with tempfile.NamedTemporaryFile(

@@ -12,12 +12,13 @@ TURNED = {">>": "<<", ">>=": "<<="}
 
 
 def subject_of(operand: Operand) -> Subject | None:
-    """A column of addresses."""
+    """Returns a column of addresses."""
     return operand.subject if isinstance(operand, Ref) and operand.subject.type in ("inet", "cidr") else None
 
 
 def contains(name: str, one: Operand, other: Operand) -> Formula | None:
-    """Whether an address is in a constant network: its addresses are consecutive in the server's order."""
+    """Returns whether an address is in a constant network: the network's addresses are consecutive in the server's
+    order."""
     if name in TURNED:
         return contains(TURNED[name], other, one)
     subject = subject_of(one)
@@ -31,12 +32,12 @@ def contains(name: str, one: Operand, other: Operand) -> Formula | None:
 
 
 def never(subject: Subject) -> Formula:
-    """FALSE, or NULL where the address is: none is before the first one."""
+    """Returns FALSE, or NULL if the address is: no address is before the first one."""
     return Compare(subject, "<", finite(0))
 
 
 def family(form: str, operand: Operand, type: str) -> Operand | None:
-    """4 or 6. All addresses of 4 are before those of 6."""
+    """Reads the family, 4 or 6. All addresses of family 4 come before those of 6."""
     found = subject_of(operand)
     if found is None:
         return None

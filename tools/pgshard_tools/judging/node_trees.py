@@ -1,7 +1,7 @@
-"""The server's own tree of an expression, as `pg_node_tree` is written: `{OPEXPR :opno 96 :args ({VAR ..} {CONST
-..})}`.
+"""Parses the server's tree of an expression, which is printed as a `pg_node_tree`: `{OPEXPR :opno 96 :args ({VAR ..}
+{CONST ..})}`.
 
-The tree has the OIDs of the functions and operators that the server calls, which the text of a filter does not.
+The tree contains the OIDs of the functions and operators that the server calls, unlike the text of a filter.
 """
 
 import re

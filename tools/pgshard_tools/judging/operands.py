@@ -33,8 +33,7 @@ class Ref:
 @dataclass(frozen=True)
 class Whole:
     """What some steps make of a column of whole numbers, as a value of an integer type. It is NULL exactly where the
-    column
-    is. If the result of a step does not fit its type the server fails, and here the number just goes on."""
+    column is. If the result of a step does not fit its type the server fails, and here the number just goes on."""
 
     subject: Subject
     steps: tuple[Step, ...]

@@ -13,7 +13,7 @@ from pgshard_tools.judging.repairing import Repair, lines_of
 from pgshard_tools.judging.report import Report
 from pgshard_tools.judging.verdicts import Verdict
 
-# Colours that people tell apart who do not see red or green. None is the red of what reaches nobody.
+# Colours that can be distinguished by people who do not see red or green. None is the red of what reaches nobody.
 COLOURS = ["#0072b2", "#e69f00", "#009e73", "#cc79a7", "#56b4e9", "#b8a800", "#7a5cc9", "#8c6d5a"]
 MARKS = {verdicts.SOUND: "✓", verdicts.NOT_SOUND: "✕", verdicts.REFUSED: "!", verdicts.NOT_DECIDED: "?",
          verdicts.NOT_READ: "?"}
@@ -21,7 +21,7 @@ WRITTEN = {verdicts.NOT_SOUND: "NOT SOUND", verdicts.REFUSED: "REFUSED"}
 
 
 def write(path: str, answer: Report, purposes: Mapping[str, str], repairs: Sequence[Repair]) -> None:
-    """Writes the page to a file, as a whole or not at all."""
+    """Writes the page to a file, either completely or not at all."""
     text = Page(answer, purposes, {it.table: it for it in repairs}).text()
     try:
         with open(f"{path}.new", "w", encoding="utf-8", errors="backslashreplace") as file:
@@ -41,7 +41,7 @@ class Page:
         self.colours = {it.name: COLOURS[place % len(COLOURS)] for place, it in enumerate(answer.subscribers)}
 
     def text(self) -> str:
-        """The whole page."""
+        """Returns the whole page."""
         with open(os.path.join(FOLDER, "page.css"), encoding="utf-8") as file:
             style = file.read()
         name = escape(self.answer.database.name)
@@ -53,7 +53,7 @@ class Page:
             ""])
 
     def head(self, name: str) -> Iterator[str]:
-        """The head of the page: what is judged, and what the colours mean."""
+        """Yields the head of the page: what is judged, and what the colours mean."""
         now = datetime.datetime.now(datetime.timezone.utc)
         yield f"<header>\n<h1>What {name} publishes</h1>"
         yield f"<p>{escape(report.counts(self.answer, False))}</p>"
@@ -76,7 +76,7 @@ class Page:
         return f'<li class="cell" style="--c: {self.colours[name]}"><span class="who">{escape(name)}</span></li>'
 
     def section(self, verdict: Verdict) -> Iterator[str]:
-        """One table."""
+        """Yields the section of a table."""
         answer = WRITTEN.get(verdict.answer, verdict.answer)
         name = escape(verdict.table)
         yield f'<section>\n<div class="title"><h2>{name}</h2>'
@@ -94,7 +94,7 @@ class Page:
         yield "</section>"
 
     def map(self, verdict: Verdict, found: Map) -> Iterator[str]:
-        """A line, a grid or a list."""
+        """Yields a line, a grid or a list."""
         cells = [self.cell(verdict, it) for it in found.cells]
         if len(found.sides) == 2:
             yield from self.grid(found, cells)
@@ -110,7 +110,7 @@ class Page:
             yield f'<p class="muted">and {found.more:,} more regions</p>'
 
     def grid(self, found: Map, cells: Sequence[tuple[str, str]]) -> Iterator[str]:
-        """A table with the parts of one term on the left, and those of the other above."""
+        """Yields an HTML table with the parts of one term on the left, and those of the other at the top."""
         rows, columns = found.sides
         yield '<div class="wide"><table class="grid">'
         heads = "".join(f'<th scope="col">{escape(it)}</th>' for it in columns.parts)
@@ -123,7 +123,7 @@ class Page:
         yield "</tbody></table></div>"
 
     def cell(self, verdict: Verdict, cell: Cell) -> tuple[str, str]:
-        """The attributes of a cell, and what is in it."""
+        """Returns the attributes of a cell, and its content."""
         takers = [it for it in self.colours if it in cell.takers] if cell.takers is not None else None
         kinds, who = self.kind_of(verdict, takers)
         colours = [self.colours[it] for it in takers or ()] if kinds != ["each"] else []
@@ -135,7 +135,7 @@ class Page:
         return attributes, f'{where}<span class="who">{escape(who)}</span>{count}'
 
     def kind_of(self, verdict: Verdict, takers: Sequence[str] | None) -> tuple[list[str], str]:
-        """What a cell shows, and who gets its rows, in words."""
+        """Returns what a cell shows, and who gets its rows, in words."""
         if takers is None:
             return ["none"], "no such row"
         purpose = self.purposes.get(verdict.table)
@@ -151,7 +151,7 @@ class Page:
         return (["several", "fault"] if len(takers) > 1 else []), words
 
     def numbers(self, verdict: Verdict) -> Iterator[str]:
-        """How many rows there are."""
+        """Yields how many rows there are."""
         counts = verdict.counts
         if counts is None or counts.why_none is not None:
             return
@@ -162,7 +162,7 @@ class Page:
         yield f'<ul class="numbers">{parts}</ul>'
 
     def repair(self, verdict: Verdict) -> Iterator[str]:
-        """The statements of the repair, if requested."""
+        """Yields the statements of the repair, if requested."""
         repair = self.repairs.get(verdict.table)
         if repair is not None:
             yield f'<h3>Repair</h3>\n<pre>{escape(chr(10).join(lines_of(repair)))}</pre>'

@@ -1,7 +1,7 @@
-"""Matches each node of a filter's text with the node of the server's tree from which it was written.
+"""Matches each node of a filter's text with the node of the server's tree from which it was printed.
 
-The text has the constants as people write them; the tree says which function and which operator is called, by OID. If
-the two do not match, nothing is read.
+The text contains the constants as people write them; the tree contains the OIDs of the functions and operators that are
+called. If the two do not match, nothing is read.
 """
 
 from typing import Any
@@ -10,7 +10,7 @@ from pgshard_tools.judging.faults import Unread
 from pgshard_tools.judging.node_trees import Tree
 from pgshard_tools.judging.parser import kind_of, written
 
-# How a conversion came into the tree: CoercionForm of the server's primnodes.h.
+# The origin of a conversion in the tree: CoercionForm in the server's primnodes.h.
 EXPLICIT_CAST, IMPLICIT_CAST = "1", "2"
 ONE_ARGUMENT = {"RELABELTYPE": "relabelformat", "COERCEVIAIO": "coerceformat", "ARRAYCOERCEEXPR": "coerceformat"}
 TEXT = "25"
@@ -26,7 +26,7 @@ class Mismatch(Exception):
 
 
 def paired(raw: Any, tree: Tree) -> dict[int, Tree]:
-    """The trees of the text's nodes, by the nodes' ids."""
+    """Returns the trees of the text's nodes, by the nodes' ids."""
     found: dict[int, Tree] = {}
     try:
         pair(raw, tree, found)
@@ -60,15 +60,15 @@ def pair(raw: Any, tree: Tree, found: dict[int, Tree]) -> None:
 
 
 def parts_of(tree: Tree) -> list[Tree]:
-    """The arguments. If the first part of AND is an AND, which BETWEEN makes, the parser reads its parts as those of
-    the whole, and so it does with OR."""
+    """Returns the arguments. If the first argument of AND is an AND, as for BETWEEN, the parser flattens it into the
+    outer one; the same is done for OR."""
     parts = tree.trees("args")
     is_joined = bool(parts) and tree.word("boolop") in ("and", "or") and parts[0].kind == "BOOLEXPR"
     return [*parts_of(parts[0]), *parts[1:]] if is_joined and parts[0].word("boolop") == tree.word("boolop") else parts
 
 
 def pair_other(raw: Any, tree: Tree, found: dict[int, Tree]) -> None:
-    """Kinds that have a form of their own."""
+    """Pairs kinds of nodes that have a form of their own."""
     kind = kind_of(raw)
     match tree.kind:
         case "NULLTEST" | "BOOLEANTEST" | "COLLATEEXPR":
@@ -90,7 +90,7 @@ def pair_other(raw: Any, tree: Tree, found: dict[int, Tree]) -> None:
 
 
 def form_of_cast(tree: Tree) -> str | None:
-    """How a conversion is written, or None if the tree is not a conversion."""
+    """Returns how a conversion is written, or None if the tree is not a conversion."""
     if tree.kind in ONE_ARGUMENT:
         return tree.word(ONE_ARGUMENT[tree.kind])
     is_cast = tree.kind == "FUNCEXPR" and tree.word("funcformat") in (EXPLICIT_CAST, IMPLICIT_CAST)
@@ -98,7 +98,7 @@ def form_of_cast(tree: Tree) -> str | None:
 
 
 def pair_cast(raw: Any, tree: Tree, form: str, found: dict[int, Tree]) -> None:
-    """A conversion, which the text may omit if nobody wrote it."""
+    """Pairs a conversion, which the text may omit if it is implicit."""
     inner = argument(tree)
     if is_shortened(raw, tree, inner):
         found |= {id(raw): tree, id(raw.arg): inner}
@@ -118,7 +118,8 @@ def pair_cast(raw: Any, tree: Tree, form: str, found: dict[int, Tree]) -> None:
 
 
 def is_shortened(raw: Any, tree: Tree, inner: Tree) -> bool:
-    """Whether it is a constant of a type that is cut or rounded to one with a length: the text has the type once."""
+    """Returns whether it is a constant that is cut or rounded to a type with a length: the text has the type only
+    once."""
     is_text = kind_of(raw) == "TypeCast" and kind_of(raw.arg) == "A_Const" and not raw.arg.isnull and kind_of(
         raw.arg.val) == "String"
     return is_text and bool(raw.typeName.typmods) and tree.kind == "FUNCEXPR" and inner.kind == "CONST" and inner.word(
@@ -126,7 +127,7 @@ def is_shortened(raw: Any, tree: Tree, inner: Tree) -> bool:
 
 
 def argument(tree: Tree) -> Tree:
-    """The first argument, or the only one."""
+    """Returns the first argument, or the only one."""
     found = tree.tree("arg") or next(iter(tree.trees("args")), None)
     if found is None:
         raise Mismatch(tree.kind)
@@ -141,7 +142,7 @@ def pair_operator(raw: Any, tree: Tree, found: dict[int, Tree]) -> None:
 
 
 def pair_case(raw: Any, tree: Tree, found: dict[int, Tree]) -> None:
-    """`CASE x WHEN y` has the comparison of x and y in the tree, but only y in the text."""
+    """Pairs a CASE. For `CASE x WHEN y`, the tree has the comparison of x and y, but the text only y."""
     compared = tree.tree("arg")
     want((compared is None) == (raw.arg is None))
     if compared is not None:
@@ -179,8 +180,8 @@ def pair_all(raws: Any, trees: list[Tree], found: dict[int, Tree]) -> None:
 
 
 def is_constant(raw: Any, tree: Tree) -> bool:
-    """Whether a text is one that the server writes of a constant: a text has its type behind it, but for the part that
-    EXTRACT names, and a number need not."""
+    """Returns whether a text is one that the server prints for a constant: a text constant is followed by its type,
+    except for the field of EXTRACT; a number need not be."""
     if kind_of(raw) == "TypeCast":
         return kind_of(raw.arg) == "A_Const"
     is_typed = kind_of(raw) == "A_Const" and not raw.isnull

@@ -1,4 +1,4 @@
-"""PostgreSQL's own parser, by the Python library pglast."""
+"""PostgreSQL's own parser, through the Python library pglast."""
 
 import re
 from collections.abc import Sequence
@@ -10,9 +10,9 @@ from pgshard_tools.judging.pythons import has_pglast
 EXTRACT = re.compile(r"pg_catalog\.extract\('(\w+)', ")
 SCHEMA = re.compile(r"pg_catalog\.(?!position\()")
 TEXT_CAST = re.compile(r"CAST\(('(?:[^']|'')*') AS text\)")
-# Without quotes the type bit has one bit.
+# Without quotes, the type bit has one bit.
 BIT_CAST = re.compile(r" AS bit\)")
-# What is quoted, or blanks elsewhere.
+# Matches quoted text, or white space elsewhere.
 BLANKS = re.compile(r"""('(?:[^']|'')*'|"(?:[^"]|"")*")|\s+""")
 NO_MEANING = {"location", "funcformat", "list_start", "list_end"}
 MISSING = (
@@ -28,20 +28,20 @@ def want_pglast() -> None:
 
 
 def parsed(text: str) -> Any:
-    """The tree of an expression."""
+    """Returns the tree of an expression."""
     import pglast  # type: ignore[import]
     try:
         statement = pglast.parse_sql(f"SELECT ({text})")
     except pglast.parser.ParseError as fault:
         raise Unread(text) from fault
     except UnicodeEncodeError as fault:
-        # In SQL_ASCII a text may be any bytes.
+        # In SQL_ASCII, a text may consist of any bytes.
         raise Unread(text, "its bytes are no text in UTF8") from fault
     return statement[0].stmt.targetList[0].val
 
 
 def is_parsed(text: str) -> bool:
-    """Whether this parser, which may be older than the server's, reads an expression."""
+    """Returns whether this parser, which may be older than the server's, can read an expression."""
     try:
         parsed(text)
     except Unread:
@@ -50,13 +50,14 @@ def is_parsed(text: str) -> bool:
 
 
 def written(node: Any) -> str:
-    """An expression as SQL, with text constants without the cast that the server writes."""
+    """Returns an expression as SQL, with text constants without the cast that the server prints."""
     from pglast.stream import RawStream  # type: ignore[import]
     return TEXT_CAST.sub(r"\1", RawStream()(node))
 
 
 def faithful(node: Any) -> str:
-    """An expression as SQL that is read as the same expression again, so that equal texts are equal expressions."""
+    """Returns an expression as SQL that is parsed to the same expression again, so that equal texts are equal
+    expressions."""
     from pglast.stream import RawStream
     text = BIT_CAST.sub(' AS "bit")', RawStream()(node))
     if tree_of(parsed(text)) != tree_of(node):
@@ -65,18 +66,18 @@ def faithful(node: Any) -> str:
 
 
 def side_text(node: Any) -> str:
-    """The same, in parentheses if an operator is next to it."""
+    """Returns the same, in parentheses if an operator is next to it."""
     text = faithful(node)
     return text if is_alone(node) else f"({text})"
 
 
 def is_alone(node: Any) -> bool:
-    """Whether an expression is not that of an operator."""
+    """Returns whether an expression is not one of an operator."""
     return kind_of(node) in ("ColumnRef", "A_Const", "FuncCall", "TypeCast")
 
 
 def tree_of(node: Any) -> Any:
-    """A tree without positions in the text, and without the fields that say how a call was written."""
+    """Returns a tree without positions in the text, and without the fields that say how a call was written."""
     if isinstance(node, tuple):
         return [tree_of(part) for part in node]
     if not (hasattr(node, "__slots__") and hasattr(node, "__iter__")):
@@ -85,20 +86,20 @@ def tree_of(node: Any) -> Any:
 
 
 def shown(text: str) -> str:
-    """SQL for people to read, in one line except for quoted newlines."""
+    """Returns SQL for people to read, in one line except for quoted newlines."""
     one_line = BLANKS.sub(lambda it: it[1] or " ", text).strip()
     text = EXTRACT.sub(r"EXTRACT(\1 FROM ", one_line)
-    # The name `position` is a keyword, so the server takes a list of arguments only behind its schema.
+    # The name `position` is a keyword, so it can only be followed by a list of arguments if it has its schema.
     return SCHEMA.sub("", text)
 
 
 def kind_of(node: object) -> str:
-    """The kind of a node."""
+    """Returns the kind of a node."""
     return type(node).__name__
 
 
 def name_of(parts: Sequence[Any]) -> str:
-    """A name of an operator, a function or a type, without the schema of the server's own."""
+    """Returns the name of an operator, a function or a type, without the server's own schema."""
     words = [part.sval for part in parts]
     if len(words) > 1 and words[0] == "pg_catalog":
         words = words[1:]
@@ -106,7 +107,7 @@ def name_of(parts: Sequence[Any]) -> str:
 
 
 def columns_of(text: str) -> list[str]:
-    """The columns that an expression names, in the order of their first mention."""
+    """Returns the columns that an expression names, in the order of their first occurrence."""
     found: dict[str, bool] = {}
     try:
         gather(parsed(text), found)
@@ -128,8 +129,8 @@ def gather(node: Any, found: dict[str, bool]) -> None:
 
 
 def is_built_in(text: str) -> bool:
-    """Whether an expression has the server's own functions, operators and types alone: those of others have a schema
-    before their names, where the search path has pg_catalog alone. A collation calls nothing."""
+    """Returns whether an expression contains only the server's own functions, operators and types. Names of others
+    include a schema if the search path consists of pg_catalog only. A collation calls nothing."""
     try:
         return not has_schema(parsed(text))
     except Unread:
@@ -137,7 +138,7 @@ def is_built_in(text: str) -> bool:
 
 
 def has_schema(node: Any) -> bool:
-    """Whether a tree has a name with a schema that is not the server's own."""
+    """Returns whether a tree contains a name with a schema other than the server's own."""
     if isinstance(node, tuple):
         return any(has_schema(part) for part in node)
     if not (hasattr(node, "__slots__") and hasattr(node, "__iter__")):

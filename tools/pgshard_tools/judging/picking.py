@@ -1,4 +1,4 @@
-"""Rows of the server that may be in a region: a code for each column, and the values with these codes."""
+"""Picks server rows that may be in a region: a code for each column, and the values with these codes."""
 
 import itertools
 import math
@@ -12,13 +12,13 @@ from pgshard_tools.judging.ranges import Ranges
 from pgshard_tools.judging.rows import Row
 from pgshard_tools.judging.trials import Read
 
-# This many numbers are tried for one with the remainders of a region, and this many rows of each region.
+# How many numbers are tried to find one with the remainders of a region, and how many rows of each region.
 MOST_NUMBERS = 20_000
 MOST_ROWS = 6
 
 
 def rows_in(read: Read, codes: Codes) -> list[Row]:
-    """Rows that may be in a region, as constants by the names of columns."""
+    """Returns rows that may be in a region, as constants by column name."""
     picked = codes_in(codes)
     if picked is None:
         return []
@@ -28,7 +28,7 @@ def rows_in(read: Read, codes: Codes) -> list[Row]:
 
 
 def codes_in(codes: Codes) -> dict[Any, Any] | None:
-    """One code of each column, None for NULL; or None if no code with the remainders is found."""
+    """Returns one code for each column, with None for NULL; or None if no code with the remainders is found."""
     found: dict[Any, Any] = {}
     for coded, (its, may_be_null) in codes.items():
         if isinstance(coded, Remainders):
@@ -46,14 +46,14 @@ def codes_in(codes: Codes) -> dict[Any, Any] | None:
 
 
 def plain_code(coded: Coding, found: Ranges, number: int) -> int:
-    """The code itself, unless it has no value, and its neighbour in the region has one."""
+    """Returns the code itself, unless it has no value and its neighbour in the region has one."""
     if coded.value(number) is not None:
         return number
     return next((it for it in (number + 1, number - 1) if in_ranges(found, it) and coded.value(it) is not None), number)
 
 
 def numbers_in(found: Ranges, by_modulus: dict[int, Ranges]) -> Iterator[int]:
-    """Numbers in some ranges, those near zero first, that have the remainders."""
+    """Yields numbers in some ranges that have the remainders, those near zero first."""
     if not by_modulus:
         yield min((nearest(it) for it in found), key=lambda number: (abs(number), -number))
         return
@@ -64,7 +64,7 @@ def numbers_in(found: Ranges, by_modulus: dict[int, Ranges]) -> Iterator[int]:
 
 
 def near_zero(found: Ranges, period: int) -> Iterator[int]:
-    """One period of numbers of each range, those near zero first."""
+    """Yields one period of numbers of each range, those near zero first."""
     for low, high in sorted(found, key=lambda it: abs(nearest(it))):
         begin = nearest((low, high))
         yield from range(begin, min(high, begin + period) + 1)
@@ -72,7 +72,7 @@ def near_zero(found: Ranges, period: int) -> Iterator[int]:
 
 
 def nearest(piece: Sequence[int]) -> int:
-    """The number of a range that is nearest to zero."""
+    """Returns the number in a range that is nearest to zero."""
     return max(piece[0], min(piece[1], 0))
 
 

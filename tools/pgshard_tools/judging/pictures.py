@@ -1,4 +1,4 @@
-"""A map of who gets which rows of a table: intervals on a line for one term, a grid for two, a list for more."""
+"""Draws a map of who gets which rows of a table: intervals on a line for one term, a grid for two, a list for more."""
 
 from collections.abc import Iterator, Sequence
 from dataclasses import dataclass
@@ -9,17 +9,17 @@ from pgshard_tools.judging.divisions import Division, Piece
 from pgshard_tools.judging.explaining import Codes, Region
 from pgshard_tools.judging.ranges import Ranges
 
-# A grid has this many cells on a side at most, and a list this many lines.
+# The most cells on a side of a grid, and the most lines of a list.
 MOST_CELLS = 24
 MOST_LINES = 60
 
-# What a cell has of a term: ranges of codes, or None for NULL.
+# The part of a term that a cell has: ranges of codes, or None for NULL.
 Part = Ranges | None
 
 
 @dataclass
 class Cell:
-    """Some rows as a condition in SQL, and who gets them: None if the table has no such row."""
+    """Some rows, as a condition in SQL, and who gets them: None if the table has no such row."""
 
     condition: str
     takers: list[str] | None
@@ -44,7 +44,7 @@ class Map:
 
 @dataclass
 class Axis:
-    """A term of the filters, with the parts between which they tell rows apart."""
+    """A term of the filters, with its parts; rows are distinguished only by the parts in which they are."""
 
     coded: Coding
     parts: list[Part]
@@ -55,21 +55,21 @@ class Axis:
         return found
 
     def within(self, codes: Codes, part: Part) -> Codes:
-        """The part of a region in which the term is in a part."""
+        """Returns the part of a region in which the term is in this part."""
         if part is None:
             return codes | {self.base: ((), True)}
         known = codes | {self.base: (codes[self.base][0], False)}
         return known | {self.coded: (part, codes[self.coded][1] and self.coded is not self.base)}
 
     def words(self, part: Part) -> str:
-        """A part as a condition."""
+        """Returns a part as a condition."""
         if part is None:
             return words.null_words(self.base)
         return words.words_of(self.coded, part, False) or "any value"
 
 
 def map_of(division: Division) -> Map:
-    """The map of a table."""
+    """Returns the map of a table."""
     start = start_of(division)
     axes = [] if start is None else axes_of(division, start)
     if start is None or len(axes) > 2 or any(len(it.parts) > MOST_CELLS for it in axes):
@@ -86,14 +86,15 @@ def map_of(division: Division) -> Map:
 
 
 def start_of(division: Division) -> Codes | None:
-    """All rows, or None if not all pieces are known."""
+    """Returns the region of all rows, or None if not all pieces are known."""
     if not division.is_whole or not division.pieces:
         return None
     return {coded: (coded.full, not getattr(coded, "base", coded).not_null) for coded in division.pieces[0].codes}
 
 
 def axes_of(division: Division, start: Codes) -> list[Axis]:
-    """The terms by which pieces differ. A column of which only a remainder matters is not a term itself."""
+    """Returns the terms in which pieces differ. If only a remainder of a column matters, the column is not a term
+    itself."""
     found = []
     for coded in start:
         known = [piece.codes[coded] for piece in division.pieces]
@@ -109,7 +110,7 @@ def is_split(division: Division, coded: Coding) -> bool:
 
 
 def parts_of(division: Division, coded: Coding) -> list[Part]:
-    """The parts of a term that no piece tells apart, in their order; NULL comes last."""
+    """Returns the parts of a term that no piece subdivides, in order; NULL comes last."""
     all_of_it = [piece.codes[coded][0] for piece in division.pieces]
     begins = {coded.low, *(low for found in all_of_it for low, _ in found), *(
         high + 1 for found in all_of_it for _, high in found if high < coded.high)}
@@ -125,14 +126,14 @@ def parts_of(division: Division, coded: Coding) -> list[Part]:
 
 
 def term_of(axis: Axis) -> str:
-    """What the filters test of a row."""
+    """Returns what the filters test of a row."""
     subject = parser.shown(axis.coded.subject.sql)
     modulus = axis.coded.modulus
     return f"{subject} % {modulus}" if modulus else subject
 
 
 def combinations(axes: Sequence[Axis]) -> Iterator[tuple[Part, ...]]:
-    """All cells, row by row."""
+    """Yields all cells, row by row."""
     if not axes:
         yield ()
         return
@@ -142,7 +143,7 @@ def combinations(axes: Sequence[Axis]) -> Iterator[tuple[Part, ...]]:
 
 
 def takers_at(division: Division, codes: Codes) -> list[str] | None:
-    """Who gets the rows of a cell, None if there are none."""
+    """Returns who gets the rows of a cell, or None if there are none."""
     piece = next((it for it in division.pieces if overlap(it.codes, codes) is not None), None)
     if piece is None or division.allowed(overlap(piece.codes, codes) or codes) is None:
         return None
@@ -150,7 +151,7 @@ def takers_at(division: Division, codes: Codes) -> list[str] | None:
 
 
 def overlap(one: Codes, other: Codes) -> Codes | None:
-    """The intersection of two regions, or None."""
+    """Returns the intersection of two regions, or None."""
     found: Codes = {}
     for coded, (its, null) in one.items():
         found[coded] = ranges.intersection(its, other[coded][0]), null and other[coded][1]
@@ -162,7 +163,7 @@ def overlap(one: Codes, other: Codes) -> Codes | None:
 
 
 def joined_line(found: Map, axes: Sequence[Axis], start: Codes) -> Map:
-    """Joins neighbours with the same subscribers."""
+    """Joins neighbouring cells with the same subscribers."""
     axis = axes[0]
     kept: list[tuple[Part, list[str] | None]] = []
     for part, cell in zip(axis.parts, found.cells):
@@ -175,7 +176,7 @@ def joined_line(found: Map, axes: Sequence[Axis], start: Codes) -> Map:
 
 
 def listed(division: Division) -> Map:
-    """Each piece on a line: first those that reach nobody, then those that reach several."""
+    """Returns each piece on a line: first those that reach nobody, then those that reach several."""
     pieces = sorted(division.pieces, key=rank)
     cells = [Cell(it.condition, list(it.takers)) for it in pieces[:MOST_LINES]]
     return Map([], cells, len(pieces[MOST_LINES:]))

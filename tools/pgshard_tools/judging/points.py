@@ -1,4 +1,4 @@
-"""Points of the server's ordered types: numbers as fractions, times as microseconds, with what lies at the ends."""
+"""Points of the server's ordered types: numbers as fractions, times as microseconds, and the values at both ends."""
 
 import functools
 import re
@@ -6,10 +6,10 @@ from dataclasses import dataclass
 from fractions import Fraction
 
 DAY = 86_400_000_000
-# Days since 2000-01-01, the first and the last that the server takes.
+# Days since 2000-01-01: the first and the last day that the server accepts.
 FIRST_DAY, LAST_DAY = -2_451_545, 2_145_031_948
 # Microseconds since then. The server reads and computes timestamps up to LAST_READ. Rounding to fewer digits, as by
-# ::timestamp(0), leads to one more, LAST_TIME, which each column takes, also one that has all digits.
+# ::timestamp(0), leads to one more, LAST_TIME, which each column can hold, even one with all digits.
 FIRST_TIME, LAST_TIME = FIRST_DAY * DAY, 9_223_371_331_200_000_000
 LAST_READ = LAST_TIME - 1
 DATE = re.compile(r"(\d{4,7})-(\d\d)-(\d\d)")
@@ -19,7 +19,7 @@ TIME = re.compile(r"(\d\d):(\d\d):(\d\d)(?:\.(\d{1,6}))?")
 @functools.total_ordering
 @dataclass(frozen=True)
 class Point:
-    """A finite point, or one beyond all of them: -infinity is below, infinity above, and NaN above infinity."""
+    """A finite point, or one beyond all of them: -infinity is below, infinity is above, and NaN is above infinity."""
 
     side: int
     value: Fraction = Fraction(0)
@@ -40,7 +40,7 @@ def finite(number: int | Fraction) -> Point:
 
 
 def number_point(text: str) -> Point:
-    """A number as the server writes it."""
+    """Returns the point of a number as the server prints it."""
     word = text.strip().lower()
     match word:
         case "nan":
@@ -72,7 +72,7 @@ def number_text(point: Point) -> str:
 
 
 def days_of(year: int, month: int, day: int) -> int:
-    """Days since 2000-01-01 in the Gregorian calendar, with a year 0 before the year 1."""
+    """Returns days since 2000-01-01 in the Gregorian calendar, with a year 0 before the year 1."""
     year -= month <= 2
     era, of_era = divmod(year, 400)
     of_year = (153 * (month + (-3 if month > 2 else 9)) + 2) // 5 + day - 1
@@ -80,7 +80,7 @@ def days_of(year: int, month: int, day: int) -> int:
 
 
 def date_of(days: int) -> tuple[int, int, int]:
-    """The year, month and day of a number of days since 2000-01-01."""
+    """Returns the year, month and day for a number of days since 2000-01-01."""
     era, of_era = divmod(days + 730_425, 146_097)
     year = (of_era - of_era // 1460 + of_era // 36_524 - of_era // 146_096) // 365
     of_year = of_era - (365 * year + year // 4 - year // 100)
@@ -91,12 +91,12 @@ def date_of(days: int) -> tuple[int, int, int]:
 
 
 def infinite(text: str) -> Point | None:
-    """The point of the words infinity and -infinity, or None."""
+    """Returns the point of the words infinity and -infinity, or None."""
     return {"infinity": GREATEST, "-infinity": LEAST}.get(text.strip().lower())
 
 
 def date_point(text: str) -> Point:
-    """A date in ISO form, in days; `BC` may follow."""
+    """Returns the point of a date in ISO form, in days; `BC` may follow."""
     if point := infinite(text):
         return point
     found = DATE.match(text)
@@ -107,7 +107,7 @@ def date_point(text: str) -> Point:
 
 
 def clock_point(text: str) -> Point:
-    """A time of day, in microseconds."""
+    """Returns the point of a time of day, in microseconds."""
     found = TIME.search(text)
     if found is None:
         raise ValueError(text)
@@ -117,7 +117,7 @@ def clock_point(text: str) -> Point:
 
 
 def time_point(text: str) -> Point:
-    """A timestamp in ISO form, in microseconds. One with a time zone is written in UTC."""
+    """Returns the point of a timestamp in ISO form, in microseconds. A timestamp with time zone is given in UTC."""
     if point := infinite(text):
         return point
     return finite(date_point(text).value * DAY + clock_point(text).value)

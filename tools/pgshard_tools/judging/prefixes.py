@@ -1,7 +1,7 @@
-"""Prefixes of texts. Texts with the same prefix are consecutive in the order of their bytes, which is that of the
-collation C.
+"""Prefixes of texts. Texts with the same prefix are consecutive in the order of their bytes, which is that of collation
+C.
 
-So each such condition is a range of that order, whatever the collation of the column is.
+So each condition on a prefix is a range in that order, whatever the column's collation is.
 """
 
 from dataclasses import replace
@@ -15,14 +15,14 @@ LAST, SURROGATES = 0x10FFFF, (0xD800, 0xDFFF)
 
 
 def subject_of(operand: Operand) -> Subject | None:
-    """A text column, or another text, in the order of bytes."""
+    """Returns a text column, or another text, in byte order."""
     if isinstance(operand, Ref) and operand.type in TEXTS and operand.subject.type in TEXTS:
         return replace(operand.subject, collation="C")
     return None
 
 
 def starts(subject: Subject, prefix: str) -> Formula:
-    """Whether a text begins with a prefix."""
+    """Returns whether a text begins with a prefix."""
     if not prefix:
         return negation(never(subject))
     end = next_text(prefix)
@@ -31,12 +31,12 @@ def starts(subject: Subject, prefix: str) -> Formula:
 
 
 def never(subject: Subject) -> Formula:
-    """FALSE, or NULL where the text is: no text is before the empty one."""
+    """Returns FALSE, or NULL if the text is: no text is before the empty one."""
     return Compare(subject, "<", "")
 
 
 def next_text(prefix: str) -> str | None:
-    """The first text after all texts with a prefix, or None if there is none."""
+    """Returns the first text after all texts with a prefix, or None if there is none."""
     for end in range(len(prefix), 0, -1):
         letter = ord(prefix[end - 1])
         if letter < LAST:
@@ -46,13 +46,14 @@ def next_text(prefix: str) -> str | None:
 
 
 def is_known(text: str, is_utf8: bool) -> bool:
-    """Whether the order of bytes is that of letters near a text: in UTF8 everywhere, elsewhere between ASCII's
-    letters."""
+    """Returns whether byte order and character order agree near a text: always in UTF8, and in other encodings between
+    ASCII characters."""
     return is_utf8 or all(ord(it) < 0x7F for it in text + (next_text(text) or ""))
 
 
 def of_pattern(pattern: str) -> tuple[str, bool] | None:
-    """What a pattern of LIKE begins with, and whether anything may follow; None for a pattern of another form."""
+    """Returns the fixed prefix of a LIKE pattern, and whether anything may follow; None for a pattern of another
+    form."""
     found: list[str] = []
     at = 0
     while at < len(pattern):
@@ -71,7 +72,7 @@ def of_pattern(pattern: str) -> tuple[str, bool] | None:
 
 
 def like(operand: Operand, pattern: str, is_utf8: bool) -> Formula | None:
-    """Whether a text is like a pattern, if that asks for what it begins with, or for one text."""
+    """Returns whether a text matches a LIKE pattern, if the pattern tests a prefix, or a single text."""
     subject, found = subject_of(operand), of_pattern(pattern)
     if subject is None or found is None or not is_known(found[0], is_utf8):
         return None
@@ -80,7 +81,7 @@ def like(operand: Operand, pattern: str, is_utf8: bool) -> Formula | None:
 
 
 def beginning(operand: Operand, length: int, ref: Ref, is_utf8: bool) -> Operand:
-    """The first letters of a text, at least one."""
+    """Reads the first characters of a text, at least one."""
     found = subject_of(operand)
     if found is None or length < 1:
         return ref
@@ -98,14 +99,14 @@ def beginning(operand: Operand, length: int, ref: Ref, is_utf8: bool) -> Operand
 
 
 def equal(subject: Subject, text: str, length: int) -> Formula:
-    """The first letters are all of a text that has less."""
+    """If the constant is shorter, the first characters are the whole text."""
     if len(text) > length:
         return never(subject)
     return starts(subject, text) if len(text) == length else Compare(subject, "=", text)
 
 
 def before(subject: Subject, op: str, text: str, length: int) -> Formula:
-    """In the order of bytes. What comes after the first letters counts where these are all of the constant."""
+    """Compares in byte order. If the first characters equal the constant, the rest of the text decides."""
     if len(text) > length or op == "<=" and len(text) == length:
         end = next_text(text[:length])
         return negation(never(subject)) if end is None else Compare(subject, "<", end)

@@ -1,4 +1,4 @@
-"""Formulas over codings in the grammar that pgshard reads."""
+"""Prints formulas over codings in the grammar that pgshard reads."""
 
 from dataclasses import dataclass
 from typing import Any, Iterator
@@ -21,7 +21,7 @@ def term_text(coded: Coding) -> str:
 
 
 def text_of(part: Formula) -> str:
-    """A formula with all its parentheses."""
+    """Returns a formula with all its parentheses."""
     match part:
         case Const():
             return "TRUE" if part.value else "FALSE"
@@ -46,7 +46,7 @@ def in_parentheses(part: Formula) -> str:
 
 
 def within_text(coded: Coding, found: Ranges) -> str:
-    """Whether a column's code is in some ranges, with the fewest conditions; NULL where the column is."""
+    """Returns whether a column's code is in some ranges, with as few conditions as possible; NULL if the column is."""
     if not found or found == coded.full:
         is_never = not found
         if coded.not_null:
@@ -59,7 +59,7 @@ def within_text(coded: Coding, found: Ranges) -> str:
 
 @dataclass(frozen=True)
 class Condition:
-    """A comparison as it is printed, the condition of pgshard's in it, and the codes at which that one is TRUE."""
+    """A comparison as it is printed, pgshard's condition in it, and the codes for which that condition is TRUE."""
 
     text: str
     atom: str
@@ -68,7 +68,7 @@ class Condition:
 
 
 def atoms_of(part: Formula) -> Iterator[Condition]:
-    """The conditions of a formula from the left, as pgshard counts them: each with its text, and its meaning."""
+    """Yields the conditions of a formula from the left, as pgshard counts them: each with its text and its meaning."""
     match part:
         case Not() | Is():
             yield from atoms_of(part.part)
@@ -91,7 +91,8 @@ def atoms_within(coded: Coding, found: Ranges) -> Iterator[Condition]:
 
 
 def conditions(coded: Coding, found: Ranges) -> tuple[list[Condition], bool]:
-    """Conditions one of which holds where the code is in the ranges, or none of which does, if the second is true."""
+    """Returns conditions, one of which holds if the code is in the ranges; or, if the second result is true, none of
+    which does."""
     rest = ranges.complement(found, coded.low, coded.high)
     if coded.printed_type == "boolean":
         term = term_text(coded)
@@ -103,17 +104,17 @@ def conditions(coded: Coding, found: Ranges) -> tuple[list[Condition], bool]:
 
 
 def is_upper_half(coded: Coding, found: Ranges) -> bool:
-    """x >= k is NOT x < k, so that both ways to write it are one condition."""
+    """x >= k is written NOT x < k, so that both are the same condition."""
     return len(found) == 1 and found[0][1] == coded.high and found[0][0] != found[0][1]
 
 
 def has_last(coded: Coding, found: Ranges) -> bool:
-    """The last code of a text is that of all other texts, which no list can name."""
+    """The last code of a text stands for all other texts, which cannot be listed."""
     return coded.printed_type == "text" and found[-1][1] == coded.high
 
 
 def never_text(coded: Coding) -> str:
-    """FALSE, or NULL where the column is."""
+    """Returns FALSE, or NULL if the column is."""
     if coded.not_null:
         return "FALSE"
     term = term_text(coded)
@@ -124,7 +125,7 @@ def never_text(coded: Coding) -> str:
 
 
 def pieces(coded: Coding, found: Ranges) -> list[Condition]:
-    """Conditions one of which holds where the code is in the ranges."""
+    """Returns conditions, one of which holds if the code is in the ranges."""
     term = term_text(coded)
     singles: list[int] = []
     listed: list[Condition] = []
@@ -151,6 +152,6 @@ def condition(coded: Coding, text: str, low: int, high: int) -> Condition:
 
 
 def can_name(coded: Coding, code: int) -> bool:
-    """Whether a code is one value: past the ends of one that is not tight, pgshard has other values, which count as
-    the end; and it reads no number as low as the least bigint."""
+    """Returns whether a code is a single value. Beyond the ends of a coding that is not tight, pgshard has other
+    values, which count as the end. The least bigint cannot be written."""
     return (coded.is_tight or coded.low < code < coded.high) and code > -(2**63)

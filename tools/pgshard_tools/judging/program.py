@@ -1,4 +1,4 @@
-"""Runs of pgshard, and what its answers say."""
+"""Runs pgshard, and reads its answers."""
 
 import functools
 import os
@@ -26,13 +26,13 @@ class Unreadable:
 
 
 def program() -> str:
-    """The program that is run: the one that the environment names, or the one that the script pgshard would run."""
+    """Returns the program: the one that the environment names, or the one that the script pgshard would run."""
     return os.environ.get("PGSHARD") or program_of_script()
 
 
 @functools.cache
 def program_of_script() -> str:
-    """The released program, or the one that was proved here. This never builds it."""
+    """Returns the released program, or the one that was proved here. This never builds it."""
     command = script()
     try:
         answer = subprocess.run([command, "--program"], capture_output=True, encoding="utf-8")
@@ -47,7 +47,7 @@ def program_of_script() -> str:
 
 
 def run(subcommand: str, text: str) -> str | Unreadable:
-    """The output of a run that came to an answer, or Unreadable."""
+    """Returns the output of a run that reached an answer, or Unreadable."""
     status, data = answer_of(subcommand, text.encode("utf-8", "surrogateescape"))
     output = data.decode("utf-8", "surrogateescape")
     if status == 3:
@@ -59,7 +59,7 @@ def run(subcommand: str, text: str) -> str | Unreadable:
 
 
 def answer_of(subcommand: str, data: bytes) -> tuple[int, bytes]:
-    """The status and the output of a run, whose time counts for the table. An exception also ends the run."""
+    """Returns the status and the output of a run, whose time counts for the table. An exception also ends the run."""
     try:
         process = subprocess.Popen([program(), subcommand], stdin=subprocess.PIPE, stdout=subprocess.PIPE)
     except OSError as fault:
@@ -74,7 +74,7 @@ def answer_of(subcommand: str, data: bytes) -> tuple[int, bytes]:
 
 
 def one_of(names: Iterable[str]) -> str:
-    """A pattern for one of some names, the longest that fits."""
+    """Returns a pattern that matches one of some names, the longest possible."""
     return "(?:" + "|".join(re.escape(it) for it in sorted(names, key=len, reverse=True)) + ")"
 
 
@@ -89,7 +89,8 @@ class Made:
 
 
 def made_of(output: str, at: int, table: str, subscribers: Sequence[str]) -> tuple[Made, int]:
-    """The answer for a table at a place of the output, and where it ends. Rows and names may have newlines."""
+    """Returns the answer for the table at a place of the output, and where it ends. Rows and names may contain
+    newlines."""
     name, one = re.escape(table), one_of(subscribers)
     found = re.compile(
         rf"(?:(?P<certificate>{CERTIFICATE})"
@@ -103,6 +104,6 @@ def made_of(output: str, at: int, table: str, subscribers: Sequence[str]) -> tup
 
 
 def checked(catalog: str, certificates: Iterable[str]) -> str | Unreadable:
-    """The answer of `pgshard check`."""
+    """Returns the answer of `pgshard check`."""
     text = "".join([catalog, "\n%%\n", *(f"{certificate}\n" for certificate in certificates)])
     return run("check", text)

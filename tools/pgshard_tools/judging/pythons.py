@@ -10,7 +10,7 @@ TRIED = "JUDGE_TRIED_SYSTEM_PYTHON"
 
 
 def has_pglast() -> bool:
-    """Whether this Python has it."""
+    """Returns whether this Python has it."""
     return importlib.util.find_spec("pglast") is not None
 
 

@@ -1,4 +1,4 @@
-"""Sets of integers as ranges in ascending order, both ends included, that do not touch each other."""
+"""Sets of integers as ranges in ascending order, both ends included, with gaps between them."""
 
 import math
 from fractions import Fraction
@@ -9,7 +9,7 @@ Ranges: TypeAlias = tuple[Range, ...]
 
 
 def normal(ranges: Iterable[Range]) -> Ranges:
-    """The ranges sorted and joined, without empty ones."""
+    """Returns the ranges sorted and joined, without empty ones."""
     joined: list[Range] = []
     for low, high in sorted(it for it in ranges if it[0] <= it[1]):
         if joined and low <= joined[-1][1] + 1:
@@ -24,7 +24,7 @@ def union(one: Iterable[Range], other: Iterable[Range]) -> Ranges:
 
 
 def complement(ranges: Iterable[Range], low: int, high: int) -> Ranges:
-    """What is between two ends and in none of the ranges."""
+    """Returns the numbers between two ends that are in none of the ranges."""
     rest: list[Range] = []
     at = low
     for begin, end in ranges:
@@ -34,7 +34,7 @@ def complement(ranges: Iterable[Range], low: int, high: int) -> Ranges:
 
 
 def intersection(one: Iterable[Range], other: Iterable[Range]) -> Ranges:
-    """The numbers in both. Since ranges ascend, each is looked at once."""
+    """Returns the numbers in both. Since ranges ascend, each is visited once."""
     first, second = normal(one), normal(other)
     found: list[Range] = []
     a = b = 0
@@ -50,7 +50,7 @@ def intersection(one: Iterable[Range], other: Iterable[Range]) -> Ranges:
 
 
 def compared(op: str, number: Fraction, low: int, high: int) -> Ranges:
-    """The integers between two ends that are = < or <= a number, which may be a fraction."""
+    """Returns the integers between two ends that are = < or <= a number, which may be a fraction."""
     if op == "=":
         found = [(int(number), int(number))] if number == int(number) else []
         return intersection(found, [(low, high)])
@@ -71,5 +71,5 @@ def numbers_of(ranges: Iterable[Range]) -> list[int]:
 
 
 def remainder(number: int, modulus: int) -> int:
-    """The server's %, which truncates toward zero: the sign is that of the number."""
+    """Computes the server's %, which truncates toward zero: the result has the sign of the number."""
     return number % modulus if number >= 0 else -(-number % modulus)

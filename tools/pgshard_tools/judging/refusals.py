@@ -1,6 +1,6 @@
 """Why the server refuses an operation on a table, or ends a subscriber's stream, although the filters divide the rows.
 
-docs/JUDGING.md has the rules, with the sections of PostgreSQL's documentation.
+docs/JUDGING.md lists the rules, with the sections of PostgreSQL's documentation.
 """
 
 from collections.abc import Iterator
@@ -11,21 +11,22 @@ from pgshard_tools.judging.parser import columns_of
 from pgshard_tools.judging.shares import Shares, broken_operations
 
 CHANGES = {"update", "delete"}
-# The operations that may be left out on purpose, unlike an insert, by which it is decided where a row goes.
+# The operations that may be left out on purpose. INSERT may not, since it decides where a row goes.
 OMISSIBLE = ("update", "delete", "truncate")
-# How a publication says that it publishes generated columns that are stored.
+# The value with which a publication says that it publishes stored generated columns.
 STORED = "s"
 
 
 def refusals_of(database: Database, shares: Shares) -> list[str]:
-    """All reasons, each once."""
+    """Returns all reasons, without duplicates."""
     return list(dict.fromkeys([
         *operation_refusals(database, shares), *identity_refusals(database, shares),
         *stream_refusals(database, shares), *root_refusals(database, shares)]))
 
 
 def allowing(database: Database, shares: Shares) -> str | None:
-    """The intention under which nothing would be refused, as a file of --intent has it, or None if there is none."""
+    """Returns the intention, as written in a file of --intent, under which nothing would be refused, or None if there
+    is none."""
     name = full_name(shares.table)
     for omitted, words in (*((frozenset([it]), f'omitted."{name}" = ["{it}"]') for it in OMISSIBLE),
                            (frozenset(OMISSIBLE), f'append-only = ["{name}"]')):
@@ -35,7 +36,7 @@ def allowing(database: Database, shares: Shares) -> str | None:
 
 
 def operation_refusals(database: Database, shares: Shares) -> Iterator[str]:
-    """The first operation that a subscriber is not sent, or is sent by other filters than INSERT."""
+    """Yields the first operation that a subscriber is not sent, or is sent under other filters than INSERT."""
     for subscriber, stream in shares.streams.items():
         operation = next(broken_operations(database, shares, stream), None) if stream else None
         if operation is None:
@@ -49,13 +50,13 @@ def operation_refusals(database: Database, shares: Shares) -> Iterator[str]:
 
 
 def missing_words(publication: str, operation: str) -> str:
-    """The message that a publication leaves out an operation."""
+    """Returns the message that a publication leaves out an operation."""
     return f"publication {publication}, which has a subscriber, does not publish {operation}"
 
 
 def identity_refusals(database: Database, shares: Shares) -> Iterator[str]:
-    """Why the server refuses updates and deletes. It checks all publications of a table, including those that nobody
-    takes."""
+    """Yields why the server refuses updates and deletes. It checks all publications of a table, including those that
+    nobody subscribes to."""
     for leaf in shares.leaves:
         if leaf["kind"] == "p" or not leaf["is_publishable"]:
             continue
@@ -74,21 +75,21 @@ def identity_refusals(database: Database, shares: Shares) -> Iterator[str]:
 
 
 def identity_of(table: Table) -> list[str] | None:
-    """The columns of a table's replica identity, or None if it has none that the server can use."""
+    """Returns the columns of a table's replica identity, or None if it has none that the server can use."""
     if table["identity"] == "f":
         return [column["name"] for column in table["columns"]]
     return names_of(table, table["identity_numbers"]) if table["identity_numbers"] else None
 
 
 def changes_of(publications: list[Publication]) -> str:
-    """Which changes the publications publish, in words."""
+    """Returns which changes the publications publish, in words."""
     found = {it for publication in publications for it in publication["operations"]}
     return " and ".join(f"{it}s" for it in OPERATIONS if it in CHANGES & found)
 
 
 def uncovered(
         database: Database, publication: Publication, leaf: Table, identity: list[str], where: str) -> Iterator[str]:
-    """Columns that a filter names and the identity lacks, or that the identity has and a column list lacks."""
+    """Yields columns that a filter names and the identity lacks, or that the identity has and a column list lacks."""
     if publication["all"]:
         return
     ancestors = database.ancestors_in(publication, leaf)
@@ -116,8 +117,8 @@ def uncovered(
 
 def ungenerated(
         database: Database, publication: Publication, leaf: Table, identity: list[str], where: str) -> Iterator[str]:
-    """Generated columns of the identity that a publication does not publish. The server refuses changes then from
-    PostgreSQL 18 on, where publications say whether they publish such columns."""
+    """Yields generated columns of the identity that a publication does not publish. The server refuses changes then
+    from PostgreSQL 18 on, in which publications say whether they publish such columns."""
     if publication["generated"] is None:
         return
     oid = database.published_as(publication, leaf)
@@ -132,7 +133,7 @@ def ungenerated(
 
 
 def stream_refusals(database: Database, shares: Shares) -> Iterator[str]:
-    """Why the server ends the stream of a subscriber."""
+    """Yields why the server ends the stream of a subscriber."""
     for subscriber in shares.subscribers:
         stream = shares.streams.get(subscriber.name, [])
         if stream and subscriber.missing:
@@ -147,9 +148,8 @@ def stream_refusals(database: Database, shares: Shares) -> Iterator[str]:
 
 
 def column_list(database: Database, shares: Shares, name: str) -> frozenset[int] | None:
-    """The columns that a publication sends of a table, None for all. A list of all columns is none, unless the table
-    has
-    generated columns or had others: the server counts these, too."""
+    """Returns the columns that a publication sends of a table, or None for all. A list of all columns counts as no
+    list, unless the table has generated columns or had others: the server counts these, too."""
     publication = database.publications[name]
     oid = database.published_as(publication, shares.leaves[0])
     if oid is None:
@@ -167,7 +167,7 @@ def column_list(database: Database, shares: Shares, name: str) -> frozenset[int]
 
 
 def root_refusals(database: Database, shares: Shares) -> Iterator[str]:
-    """A partitioned table that is unlogged is in no subscription's list of tables."""
+    """An unlogged partitioned table is in no subscription's list of tables."""
     for oid in sorted(shares.sent_as):
         table = database.by_oid[oid]
         if not table["is_publishable"]:

@@ -1,4 +1,4 @@
-"""A migration in a transaction that is rolled back, and questions to the server inside it."""
+"""Runs a migration in a transaction that is rolled back, and asks the server questions in it."""
 
 import contextlib
 import json
@@ -13,11 +13,12 @@ from pgshard_tools.judging.faults import BAD_COMMAND, NO_ANSWER, Fault
 from pgshard_tools.judging.migrations import Statement, refused
 from pgshard_tools.judging.session import LOST, SETUP, Session
 
-# The SQLSTATEs of a statement that cannot run in a transaction, a lock that is not had in time, and time that is up.
+# The SQLSTATEs of a statement that cannot run in a transaction, of a lock that is not granted in time, and of a
+# timeout.
 IN_TRANSACTION, LOCKED, CANCELLED = "25001", "55P03", "57014"
 
 ROLLBACK = "ROLLBACK"
-# What no question may have, since it would keep the migration.
+# No question may contain this, since it would commit the migration.
 ENDS = re.compile(r";\s*(COMMIT|END)\s*;?\s*$", re.I)
 
 PSQL = SETUP.partition("SET ")[0]
@@ -25,7 +26,8 @@ BEGIN = r"""
 \encoding UTF8
 BEGIN ISOLATION LEVEL READ COMMITTED READ WRITE;
 """
-# Of each statement, so that nothing in the file gives another one longer. Its results are of no interest.
+# Set before each statement, so that nothing in the file gives another statement more time. The results are of no
+# interest.
 LIMITS = "SET LOCAL lock_timeout = '1s';\nSET LOCAL statement_timeout = '{milliseconds}ms';\n"
 RUN = "{limits}\\o /dev/null\nSELECT {text} \\gexec\n\\o\n\\echo\n\\echo '{end}' :ERROR :LAST_ERROR_SQLSTATE "
 RUN += ":LAST_ERROR_MESSAGE\n\\echo '{end}'\n"
@@ -34,40 +36,41 @@ QUESTIONS = "\\set ON_ERROR_ROLLBACK on\nSET transaction_read_only = on;\n"
 
 
 class Rehearsal(Session):
-    """A psql with one transaction. All that is asked is asked in it, and its end is a rollback."""
+    """A psql with a single transaction. All questions are asked in it, and it ends with a rollback."""
 
     def __init__(self, words: Sequence[str], seconds: float) -> None:
         super().__init__(words, seconds)
         self.is_begun = False
 
     def setup(self) -> str:
-        """The settings of psql only: the statements must find those of the role."""
+        """Returns only psql's own settings: the statements must find those of the role."""
         if self.is_begun:
-            # The transaction ended with its psql, and there is no other with the same tables.
+            # The transaction ended with its psql, and no other one has the same tables.
             raise Fault(NO_ANSWER, LOST)
         self.is_begun = True
         return PSQL
 
     def answered(self, query: str) -> str:
-        """The answer. The time of a table, which may be up meanwhile, is not told before the server has given its
-        answer, for which it has a time of its own, so that the next question finds the end of this one."""
+        """Returns the answer. If the time limit of a table expires meanwhile, that is reported only after the server
+        has answered, for which it has a time limit of its own, so that the next question does not find the rest of this
+        answer."""
         if ENDS.search(query):
             raise AssertionError(f"a question would end the transaction: {query}")
         with alarm_held():
             return super().answered(query)
 
     def ask_for(self, seconds: int, query: str) -> str:
-        """The answer of a query that has a time of its own. The transaction goes on: a COMMIT would keep the
+        """Returns the answer of a query with its own time limit. The transaction continues: a COMMIT would keep the
         migration."""
         answer = self.ask(f"SET LOCAL statement_timeout = '{seconds}s'; {query}")
         self.ask(f"SET LOCAL statement_timeout = '{max(1, int(self.seconds * 1000))}ms'")
         return answer
 
     def stop(self) -> None:
-        """No question is left without its answer."""
+        """Does nothing, since no question may be left without its answer."""
 
     def close(self) -> None:
-        """Rolls back everything. If this is not answered, the server does so once psql has ended."""
+        """Rolls everything back. If that is not answered, the server does so after psql has ended."""
         try:
             if self.process is not None:
                 self.ask(ROLLBACK)
@@ -77,14 +80,14 @@ class Rehearsal(Session):
             super().close()
 
     def want_primary(self) -> None:
-        """Ends the run at a hot standby."""
+        """Ends the run on a hot standby."""
         answer = self.ask("SELECT pg_catalog.pg_is_in_recovery()")
         if answer != "f":
             raise Fault(BAD_COMMAND, "--with: the server is a hot standby, where no statement of a migration can run; "
                                      "use its primary" if answer == "t" else LOST)
 
     def run(self, statements: Sequence[Statement]) -> Database:
-        """Runs the statements, and says what the database is after them."""
+        """Runs the statements, and returns the database after them."""
         assert self.process is not None and self.process.stdin is not None
         self.process.stdin.write(BEGIN)
         for statement in statements:
@@ -120,7 +123,7 @@ class Rehearsal(Session):
 
 
 def words_of(state: str, message: str) -> str:
-    """What the server says about a statement, and what to do."""
+    """Returns what the server says about a statement, and what to do."""
     if state == IN_TRANSACTION:
         return f"{message}; --with runs the file in one, which is rolled back, so try it without this statement"
     if state == LOCKED:
@@ -131,14 +134,14 @@ def words_of(state: str, message: str) -> str:
 
 
 def escaped(text: str) -> str:
-    """A constant of any text, whatever the settings of strings are."""
+    """Returns a constant for any text, whatever the string settings are."""
     doubled = text.replace("\\", "\\\\").replace("'", "''")
     return f"E'{doubled}'"
 
 
 @contextlib.contextmanager
 def alarm_held() -> Iterator[None]:
-    """If the time is up in the block, that is raised at its end."""
+    """If the time limit expires in the block, raises that at its end."""
     before = signal.pthread_sigmask(signal.SIG_BLOCK, [signal.SIGALRM])
     try:
         yield

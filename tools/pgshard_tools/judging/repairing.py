@@ -1,4 +1,4 @@
-"""Repairs that are judged before they are printed: their statements run in a transaction that is rolled back."""
+"""Judges repairs before they are printed: their statements run in a transaction that is rolled back."""
 
 import json
 from collections.abc import Mapping, Sequence
@@ -26,7 +26,7 @@ KEEP_OUT = "a CHECK constraint that keeps such rows out, or filters that do not 
 
 @dataclass
 class Repair:
-    """The repair of a table, or why there is none."""
+    """The repair of a table, or the reason why there is none."""
 
     table: str
     before: str
@@ -47,7 +47,7 @@ class Repairer:
     options: Options
 
     def repair(self, table: Shares, verdict: Verdict) -> Repair:
-        """The first plan with which the table is sound, or why there is none."""
+        """Returns the first plan with which the table is sound, or why there is none."""
         found = Repair(verdict.table, verdict.answer)
         if verdict.answer == verdicts.SOUND:
             return found
@@ -93,7 +93,7 @@ class Repairer:
         raise NoRepair(reasons[0])
 
     def keep(self, table: Shares) -> list[str]:
-        """The subscribers that --keep names."""
+        """Returns the subscribers that --keep names."""
         for name in self.options.keep:
             if name not in {it.name for it in self.subscribers}:
                 known = ", ".join(it.name for it in self.subscribers)
@@ -101,7 +101,7 @@ class Repairer:
         return [it for it in dict.fromkeys(self.options.keep) if it in table.takers]
 
     def why_refused(self, plan: Plan, before: Shares, now: Verdict) -> str:
-        """Why the table is not sound with a plan; '' if it is."""
+        """Returns why the table is not sound with a plan, or '' if it is."""
         rehearsal = Rehearsal(self.options.words, self.options.seconds)
         listed = [*self.subscribers, *([Subscriber(plan.publication, [plan.publication])] if plan.publication else [])]
         try:
@@ -125,7 +125,7 @@ class Repairer:
 
 
 def advice(verdict: Verdict) -> str:
-    """What to do if the repaired table is not sound."""
+    """Returns what to do if the repaired table is not sound."""
     reasons = " ".join(verdict.because)
     if "replica identity" in reasons:
         return "; ALTER TABLE .. REPLICA IDENTITY FULL, or a filter by the columns of the identity, comes first"
@@ -135,7 +135,7 @@ def advice(verdict: Verdict) -> str:
 
 
 def repairs_of(repairer: Repairer, found: Sequence[Verdict]) -> list[Repair]:
-    """The repairs of the tables that --repair names."""
+    """Returns the repairs of the tables that --repair names."""
     by_name = {it.table: it for it in found}
     tables = {full_name(it.table): it for it in repairer.tables}
     listed = []
@@ -154,12 +154,12 @@ def say(db: Database, listed: Sequence[Repair], options: Options) -> int:
 
 
 def status_of(listed: Sequence[Repair]) -> int:
-    """Whether each table is sound, or is so with its repair."""
+    """Returns the exit status, which depends on whether each table is sound, at least with its repair."""
     return NOT_SOUND if any(it.why_none is not None for it in listed) else SOUND
 
 
 def text(listed: Sequence[Repair]) -> str:
-    """Statements to paste, with comments."""
+    """Returns statements to paste, with comments."""
     return "\n".join(line for it in listed for line in lines_of(it))
 
 
@@ -176,17 +176,17 @@ def lines_of(repair: Repair) -> list[str]:
 
 
 def comment(words: str) -> str:
-    """Words in one line."""
+    """Returns words in one line."""
     return " ".join(words.split())
 
 
 def json_of(repair: Repair) -> dict[str, Any]:
-    """The same for --json."""
+    """Returns the same for --json."""
     return {"table": repair.table, "before": repair.before, "statements": repair.statements, "notes": repair.notes,
             "why_none": repair.why_none}
 
 
 def json_text(db: Database, listed: Sequence[Repair]) -> str:
-    """All repairs as JSON."""
+    """Returns all repairs as JSON."""
     return json.dumps({"database": db.name, "status": status_of(listed), "repairs": [json_of(it) for it in listed]},
                       indent=2, ensure_ascii=False)

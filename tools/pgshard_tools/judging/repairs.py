@@ -1,4 +1,4 @@
-"""Statements that make a table sound: one more publication for rows that reach nobody, and narrower filters where
+"""Statements that make a table sound: an additional publication for rows that reach nobody, and narrower filters if
 several publications have the same rows."""
 
 import re
@@ -12,7 +12,7 @@ from pgshard_tools.judging.rewriting import LONGEST_NAME
 from pgshard_tools.judging.server_types import quoted
 from pgshard_tools.judging.shares import Shares
 
-# A filter of more regions than these is written by the filters that there are.
+# A filter for more regions than this is written in terms of the existing filters.
 MOST_REGIONS = 6
 QUOTED = re.compile(r"""'(?:[^']|'')*'|"(?:[^"]|"")*\"""")
 PLAIN_NAME = re.compile(r"[a-z_][a-z0-9_]*\Z")
@@ -28,7 +28,7 @@ class NoRepair(Exception):
 
 @dataclass
 class Plan:
-    """Statements, the publication that they make, if any, and what they do, in words."""
+    """Statements, the publication that they create, if any, and what they do, in words."""
 
     statements: list[str] = field(default_factory=list)
     publication: str | None = None
@@ -37,25 +37,25 @@ class Plan:
 
 @dataclass
 class Owners:
-    """Who is to get which rows: those that several get stay with the first of them in the order of `ranks`."""
+    """Who should get which rows: those that several get stay with the first of them in the order of `ranks`."""
 
     division: Division
     ranks: list[str]
     purpose: str | None
 
     def keeper(self, piece: Piece) -> str | None:
-        """Who gets the rows of a piece."""
+        """Returns who gets the rows of a piece."""
         return next((it for it in self.ranks if it in piece.takers), None)
 
     def gaps(self) -> list[Piece]:
-        """The rows that reach nobody, if that is not meant."""
+        """Returns the rows that reach nobody, unless that is intended."""
         return [it for it in self.division.pieces if not it.takers and self.purpose != "partial"]
 
     def kept_by(self, name: str) -> list[Piece]:
         return [it for it in self.division.pieces if self.keeper(it) == name]
 
     def losers(self) -> dict[str, list[str]]:
-        """Each subscriber that is to lose some of its rows, with those that keep them."""
+        """Returns each subscriber that should lose some of its rows, with those that keep them."""
         found: dict[str, dict[str, bool]] = {}
         for piece in self.division.pieces:
             keeper = self.keeper(piece)
@@ -66,7 +66,8 @@ class Owners:
 
 
 def plans(db: Database, shares: Shares, division: Division, purpose: str | None, keep: Sequence[str]) -> Iterator[Plan]:
-    """Plans to try one after the other: the first says which rows are meant, the other names the filters there are."""
+    """Yields plans to try one after the other: the first lists the rows, and the other refers to the existing
+    filters."""
     owners = Owners(division, ranks_of(db, shares, keep), purpose)
     for name in owners.losers():
         want_own_publications(db, shares, name)
@@ -76,8 +77,8 @@ def plans(db: Database, shares: Shares, division: Division, purpose: str | None,
 
 
 def ranks_of(db: Database, shares: Shares, keep: Sequence[str]) -> list[str]:
-    """The subscribers in the order in which they keep rows: those that --keep names, those whose filters cannot be
-    narrowed, and the others."""
+    """Returns the subscribers in the order in which they keep rows: those that --keep names, those whose filters cannot
+    be narrowed, and the others."""
     fixed = [it for it in shares.takers if it not in keep and why_fixed(db, shares, it) is not None]
     return [*keep, *fixed, *(it for it in shares.takers if it not in keep and it not in fixed)]
 
@@ -90,7 +91,7 @@ def want_own_publications(db: Database, shares: Shares, name: str) -> None:
 
 
 def why_fixed(db: Database, shares: Shares, name: str) -> str | None:
-    """Why the filters of a subscriber cannot be narrowed."""
+    """Returns why the filters of a subscriber cannot be narrowed."""
     for taken in shares.takers[name]:
         publication = db.publications[taken]
         others = [it for it, names in shares.takers.items() if it != name and taken in names]
@@ -106,7 +107,7 @@ def why_fixed(db: Database, shares: Shares, name: str) -> str | None:
 
 
 def is_short(owners: Owners) -> bool:
-    """Whether all filters can be written with a few regions."""
+    """Returns whether all filters can be written with a few regions."""
     listed = [owners.gaps(), *(owners.kept_by(it) for it in owners.losers())]
     return owners.division.is_whole and all(len(it) <= MOST_REGIONS for it in listed)
 
@@ -129,7 +130,7 @@ class Planner:
         return plan
 
     def add_publication(self, plan: Plan) -> None:
-        """One more publication, for the rows that reach nobody."""
+        """Adds a publication for the rows that reach nobody."""
         plan.publication = free_publication(self.db, self.shares)
         gaps = self.owners.gaps()
         filters = dict.fromkeys(self.filter_of(it) for it in self.taken())
@@ -143,7 +144,7 @@ class Planner:
             "SUBSCRIPTION, or ALTER SUBSCRIPTION .. ADD PUBLICATION")
 
     def narrow(self, plan: Plan, name: str, keepers: Sequence[str]) -> None:
-        """The filters of a subscriber, without what others keep."""
+        """Narrows the filters of a subscriber by what others keep."""
         kept, names = self.owners.kept_by(name), self.shares.takers[name]
         plan.notes.append(f"rows that {' and '.join(keepers)} {'gets' if len(keepers) == 1 else 'get'}, too, are no "
                           f"longer sent to {name}, which keeps those that it has until they are deleted there")
@@ -161,13 +162,13 @@ class Planner:
                 self.alter(plan, taken, " AND ".join(parts))
 
     def above(self, name: str) -> list[str]:
-        """The subscribers that have some of the same rows, and keep them."""
+        """Returns the subscribers that have some of the same rows, and keep them."""
         ranks = self.owners.ranks
         shared = {it for piece in self.owners.division.pieces if name in piece.takers for it in piece.takers}
         return [it for it in ranks[:ranks.index(name)] if it in shared]
 
     def alter(self, plan: Plan, taken: str, condition: str) -> None:
-        """Another filter for a publication of the table."""
+        """Adds the statement that gives a publication another filter for the table."""
         publication, table = self.publication(taken), self.shares.table["quoted"]
         entry = self.db.entry(publication, self.shares.table["oid"])
         listed = f" ({self.columns_text(entry['numbers'])})" if entry is not None and entry["numbers"] else ""
@@ -182,14 +183,14 @@ class Planner:
         return self.db.publications[name]
 
     def taken(self) -> list[str]:
-        """The publications that are taken."""
+        """Returns the publications that are taken."""
         return list(dict.fromkeys(name for names in self.shares.takers.values() for name in names))
 
     def filter_of(self, name: str) -> str:
         return self.shares.filters[name] or "true"
 
     def options(self) -> str:
-        """The options of the other publications of the table, so that all its rows are sent alike."""
+        """Returns the options of the other publications of the table, so that all its rows are sent in the same way."""
         found = []
         operations = {tuple(self.publication(it)["operations"]) for it in self.taken()}
         if len(operations) == 1 and operations != {tuple(OPERATIONS)}:
@@ -199,7 +200,7 @@ class Planner:
         return f" WITH ({', '.join(found)})" if found else ""
 
     def common_columns(self) -> str:
-        """The list of columns that all other publications of the table have."""
+        """Returns the column list that all other publications of the table have."""
         entries = [self.db.entry(self.publication(it), self.shares.table["oid"]) for it in self.taken()]
         lists = {tuple(it["numbers"]) if it is not None and it["numbers"] else () for it in entries}
         return f" ({self.columns_text(lists.pop())})" if len(lists) == 1 and lists != {()} else ""
@@ -210,7 +211,7 @@ class Planner:
 
 
 def conditions_of(pieces: Sequence[Piece]) -> str:
-    """A condition that is TRUE of the rows of some pieces, and of no others."""
+    """Returns a condition that is TRUE exactly for the rows of some pieces."""
     texts = [faulty_regions.condition_of(it.codes) for it in pieces]
     if "all rows" in texts:
         return "all rows"
@@ -219,7 +220,7 @@ def conditions_of(pieces: Sequence[Piece]) -> str:
 
 
 def without_parentheses(text: str) -> str:
-    """A condition without the parentheses around all of it."""
+    """Returns a condition without parentheses around all of it."""
     depth = 0
     for place, part in enumerate(QUOTED.sub(lambda found: "x" * len(found[0]), text)):
         depth += {"(": 1, ")": -1}.get(part, 0)
@@ -229,7 +230,7 @@ def without_parentheses(text: str) -> str:
 
 
 def free_publication(db: Database, shares: Shares) -> str:
-    """A name for one more publication, which no publication and no subscriber has."""
+    """Returns a name for another publication, which no publication and no subscriber has."""
     taken = {*db.publications, *(it.name for it in shares.subscribers)}
     number = 1
     while True:
@@ -241,5 +242,5 @@ def free_publication(db: Database, shares: Shares) -> str:
 
 
 def name_text(name: str) -> str:
-    """A name as in SQL."""
+    """Returns a name as in SQL."""
     return name if PLAIN_NAME.match(name) else '"' + name.replace('"', '""') + '"'

@@ -12,10 +12,10 @@ from pgshard_tools.judging.faults import Fault
 from pgshard_tools.judging.faulty_regions import FaultyRegions
 from pgshard_tools.judging.verdicts import Verdict
 
-# For each table the rows that go to each subscriber, as conditions in SQL.
+# The rows of each table that go to each subscriber, as conditions in SQL.
 Regions = dict[str, list[tuple[str, str]]]
 
-# So many regions that show a fault are said of a table.
+# The most regions of a table that show a fault and are printed.
 MOST_LINES = 20
 
 
@@ -42,14 +42,14 @@ class Report:
     verdicts: Sequence[Verdict]
     regions: Regions
     status: int
-    # What is said about tables that are not judged on purpose.
+    # Lines about tables that are not judged on purpose.
     skipped: Sequence[str] = ()
-    # What is amiss beside the tables.
+    # Problems other than those of tables.
     findings: Sequence[str] = ()
 
 
 def text(report: Report, with_all: bool) -> str:
-    """The lines that an operator reads."""
+    """Returns the lines that an operator reads."""
     lines: list[str] = []
     if with_all:
         lines.extend(f"{name}: not published, so not judged" for name in report.database.unpublished)
@@ -69,7 +69,7 @@ def text(report: Report, with_all: bool) -> str:
 
 
 def counts(report: Report, with_all: bool) -> str:
-    """The last line."""
+    """Returns the last line."""
     sound = sum(it.answer == verdicts.SOUND for it in report.verdicts)
     unread = sum(it.answer == verdicts.NOT_READ for it in report.verdicts)
     parts = [f"{len(report.verdicts) - unread} judged, {sound} sound"]
@@ -82,12 +82,12 @@ def counts(report: Report, with_all: bool) -> str:
 
 
 def lines_of(verdict: Verdict) -> list[str]:
-    """The report on a table, the rows on which a filter fails, and how many rows there are."""
+    """Returns the report on a table, the rows for which a filter fails, and how many rows there are."""
     return [*answer_lines(verdict), *(f"    but {it}" for it in verdict.failing), *count_lines(verdict)]
 
 
 def answer_lines(verdict: Verdict) -> list[str]:
-    """One line for a table that is sound, and more for another."""
+    """Returns one line for a table that is sound, and more for any other."""
     reasons = "; ".join(verdict.because)
     remarks = f" ({', '.join(verdict.remarks)})" if verdict.remarks else ""
     match verdict.answer:
@@ -109,7 +109,8 @@ def answer_lines(verdict: Verdict) -> list[str]:
 
 
 def fault_lines(faulty: FaultyRegions | None, counts: Counts | None) -> Iterator[str]:
-    """Each region that goes to nobody or to several, with a row of it; of many the first."""
+    """Yields each region that goes to nobody or to several, with one of its rows; if there are many, only the first
+    ones."""
     if faulty is None:
         return
     for region in faulty.listed[:MOST_LINES]:
@@ -126,7 +127,7 @@ def fault_lines(faulty: FaultyRegions | None, counts: Counts | None) -> Iterator
 
 
 def count_lines(verdict: Verdict) -> Iterator[str]:
-    """How many rows there are, and the keys of some that show a fault."""
+    """Yields how many rows there are, and the keys of some that show a fault."""
     counts = verdict.counts
     if counts is None:
         return
@@ -145,27 +146,27 @@ def count_lines(verdict: Verdict) -> Iterator[str]:
 
 
 def go(count: int) -> str:
-    """The verb of a number of rows."""
+    """Returns the verb for a number of rows."""
     return "goes" if count == 1 else "go"
 
 
 def rows_text(count: int) -> str:
-    """A number of rows."""
+    """Returns a number of rows."""
     return f"{count:,} row{'' if count == 1 else 's'}"
 
 
 def takers_text(takers: Sequence[str]) -> str:
-    """Who gets rows."""
+    """Returns who gets rows."""
     return " and ".join(takers) or "nobody"
 
 
 def row_text(row: dict[str, str]) -> str:
-    """The values of a row."""
+    """Returns the values of a row."""
     return f"({', '.join(row.values())})"
 
 
 def matters_text(row: dict[str, str], matters: Sequence[str]) -> str:
-    """The columns that decide where a row goes."""
+    """Returns the columns that decide where a row goes."""
     named = [f"{name} = {row[name]}" for name in matters if name in row]
     others = len(row) > len(named)
     if not named:
@@ -174,12 +175,12 @@ def matters_text(row: dict[str, str], matters: Sequence[str]) -> str:
 
 
 def json_text(report: Report, more: Mapping[str, Any] | None = None) -> str:
-    """The same as JSON, with more keys; docs/OUTPUT.md documents its form."""
+    """Returns the same as JSON, with more keys; docs/OUTPUT.md documents its form."""
     return json.dumps(json_object(report) | dict(more or {}), indent=2, ensure_ascii=False)
 
 
 def json_object(report: Report) -> dict[str, Any]:
-    """The object that is printed as JSON."""
+    """Returns the object that is printed as JSON."""
     unpublished = report.database.unpublished
     return {
         "database": report.database.name,
@@ -193,17 +194,17 @@ def json_object(report: Report) -> dict[str, Any]:
 
 
 def fault_json(fault: Fault) -> str:
-    """Why there is no judgement, as JSON."""
+    """Returns why there is no judgement, as JSON."""
     return json.dumps(fault_object(fault), indent=2, ensure_ascii=False)
 
 
 def fault_object(fault: Fault) -> dict[str, Any]:
-    """The object that is printed as JSON."""
+    """Returns the object that is printed as JSON."""
     return {"status": fault.status, "error": fault.words}
 
 
 def optional_keys(report: Report) -> Iterator[tuple[str, Any]]:
-    """The keys that only some reports have."""
+    """Yields the keys that only some reports have."""
     if report.findings:
         yield "findings", report.findings
     if report.skipped:
@@ -213,7 +214,7 @@ def optional_keys(report: Report) -> Iterator[tuple[str, Any]]:
 
 
 def json_of(verdict: Verdict, regions: list[tuple[str, str]] | None) -> dict[str, Any]:
-    """What is said about a table."""
+    """Returns the answer for a table."""
     found: dict[str, Any] = {"table": verdict.table, "answer": verdict.answer}
     if verdict.because:
         found["because"] = verdict.because
@@ -235,7 +236,7 @@ def json_of(verdict: Verdict, regions: list[tuple[str, str]] | None) -> dict[str
 
 
 def counts_json(counts: Counts, faults: Sequence[dict[str, Any]]) -> dict[str, Any]:
-    """What the server counts, also of each region that shows a fault."""
+    """Returns the server's counts, including those of each region that shows a fault."""
     if counts.why_none is not None:
         return {"not_counted": counts.why_none}
     for fault in faults:

@@ -1,7 +1,7 @@
-"""Trees for an expression of which the server has only the text, as it is with the bounds of a partition.
+"""Builds trees for an expression of which the server has only the text, such as the bounds of a partition.
 
-The server writes such a text with the type of each constant and with each conversion. So each operator is that with
-just the types of its sides, which is what the server itself takes first.
+The server prints the type of each constant and each conversion in such a text. So each operator is the one for exactly
+the types of its sides, which is also the server's first choice.
 """
 
 from typing import Any
@@ -11,13 +11,14 @@ from pgshard_tools.judging.faults import Unread
 from pgshard_tools.judging.node_trees import Tree
 from pgshard_tools.judging.parser import kind_of, name_of, written
 
-# Conversions that change no bit.
+# Conversions that change no bits.
 RELABELED = {("varchar", "text"), ("text", "varchar")}
 BOUNDS = {"A_Expr", "BoolExpr", "NullTest", "ColumnRef", "A_Const", "TypeCast", "A_ArrayExpr"}
 
 
 def resolved(raw: Any, columns: dict[str, dict[str, Any]], operators: dict[int, Call]) -> dict[int, Tree]:
-    """Trees of the nodes, by the nodes' ids, with what is read of them: the operator's OID, and the kind of a cast."""
+    """Returns trees of the nodes, by the nodes' ids, with the fields that are read: the operator's OID, and the kind of
+    a cast."""
     return Resolver(columns, operators).found_of(raw)
 
 
@@ -32,7 +33,7 @@ class Resolver:
         return self.found
 
     def type_of(self, raw: Any) -> str:
-        """The type of a node; its tree is noted."""
+        """Returns the type of a node, and records its tree."""
         kind = kind_of(raw)
         if kind not in BOUNDS:
             raise Unread(written(raw))

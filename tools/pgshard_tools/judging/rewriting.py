@@ -1,4 +1,5 @@
-"""A table's filters and constraints over columns that pgshard reads: each subject of a comparison gets its coding."""
+"""Rewrites a table's filters and constraints over columns that pgshard reads: each subject of a comparison gets a
+coding."""
 
 import itertools
 import math
@@ -29,17 +30,17 @@ from pgshard_tools.judging.ranges import Ranges
 from pgshard_tools.judging.server_types import INTEGERS
 
 LONGEST_NAME = 63
-# Of a numeric with a limit, the digits that a bigint has room for.
+# The digits of a numeric with a precision that fit a bigint.
 MOST_DIGITS = 18
 
 
-# Texts in the order of a collation, as the server has it.
+# Sorts texts in the server's order under a collation.
 Sort: TypeAlias = Callable[[str, Sequence[str]], list[str]]
 
 
 @dataclass
 class Uses:
-    """What is asked of a subject: constants in comparisons, whether any is of the order, and moduli."""
+    """How a subject is used: constants in comparisons, whether any comparison is one of order, and moduli."""
 
     constants: set[Any] = field(default_factory=set)
     is_ordered: bool = False
@@ -56,7 +57,7 @@ class Rewritten:
 
 
 def rewritten(given: Sequence[Formula | None], not_null_columns: set[str], sort: Sort) -> Rewritten:
-    """Codes for all that the listed formulas ask for. `sort` orders texts under a collation as the server does."""
+    """Returns codes for everything that the formulas test. `sort` orders texts under a collation as the server does."""
     listed = unified(bits.expanded([formulas.is_true(it) if it is not None else None for it in given]))
     uses = uses_of(listed)
     base = {subject: coding_of(subject, use, sort) for subject, use in uses.items()}
@@ -83,8 +84,8 @@ def rewritten(given: Sequence[Formula | None], not_null_columns: set[str], sort:
 
 
 def unified(listed: list[Formula | None]) -> list[Formula | None]:
-    """One subject for a text column, with the collation by which it is ordered, if that is one. Equality is the same
-    under each collation that is read, since these tell apart what differs in a byte."""
+    """Merges the subjects of a text column that is compared under one collation only. Equality is the same under each
+    collation that is read, since these distinguish texts that differ in any byte."""
     orders: dict[str, set[str]] = {}
     for leaf in itertools.chain(*(leaves_of(it) for it in listed if it is not None)):
         if isinstance(leaf, Compare) and leaf.op != "=" and leaf.subject.collation:
@@ -118,7 +119,7 @@ def uses_of(listed: list[Formula | None]) -> dict[Subject, Uses]:
 
 
 def coding_of(subject: Subject, use: Uses, sort: Sort) -> Coding:
-    """The coding of a subject, by its type and by what is asked of it."""
+    """Returns the coding of a subject, according to its type and its uses."""
     if not use.constants and not (use.moduli and subject.type in INTEGERS):
         return codings.Nulls(subject)
     if subject.type == "bool":
@@ -137,8 +138,9 @@ def coding_of(subject: Subject, use: Uses, sort: Sort) -> Coding:
 
 
 def steps_of(subject: Subject) -> Coding | None:
-    """Dates as days and times as microseconds since 2000, and numerics with a scale as that many digits more: whole
-    numbers in the order of the values, with infinity, -infinity and NaN past the ends, where the server has them."""
+    """Returns a coding for dates as days, times as microseconds since 2000, and numerics with a scale as whole numbers
+    with that many more digits. These are in the order of the values, with infinity, -infinity and NaN beyond the ends,
+    if the server has them."""
     places = 10 ** (6 - subject.modifier) if 0 <= subject.modifier <= 6 else 1
     match subject.type:
         case "date":
@@ -159,8 +161,8 @@ def steps_of(subject: Subject) -> Coding | None:
 
 
 def ordered_or_labels(subject: Subject, use: Uses, sort: Sort) -> Coding:
-    """What is only tested for equality is a text. Else the constants are put in order, and each value has its place
-    among them."""
+    """A subject that is only compared for equality is a text. Otherwise, the constants are sorted, and each value has
+    its place among them."""
     is_number = server_types.family(subject.type) == "number"
     if not use.is_ordered and not is_number:
         return codings.Labels(subject, use.constants)
@@ -170,7 +172,7 @@ def ordered_or_labels(subject: Subject, use: Uses, sort: Sort) -> Coding:
 
 
 def remainders_of(base: Coding, moduli: set[int]) -> dict[int, Remainders]:
-    """By each modulus the coding that has it: one by a common multiple, unless that is large."""
+    """Returns for each modulus the coding of its remainder: that by a common multiple, unless that is large."""
     common = math.lcm(*moduli)
     if len(moduli) == 1 or common <= MOST_REMAINDERS:
         coded = codings.Remainders(base, common)
@@ -179,7 +181,7 @@ def remainders_of(base: Coding, moduli: set[int]) -> dict[int, Remainders]:
 
 
 def settle_names(base: dict[Subject, Coding], not_null_columns: set[str]) -> None:
-    """A column keeps its name; an expression has its text as a name, cut to what a name may have."""
+    """A column keeps its name; an expression has its text as a name, cut to the maximal length of a name."""
     taken: set[str] = set()
     for subject, coding in sorted(base.items(), key=lambda it: not it[0].is_column):
         name = subject.columns[0] if subject.is_column else subject.sql.replace("\n", " ")
@@ -190,17 +192,18 @@ def settle_names(base: dict[Subject, Coding], not_null_columns: set[str]) -> Non
 
 
 def free_name(name: str, taken: set[str]) -> str:
-    """The name, cut to what a name may have, or with the first number behind it that makes it another one."""
+    """Returns the name, cut to the maximal length, or followed by the first number that makes it unique."""
     ends = itertools.chain([""], (f" {number}" for number in itertools.count(2)))
     cuts = (name.encode()[:LONGEST_NAME - len(end)].decode(errors="ignore") + end for end in ends)
     return next(it for it in cuts if it not in taken)
 
 
 def merged(part: Formula) -> Formula:
-    """The formula with comparisons of one subject joined.
+    """Returns the formula with comparisons of one subject joined.
 
-    Exact, since all of them are NULL exactly where the subject is: AND is then the ranges that both have, OR the ranges
-    of either, NOT the other ranges. So the two comparisons that the server makes of BETWEEN are one range again.
+    This is exact, since all of them are NULL exactly if the subject is: AND is then the intersection of the ranges, OR
+    their union, and NOT the complement. So the two comparisons into which the server turns BETWEEN become one range
+    again.
     """
     match part:
         case Not():
@@ -219,7 +222,7 @@ def merged(part: Formula) -> Formula:
 
 def joined(parts: list[Formula], join: Callable[[Ranges, Ranges], Ranges],
            build: Callable[..., Formula]) -> Formula:
-    """Parts with those that are Within of one coding as one, at the place of the first."""
+    """Joins the parts that are Within of the same coding, at the place of the first."""
     ranges_of: dict[Coding, Ranges] = {}
     for part in parts:
         if isinstance(part, Within):

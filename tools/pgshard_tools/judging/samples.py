@@ -1,7 +1,7 @@
-"""What functions of a column are at the constants that the column is compared with: the server says it.
+"""The server's values of functions of a column for the constants with which the column is compared.
 
-Where the column is equal to such a constant, each function of it alone has that value. So `lower(code) = 'de'` is known
-beside `code = 'DE'`. Only types count of which equal values are the same in each respect.
+If the column equals such a constant, each function of only this column has that value. So `lower(code) = 'de'` is known
+if `code = 'DE'`. This is done only for types in which equal values are identical in every respect.
 """
 
 import json
@@ -14,7 +14,7 @@ from pgshard_tools.judging.formulas import Compare, Formula, IsNull, Subject, Wi
 from pgshard_tools.judging.server_types import INTEGERS, ORDERED, collation_sql, literal, value_of
 
 SAME = {*INTEGERS, "text", "varchar", "date", "timestamp", "timestamptz", "uuid", "time"}
-# This many values are asked for.
+# The most values that are asked for.
 MOST = 40
 
 
@@ -23,7 +23,7 @@ class Asking(Protocol):
 
 
 def samples_of(listed: Sequence[Formula], columns: Sequence[Column], session: Asking) -> dict[str, Formula]:
-    """A formula for each function and each constant, by a name."""
+    """Returns a formula for each function and each constant, by a name."""
     leaves = [leaf for formula in listed for leaf in leaves_of(formula) if not isinstance(leaf, Within)]
     by_name = {it["name"]: it for it in columns}
     found: dict[str, Formula] = {}
@@ -39,13 +39,13 @@ def samples_of(listed: Sequence[Formula], columns: Sequence[Column], session: As
 
 
 def is_function(subject: Subject) -> bool:
-    """Whether it is an expression of one column that has a value of a type that is read."""
+    """Returns whether it is an expression of one column whose type is read."""
     is_read = subject.type in ORDERED or subject.type == "bool"
     return not subject.is_column and len(subject.columns) == 1 and is_read
 
 
 def sample(subject: Subject, column: Column, point: Any, session: Asking) -> Formula | None:
-    """What a function is at a constant; None if the server fails there."""
+    """Returns the value of a function for a constant, or None if the server fails there."""
     collation = f" COLLATE {collation_sql(column['collation'])}" if column["collation"] not in (None, "default") else ""
     value = f"({literal(point.subject.type, point.value)})::{column['written']}{collation}"
     answer = session.ask(

@@ -1,4 +1,4 @@
-"""Judges a file with a schema, as pg_dump writes it or migrations contain it: a temporary server loads it, and is
+"""Judges a schema file, as written by pg_dump or contained in migrations: a temporary server loads it, and is
 judged."""
 
 import contextlib
@@ -16,21 +16,22 @@ from pgshard_tools.judging.options import Options
 from pgshard_tools.judging.program import Unreadable, run
 
 PUBLICATION = re.compile(r"\bCREATE\s+PUBLICATION\b", re.I)
-# A subscription of a schema would connect to another server, but for the option that pg_dump writes. Those of pgshard's
-# own texts have no option.
+# A subscription in a schema would connect to another server, unless it has the option that pg_dump writes. Those in
+# pgshard's own texts have no options.
 SUBSCRIPTION = re.compile(r"\bCREATE\s+SUBSCRIPTION\b([^;]*)", re.I)
 UNCONNECTED = re.compile(r"\bconnect\s*=\s*'?(?:false|off|no|0)\b", re.I)
 CONNECTS = re.compile(r"\bALTER\s+SUBSCRIPTION\s+\S+\s+(?:REFRESH|ADD|DROP|ENABLE|SET\s+PUBLICATION)\b|"
                       r"\bDROP\s+SUBSCRIPTION\b", re.I)
-# A dump of several databases, or of one by pg_dump -C, goes on in another database than the one that is judged.
+# A dump of several databases, or of one by pg_dump -C, continues in another database than the one that is judged.
 CONNECT = re.compile(r"^\\c(?:onnect)?\b", re.M)
-# What other versions of pg_dump write that psql or the server may not know. The lines stay, so that places are right.
+# Lines of other versions of pg_dump that psql or the server may not know. They are blanked, so that positions stay
+# right.
 UNKNOWN = re.compile(r"^(?:\\(?:un)?restrict\b.*|SET transaction_timeout = .*;)$", re.M)
 FAILED = re.compile(r"^psql:<stdin>:(\d+): (?:ERROR|FATAL): *(.*)", re.M | re.S)
 NO_ROLE = re.compile(r'^role "(.*)" does not exist$', re.M)
 ROLES_AFTER = {("OWNER", "TO"), ("FOR", "ROLE"), ("FOR", "USER")}
 NO_ROLES = {"PUBLIC", "CURRENT_USER", "CURRENT_ROLE", "SESSION_USER"}
-# psql's variables that name another server, or change what the server is asked.
+# Variables of psql that name another server, or change what the server is asked.
 ELSEWHERE = (
     "PGHOST", "PGHOSTADDR", "PGPORT", "PGDATABASE", "PGUSER", "PGSERVICE", "PGOPTIONS", "PGTARGETSESSIONATTRS",
     "PGCLIENTENCODING")
@@ -41,7 +42,7 @@ MISSING = (
 
 
 def is_schema(path: str) -> bool:
-    """Whether a file is a schema, and not a catalog text of pgshard."""
+    """Returns whether a file is a schema, and not a catalog text of pgshard."""
     text = read_file(path)
     if any(not UNCONNECTED.search(it[1]) for it in SUBSCRIPTION.finditer(text)):
         return False
@@ -53,7 +54,7 @@ def is_schema(path: str) -> bool:
 
 @contextlib.contextmanager
 def served(path: str, options: Options) -> Iterator[Options]:
-    """The options by which the file is judged, as a database of a server that is gone afterwards."""
+    """Yields the options for judging the file, as a database of a server that is removed afterwards."""
     programs = throwaway.programs()
     if programs is None:
         raise Fault(NOT_READ, f"refused: {MISSING}")
@@ -68,7 +69,7 @@ def served(path: str, options: Options) -> Iterator[Options]:
             if told is None:
                 yield replace(options, words=[*words, "-d", connection_to(path)])
                 return
-        # What the file made is gone with its server. So the next one begins with the role that is missing.
+        # What the file created is gone with its server. So the next attempt begins by creating the missing role.
         missing = NO_ROLE.match(told[1])
         if missing is None:
             break
@@ -92,7 +93,7 @@ def want_no_connection(path: str, text: str) -> None:
 
 
 def roles_of(text: str) -> list[str]:
-    """The roles that a file names where pg_dump does, without those that it creates."""
+    """Returns the roles that a file names where pg_dump does, without those that it creates."""
     found: dict[str, bool] = {}
     created = set()
     for statement in statements_of(text):
@@ -108,7 +109,7 @@ def roles_of(text: str) -> list[str]:
 
 
 def loaded(path: str, text: str, roles: Sequence[str], words: Sequence[str]) -> tuple[str, str] | None:
-    """Loads a file into a new database. The line and the words of what the server refuses, or None."""
+    """Loads a file into a new database. Returns the line and the message of what the server refuses, or None."""
     made = [f"CREATE ROLE {quoted_name(it)};" for it in roles]
     made.append(f"CREATE DATABASE {quoted_name(name_of(path))};")
     told = psql([*words, "-d", "postgres"], "\n".join(made))
@@ -133,23 +134,23 @@ def psql(words: Sequence[str], text: str) -> tuple[str, str] | None:
 
 
 def name_of(path: str) -> str:
-    """The name of the database: that of the file, as far as a name goes."""
+    """Returns the name of the database: that of the file, as far as it can be a name."""
     name = path if len(path.encode()) < 64 else os.path.basename(path)
     return name.encode()[:63].decode("utf-8", "ignore")
 
 
 def connection_to(path: str) -> str:
-    """The connection text of the database."""
+    """Returns the connection string of the database."""
     escaped = name_of(path).replace("\\", "\\\\").replace("'", "\\'")
     return f"dbname='{escaped}'"
 
 
 def quoted_name(name: str) -> str:
-    """A name as SQL."""
+    """Returns a name in SQL."""
     doubled = name.replace('"', '""')
     return f'"{doubled}"'
 
 
 def indented(text: str) -> str:
-    """A message whose later lines show what it is about."""
+    """Returns a message whose later lines are indented."""
     return "\n    ".join(text.split("\n"))

@@ -1,4 +1,4 @@
-"""Types of the server: what a constant of one is, and how a value is written as a constant that can be inserted."""
+"""Types of the server: the meaning of a constant, and how a value is written as a constant that can be inserted."""
 
 import struct
 from fractions import Fraction
@@ -8,20 +8,20 @@ from pgshard_tools.judging import points, wholes
 from pgshard_tools.judging.faults import Unread
 from pgshard_tools.judging.points import Point
 
-# The bits of each integer type, and its name in a catalog that pgshard reads.
+# The number of bits of each integer type, and its name in a catalog that pgshard reads.
 INTEGERS = {"int2": (16, "smallint"), "int4": (32, "integer"), "int8": (64, "bigint")}
 NUMBERS = {*INTEGERS, "numeric", "float4", "float8"}
 TIMES = {"date", "timestamp", "timestamptz", "time"}
 ROUNDED = {"timestamp", "timestamptz"}
 TEXTS = {"text", "varchar", "bpchar"}
-# Types of which two values are equal exactly where the server writes the same text of both.
+# Types in which two values are equal exactly if the server prints the same text for both.
 LABELS = {"name", "char", "bytea", "macaddr8"}
-# Of these a value is a whole number, without a unit.
+# In these types, a value is a whole number without a unit.
 WHOLE = {"uuid", "interval", "inet", "cidr", "macaddr", "pg_lsn"}
 ORDERED = NUMBERS | TIMES | WHOLE | {"text", "varchar", "bpchar"}
 
 
-# Types of each row are compared with each other by operators whose order, or equality, is that of judge.
+# The types of each row are compared with each other by operators that judge knows the order or equality of.
 COMPARED = (
     {"int2", "int4", "int8"}, {"float4", "float8"}, {"numeric"}, {"date", "timestamp"}, {"timestamptz"}, {"time"},
     {"uuid"}, {"text"}, {"bpchar"}, {"bool"}, {"name", "text"}, {"char"}, {"bytea"}, {"inet"}, {"macaddr"},
@@ -29,12 +29,12 @@ COMPARED = (
 
 
 def comparable(one: str, other: str = "") -> bool:
-    """Whether judge knows what the comparisons that are declared of two types mean."""
+    """Returns whether judge knows the meaning of comparisons that are declared for two types."""
     return any(one in it and other in it for it in COMPARED)
 
 
 def family(type: str) -> str:
-    """Types of one family are compared with each other."""
+    """Returns the family of a type. Types of one family are compared with each other."""
     if type in NUMBERS:
         return "number"
     return {"varchar": "text", "cidr": "inet"}.get(type, type)
@@ -45,7 +45,7 @@ def is_ordered(type: str) -> bool:
 
 
 def binary_float(text: str, form: str) -> Point:
-    """The number that a float has, which is not the one that is written."""
+    """Returns the exact number that a float represents, which may differ from the printed one."""
     point = points.number_point(text)
     if not point.is_finite:
         return point
@@ -54,7 +54,8 @@ def binary_float(text: str, form: str) -> Point:
 
 
 def collation_sql(name: str) -> str:
-    """A collation as SQL has it. The name of one of the database's own has its schema, and quotes already."""
+    """Returns a collation in SQL. The name of one that was created in the database already has its schema and
+    quotes."""
     return name if name.startswith('"') else '"' + name.replace('"', '""') + '"'
 
 
@@ -63,7 +64,7 @@ def quoted(text: str) -> str:
 
 
 def value_of(type: str, text: str) -> Any:
-    """The value of a constant of a type: a point, a text, or a truth value."""
+    """Returns the value of a constant of a type: a point, a text, or a boolean."""
     try:
         match type:
             case "float4" | "float8":
@@ -90,7 +91,7 @@ def value_of(type: str, text: str) -> Any:
 
 
 def text_of(type: str, value: Any) -> str:
-    """A value as the server reads it, without quotes."""
+    """Returns a value as the server reads it, without quotes."""
     match type:
         case "date":
             return points.date_text(value)
@@ -112,7 +113,7 @@ def text_of(type: str, value: Any) -> str:
 
 
 def literal(type: str, value: Any) -> str:
-    """A value as a constant of SQL."""
+    """Returns a value as an SQL constant."""
     if value is None:
         return "NULL"
     text = text_of(type, value)
@@ -122,16 +123,15 @@ def literal(type: str, value: Any) -> str:
 
 
 def readable(type: str, text: str) -> str:
-    """What the server writes of a value, as a constant that it reads. The last timestamp, which it does not read, is
-    what
-    the one before it is rounded to."""
+    """Returns what the server prints for a value, as a constant that it can read. The last timestamp, which it cannot
+    read, is written as the previous one, rounded."""
     if type in ROUNDED and text == text_of(type, points.finite(points.LAST_TIME)):
         return f"{quoted(text_of(type, points.finite(points.LAST_READ)))}::{type}(0)"
     return quoted(text)
 
 
 def number_form(type: str, modifier: int) -> tuple[int, int] | None:
-    """The digits and the scale of a numeric with a limit, or None."""
+    """Returns the digits and the scale of a numeric with a precision, or None."""
     if type != "numeric" or modifier < 4:
         return None
     scale = (modifier - 4) & 0x7FF
@@ -139,11 +139,11 @@ def number_form(type: str, modifier: int) -> tuple[int, int] | None:
 
 
 def length_limit(type: str, modifier: int) -> int | None:
-    """How many characters a text may have, or None."""
+    """Returns how many characters a text may have, or None."""
     return modifier - 4 if type in ("varchar", "bpchar") and modifier >= 4 else None
 
 
-# A plain value of each type, for a column that is NOT NULL and does not matter.
+# A plain value of each type, for a NOT NULL column that does not matter.
 PLAIN = {
     "bool": "FALSE", "date": "'2000-01-01'", "timestamp": "'2000-01-01 00:00:00'", "time": "'00:00:00'",
     "timestamptz": "'2000-01-01 00:00:00+00'", "timetz": "'00:00:00+00'", "interval": "'0 days'",
@@ -157,13 +157,13 @@ PLAIN = {
 
 
 def is_plain(column: dict[str, Any]) -> bool:
-    """Whether it is known that a column's type takes its plain value."""
+    """Returns whether it is known that a column's type accepts its plain value."""
     type = column["type"]
     return column["kind"] == "b" and (type in PLAIN or type in NUMBERS or type in TEXTS or type in ("name", "char"))
 
 
 def plain_literal(column: dict[str, Any]) -> str:
-    """A constant that a column takes, where its domain or its constraints do not refuse it."""
+    """Returns a constant that a column accepts, unless its domain or its constraints refuse it."""
     type = column["type"]
     if column["kind"] == "e":
         return quoted(column["label"] or "")

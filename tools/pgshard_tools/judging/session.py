@@ -1,4 +1,4 @@
-"""Questions to the server about values, which name no table. They are asked in one read-only psql."""
+"""Asks the server questions about values, without naming tables, in one read-only psql."""
 
 import json
 import subprocess
@@ -10,7 +10,8 @@ from pgshard_tools.judging.faults import NO_ANSWER, Fault, Undecided
 from pgshard_tools.judging.meanings import Meanings
 from pgshard_tools.judging.server_types import collation_sql, quoted
 
-# Of texts in UTF8 psql leaves out what Unicode says is no character, and what is no UTF8. As bytes it prints them whole.
+# For texts in UTF8, psql omits noncharacters of Unicode and invalid UTF8. If it is told that they are bytes, it prints
+# them completely.
 SETUP = r"""
 \set QUIET on
 \set ON_ERROR_STOP off
@@ -40,7 +41,7 @@ LOST = "the connection to the server is lost"
 
 
 class Session:
-    """A psql that is started with the first question. The server gives up a question after some seconds."""
+    """A psql that is started with the first question. The server cancels a question after some seconds."""
 
     def __init__(self, words: Sequence[str], seconds: float = 60) -> None:
         self.words = words
@@ -49,24 +50,24 @@ class Session:
         self.known_meanings: Meanings | None = None
 
     def meanings(self, db: Database) -> Meanings:
-        """What the server says of the calls in its filters, asked for once."""
+        """Returns what the server reports about the calls in its filters, which is asked only once."""
         if self.known_meanings is None:
             self.known_meanings = Meanings(self, db)
         return self.known_meanings
 
     def ask(self, query: str) -> str:
-        """The answer to a query; '' if it fails."""
+        """Returns the answer to a query, or '' if it fails."""
         try:
             return self.answered(query)
         except BrokenPipeError as fault:
             raise Fault(NO_ANSWER, LOST) from fault
 
     def ask_for(self, seconds: int, query: str) -> str:
-        """The answer to a query that has its own time limit."""
+        """Returns the answer to a query that has its own time limit."""
         return self.ask(f"BEGIN; SET LOCAL statement_timeout = '{seconds}s'; {query}; COMMIT")
 
     def answered(self, query: str) -> str:
-        """The same, in a psql that is started if there is none."""
+        """Returns the same, from a psql that is started if there is none."""
         process = self.process or self.started()
         assert process.stdin is not None and process.stdout is not None
         end = f"end {uuid.uuid4()}"
@@ -80,7 +81,7 @@ class Session:
         raise Fault(NO_ANSWER, LOST)
 
     def started(self) -> "subprocess.Popen[str]":
-        """A psql that has its settings."""
+        """Starts a psql with its settings."""
         self.process = subprocess.Popen(
             ["psql", "-X", "-q", *self.words], stdin=subprocess.PIPE, stdout=subprocess.PIPE,
             stderr=subprocess.DEVNULL, encoding="utf-8", errors="surrogateescape")
@@ -89,7 +90,7 @@ class Session:
         return self.process
 
     def setup(self) -> str:
-        """The settings, with the time that the server has for a question."""
+        """Returns the settings, including the time limit of a question."""
         return SETUP.replace("{milliseconds}", str(max(1, int(self.seconds * 1000))))
 
     def close(self) -> None:
@@ -109,8 +110,9 @@ class Session:
             process.communicate()
 
     def sorted_texts(self, collation: str, texts: Sequence[str]) -> list[str]:
-        """Texts in the order of a collation; the server tells those that are equal in it apart by their bytes."""
-        # A server whose encoding is SQL_ASCII has the bytes of a letter, and knows no number of it.
+        """Returns texts in the order of a collation. The server distinguishes those that are equal under it by their
+        bytes."""
+        # A server with the encoding SQL_ASCII stores the bytes of a character, and knows no code point.
         listed = quoted(json.dumps(sorted(texts), ensure_ascii=False))
         name = collation_sql(collation)
         answer = self.ask(

@@ -1,6 +1,6 @@
-"""Which publications carry the rows of a table, and who takes which of them, by the server's rules.
+"""Which publications carry the rows of a table, and who gets which of them, by the server's rules.
 
-docs/JUDGING.md lists them, with the sections of PostgreSQL's documentation.
+docs/JUDGING.md lists the rules, with the sections of PostgreSQL's documentation.
 """
 
 from collections.abc import Iterator, Mapping, Sequence
@@ -8,7 +8,7 @@ from dataclasses import dataclass, field
 
 from pgshard_tools.judging.database import OPERATIONS, Database, Subscriber, Table, full_name
 
-# Subscribers with the publications of a table that each takes.
+# Subscribers, each with the publications of a table that it takes.
 Takers = dict[str, list[str]]
 Filters = frozenset[str | None]
 
@@ -18,7 +18,7 @@ class Shares:
     """A table that is judged: which publications carry its rows, each with its filter or None, and who takes which.
 
     The rows of a partitioned table that is published as one are those of its partitions. `streams` has the publications
-    by which a subscriber is sent the rows, and `takers` those of them that publish INSERT, since by these it is decided
+    through which a subscriber is sent the rows, and `takers` those of them that publish INSERT, since these decide
     where a row goes. `silent` has partitions of which the server sends nothing.
     """
 
@@ -38,7 +38,7 @@ class Shares:
 
 
 def shares_of_all(database: Database, subscribers: Sequence[Subscriber]) -> list[Shares]:
-    """All tables that are judged."""
+    """Returns all tables that are judged."""
     found: list[Shares | None] = []
     for table in database.tables:
         if table["kind"] != "p" and not any(oid in database.by_oid for oid in table["ancestors"][-1:]):
@@ -51,7 +51,8 @@ def shares_of_all(database: Database, subscribers: Sequence[Subscriber]) -> list
 
 
 def shares_of_tree(database: Database, root: Table, subscribers: Sequence[Subscriber]) -> list[Shares | None]:
-    """A partitioned table as one table, if all its rows are published via the root; otherwise each partition."""
+    """Returns a partitioned table as one table, if all its rows are published via the root; otherwise each
+    partition."""
     leaves = [it for it in database.tables if root["oid"] in it["ancestors"] and it["kind"] != "p"]
     sent = [it for it in leaves if it["is_publishable"]]
     silent = [it for it in map(lambda leaf: silent_shares(database, leaf, subscribers), leaves) if it is not None]
@@ -70,7 +71,7 @@ def shares_of_tree(database: Database, root: Table, subscribers: Sequence[Subscr
 
 
 def silent_shares(database: Database, leaf: Table, subscribers: Sequence[Subscriber]) -> Shares | None:
-    """A partition that is unlogged or a foreign table, under a table that is published: nobody takes its rows."""
+    """Returns an unlogged or foreign partition below a published table: nobody gets its rows."""
     if leaf["is_publishable"] or not is_below_published(database, leaf):
         return None
     return Shares(leaf, {}, {it.name: [] for it in subscribers}, [leaf], subscribers=subscribers,
@@ -78,7 +79,7 @@ def silent_shares(database: Database, leaf: Table, subscribers: Sequence[Subscri
 
 
 def names_of(database: Database, table: Table) -> frozenset[str]:
-    """The full names of a table and of those above it."""
+    """Returns the full names of a table and of those above it."""
     listed = [table, *(database.by_oid[oid] for oid in table["ancestors"] if oid in database.by_oid)]
     return frozenset(map(full_name, listed))
 
@@ -96,10 +97,10 @@ def is_below_published(database: Database, leaf: Table) -> bool:
 
 def shares_of(
         database: Database, table: Table, leaves: list[Table], subscribers: Sequence[Subscriber]) -> Shares | None:
-    """Who takes which publications of a table, or None if none carries it.
+    """Returns who takes which publications of a table, or None if none carries it.
 
-    Of a partition's rows a subscriber gets those that are sent as the topmost table that any of its publications names;
-    its other publications do not count then.
+    Of a partition's rows, a subscriber gets those that are sent as the topmost table that any of its publications
+    names; its other publications do not count then.
     """
     ways = {}
     for name, publication in database.publications.items():
@@ -121,20 +122,21 @@ def shares_of(
 
 
 def add_stream(database: Database, shares: Shares, name: str, taken: list[str], stream: list[str]) -> None:
-    """What one subscriber is sent of a table: by `stream`, where all that it takes of the table is `taken`."""
+    """Adds what one subscriber is sent of a table: through `stream`, while all that it takes of the table is
+    `taken`."""
     shares.streams[name] = stream
     shares.takers[name] = [it for it in stream if "insert" in database.publications[it]["operations"]]
     below = [it for it in taken if it not in stream and "insert" in database.publications[it]["operations"]]
     if stream and below and not shares.takers[name]:
-        # The server then sends each inserted row, by no filter at all.
+        # The server then sends each inserted row, without any filter.
         shares.undecided.append(
             f"subscriber {name} takes publication {below[0]} of the partition and publication {stream[0]} of a table "
             f"above it, and only the first publishes insert")
 
 
 def set_operations(database: Database, shares: Shares) -> None:
-    """The operations with which pgshard is given each publication: all of them, where each subscriber that takes it has
-    the others from publications with the same filters."""
+    """Sets the operations with which pgshard is given each publication: all of them, if each subscriber that takes it
+    gets the others from publications with the same filters."""
     for name in shares.filters:
         of_takers = [it for it in shares.streams.values() if name in it]
         is_complete = bool(of_takers) and all(is_whole(database, shares, it) for it in of_takers)
@@ -142,14 +144,14 @@ def set_operations(database: Database, shares: Shares) -> None:
 
 
 def is_whole(database: Database, shares: Shares, stream: list[str]) -> bool:
-    """Whether publications that a subscriber takes publish all operations together, each by the same filters."""
+    """Returns whether publications that a subscriber takes together publish all operations, each under the same
+    filters."""
     return next(broken_operations(database, shares, stream), None) is None
 
 
 def broken_operations(database: Database, shares: Shares, stream: list[str]) -> Iterator[str]:
-    """The operations that some publications do not publish, or by other filters than INSERT, but for those that are
-    left
-    out on purpose."""
+    """Yields the operations that some publications do not publish, or publish under other filters than INSERT, except
+    those that are left out on purpose."""
     inserted = filters_for(database, shares, stream, "insert")
     for operation in OPERATIONS:
         if operation in shares.omitted:
@@ -161,7 +163,8 @@ def broken_operations(database: Database, shares: Shares, stream: list[str]) -> 
 
 
 def filters_for(database: Database, shares: Shares, stream: list[str], operation: str) -> Filters:
-    """The filters one of which a row has to pass in an operation, as one set; one without a filter is enough."""
+    """Returns the filters of an operation, one of which a row has to pass, as one set; a publication without a filter
+    is enough."""
     having = [it for it in stream if operation in database.publications[it]["operations"]]
     found = frozenset(shares.filters[it] for it in having)
     return frozenset([None]) if None in found else found

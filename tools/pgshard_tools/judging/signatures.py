@@ -1,7 +1,8 @@
-"""What judge adds to what the server says of its functions and operators, by signature. Each row is tested on a server.
+"""What judge adds to the server's descriptions of functions and operators, by signature. Each row is tested on a
+server.
 
-A function without a row may be NULL anywhere, or may go by the settings of a session though the server calls it
-immutable; so nothing is read of it.
+A function without a row may be NULL for any arguments, or may depend on the settings of a session although the server
+calls it immutable; so nothing is read of it.
 """
 
 from dataclasses import dataclass
@@ -9,17 +10,18 @@ from dataclasses import dataclass
 
 @dataclass(frozen=True)
 class Row:
-    """What judge adds of a function at arguments that meet its limits."""
+    """What judge adds about a function for arguments within its limits."""
 
-    # Whether it is NULL exactly where an argument is, or where it fails. If not, it is NULL there and maybe elsewhere.
+    # Whether it is NULL exactly if an argument is, or if it fails. If not, it may also be NULL otherwise.
     is_total: bool = True
     # What an argument has to be, by its place: a name in functions.LIMITS.
     limits: tuple[tuple[int, str], ...] = ()
-    # Whether it fails at some arguments.
+    # Whether it fails for some arguments.
     fails: bool = False
-    # Whether it may fail where an argument is not what it has to be. If not, it is not read there.
+    # Whether it may be read with arguments beyond its limits, for which it may fail. If not, it is not read then.
     fails_past_limits: bool = False
-    # Of a function that is not strict, the arguments at which NULL makes it NULL; the others are constants, not NULL.
+    # For a function that is not strict, the arguments that make it NULL if they are; the others are constants that are
+    # not NULL.
     null_at: tuple[int, ...] = ()
 
 
@@ -43,7 +45,7 @@ SHAPES = ("box", "circle", "polygon")
 
 
 def rows(row: Row, *texts: str) -> dict[str, Row]:
-    """One row for each signature: each text has names, and the types of the arguments."""
+    """Returns a row for each signature. Each text has names, and the types of the arguments."""
     found: dict[str, Row] = {}
     for text in texts:
         names, _, types = text.partition("(")
@@ -78,7 +80,7 @@ FUNCTIONS: dict[str, Row] = {
     **rows(Row(limits=((1, "number"), (2, "length")), fails_past_limits=True), "substr substring(bytea,int4,int4)"),
     **rows(CODE, "encode(bytea,text)"),
     **rows(FAILS, "get_byte(bytea,int4)", "get_bit(bytea,int8)", "get_bit(bit,int4)", "int4 int8(bit)"),
-    # Hashes.
+    # Hash functions.
     **{f"hash{it}({it})": TOTAL for it in HASHED},
     **{f"hash{it}extended({it},int8)": TOTAL for it in HASHED},
     **rows(TOTAL, "uuid_hash(uuid)", "uuid_hash_extended(uuid,int8)", "hash_numeric(numeric)",
@@ -108,7 +110,7 @@ FUNCTIONS: dict[str, Row] = {
     **rows(MAYBE_NULL, "jsonb_extract_path jsonb_extract_path_text(jsonb,_text)"),
     **rows(FAILS_OR_NULL, "json_extract_path json_extract_path_text(json,_text)",
            "jsonb_path_exists jsonb_path_match(jsonb,jsonpath,jsonb,bool)", "jsonb_path_query_first(jsonb,jsonpath,jsonb,bool)"),
-    # Lists.
+    # Arrays.
     **rows(TOTAL, "cardinality(anyarray)"),
     **rows(Row(False, fails=True, null_at=(0,)), "array_position(anycompatiblearray,anycompatible)"),
     **rows(Row(fails=True, null_at=(0,)), "array_remove(anycompatiblearray,anycompatible)"),
@@ -136,12 +138,12 @@ FUNCTIONS: dict[str, Row] = {
     **rows(TOTAL, "npoints isclosed isopen(path)", "npoints(polygon)", "radius center(circle)"),
     **rows(FAILS, "area(box)", "area diameter(circle)", "center(box)", "height width(box)", "length(lseg)"),
     **rows(FAILS_OR_NULL, "area(path)"),
-    # Search.
+    # Text search.
     **rows(TOTAL, "length(tsvector)", "strip(tsvector)", "numnode(tsquery)", "ts_rank(tsvector,tsquery)"),
     # Documents.
     **rows(TOTAL, "text(xml)"),
     **rows(FAILS, "xpath_exists(text,xml)"),
-    # Conversions between texts. Those with a length cut.
+    # Conversions between texts. Those with a length truncate.
     **rows(TOTAL, "text(char)", "text(bpchar)", "text(name)", "name(text)", "name(varchar)", "char(text)"),
     **rows(Row(limits=((1, "size"), (2, "explicit"))), "varchar(varchar,int4,bool)", "bpchar(bpchar,int4,bool)"),
     **rows(Row(limits=((1, "size"),), fails=True), "numeric(numeric,int4)", "timestamp(timestamp,int4)",
@@ -157,7 +159,7 @@ OPERATORS: dict[str, Row] = {
     **rows(FAILS_OR_NULL, "->> ->(json,text)", "->> ->(json,int4)", "#>> #>(json,_text)"),
     **rows(TOTAL, "?(jsonb,text)", "?| ?&(jsonb,_text)", "@> <@ = < <=(jsonb,jsonb)", "||(jsonb,jsonb)"),
     **rows(FAILS, "-(jsonb,text)", "-(jsonb,int4)", "-(jsonb,_text)", "#-(jsonb,_text)"),
-    # Lists.
+    # Arrays.
     **rows(ARRAYS, "@> <@ && = < <=(anyarray,anyarray)"),
     # Ranges.
     **rows(TOTAL, "@> <@ && << >> &< &> -|- = < <=(anyrange,anyrange)", "@>(anyrange,anyelement)", "<@(anyelement,anyrange)",
@@ -186,7 +188,7 @@ OPERATORS: dict[str, Row] = {
     **rows(TOTAL, "<@(point,box)", "@>(box,point)", "<< >> ~=(point,point)", "&& ~= << >> @> <@(box,box)", "~=(polygon,polygon)"),
     **rows(FAILS, "<@(point,circle)", "@>(circle,point)", "<->(point,point)", "<@(point,polygon)", "@>(polygon,point)",
            "&& @> <@(circle,circle)", "&& @> <@(polygon,polygon)", "<->(circle,circle)"),
-    # Search, and others.
+    # Text search, and others.
     **rows(TOTAL, "@@(tsvector,tsquery)", "@@(tsquery,tsvector)", "= < <=(tsvector,tsvector)", "= < <=(tsquery,tsquery)",
            "= < <=(pg_lsn,pg_lsn)", "-(pg_lsn,pg_lsn)"),
 }
@@ -196,16 +198,16 @@ CLOCK_PARTS = {"hour", "minute", "second", "microseconds", "milliseconds"}
 SPAN_PARTS = {"year", "month", "day", "quarter", "century", "decade", "millennium", "epoch"}
 PARTS = {"date": DAY_PARTS, "time": CLOCK_PARTS | {"epoch"}, "timestamp": DAY_PARTS | CLOCK_PARTS,
          "interval": SPAN_PARTS | CLOCK_PARTS}
-# Those that have a value at infinity, too: infinity itself.
+# Parts that have a value for infinity, too: infinity itself.
 INFINITE_PARTS = {"year", "isoyear", "century", "decade", "millennium", "epoch", "julian"}
 # Arrays whose elements the server compares without a failure.
 ELEMENTS = {"int2", "int4", "int8", "text", "varchar", "bpchar", "uuid", "date", "timestamp", "timestamptz", "numeric",
             "bool", "inet"}
-# Constants by the names of limits: the codes of bytes, the forms of Unicode, and what a time is cut to.
+# Constants by the names of limits: encodings of bytes, Unicode normal forms, and the units of date_trunc.
 NAMES = {"code": {"hex", "base64", "escape"}, "form": {"NFC", "NFD", "NFKC", "NFKD"}, "unit": {
     "second", "minute", "hour", "day", "week", "month", "quarter", "year", "decade", "century", "millennium"}}
-# How people write them.
+# The operators as people write them.
 WORDS = {"~~": "LIKE", "~~*": "ILIKE"}
-# The operators that are NOT of others. Those of an order are so where it is total, as that of each type above is.
+# The operators that are NOT of others. Those of an order are, if the order is total, as it is for each type above.
 NEGATIONS = {
     "!~~": "~~", "!~~*": "~~*", "!~": "~", "!~*": "~*", "<>": "=", ">": "<=", ">=": "<", "~>~": "~<=~", "~>=~": "~<~"}

@@ -1,4 +1,4 @@
-"""Ranges that are constants: whether a value is in one is whether it is between its ends."""
+"""Constant ranges: a value is in one if it is between its ends."""
 
 import re
 
@@ -15,7 +15,7 @@ RANGE = re.compile(rf"([\[(]){END},{END}([\])])")
 
 
 def contains(form: str, range: Operand, element: Operand) -> Formula | None:
-    """Whether a range has an element; None if it is no constant that is known."""
+    """Returns whether a range contains an element, or None if the range is not a known constant."""
     if not isinstance(range, Value) or range.type not in ELEMENTS or isinstance(element, Value):
         return None
     if range.value is None:

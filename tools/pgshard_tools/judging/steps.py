@@ -1,7 +1,7 @@
 """Arithmetic of one column of whole numbers, step by step, each with a constant.
 
-Each step says what it makes of a number, and of which numbers it makes those in some ranges. So a comparison of the
-last result is one of the column itself, without going through its numbers.
+Each step defines its result for a number, and for which numbers the result is in some ranges. So a comparison of the
+last result is one of the column itself, without enumerating the numbers.
 """
 
 import math
@@ -11,7 +11,7 @@ from typing import Sequence, TypeAlias
 from pgshard_tools.judging import ranges
 from pgshard_tools.judging.ranges import Ranges
 
-# No result of so few steps is past the ends: each makes a number longer by 64 bits at most.
+# No result of this many steps is beyond the ends: each makes a number longer by at most 64 bits.
 MOST_STEPS = 12
 END = 2**1024
 ALL: Ranges = ((-END, END),)
@@ -55,7 +55,7 @@ class Absolute:
 
 @dataclass(frozen=True)
 class Quotient:
-    """By a number that is not 0, toward zero."""
+    """Division by a number other than 0, which truncates toward zero."""
 
     divisor: int
 
@@ -72,7 +72,7 @@ class Quotient:
 
 @dataclass(frozen=True)
 class Shift:
-    """To the right, by a number from 0 to the bits of the type less one; the sign stays."""
+    """A shift to the right, by a number from 0 to the bits of the type minus one; the sign is kept."""
 
     bits: int
 
@@ -86,7 +86,7 @@ class Shift:
 
 @dataclass(frozen=True)
 class Modulo:
-    """The remainder by a positive number, with the sign of what is divided."""
+    """The remainder by a positive number, with the sign of the dividend."""
 
     modulus: int
 
@@ -96,7 +96,7 @@ class Modulo:
 
 @dataclass(frozen=True)
 class Mask:
-    """The bits that a number has, too, which is not negative."""
+    """The bits that are also in another number, which is not negative."""
 
     mask: int
 
@@ -106,7 +106,7 @@ class Mask:
 
 @dataclass(frozen=True)
 class Lookup:
-    """What two results of one remainder make, by the remainder; from 1 - modulus on."""
+    """The combination of two results that depend on one remainder, for each remainder from 1 - modulus on."""
 
     modulus: int
     results: tuple[int, ...]
@@ -120,7 +120,7 @@ Step: TypeAlias = Add | Times | Absolute | Quotient | Shift | Modulo | Mask | Lo
 
 
 def divided(one: int, other: int) -> int:
-    """The quotient toward zero."""
+    """Returns the quotient, truncated toward zero."""
     quotient = abs(one) // abs(other)
     return quotient if (one < 0) == (other < 0) else -quotient
 
@@ -144,8 +144,8 @@ def contains(found: Ranges, number: int) -> bool:
 
 
 def modulus_of(steps: Sequence[Step]) -> int | None:
-    """A number by whose remainder alone the result goes, None if there is none. The remainder itself has that
-    result, since it has its own remainder."""
+    """Returns a number whose remainder determines the result, or None if there is none. The remainder itself has the
+    same result, since it is its own remainder."""
     factor: int = 1
     for step in steps:
         match step:
@@ -155,7 +155,7 @@ def modulus_of(steps: Sequence[Step]) -> int | None:
                 # In two's complement, numbers with the same remainder by 2^k have the same last k bits.
                 return factor << step.mask.bit_length()
             case Quotient():
-                # c = q * d * n + r, with the sign of c for both, so c / d = q * n + r / d.
+                # c = q * d * n + r, where both terms have the sign of c, so c / d = q * n + r / d.
                 factor *= abs(step.divisor)
             case Times(-1) | Absolute():
                 pass
@@ -165,7 +165,7 @@ def modulus_of(steps: Sequence[Step]) -> int | None:
 
 
 def bounds(steps: Sequence[Step], low: int, high: int) -> tuple[int, int]:
-    """Two numbers between which all results are, of the numbers between two."""
+    """Returns two numbers between which all results are, for the numbers between two ends."""
     for step in steps:
         match step:
             case Add() | Times() | Quotient() | Shift():

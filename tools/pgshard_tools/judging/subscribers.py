@@ -1,4 +1,4 @@
-"""Who takes which publications: as subscribers' databases say, or psql's variable, or the connected walsenders."""
+"""Who takes which publications, according to subscribers' databases, psql's variable, or the connected walsenders."""
 
 import json
 import os
@@ -12,7 +12,7 @@ from pgshard_tools.judging.faults import BAD_COMMAND, NOT_READ, Fault
 
 WORD = re.compile(r'((?:[^\s="]|"(?:[^"]|"")*")*)(?:=((?:[^\s"]|"(?:[^"]|"")*")*))?')
 PART = re.compile(r'(?:[^,"]|"(?:[^"]|"")*")+')
-# A subscriber's copy of one table has a slot of its own for a while.
+# A subscriber's copy of a table temporarily has a slot of its own.
 COPYING = re.compile(r"pg_\d+_sync_\d+_\d+")
 
 EACH = "each publication counts as a subscriber of its own; -v subscriptions='..' names others"
@@ -20,7 +20,7 @@ EACH = "each publication counts as a subscriber of its own; -v subscriptions='..
 
 def subscribers_of(
         database: Database, named: str | None, connections: Sequence[str]) -> tuple[list[Subscriber], str]:
-    """The subscribers, and a line that says how they are known."""
+    """Returns the subscribers, and a line that says how they are known."""
     if connections:
         return from_databases(database, connections), "the subscribers are those of the databases given by --subscriber"
     if named is not None:
@@ -32,7 +32,7 @@ def subscribers_of(
 
 
 def connected_words(database: Database, connected: Sequence[Subscriber]) -> str:
-    """That these are not all, where other slots wait for a subscriber."""
+    """Returns the remark that these are not all, if other slots wait for a subscriber."""
     names = {it.name for it in connected}
     waiting = [it for it in database.slots if it not in names and not COPYING.fullmatch(it)]
     others = f"; nobody is connected to slot {', '.join(waiting)}, so its subscriber does not count" if waiting else ""
@@ -40,33 +40,33 @@ def connected_words(database: Database, connected: Sequence[Subscriber]) -> str:
 
 
 def unquoted(name: str) -> str:
-    """A name of the variable as it is stored."""
+    """Returns a name in the variable as it is stored."""
     return name[1:-1].replace('""', '"') if re.fullmatch(r'"(?:[^"]|"")*"', name, re.S) else name
 
 
 def from_variable(database: Database, text: str) -> list[Subscriber]:
-    """The subscribers of the variable, whose publications are all there."""
+    """Returns the subscribers in the variable, all of whose publications have to exist."""
     return [known(database, Subscriber(name, names)) for name, names in named_in(text).items()]
 
 
 def from_intent(database: Database, path: str, listed: Mapping[str, Sequence[str]]) -> tuple[list[Subscriber], str]:
-    """The subscribers that a file of --intent names, and a line that says so."""
+    """Returns the subscribers that a file of --intent names, and a line that says so."""
     found = [known(database, Subscriber(name, list(names))) for name, names in listed.items()]
     return found, f"the subscribers are those of {path}"
 
 
 def from_variable_where_there(database: Database, text: str) -> list[Subscriber]:
-    """The same, without the publications that are not there."""
+    """Returns the same, without publications that do not exist."""
     return where_there(database, named_in(text))
 
 
 def where_there(database: Database, listed: Mapping[str, Sequence[str]]) -> list[Subscriber]:
-    """Subscribers, without the publications that are not there."""
+    """Returns subscribers without publications that do not exist."""
     return [Subscriber(name, [it for it in names if it in database.publications]) for name, names in listed.items()]
 
 
 def named_in(text: str) -> dict[str, list[str]]:
-    """The words of the variable: name=publication,publication or a publication's name alone."""
+    """Returns the words of the variable: name=publication,publication or just a publication's name."""
     found: dict[str, list[str]] = {}
     for name, publications in WORD.findall(text):
         if name or publications:
@@ -76,7 +76,7 @@ def named_in(text: str) -> dict[str, list[str]]:
 
 
 def known(database: Database, subscriber: Subscriber) -> Subscriber:
-    """The same, if all of its publications are there."""
+    """Returns the same, if all of its publications exist."""
     for name in subscriber.publications:
         if name not in database.publications:
             raise Fault(NOT_READ, f"subscription {subscriber.name} takes publication {name}, which does not exist")
@@ -84,8 +84,8 @@ def known(database: Database, subscriber: Subscriber) -> Subscriber:
 
 
 def from_walsenders(database: Database) -> list[Subscriber]:
-    """What the connected subscribers asked for, if the role may see it for all of them: those that it cannot see may
-    get the same rows."""
+    """Returns what the connected subscribers requested, if the role may see it for all of them: those that it cannot
+    see may get the same rows."""
     found: list[Subscriber] = []
     commands = {str(it["slot"]): it["query"] for it in database.walsenders if not COPYING.fullmatch(str(it["slot"]))}
     if all(query is None for query in commands.values()):
@@ -103,13 +103,14 @@ def from_walsenders(database: Database) -> list[Subscriber]:
 
 
 def with_missing(database: Database, name: str, publications: Sequence[str]) -> Subscriber:
-    """A subscriber, where some of its publications may not be there."""
+    """Returns a subscriber, some of whose publications may not exist."""
     missing = [it for it in publications if it not in database.publications]
     return Subscriber(name, [it for it in publications if it not in missing], missing=missing)
 
 
 def from_databases(database: Database, connections: Sequence[str]) -> list[Subscriber]:
-    """The subscriptions of subscribers' databases that have a slot here, or whose publications are all here."""
+    """Returns the subscriptions of subscribers' databases that have a slot here, or whose publications all exist
+    here."""
     found = []
     for connection in connections:
         for row in subscriptions_at(connection):
@@ -127,7 +128,7 @@ def from_databases(database: Database, connections: Sequence[str]) -> list[Subsc
 
 
 def remarks(database: Database, row: dict[str, Any]) -> Iterator[str]:
-    """What is amiss with a subscription."""
+    """Yields problems of a subscription."""
     if not row["enabled"]:
         yield f"subscription {row['name']} is disabled"
     if row["slot"] is None:
@@ -140,7 +141,7 @@ def remarks(database: Database, row: dict[str, Any]) -> Iterator[str]:
 
 
 def subscriptions_at(connection: str) -> list[dict[str, Any]]:
-    """The subscriptions of a database."""
+    """Returns the subscriptions of a database."""
     if "=" not in connection and not connection.startswith(("postgres://", "postgresql://")):
         raise Fault(
             BAD_COMMAND, f"--subscriber needs a connection string such as 'host=london dbname=shop', not {connection}")
@@ -150,7 +151,7 @@ def subscriptions_at(connection: str) -> list[dict[str, Any]]:
 
 
 def with_unlike_names(found: list[Subscriber]) -> list[Subscriber]:
-    """Subscriptions of two databases may have one name."""
+    """Makes names unique, since subscriptions of two databases may have the same name."""
     counts: dict[str, int] = {}
     for subscriber in found:
         counts[subscriber.name] = counts.get(subscriber.name, 0) + 1

@@ -1,6 +1,6 @@
-"""From the server's tree of an expression to what is on a side of a comparison, and to formulas.
+"""Converts the server's tree of an expression to operands of comparisons, and to formulas.
 
-Each kind of node has one function here, which says where it is NULL.
+Each kind of node has one function here, which says when it is NULL.
 """
 
 from dataclasses import replace
@@ -22,7 +22,7 @@ from pgshard_tools.judging.points import finite
 from pgshard_tools.judging.server_types import INTEGERS, LABELS, comparable
 
 COMPARISONS = {"=", "<>", "<", "<=", ">", ">="}
-# Orders by which texts are told apart as their bytes are.
+# Collations that distinguish texts exactly as their bytes do.
 COLLATIONS = {"C", "POSIX", "default", "ucs_basic"}
 # Node trees without columns that the server evaluates once.
 CONSTANTS = {"CONST", "FUNCEXPR", "OPEXPR", "RELABELTYPE", "COLLATEEXPR"}
@@ -37,25 +37,25 @@ class Reader:
         self.relations = list(relations)
         self.trees: dict[int, Tree] = {}
         self.failing = Failing()
-        # The expressions of generated columns that are read, and what is enforced of these.
+        # The expressions of generated columns that are read, and what is enforced for these.
         self.kept: list[Any] = []
         self.held: dict[str, Formula] = {}
-        # Where a subject is NULL, if that is not exactly where a column is.
+        # When a subject is NULL, if that is not exactly when a column is.
         self.nulls: dict[Subject, Formula] = {}
 
     def formula(self, text: str) -> Formula:
-        """The formula of a filter or a constraint, or Unread."""
+        """Returns the formula of a filter or a constraint, or raises Unread."""
         return self.read(text)[0]
 
     def read(self, text: str) -> tuple[Formula, list[Failure]]:
-        """The formula, and where the server fails at it; or Unread."""
+        """Returns the formula, and when the server fails for it; or raises Unread."""
         try:
             raw = parser.parsed(text)
             self.trees = self.meanings.of(raw, text, self.relations, self.columns)
             self.failing = Failing()
             return self.condition(raw), self.failing.found
         except FAILURES as fault:
-            # A tree that was not foreseen is no reason to say nothing of the other tables.
+            # An unforeseen tree does not affect the other tables.
             raise Unread(text, f"a form that judge does not know ({type(fault).__name__})") from fault
 
     def subject(self, name: str) -> Subject:
@@ -64,7 +64,7 @@ class Reader:
             raise Unread(name, "it is no column that rows have")
         type = f"enum {column['type']}" if column["kind"] == "e" else column["type"]
         if column["kind"] not in "be" or not column["is_deterministic"]:
-            # Of a domain, or of texts that are equal though their bytes are not, only NULL is read.
+            # For a domain, or for texts that can be equal although their bytes differ, only tests for NULL are read.
             type = f"type of column {name}"
         return Subject(
             sql=column["quoted"], type=type, columns=(name,), modifier=column["modifier"], is_column=True,
@@ -72,11 +72,11 @@ class Reader:
             labels=tuple(column["labels"] or ()) if type.startswith("enum ") else ())
 
     def order_of(self, collation: str | None) -> str | None:
-        """A collation by name; that of the database may be the order of bytes."""
+        """Returns a collation by name. The database's own may be byte order."""
         return "C" if collation == "default" and self.meanings.is_bytewise else collation
 
     def condition(self, node: Any) -> Formula:
-        """A node as a formula."""
+        """Returns a node as a formula."""
         return self.as_truth(node, self.operand(node))
 
     def as_truth(self, node: Any, operand: Operand) -> Formula:
@@ -103,7 +103,7 @@ class Reader:
         return found
 
     def is_constant(self, tree: Tree) -> bool:
-        """Whether it has no column, and calls only what is immutable."""
+        """Returns whether it contains no column, and calls only immutable functions."""
         if tree.kind not in CONSTANTS:
             return False
         call = self.called(tree) if tree.kind in ("FUNCEXPR", "OPEXPR") else None
@@ -113,7 +113,7 @@ class Reader:
             tree.kind == "CONST" or bool(parts))
 
     def constant(self, node: Any, tree: Tree) -> Operand:
-        """An expression without columns: the server evaluates it, and fails at each row where it fails there."""
+        """An expression without columns. The server evaluates it; if that fails, it fails for each row."""
         call = self.call(node)
         text = self.meanings.constant(node, faithful(node))
         if call.result.startswith("_"):
@@ -124,7 +124,7 @@ class Reader:
         return self.meanings.function(tree) if tree.kind == "FUNCEXPR" else self.meanings.operator(tree)
 
     def call(self, node: Any) -> Call:
-        """The function or the operator that the server calls for a node."""
+        """Returns the function or the operator that the server calls for a node."""
         tree = self.trees.get(id(node))
         found = self.called(tree) if tree is not None and {"funcid", "opno"} & tree.fields.keys() else None
         if found is None or tree is None or not found.is_own:
@@ -134,7 +134,7 @@ class Reader:
         return found
 
     def comparison(self, node: Any, name: str, one: Operand, other: Operand) -> Formula:
-        """A comparison, if the operator that is called is that of two types whose order judge knows."""
+        """Returns a comparison, if the operator belongs to two types whose order judge knows."""
         call = self.call(node)
         if call.name != name or not comparable(*call.arguments):
             raise Unread(written(node), f"the operator {call.signature}")
@@ -144,7 +144,8 @@ class Reader:
         return comparing.comparison(written(node), name, one, other, self.null_of)
 
     def null_of(self, subject: Subject) -> Formula:
-        """`subject IS NULL`. What is NULL exactly where one of its columns is, is asked of these columns."""
+        """Returns `subject IS NULL`. If that is so exactly if one of its columns is NULL, the formula tests these
+        columns."""
         if subject.is_column:
             return IsNull(subject)
         if subject.is_never_null:
@@ -160,13 +161,13 @@ class Reader:
         return of_type(self.subject(node.fields[0].sval)) if computed is None else computed
 
     def computed(self, name: str) -> Operand | None:
-        """A stored generated column is its expression; None if that is not read."""
+        """Returns the expression of a stored generated column, or None if it is not read."""
         column = self.columns.get(name)
         if column is None or not column["generation"] or column["kind"] != "b" or not column["is_deterministic"]:
             return None
         before, self.failing = self.failing, Failing()
         try:
-            # A row at which the expression fails is not in the table.
+            # A row for which the expression fails is not in the table.
             operand = self.generated(column["generation"])
         except (Unread, *FAILURES):
             return None
@@ -179,7 +180,7 @@ class Reader:
         return operand
 
     def generated(self, text: str) -> Operand | None:
-        """The expression of a generated column, if what the server makes of it for the column changes no value."""
+        """Returns the expression of a generated column, if its conversion to the column's type changes no value."""
         top = self.meanings.top(self.relations, text)
         if top is None or not self.keeps_value(top):
             return None
@@ -189,7 +190,7 @@ class Reader:
         return self.operand(raw)
 
     def keeps_value(self, tree: Tree) -> bool:
-        """Whether a conversion that nobody wrote changes no value."""
+        """Returns whether an implicit conversion changes no value."""
         if form_of_cast(tree) != IMPLICIT_CAST or tree.kind == "RELABELTYPE":
             return True
         call = self.meanings.function(tree) if tree.kind == "FUNCEXPR" else None
@@ -231,7 +232,7 @@ class Reader:
         return any(column["type"] == type and column["kind"] == "e" for column in self.columns.values())
 
     def array(self, node: Any, type: str) -> Operand:
-        """A list, as ARRAY[..] or as text."""
+        """Reads a list, as ARRAY[..] or as text."""
         inner = node.arg
         if kind_of(inner) == "A_ArrayExpr":
             return self.read_A_ArrayExpr(inner)
@@ -247,7 +248,7 @@ class Reader:
         return Array(tuple(as_value(self.operand(part)) for part in node.elements or ()))
 
     def cast(self, node: Any, form: str, type: str, modifier: bool, operand: Operand) -> Operand:
-        """A conversion, which is NULL exactly where its operand is."""
+        """Reads a conversion, which is NULL exactly if its operand is."""
         if isinstance(operand, Choice):
             return Choice(operand.condition, self.cast(node, form, type, modifier, operand.one),
                           self.cast(node, form, type, modifier, operand.other))
@@ -268,7 +269,7 @@ class Reader:
             operand = operand.ref
         if isinstance(operand, Extreme) and all(
                 isinstance(it, (Ref, Whole, Value)) and type in SAME_VALUE.get(it.type, ()) for it in operand.parts):
-            # These conversions keep the order.
+            # These conversions preserve the order.
             parts = tuple(self.cast(node, form, type, modifier, it) for it in operand.parts)
             return Extreme(operand.is_greatest, parts)
         if isinstance(operand, Whole) and type in SAME_VALUE[operand.type]:
@@ -281,7 +282,7 @@ class Reader:
         return self.of_function(self.call(node), form, [operand])
 
     def shorter(self, form: str, type: str, operand: Operand) -> Operand | None:
-        """A whole number as one of a type with less room, which fails where it does not fit."""
+        """Reads the conversion of a whole number to a smaller type, which fails if it does not fit."""
         whole = arithmetic.whole_of(operand)
         if whole is None or type not in INTEGERS or type in SAME_VALUE[whole.type]:
             return None
@@ -290,13 +291,13 @@ class Reader:
         return found
 
     def want_known_cast(self, node: Any, form: str) -> None:
-        """The conversion is one of the server's own, and always the same."""
+        """Makes sure that the conversion is the server's own, and immutable."""
         tree = self.trees[id(node)]
         if tree.kind == "FUNCEXPR" and not self.call(node).is_immutable:
             raise Unread(form, "a cast that is not the server's own, or goes by its settings")
 
     def cast_subject(self, node: Any, form: str, type: str, operand: Ref) -> Operand:
-        """A column as another type, where each value stays, or keeps its place in the order."""
+        """Reads a column as another type, if each value is unchanged or keeps its place in the order."""
         if type in SAME_VALUE.get(operand.type, ()):
             return Ref(operand.subject, type)
         if operand.type == "timestamp" and type == "date":
@@ -324,12 +325,12 @@ class Reader:
                 self.comparison(node, "=", one, other)
                 return Truth(comparing.distinct(form, one, other, self.null_of))
             case "AEXPR_NULLIF":
-                # nullif(a, b) is NULL where a = b is TRUE, and otherwise a.
+                # nullif(a, b) is NULL if a = b is TRUE, and otherwise a.
                 return Choice(self.comparison(node, "=", one, other), Value("text", None), one)
         raise Unread(form)
 
     def of_prefix(self, node: Any, name: str, operand: Operand) -> Operand:
-        """An operator with one side, which is NULL exactly where that is."""
+        """Reads a prefix operator, which is NULL exactly if its operand is."""
         call, form = self.call(node), faithful(node)
         if call.name == name and call.arguments[0] in INTEGERS:
             if name == "+":
@@ -340,7 +341,7 @@ class Reader:
         return functions.operator(call, name, form, (operand,), self.meanings, self.failing)
 
     def of_operator(self, node: Any, name: str, one: Operand, other: Operand, sides: Sequence[Any]) -> Operand:
-        """An operator between operands; the sides are what they are written as, nodes or texts."""
+        """Reads an operator between operands. The sides are given as written, as nodes or texts."""
         call = self.call(node)
         is_order_of_labels = name not in ("=", "<>") and call.arguments[0] in LABELS
         if name in COMPARISONS and comparable(*call.arguments) and not is_order_of_labels:
@@ -362,8 +363,8 @@ class Reader:
         return Truth(truth if positive == name else negation(truth))
 
     def of_list(self, node: Any, name: str, form: str, is_any: bool) -> Formula:
-        """`x op ANY (list)` is OR of the comparisons, `x op ALL (list)` AND of them; that is also so of NULLs in the
-        list, and of the empty list, whose answer does not depend on x."""
+        """`x op ANY (list)` is OR of the comparisons, and `x op ALL (list)` is AND of them. This also holds for NULLs
+        in the list, and for the empty list, whose result does not depend on x."""
         one, listed = self.operand(node.lexpr), self.operand(node.rexpr)
         if isinstance(listed, Ref):
             call = self.call(node)
@@ -384,7 +385,7 @@ class Reader:
         return either(*parts) if is_any else both(*parts)
 
     def of_rows(self, node: Any, name: str) -> Formula:
-        """The order of two rows of columns, by the operators of their pairs."""
+        """Reads the order of two rows of columns, by the operators of their pairs."""
         tree = self.trees[id(node)]
         numbers = tree.fields.get("opnos")
         calls = [self.meanings.operators.get(int(str(it))) for it in numbers[1:]] if isinstance(numbers, list) else []
@@ -396,7 +397,8 @@ class Reader:
         return comparing.rows(written(node), name, read, self.null_of)
 
     def read_BoolExpr(self, node: Any) -> Operand:
-        """AND, OR and NOT. The server evaluates the parts from the left, and stops where the rest does not count."""
+        """Reads AND, OR and NOT. The server evaluates the parts from the left, and stops when the rest does not
+        matter."""
         if node.boolop.name == "NOT_EXPR":
             return Truth(negation(self.condition(node.args[0])))
         is_and = node.boolop.name == "AND_EXPR"
@@ -408,27 +410,27 @@ class Reader:
         return Truth(both(*parts) if is_and else either(*parts))
 
     def under(self, condition: Formula, read: Callable[[], Operand]) -> Operand:
-        """What is evaluated only where a condition holds."""
+        """Reads what is evaluated only if a condition holds."""
         self.failing.path.append(condition)
         found = read()
         self.failing.path.pop()
         return found
 
     def read_NullTest(self, node: Any) -> Operand:
-        """IS NULL and IS NOT NULL, which are never NULL."""
+        """Reads IS NULL and IS NOT NULL, which are never NULL."""
         if node.argisrow:
             raise Unread(written(node))
         is_null = comparing.is_null(self.operand(node.arg), self.null_of)
         return Truth(is_null if node.nulltesttype.name == "IS_NULL" else negation(is_null))
 
     def read_BooleanTest(self, node: Any) -> Operand:
-        """IS TRUE and the like, which are never NULL."""
+        """Reads IS TRUE and the like, which are never NULL."""
         test = node.booltesttype.name
         found = tested(test.split("_")[-1], self.condition(node.arg))
         return Truth(negation(found) if "NOT" in test else found)
 
     def read_CoalesceExpr(self, node: Any) -> Operand:
-        """coalesce(a, b) is a where a is not NULL, and otherwise b."""
+        """Reads coalesce(a, b): a if a is not NULL, and otherwise b."""
         return self.coalesced(list(node.args))
 
     def coalesced(self, nodes: list[Any]) -> Operand:
@@ -440,14 +442,14 @@ class Reader:
         return Choice(negation(is_null), one, rest)
 
     def read_MinMaxExpr(self, node: Any) -> Operand:
-        """GREATEST and LEAST, which are NULL only where all of their operands are."""
+        """Reads GREATEST and LEAST, which are NULL only if all of their operands are."""
         parts = tuple(as_value(self.operand(part)) for part in node.args)
         if not all(is_sorted(it) for it in parts):
             raise Unread(written(node), "the greatest or the least of what has no order, or is a condition")
         return Extreme(node.op.name == "IS_GREATEST", parts)
 
     def read_CaseExpr(self, node: Any) -> Operand:
-        """CASE has the value of the first branch whose condition is TRUE, or of ELSE, which is NULL where none is."""
+        """Reads CASE: the value of the first branch whose condition is TRUE, or of ELSE, which defaults to NULL."""
         compared = self.operand(node.arg) if node.arg is not None else None
         return self.branches(node, compared, list(node.args))
 
@@ -465,7 +467,7 @@ class Reader:
         return Choice(condition, one, other)
 
     def read_FuncCall(self, node: Any) -> Operand:
-        """A function of the server, by what is called, not by its name."""
+        """Reads a function of the server, identified by what is called, not by its name."""
         call = self.call(node)
         arguments = [self.operand(part) for part in node.args or ()]
         is_whole = all(it in INTEGERS for it in call.arguments)
@@ -484,7 +486,7 @@ class Reader:
         return applied.Context(self.meanings, self.failing, self.null_of, self.nulls)
 
     def of_function(self, call: Call, form: str, arguments: Sequence[Operand]) -> Operand:
-        """A function by what is known about it."""
+        """Reads a function, using what is known about it."""
         found = applied.function(call, form, arguments, self.context())
         if found is None:
             found = functions.call(call, form, arguments, self.meanings, self.failing)

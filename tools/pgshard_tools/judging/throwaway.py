@@ -1,4 +1,4 @@
-"""A PostgreSQL 15 server in a temporary folder. It listens to a socket there alone, and nothing is left of it."""
+"""Runs a PostgreSQL 15 server in a temporary folder. It listens only on a socket there, and nothing of it remains."""
 
 import contextlib
 import os
@@ -14,23 +14,23 @@ from typing import Any
 
 from pgshard_tools.judging.faults import NO_ANSWER, Fault
 
-# Where packages put the server's programs, which need not be on the path.
+# Where packages install the server's programs, which need not be on the path.
 FOLDERS = (
     "/usr/lib/postgresql/15/bin", "/usr/pgsql-15/bin", "/usr/local/pgsql/bin", "/opt/homebrew/opt/postgresql@15/bin",
     "/usr/local/opt/postgresql@15/bin")
 ROLE, PORT = "postgres", "5432"
-# No worker of a subscription may be started, and nothing has to outlive a crash.
+# No subscription worker may be started, and nothing has to survive a crash.
 SETTINGS = (
     "listen_addresses=", "max_logical_replication_workers=0", "wal_level=logical", "fsync=off", "autovacuum=off",
     "shared_buffers=16MB", "logging_collector=off")
-# The server cannot be root. Any other user will do.
+# The server cannot run as root. Any other user will do.
 USERS = ("postgres", "nobody")
 SECONDS = 60.0
 ENDINGS = (signal.SIGINT, signal.SIGTERM, signal.SIGHUP)
 
 
 class Ended(BaseException):
-    """A signal asked the program to end."""
+    """A signal requested the program to end."""
 
     def __init__(self, number: int) -> None:
         super().__init__(number)
@@ -38,7 +38,7 @@ class Ended(BaseException):
 
 
 def programs() -> str | None:
-    """The folder of the server's programs, if version 15 is installed."""
+    """Returns the folder of the server's programs, if version 15 is installed."""
     on_path = shutil.which("initdb")
     for folder in [*FOLDERS, *([os.path.dirname(os.path.realpath(on_path))] if on_path else [])]:
         if os.access(os.path.join(folder, "initdb"), os.X_OK) and os.access(os.path.join(folder, "postgres"), os.X_OK):
@@ -51,8 +51,8 @@ def programs() -> str | None:
 
 @contextlib.contextmanager
 def server(folder_of_programs: str) -> Iterator[list[str]]:
-    """The words by which psql connects to a server that runs inside the block. A signal that ends the program does so
-    once the server is gone."""
+    """Yields the arguments with which psql connects to a server that runs inside the block. A signal that ends the
+    program does so after the server has been removed."""
     with endings_told(), contextlib.ExitStack() as stack:
         folder = made_folder()
         stack.callback(removed, folder)
@@ -68,7 +68,8 @@ def server(folder_of_programs: str) -> Iterator[list[str]]:
 
 
 def made_folder() -> str:
-    """A new folder of the server's user. A socket's path has 107 bytes at most, and another user has to get there."""
+    """Creates a folder for the server's user. The path of a socket has at most 107 bytes, and another user has to have
+    access to it."""
     parent = tempfile.gettempdir()
     if os.geteuid() == 0 or len(os.fsencode(parent)) > 60:
         parent = "/tmp"
@@ -80,7 +81,7 @@ def made_folder() -> str:
 
 
 def server_user() -> pwd.struct_passwd:
-    """The user by whom root starts the server."""
+    """Returns the user under which root starts the server."""
     for name in USERS:
         with contextlib.suppress(KeyError):
             return pwd.getpwnam(name)
@@ -88,7 +89,8 @@ def server_user() -> pwd.struct_passwd:
 
 
 def started(words: Sequence[str], folder: str, output: Any) -> "subprocess.Popen[bytes]":
-    """A program of the server, in a group of processes of its own, so that a terminal's interrupt does not reach it."""
+    """Starts a program of the server in a process group of its own, so that a terminal's interrupt does not reach
+    it."""
     given: dict[str, Any] = {}
     if os.geteuid() == 0:
         user = server_user()
@@ -100,7 +102,7 @@ def started(words: Sequence[str], folder: str, output: Any) -> "subprocess.Popen
 
 
 def run_initdb(folder_of_programs: str, folder: str, data: str) -> None:
-    """Makes the server's files. Its locale is C, so that a file has the same answers wherever it is judged."""
+    """Creates the server's files. Its locale is C, so that a file has the same answers wherever it is judged."""
     process = started(
         [os.path.join(folder_of_programs, "initdb"), "-D", data, "-U", ROLE, "-A", "trust", "-E", "UTF8", "--locale=C",
          "--no-sync"], folder, subprocess.PIPE)
@@ -113,7 +115,7 @@ def run_initdb(folder_of_programs: str, folder: str, data: str) -> None:
 
 
 def wait_until_ready(process: "subprocess.Popen[bytes]", data: str, log: str) -> None:
-    """The server says in a file that it is ready."""
+    """Waits until the server has written to a file that it is ready."""
     until = time.monotonic() + SECONDS
     while time.monotonic() < until and process.poll() is None:
         with contextlib.suppress(FileNotFoundError), open(os.path.join(data, "postmaster.pid"), "rb") as file:
@@ -125,7 +127,7 @@ def wait_until_ready(process: "subprocess.Popen[bytes]", data: str, log: str) ->
 
 
 def stopped(process: "subprocess.Popen[bytes]") -> None:
-    """Ends a program of the server, and those that it started."""
+    """Ends a program of the server, and those that it has started."""
     with endings_held():
         if process.poll() is None:
             process.send_signal(signal.SIGQUIT)
@@ -137,7 +139,7 @@ def stopped(process: "subprocess.Popen[bytes]") -> None:
 
 
 def removed(folder: str) -> None:
-    """Removes the folder, also where a process that is ending still wrote to it."""
+    """Removes the folder, even if a process that is ending still writes to it."""
     with endings_held():
         for _ in range(50):
             shutil.rmtree(folder, ignore_errors=True)
@@ -148,7 +150,7 @@ def removed(folder: str) -> None:
 
 @contextlib.contextmanager
 def endings_told() -> Iterator[None]:
-    """A signal that asks the program to end is an exception in the block, and ends the program after it."""
+    """Turns a signal that asks the program to end into an exception in the block. The program ends after the block."""
     before = {it: signal.signal(it, ended) for it in ENDINGS if signal.getsignal(it) is not signal.SIG_IGN}
     try:
         yield
@@ -161,13 +163,13 @@ def endings_told() -> Iterator[None]:
 
 
 def ended(number: int, frame: FrameType | None) -> None:
-    """The handler of these signals."""
+    """Handles these signals."""
     raise Ended(number)
 
 
 @contextlib.contextmanager
 def endings_held() -> Iterator[None]:
-    """Such a signal waits until the block is done."""
+    """Delays such a signal until the block is done."""
     before = signal.pthread_sigmask(signal.SIG_BLOCK, ENDINGS)
     try:
         yield

@@ -1,4 +1,4 @@
-"""How long one table may take: in processor time, so that a busy machine does not change an answer."""
+"""Limits the time for a table. It is processor time, so that a busy machine does not change an answer."""
 
 import contextlib
 import os
@@ -8,11 +8,11 @@ import time
 from collections.abc import Iterator
 from types import FrameType
 
-# After the first signal there are others, until the time is over, or should one come where an exception is lost.
+# The first signal is repeated until the time limit is left, in case an exception is lost.
 AGAIN = 0.25
-# By the clock a table may take this many times as long, as where the server does not answer.
+# By the clock, a table may take this many times as long, for example if the server does not answer.
 PATIENCE = 10
-# The processes that are waited for now, with the time at which each began.
+# The processes that are being waited for, with the time at which each began.
 RUNNING: dict[int, float] = {}
 
 
@@ -22,11 +22,11 @@ class TimeIsUp(Exception):
 
 @contextlib.contextmanager
 def time_limit(seconds: float) -> Iterator[None]:
-    """Raises TimeIsUp inside the block when the time is over, wherever the block is then."""
+    """Raises TimeIsUp inside the block when the time is over, wherever execution is then."""
     end, end_by_clock = processor_time() + seconds, time.monotonic() + PATIENCE * seconds
 
     def ring(number: int, frame: FrameType | None) -> None:
-        """The handler of the signal."""
+        """Handles the signal."""
         if processor_time() >= end or time.monotonic() >= end_by_clock:
             raise TimeIsUp
 
@@ -41,7 +41,7 @@ def time_limit(seconds: float) -> Iterator[None]:
 
 @contextlib.contextmanager
 def counted(process: int) -> Iterator[None]:
-    """The processor time of a process that the block waits for counts, too."""
+    """Includes the processor time of a process that the block waits for."""
     RUNNING[process] = time.monotonic()
     try:
         yield
@@ -50,19 +50,19 @@ def counted(process: int) -> Iterator[None]:
 
 
 def processor_time() -> float:
-    """What this process has used, in seconds, with those that it has waited for or waits for now."""
+    """Returns what this process has used, in seconds, with the processes that it has waited for or is waiting for."""
     ended = resource.getrusage(resource.RUSAGE_CHILDREN)
     running = sum(time_of(process, begun) for process, begun in list(RUNNING.items()))
     return time.process_time() + ended.ru_utime + ended.ru_stime + running
 
 
 def time_of(process: int, begun: float) -> float:
-    """What a process has used that runs: as Linux says it, and elsewhere as long as it has run."""
+    """Returns what a running process has used: as Linux reports it, and elsewhere the time since it began."""
     if not os.path.exists("/proc/self/stat"):
         return time.monotonic() - begun
     try:
         with open(f"/proc/{process}/stat", encoding="ascii", errors="replace") as file:
-            # The name of the program, which comes before the fields, ends with the last parenthesis.
+            # The fields before these end with the program's name, which ends with the last parenthesis.
             fields = file.read().rpartition(")")[2].split()
     except OSError:
         # It has ended, and counts among those that were waited for.

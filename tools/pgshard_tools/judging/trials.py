@@ -1,5 +1,5 @@
-"""The catalogs of one table that are given to pgshard, one after the other: its filters, with more and more of what
-holds of its rows."""
+"""The catalogs of one table that are given to pgshard, one after the other: its filters, together with more and more of
+what holds for its rows."""
 
 from collections.abc import Callable, Iterator, Sequence
 from dataclasses import dataclass, field
@@ -20,16 +20,16 @@ from pgshard_tools.judging.terms import Reader
 
 # Sorts texts by a collation of the server.
 Sort = Callable[[str, Sequence[str]], list[str]]
-# A filter or a constraint as a tree, None for a filter that is not there.
+# A filter or a constraint as a tree, or None if there is no filter.
 Formula = Any
 
-# Of more partitions the bounds are not read as one constraint. The server is asked of them.
+# If there are more partitions, their bounds are not read as one constraint. The server is asked about them.
 MOST_BOUNDS = 64
 
 
 @dataclass
 class UnreadConstraint:
-    """A constraint that is not read. The server is asked of it, if it has nothing but the server's own functions."""
+    """A constraint that is not read. The server is asked about it, if it contains only the server's own functions."""
 
     text: str
     form: str
@@ -46,11 +46,11 @@ class Read:
     unread: dict[str, UnreadConstraint]
     not_null: set[str]
     named: dict[str, list[str]]
-    # Where the server fails at a filter.
+    # When the server fails for a filter.
     failures: dict[str, list[Failure]] = field(default_factory=dict)
-    # Where subjects are NULL, if that is not exactly where a column is.
+    # When subjects are NULL, if that is not exactly when a column is.
     nulls: dict[Subject, Formula] = field(default_factory=dict)
-    # What functions of a column are at its constants, by names.
+    # The values of functions of a column for its constants, by name.
     samples: dict[str, Formula] = field(default_factory=dict)
 
 
@@ -74,7 +74,7 @@ class NotRead(Exception):
 
 
 def read_of(shares: Shares, named: dict[str, list[str]], meanings: Meanings) -> Read:
-    """All that is asked of a table's rows, as formulas."""
+    """Returns everything that is tested of a table's rows, as formulas."""
     reader = Reader(columns_of(shares), meanings, [shares.table["oid"], *shares.table["ancestors"]])
     taken = {name for names in shares.takers.values() for name in names}
     filters: dict[str, Formula] = {}
@@ -97,7 +97,8 @@ def read_of(shares: Shares, named: dict[str, list[str]], meanings: Meanings) -> 
 
 
 def columns_of(shares: Shares) -> list[Column]:
-    """The columns of a table. A generated one whose expression is another one in a partition has none that is known."""
+    """Returns the columns of a table. A generated column whose expression differs in a partition has no known
+    expression."""
     found = []
     for column in shares.table["columns"]:
         expressions = {it["generation"] for leaf in shares.leaves for it in leaf["columns"]
@@ -107,14 +108,15 @@ def columns_of(shares: Shares) -> list[Column]:
 
 
 def bounds_formula(shares: Shares, meanings: Meanings) -> Formula:
-    """That a row may be in one of several partitions. A CHECK of a partition that is not read is left to the server."""
+    """Returns the condition that a row may be in one of several partitions. A CHECK of a partition that is not read is
+    left to the server."""
     if len(shares.leaves) > MOST_BOUNDS:
         raise Unread(f"over {MOST_BOUNDS} partitions")
     return formulas.either(*(leaf_formula(shares, leaf, meanings) for leaf in shares.leaves))
 
 
 def leaf_formula(shares: Shares, leaf: Table, meanings: Meanings) -> Formula:
-    """The same of one partition. Its columns are those of the table, by their names."""
+    """Returns the same for one partition. Its columns are those of the table, by name."""
     reader = Reader(columns_of(shares), meanings, [leaf["oid"], shares.table["oid"]])
     parts = [reader.formula(bounds_of(leaf))]
     parts += [reader.formula(f"({it} IS NOT NULL)") for it in leaf_columns(shares, leaf)]
@@ -127,7 +129,7 @@ def leaf_formula(shares: Shares, leaf: Table, meanings: Meanings) -> Formula:
 
 
 def unread_of(shares: Shares, named: dict[str, list[str]]) -> Read:
-    """The same where nothing is read, so that the server alone is asked of rows."""
+    """Returns the result if nothing is read, so that only the server is asked about rows."""
     taken = {name for names in shares.takers.values() for name in names}
     unread = {name: UnreadConstraint(text, text, is_of_server(text, [shares.table]))
               for name, text in constraint_texts(shares)}
@@ -136,7 +138,7 @@ def unread_of(shares: Shares, named: dict[str, list[str]]) -> Read:
 
 
 def filter_of(reader: Reader, publication: str, shares: Shares, text: str) -> tuple[Formula, list[Failure]]:
-    """A filter as a formula, and where the server fails at it."""
+    """Returns a filter as a formula, and when the server fails for it."""
     try:
         return reader.read(text)
     except Unread as fault:
@@ -147,7 +149,7 @@ def filter_of(reader: Reader, publication: str, shares: Shares, text: str) -> tu
 
 
 def trials_of(read: Read) -> Iterator[tuple[bool, dict[str, Formula]]]:
-    """With facts or without, and with which constraints. The last one is the one that rows are taken from."""
+    """Yields with or without facts, and with which constraints, to try. Rows are taken from the last trial."""
     relevant: dict[str, Formula] = {}
     names = set().union(*read.named.values(), *(columns_in(it) for it in read.filters.values() if it is not None))
     pending = dict(read.constraints)
@@ -170,7 +172,7 @@ def trials_of(read: Read) -> Iterator[tuple[bool, dict[str, Formula]]]:
 
 
 def columns_in(formula: Formula) -> set[str]:
-    """The columns that a formula names."""
+    """Returns the columns that a formula names."""
     leaves = (leaf for leaf in formulas.leaves_of(formula) if not isinstance(leaf, formulas.Within))
     return {name for leaf in leaves for name in leaf.subject.columns}
 
@@ -178,10 +180,10 @@ def columns_in(formula: Formula) -> set[str]:
 def trial_of(
         db: Database, read: Read, takers: Takers, purpose: str | None, with_facts: bool,
         constraints: dict[str, Formula], sort: Sort) -> Trial:
-    """The catalog of one try."""
+    """Returns the catalog of a trial."""
     names = list(read.filters)
     listed = [read.filters[it] for it in names]
-    # A constraint refuses a row exactly where it is FALSE.
+    # A constraint refuses a row exactly if it is FALSE.
     held = [formulas.negation(formulas.is_false(it)) for it in constraints.values()]
     known = laws.laws_of([*listed, *held], read.nulls) if with_facts else []
     found = rewritten([*listed, *held, *known], read.not_null, sort)

@@ -1,4 +1,4 @@
-"""Values that a column may hold, near those that filters and constraints name, as expressions of SQL."""
+"""Values that a column may contain, near those that filters and constraints name, as SQL expressions."""
 
 import json
 import random
@@ -17,7 +17,7 @@ CLOCK = re.compile(r"\d\d:\d\d(:\d\d(\.\d+)?)?\Z")
 UUID = re.compile(r"[0-9a-f]{8}(-[0-9a-f]{4}){3}-[0-9a-f]{12}\Z")
 MANY = 24
 
-# Edges of types that have no neighbours here.
+# Extreme values of types for which neighbours are not computed here.
 EDGES = {
     "bool": ["true", "false"],
     "interval": ["'0'", "'1 day'", "'-1 day'", "'1 month'", "'30 days'", "'24:00:00'", "'1 microsecond'", "'-1 year'"],
@@ -44,7 +44,7 @@ STEPS = {"date": "1", "timestamp": "interval '1 microsecond'", "timestamptz": "i
 
 
 def constants_of(texts: Iterable[str]) -> list[str]:
-    """The constants in some expressions, as texts."""
+    """Returns the constants in some expressions, as texts."""
     found: dict[str, bool] = {}
     for text in texts:
         try:
@@ -69,7 +69,7 @@ def gather(node: object, found: dict[str, bool]) -> None:
 
 
 def values_of(column: Column, constants: Sequence[str], chance: random.Random) -> list[str]:
-    """Expressions for values of a column, each once. The server may refuse some."""
+    """Returns expressions for values of a column, without duplicates. The server may refuse some."""
     kind = column["type"] if column["kind"] != "d" else domain_type(column)
     if column["labels"]:
         found = [quoted(it) for it in column["labels"]]
@@ -100,13 +100,13 @@ DOMAIN_TYPES = {
 
 
 def domain_type(column: Column) -> str:
-    """The type below a domain, as the server calls it inside."""
+    """Returns the type below a domain, under the server's internal name."""
     base = re.sub(r"\([^)]*\)", "", column["base"] or "").strip()
     return DOMAIN_TYPES.get(base, base)
 
 
 def constant(column: Column, text: str | None) -> str:
-    """What the server writes of a value, as a constant."""
+    """Returns what the server prints for a value, as a constant."""
     if text is None:
         return "NULL"
     if column["type"] == "bool":
@@ -116,7 +116,7 @@ def constant(column: Column, text: str | None) -> str:
 
 
 def numbers(kind: str, constants: Sequence[str], chance: random.Random) -> Iterator[str]:
-    """Numbers that are named, their neighbours and opposites, the ends of the type, and others."""
+    """Yields numbers that are named, their neighbours and opposites, the limits of the type, and others."""
     listed = [Decimal(it) for it in constants if NUMBER.match(it)]
     steps = [Decimal(1)] if kind in INTEGERS else [Decimal(1), Decimal("0.01"), Decimal("0.5")]
     exact = [value + step * sign for value in listed for step in steps for sign in (-1, 0, 1)]
@@ -130,7 +130,7 @@ def numbers(kind: str, constants: Sequence[str], chance: random.Random) -> Itera
 
 
 def plain(value: Decimal) -> str:
-    """A number as SQL has it."""
+    """Returns a number in SQL."""
     try:
         return f"{value:f}"
     except InvalidOperation:
@@ -138,7 +138,7 @@ def plain(value: Decimal) -> str:
 
 
 def moments(kind: str, constants: Sequence[str]) -> Iterator[str]:
-    """Days and times that are named, with their neighbours."""
+    """Yields days and times that are named, with their neighbours."""
     for text in constants:
         if DAY.match(text) if kind != "time" else CLOCK.match(text):
             for value in (f"{quoted(text)}::{kind}", f"{quoted(text)}::{kind} + {STEPS[kind]}",
@@ -150,7 +150,7 @@ def moments(kind: str, constants: Sequence[str]) -> Iterator[str]:
 
 
 def uuids(constants: Sequence[str], chance: random.Random) -> Iterator[str]:
-    """Uuids that are named, with their neighbours, and others."""
+    """Yields uuids that are named, with their neighbours, and others."""
     listed = [int(it.replace("-", ""), 16) for it in constants if UUID.match(it)]
     for value in [*(it + step for it in listed for step in (-1, 0, 1)), *(chance.getrandbits(128) for _ in range(16))]:
         if 0 <= value < 1 << 128:
@@ -158,7 +158,8 @@ def uuids(constants: Sequence[str], chance: random.Random) -> Iterator[str]:
 
 
 def words(constants: Sequence[str], chance: random.Random) -> Iterator[str]:
-    """Texts that are named, longer and shorter ones, in other cases, and such that patterns of them match."""
+    """Yields texts that are named, longer and shorter ones, in other letter cases, and texts that patterns among them
+    match."""
     for text in constants:
         bare = text.replace("%", "").replace("_", "x")
         for value in (text, text + "a", text + " ", "a" + text, text[:-1], text.upper(), text.lower(), bare,
@@ -169,7 +170,7 @@ def words(constants: Sequence[str], chance: random.Random) -> Iterator[str]:
 
 
 def objects(constants: Sequence[str]) -> Iterator[str]:
-    """JSON objects with a key of the constants, and a value of them."""
+    """Yields JSON objects with one of the constants as a key, and another as its value."""
     named = constants[:8]
     for key in named:
         beside: list[object] = [None, 1, True, "", {}, *named]
@@ -179,7 +180,7 @@ def objects(constants: Sequence[str]) -> Iterator[str]:
 
 
 def arrays(constants: Sequence[str]) -> Iterator[str]:
-    """Arrays of one or two of the constants, also with NULL."""
+    """Yields arrays of one or two of the constants, also with NULL."""
     listed = ['"' + it.replace("\\", "\\\\").replace('"', '\\"') + '"' for it in [*constants[:6], "0", "a"]]
     for one in listed:
         yield from (quoted(f"{{{it}}}") for it in (one, f"{one},NULL", f"NULL,{one}", f"{one},{one}"))
@@ -187,7 +188,7 @@ def arrays(constants: Sequence[str]) -> Iterator[str]:
 
 
 def spans(constants: Sequence[str]) -> Iterator[str]:
-    """Ranges between the constants, and without an end."""
+    """Yields ranges between the constants, and unbounded ones."""
     listed = ['"' + it + '"' for it in constants[:6] if '"' not in it]
     for low in listed:
         yield from (quoted(it) for it in (f"[{low},)", f"({low},)", f"(,{low})", f"(,{low}]", f"[{low},{low}]"))

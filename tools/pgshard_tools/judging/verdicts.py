@@ -1,4 +1,4 @@
-"""The verdict of one table: pgshard's own answer of the catalog into which its filters are rewritten."""
+"""The verdict of one table: pgshard's own answer for the catalog into which its filters are rewritten."""
 
 import re
 from dataclasses import dataclass, field, replace
@@ -14,7 +14,7 @@ from pgshard_tools.judging.session import Session
 from pgshard_tools.judging.shares import Shares, Takers
 from pgshard_tools.judging.trials import NotRead, Read, Trial
 
-# Remarks, which an intention is added to.
+# Remarks, to which an intention is added.
 COPIED, PUBLISHED_IN_PART = "copied to all subscribers", "published in part"
 SOUND, NOT_SOUND, REFUSED = "sound", "not sound", "refused"
 NOT_DECIDED, NOT_READ = "not decided", "not read"
@@ -22,7 +22,7 @@ NOT_DECIDED, NOT_READ = "not decided", "not read"
 
 @dataclass
 class Verdict:
-    """What is said about a table."""
+    """The answer for a table."""
 
     table: str
     answer: str
@@ -31,19 +31,19 @@ class Verdict:
     takers: list[str] = field(default_factory=list)
     matters: list[str] = field(default_factory=list)
     remarks: list[str] = field(default_factory=list)
-    # Rows at which a filter fails, so that the server ends the replication, in words. --strict makes them a fault.
+    # Rows for which a filter fails, so that the server ends the replication, in words. --strict makes them a fault.
     failing: list[str] = field(default_factory=list)
-    # Parts of its filters at which the server fails, and which it evaluates at some rows alone.
+    # Parts of its filters that the server evaluates only for some rows, and for which it may fail.
     guarded: list[str] = field(default_factory=list)
-    # What the answer rests on: the certificate, the catalog, and what was printed into it.
+    # What the answer is based on: the certificate, the catalog, and what was printed into it.
     certificate: str | None = None
     catalog: str | None = None
     trial: Trial | None = None
     takers_of_rows: Takers = field(default_factory=dict)
     purpose: str | None = None
-    # Operations that are left out on purpose, where something would be refused without that.
+    # Operations that are left out on purpose, if something would be refused otherwise.
     left_out: list[str] = field(default_factory=list)
-    # The filters and constraints as they were read, and where it is not sound, all regions that show it.
+    # The filters and constraints as they were read, and, if the table is not sound, all regions that show it.
     read: Read | None = None
     faulty: FaultyRegions | None = None
     counts: Counts | None = None
@@ -51,7 +51,8 @@ class Verdict:
 
 
 def judged(db: Database, shares: Shares, purpose: str | None, session: Session) -> Verdict:
-    """The verdict of a table. `purpose` is None, `copied` or `partial`; the session asks the server of values."""
+    """Returns the verdict of a table. `purpose` is None, `copied` or `partial`; the session asks the server about
+    values."""
     name = full_name(shares.table)
     if any(it["is_locked"] for it in [shares.table, *shares.leaves, *(it.table for it in shares.silent)]):
         return Verdict(name, NOT_DECIDED, ["another session holds or awaits an ACCESS EXCLUSIVE lock on it"])
@@ -66,14 +67,13 @@ def judged(db: Database, shares: Shares, purpose: str | None, session: Session) 
     except Undecided as fault:
         return Verdict(name, NOT_DECIDED, [fault.words])
     except FAILURES as fault:
-        # What was not foreseen of one table is no reason to say nothing of the others.
+        # An unforeseen failure for one table does not affect the others.
         return Verdict(name, NOT_DECIDED, [f"judge fails at it ({type(fault).__name__}: {fault})"])
 
 
 def judged_within(db: Database, shares: Shares, purpose: str | None, session: Session) -> Verdict:
-    """A table inside its bounds, and a foreign table with any rows, too, since the server enforces its bounds only
-    where
-    rows come by a table above it."""
+    """Judges a table within its bounds. A foreign table is also judged with arbitrary rows, since the server enforces
+    its bounds only for rows that are routed through a table above it."""
     verdict = judged_alone(db, shares, purpose, session)
     if verdict.answer != SOUND or shares.table["kind"] != "f":
         return verdict
@@ -87,7 +87,7 @@ def judged_within(db: Database, shares: Shares, purpose: str | None, session: Se
 
 
 def judged_alone(db: Database, shares: Shares, purpose: str | None, session: Session) -> Verdict:
-    """The same, without the partitions of which the server sends nothing."""
+    """Judges the same without the partitions of which the server sends nothing."""
     name = full_name(shares.table)
     named = {it: columns_of(text) for it, text in shares.filters.items() if text is not None}
     refused = refusals.refusals_of(db, shares)
@@ -123,12 +123,12 @@ def judged_alone(db: Database, shares: Shares, purpose: str | None, session: Ses
 
 
 def judged_as_split(db: Database, read: Read, name: str, purpose: str | None, session: Session) -> Verdict:
-    """Each row is to go to one subscriber."""
+    """Judges whether each row goes to one subscriber."""
     return decided(db, read, name, read.shares.takers, purpose, session)
 
 
 def judged_as_copied(db: Database, read: Read, name: str, _: str | None, session: Session) -> Verdict:
-    """Each subscriber is to get each row: its own share alone is a sharding that is sound."""
+    """Judges whether each subscriber gets each row, that is, whether its own share by itself is a sound sharding."""
     verdict = Verdict(name, NOT_SOUND, ["no subscriber takes it"])
     for subscriber, taken in read.shares.takers.items():
         verdict = decided(db, read, name, {subscriber: taken}, None, session)
@@ -144,7 +144,7 @@ def judged_as_copied(db: Database, read: Read, name: str, _: str | None, session
 
 
 def decided(db: Database, read: Read, name: str, takers: Takers, purpose: str | None, session: Session) -> Verdict:
-    """Tries the filters alone, then with facts, then with what the server enforces; the first proof counts."""
+    """Tries the filters by themselves, then with facts, then with what the server enforces. The first proof counts."""
     verdict = None
     for with_facts, constraints in trials.trials_of(read):
         trial = trials.trial_of(db, read, takers, purpose, with_facts, constraints, session.sorted_texts)
@@ -166,7 +166,8 @@ def decided(db: Database, read: Read, name: str, takers: Takers, purpose: str | 
 
 def with_witness(
         read: Read, verdict: Verdict, takers: Takers, purpose: str | None, session: Session) -> Verdict:
-    """The same verdict, or a row that shows a fault, or on which a filter fails, of those that the server is asked."""
+    """Returns the same verdict, or one with a row that shows a fault, or for which a filter fails, among those about
+    which the server is asked."""
     found = witnesses.search(session, read, takers, purpose)
     if found.row is not None:
         set_row(read, verdict, found.row, found.confirmed)
@@ -175,7 +176,8 @@ def with_witness(
 
 
 def doubt(read: Read, verdict: Verdict, purpose: str | None, session: Session) -> None:
-    """Asks the server of some rows of a table that is proved, since the proof rests on how judge reads the filters."""
+    """Asks the server about some rows of a table that is proved, since the proof depends on how judge reads the
+    filters."""
     found = witnesses.search(session, read, read.shares.takers, purpose)
     if found.row is not None:
         set_row(read, verdict, found.row, found.confirmed)
@@ -185,7 +187,8 @@ def doubt(read: Read, verdict: Verdict, purpose: str | None, session: Session) -
 
 
 def accepted(name: str, trial: Trial, takers: Takers, purpose: str | None) -> Verdict:
-    """`make` prints only certificates that the check accepts; here it is asked of these very texts."""
+    """Checks the certificate: `make` prints only certificates that the check accepts, and here this is checked for
+    these very texts."""
     assert trial.made.certificate is not None
     answer = program.checked(trial.catalog, [trial.made.certificate])
     last = answer if isinstance(answer, str) else f"{answer.part} {answer.place} {answer.kind}"
@@ -206,7 +209,7 @@ def accepted(name: str, trial: Trial, takers: Takers, purpose: str | None) -> Ve
 
 def without_proof(
         read: Read, name: str, takers: Takers, purpose: str | None, trial: Trial, session: Session) -> Verdict:
-    """A row that shows a fault, if the server says the same of it, and otherwise why nothing is known."""
+    """Returns a row that shows a fault, if the server agrees, and otherwise why nothing is known."""
     verdict = Verdict(name, NOT_DECIDED, catalog=trial.catalog, trial=trial)
     if trial.made.row is None:
         verdict.because.append(words_of_made(trial.made))
@@ -221,7 +224,7 @@ def without_proof(
 
 
 def set_row(read: Read, verdict: Verdict, row: rows.Row, found: rows.Confirmed) -> None:
-    """Makes a verdict of a row that shows a fault."""
+    """Turns a row that shows a fault into a verdict."""
     verdict.answer, verdict.because, verdict.takers = NOT_SOUND, [], found.takers
     verdict.row = row | {name: "DEFAULT" for name in found.generated}
     verdict.matters = rows.columns_that_matter(read)
@@ -234,7 +237,7 @@ def set_row(read: Read, verdict: Verdict, row: rows.Row, found: rows.Confirmed) 
 
 
 def words_of_made(made: program.Made) -> str:
-    """Why `make` has neither a certificate nor a row."""
+    """Returns why `make` has neither a certificate nor a row."""
     if made.word == "too large":
         return (
             "it exceeds a limit of pgshard: 1,000,000 nodes of a certificate, or 64 splits on a path of one; split the "

@@ -1,29 +1,30 @@
-"""What a connected subscriber asked for: the START_REPLICATION command of the streaming replication protocol.
+"""What a connected subscriber requested: the START_REPLICATION command of the streaming replication protocol.
 
-PostgreSQL's own subscribers write option names without quotes; pg_recvlogical, psycopg2, pgjdbc and thereby Debezium
+PostgreSQL's own subscribers write option names without quotes; pg_recvlogical, psycopg2, pgjdbc and therefore Debezium
 write them with quotes, and pgjdbc writes the slot without.
 """
 
 import re
 
-# A keyword or a name, which is folded to lower case; a name in double quotes; a text; or another character.
+# A keyword or a name, which is folded to lower case; a quoted name; a text; or another character.
 TOKEN = re.compile(
     r"""\s*(?:(?P<word>[A-Za-z_\x80-\U0010ffff][\w$\x80-\U0010ffff]*)|"(?P<quoted>(?:[^"]|"")+)"|'(?P<text>(?:[^']|'')*)'
     |(?P<other>[0-9A-F]+/[0-9A-F]+|[^\s]))""", re.X)
-# One of the names in a list: SplitIdentifierString of the server reads it so.
+# One of the names in a list, as the server's SplitIdentifierString reads it.
 NAME = re.compile(r'\s*(?:"(?P<quoted>(?:[^"]|"")*)"|(?P<plain>[^\s,"]+))\s*(?P<end>,|\Z)')
 OPTION = "publication_names"
 MOST_BYTES = 63
 
 
 def publication_names(query: str) -> list[str] | None:
-    """The publications that a command names, each once, or None if it is not understood, as where it is cut off."""
+    """Returns the publications that a command names, without duplicates, or None if it is not understood, for example
+    because it is truncated."""
     options = options_of(query)
     return None if options is None or OPTION not in options else names_in(options[OPTION])
 
 
 def options_of(query: str) -> dict[str, str] | None:
-    """The options of a command, or None if it does not end as one does."""
+    """Returns the options of a command, or None if it does not end properly."""
     tokens = [it for it in TOKEN.finditer(query)]
     if "".join(it[0] for it in tokens) != query.rstrip():
         return None
@@ -49,14 +50,14 @@ def options_of(query: str) -> dict[str, str] | None:
 
 
 def option_name(token: re.Match[str]) -> str | None:
-    """The name of an option, None if a token is none."""
+    """Returns the name of an option, or None if a token is not one."""
     if token["word"] is not None:
         return token["word"].lower()
     return token["quoted"].replace('""', '"') if token["quoted"] is not None else None
 
 
 def names_in(listed: str) -> list[str] | None:
-    """The names of a list, each once, or None if the server does not read it."""
+    """Returns the names in a list, without duplicates, or None if the server does not accept it."""
     found, at = [], 0
     while True:
         one = NAME.match(listed, at)
@@ -70,5 +71,5 @@ def names_in(listed: str) -> list[str] | None:
 
 
 def cut(name: str) -> str:
-    """A name as the server stores it, in at most 63 bytes."""
+    """Returns a name as the server stores it, in at most 63 bytes."""
     return name.encode()[:MOST_BYTES].decode(errors="ignore")

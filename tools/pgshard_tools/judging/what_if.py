@@ -1,4 +1,4 @@
-"""What would be published after a migration, beside what is published now."""
+"""Compares what would be published after a migration with what is published now."""
 
 from collections.abc import Mapping, Sequence
 
@@ -20,7 +20,7 @@ WRITTEN = {verdicts.NOT_SOUND: "NOT SOUND", verdicts.REFUSED: "REFUSED"}
 
 
 def judge(options: Options) -> int:
-    """Judges the database as it is and as it would be, says what changes, and answers the status of what would be."""
+    """Judges the database as it is and as it would be, prints what changes, and returns the status of what would be."""
     if options.catalog is not None:
         raise Fault(BAD_COMMAND, "--catalog cannot be combined with --with")
     if options.repair or options.html is not None:
@@ -54,7 +54,7 @@ def judge(options: Options) -> int:
 
 
 def judged_now(now: Database, tables: Sequence[Shares], options: Options) -> list[Verdict]:
-    """The verdicts without the migration. A table of --copied and --partial may not be there yet."""
+    """Returns the verdicts without the migration. A table of --copied and --partial may not exist yet."""
     names = {database.full_name(it.table) for it in tables}
     purposes: dict[str, str] = {}
     for purpose, words in ("copied", options.copied), ("partial", options.partial):
@@ -67,7 +67,7 @@ def judged_now(now: Database, tables: Sequence[Shares], options: Options) -> lis
 
 
 def subscribers_now(now: Database, options: Options, intent: Intent) -> list[Subscriber]:
-    """The subscribers, of which those of psql's variable and of a file may take what is not published yet."""
+    """Returns the subscribers. Those in psql's variable and in a file may take what is not published yet."""
     if options.subscriber or options.subscriptions is None and not intent.subscribers:
         return subscribers.subscribers_of(now, None, options.subscriber)[0]
     if options.subscriptions is None:
@@ -76,13 +76,13 @@ def subscribers_now(now: Database, options: Options, intent: Intent) -> list[Sub
 
 
 def answers_of(db: Database, found: Sequence[Verdict]) -> dict[str, str]:
-    """The answer of each table that is there."""
+    """Returns the answer for each table that exists."""
     return dict.fromkeys(db.unpublished, NOT_PUBLISHED) | {
         it.table: WRITTEN.get(it.answer, it.answer) for it in found}
 
 
 def changes_of(before: Mapping[str, str], after: Mapping[str, str]) -> list[tuple[str, str, str]]:
-    """The tables whose answers change. One that is not there is not published either."""
+    """Returns the tables whose answers change. A table that does not exist is not published either."""
     found = []
     for name in sorted({*before, *after}):
         one, other = before.get(name, NOT_THERE), after.get(name, NOT_THERE)
@@ -92,7 +92,7 @@ def changes_of(before: Mapping[str, str], after: Mapping[str, str]) -> list[tupl
 
 
 def lines_of(changes: Sequence[tuple[str, str, str]], path: str) -> list[str]:
-    """What changes, for an operator."""
+    """Returns what changes, for an operator."""
     if not changes:
         return [f"with {path} no answer changes"]
     return [f"with {path} these answers change:", *(f"    {name}: {one} -> {other}" for name, one, other in changes)]

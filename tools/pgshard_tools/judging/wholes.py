@@ -1,4 +1,4 @@
-"""Values of types whose order is that of whole numbers: intervals, networks, MAC addresses and positions in the log."""
+"""Values of types that are ordered like whole numbers: intervals, networks, MAC addresses and WAL positions."""
 
 import ipaddress
 import re
@@ -6,15 +6,15 @@ from fractions import Fraction
 
 from pgshard_tools.judging.points import DAY, Point, clock_text, finite
 
-# An interval as the server writes it: years, months and days, then a clock.
+# An interval as the server prints it: years, months and days, then a time.
 SPAN = re.compile(r"(?:([-+]?\d+) years?)? ?(?:([-+]?\d+) mons?)? ?(?:([-+]?\d+) days?)? ?"
                   r"(?:([-+]?)(\d+):(\d\d):(\d\d)(?:\.(\d{1,6}))?)?")
-# The bits of the addresses of each family of networks.
+# The number of bits in the addresses of each family.
 BITS = {4: 32, 6: 128}
 
 
 def point_of(type: str, text: str) -> Point:
-    """The number of a value; ValueError if a text is none that the server writes."""
+    """Returns the number of a value; raises ValueError if the server would not print this text."""
     match type:
         case "interval":
             return finite(span(text))
@@ -27,7 +27,7 @@ def point_of(type: str, text: str) -> Point:
 
 
 def text_of(type: str, point: Point) -> str:
-    """A value as the server reads it."""
+    """Returns a value as the server reads it."""
     number = int(point.value)
     match type:
         case "interval":
@@ -43,7 +43,7 @@ def text_of(type: str, point: Point) -> str:
 
 
 def parts(text: str) -> tuple[int, int, int]:
-    """The months of an interval, and its days, by 24 hours each, and its clock in microseconds."""
+    """Returns the months of an interval, its days of 24 hours each, and its time in microseconds."""
     found = SPAN.fullmatch(text)
     if found is None or not text:
         raise ValueError(text)
@@ -54,26 +54,26 @@ def parts(text: str) -> tuple[int, int, int]:
 
 
 def span(text: str) -> int:
-    """An interval as the server compares it: with 30 days to a month and 24 hours to a day."""
+    """Returns an interval as the server compares it: with 30 days per month and 24 hours per day."""
     months, days, clock = parts(text)
     return months * 30 * DAY + days + clock
 
 
 def network(text: str) -> tuple[int, int, int]:
-    """The family of an address, its number, and the bits of its network."""
+    """Returns the family of an address, its number, and the bits of its network."""
     address, _, bits = text.partition("/")
     found = ipaddress.ip_address(address)
     return found.version, int(found), int(bits) if bits else BITS[found.version]
 
 
 def below(width: int, depth: int) -> int:
-    """How many networks are in one of some bits, itself too."""
+    """Returns how many networks are in one with some bits, including itself."""
     return int(2 ** (width - depth + 1) - 1)
 
 
 def network_number(family: int, address: int, bits: int) -> int:
-    """The place of an address in the order of the server: by families, by the bits of their networks, where the shorter
-    of two goes first, and then by the other bits."""
+    """Returns the place of an address in the server's order: by family, then by the bits of their networks, where the
+    shorter of two comes first, and then by the other bits."""
     width = BITS[family]
     place = 0
     for bit in range(1, bits + 1):
@@ -83,12 +83,12 @@ def network_number(family: int, address: int, bits: int) -> int:
 
 
 def first_of(family: int) -> int:
-    """The place of the first address of a family, and behind the last family that of none."""
+    """Returns the place of the first address of a family, or the end of the last family."""
     return 0 if family == 4 else below(32, 0) << 32 if family == 6 else first_of(6) + (below(128, 0) << 128)
 
 
 def network_text(number: int, with_bits: bool) -> str:
-    """The address at a place. If there is none, it is one before it in the same network."""
+    """Returns the address at a place. If there is none, it is one before it in the same network."""
     family = 4 if number < first_of(6) else 6
     width = BITS[family]
     place, host = divmod(number - first_of(family) if family == 6 else number, 1 << width)
@@ -105,13 +105,13 @@ def network_text(number: int, with_bits: bool) -> str:
 
 
 def subnets(text: str, with_itself: bool) -> tuple[Point, Point | None]:
-    """The first address that a network contains, and the first one behind it, None if that is none."""
+    """Returns the first address that a network contains, and the first one after it, or None if there is none."""
     family, address, bits = network(text)
     width = BITS[family]
     base = address >> (width - bits) << (width - bits)
     begin = network_number(family, base, bits)
     end = begin + (below(width, bits) << width)
     if not with_itself:
-        # Those of the same number of bits go before all that are longer.
+        # Those with the same number of bits come before all longer ones.
         begin += 1 << width
     return finite(begin), None if end >= first_of(7) else finite(Fraction(end))

@@ -1,5 +1,5 @@
-"""Rows that the server is asked of, where there is neither a proof nor a row of pgshard: those at the edges of what
-filters and constraints name, their neighbours, nulls, and others by chance."""
+"""Rows about which the server is asked if there is neither a proof nor a row of pgshard: those with values that filters
+and constraints name, with their neighbours, with nulls, and random ones."""
 
 import itertools
 import json
@@ -16,19 +16,19 @@ from pgshard_tools.judging.session import Session
 from pgshard_tools.judging.shares import Takers
 from pgshard_tools.judging.trials import Read
 
-# This many rows are asked of, in lots.
+# The most rows about which the server is asked, in batches.
 MOST_ROWS = 600
 LOT = 200
 MOST_VALUES = 120
-# This many questions are asked to find out which values a type takes.
+# The most questions that are asked to find out which values a type accepts.
 MOST_QUESTIONS = 60
-# This many rows on which a filter fails are told.
+# The most rows for which a filter fails that are reported.
 MOST_FAILING = 3
 
 
 @dataclass
 class Found:
-    """A row that shows a fault, with what the server says of it, and rows on which a filter fails, in words."""
+    """A row that shows a fault, with the server's answer about it, and rows for which a filter fails, in words."""
 
     row: Row | None = None
     confirmed: Confirmed = field(default_factory=lambda: Confirmed(False, []))
@@ -36,7 +36,7 @@ class Found:
 
 
 def search(session: Session, read: Read, takers: Takers, purpose: str | None) -> Found:
-    """Asks the server of rows until one shows a fault."""
+    """Asks the server about rows until one shows a fault."""
     questions, found = evaluating.questions_of(read), Found()
     listed = rows_of(session, read, questions)
     for begin in range(0, len(listed), LOT):
@@ -47,7 +47,7 @@ def search(session: Session, read: Read, takers: Takers, purpose: str | None) ->
             if outcome.is_failing:
                 add_failing(found, read, row)
             elif rows.is_fault(evaluating.takers_of(takers, outcome), purpose):
-                # Asked once more, with the columns that no filter names.
+                # The server is asked again, with the columns that no filter names.
                 confirmed = evaluating.confirmed(session, read, takers, row)
                 if confirmed.is_accepted and rows.is_fault(confirmed.takers, purpose):
                     found.row, found.confirmed = row, confirmed
@@ -56,14 +56,14 @@ def search(session: Session, read: Read, takers: Takers, purpose: str | None) ->
 
 
 def add_failing(found: Found, read: Read, row: Row) -> None:
-    """Adds a row on which a filter fails, in words."""
+    """Adds a row for which a filter fails, in words."""
     if len(found.failing) < MOST_FAILING:
         named = [f"{it} = {row[it]}" for it in rows.columns_that_matter(read)]
         found.failing.append(f"a row with {', '.join(named)} stops the replication: a filter fails")
 
 
 def rows_of(session: Session, read: Read, questions: Questions) -> list[Row]:
-    """Rows of the columns that filters and constraints name; the others have plain values."""
+    """Returns rows of the columns that filters and constraints name; the other columns have plain values."""
     chance = chance_of(read)
     choices = choices_of(session, questions, chance)
     if not all(choices.values()):
@@ -73,19 +73,19 @@ def rows_of(session: Session, read: Read, questions: Questions) -> list[Row]:
 
 
 def chance_of(read: Read) -> random.Random:
-    """The same rows for the same table."""
+    """Returns a generator that gives the same rows for the same table."""
     return random.Random(zlib.crc32(full_name(read.shares.table).encode("utf-8", "surrogateescape")))
 
 
 def choices_of(session: Session, questions: Questions, chance: random.Random) -> dict[str, list[str]]:
-    """Values for each column that filters and constraints name."""
+    """Returns values for each column that filters and constraints name."""
     texts = [*questions.filters.values(), *questions.checks, *(it["generation"] for it in questions.computed)]
     constants = values.constants_of(texts)
     return {it["name"]: taken_values(session, it, values.values_of(it, constants, chance)) for it in questions.columns}
 
 
 def combinations(choices: Sequence[Sequence[str]], chance: random.Random) -> list[tuple[str, ...]]:
-    """All combinations of some values, or where these are too many, each value beside others by chance."""
+    """Returns all combinations of some values, or, if these are too many, each value with random ones of the others."""
     count = 1
     for listed in choices:
         count *= len(listed)
@@ -100,7 +100,7 @@ def combinations(choices: Sequence[Sequence[str]], chance: random.Random) -> lis
 
 
 def taken_values(session: Session, column: Column, listed: Sequence[str]) -> list[str]:
-    """Those values that the type takes, as the server writes them, as constants."""
+    """Returns the values that the type accepts, as the server prints them, as constants."""
     lots, asked = [list(listed)], 0
     found: dict[str, bool] = {}
     while lots and asked < MOST_QUESTIONS:
@@ -116,5 +116,5 @@ def taken_values(session: Session, column: Column, listed: Sequence[str]) -> lis
 
 
 def value_of(column: Column, value: str) -> str:
-    """A value of the column's type."""
+    """Returns a value of the column's type."""
     return f"({value})::{column['written']}"

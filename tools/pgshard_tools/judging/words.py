@@ -1,4 +1,4 @@
-"""Ranges of codes as conditions in SQL, over the server's own columns."""
+"""Writes ranges of codes as conditions in SQL, over the server's own columns."""
 
 from pgshard_tools.judging import ranges
 from pgshard_tools.judging.codings import Coding, Labels, Ranks, Remainders, Signs, Truths
@@ -12,7 +12,7 @@ SIGNS = {((-1, -1),): "<", ((0, 0),): "=", ((1, 1),): ">", ((-1, 0),): "<=", ((0
 
 
 def words_of(coded: Coding, found: Ranges, with_null: bool) -> str:
-    """Where a column has one of some codes, or is NULL, if that is asked; '' where that is each row."""
+    """Returns when a column has one of some codes, or is NULL, if that is included; '' if that is so for each row."""
     if not found:
         return null_words(coded) if with_null else "FALSE"
     if found == coded.full:
@@ -34,10 +34,10 @@ def not_null_words(coded: Coding) -> str:
 
 
 def range_words(coded: Coding, found: Ranges) -> list[str]:
-    """Conditions one of which holds exactly where the code is in the ranges."""
+    """Returns conditions, one of which holds exactly if the code is in the ranges."""
     subject = shown(coded.subject.sql)
     if coded.subject.type == "bpchar" and has_blanks(coded):
-        # As a char the constant has no blanks at its end.
+        # As a char, the constant has no trailing blanks.
         subject = f"{alone(subject)}::text"
     collation = coded.subject.collation
     if isinstance(coded, Ranks) and collation is not None and collation != coded.subject.own_collation:
@@ -55,18 +55,18 @@ def range_words(coded: Coding, found: Ranges) -> list[str]:
 
 
 def alone(text: str) -> str:
-    """An expression before what binds closer than its operator."""
+    """Returns an expression that can precede an operator with a higher precedence than its own."""
     return text if is_alone(parsed(text)) else f"({text})"
 
 
 def has_blanks(coded: Coding) -> bool:
-    """Whether a column is compared as a text with a constant that ends with a blank."""
+    """Returns whether a column is compared as text with a constant that ends with a blank."""
     constants = coded.words if isinstance(coded, Labels) else coded.constants if isinstance(coded, Ranks) else []
     return any(str(it).endswith(" ") for it in constants)
 
 
 def label_words(coded: Labels, subject: str, found: Ranges) -> str:
-    """A list of the constants, or of those that it is none of."""
+    """Returns a list of the constants, or of those that are excluded."""
     rest = ranges.complement(found, coded.low, coded.high)
     is_other = found[-1][1] == coded.high
     listed = [coded.constant(it) for it in ranges.numbers_of(rest if is_other else found)]
@@ -76,7 +76,7 @@ def label_words(coded: Labels, subject: str, found: Ranges) -> str:
 
 
 def remainder_words(coded: Remainders, subject: str, found: Ranges) -> list[str]:
-    """A few remainders are told one by one."""
+    """Returns a few remainders one by one."""
     if ranges.size(found) > MOST_REMAINDERS:
         return joined(coded, subject, found)
     listed = [str(it) for it in ranges.numbers_of(found)]
@@ -84,7 +84,8 @@ def remainder_words(coded: Remainders, subject: str, found: Ranges) -> list[str]
 
 
 def joined(coded: Coding, subject: str, found: Ranges) -> list[str]:
-    """The ranges one after the other, single values as one list; or what is left out, where that is shorter."""
+    """Returns the ranges one after the other, with single values as one list; or what is excluded, if that is
+    shorter."""
     rest = ranges.complement(found, coded.low, coded.high)
     if len(rest) < len(found) and all(is_single(coded, *it) for it in rest):
         listed = [coded.constant(low) for low, _ in rest]
@@ -101,19 +102,19 @@ def joined(coded: Coding, subject: str, found: Ranges) -> list[str]:
 
 
 def is_listed_apart(coded: Coding) -> bool:
-    """Whether the values of a list are compared one by one. The server makes the numbers of a list real where the
-    column
-    is, and compares a single number as double precision ("10.5. UNION, CASE, and Related Constructs")."""
+    """Returns whether the values of a list are compared one by one. The server converts the numbers of a list to real
+    if the column is real, and compares a single number as double precision ("10.5. UNION, CASE, and Related
+    Constructs")."""
     return coded.subject.type == "float4"
 
 
 def is_single(coded: Coding, low: int, high: int) -> bool:
-    """Whether a range is one value that has a name."""
+    """Returns whether a range is a single value that can be named."""
     return low == high and (not isinstance(coded, Ranks) or low in coded.codes)
 
 
 def one_range(coded: Coding, subject: str, low: int, high: int) -> str:
-    """A range by its ends, if it has them."""
+    """Returns a range by its ends, if it has them."""
     if isinstance(coded, Ranks):
         lower = None if low == coded.low else rank_bound(coded, subject, low, ">")
         upper = None if high == coded.high else rank_bound(coded, subject, high, "<")
@@ -128,7 +129,7 @@ def one_range(coded: Coding, subject: str, low: int, high: int) -> str:
 
 
 def rank_bound(coded: Ranks, subject: str, code: int, sign: str) -> str:
-    """An end of a range: the constant itself, or the one before or after what is between two."""
+    """Returns an end of a range: the constant itself, or the one before or after the gap between two."""
     if code in coded.codes:
         return f"{subject} {sign}= {coded.constant(code)}"
     return f"{subject} {sign} {coded.constant(code - 1 if sign == '>' else code + 1)}"

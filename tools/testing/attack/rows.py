@@ -1,4 +1,4 @@
-"""Extreme and random rows for a table: the constants of its filters, their neighbors, the limits of types, and NULL."""
+"""Extreme and random rows for a table: the constants of its filters, their neighbours, type limits, and NULL."""
 
 import itertools
 import random
@@ -19,7 +19,7 @@ ALL_OF = 400
 
 
 def neighbours(column: Column, constant: str) -> Iterator[str]:
-    """Yields the neighbors of a constant."""
+    """Yields the neighbours of a constant."""
     name = column.kind.name
     if name in INTEGERS and (found := INTEGER.fullmatch(constant)):
         yield from (str(int(found[1]) + it) for it in (-2, -1, 1, 2))

@@ -48,7 +48,7 @@ def check_monitoring(tally: Tally, server: Server) -> None:
 
 
 def check_faults(tally: Tally) -> None:
-    """Checks that a missing judgment is UNKNOWN for Nagios, and has a metric."""
+    """Checks that a missing judgement is UNKNOWN for Nagios, and has a metric."""
     with tempfile.TemporaryDirectory() as folder:
         file = pathlib.Path(folder) / "pgshard.prom"
         found = judge("-h", folder, "--nagios", "--prometheus", str(file)).split("\n")

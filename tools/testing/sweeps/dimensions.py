@@ -16,7 +16,7 @@ Row = dict[str, int]
 
 
 def numbers() -> list[int]:
-    """Returns the powers of two and of ten, their neighbors, and the same negated, as far as they can be read: the
+    """Returns the powers of two and of ten, their neighbours, and the same negated, as far as they can be read: the
     least bigint cannot, as docs/OUTPUT.md says."""
     powers = [2**exponent for exponent in range(64)] + [10**exponent for exponent in range(19)]
     near = {sign * power + more for power in powers for sign in (1, -1) for more in (-1, 0, 1)}
