@@ -3,16 +3,19 @@
 --     psql -X -d shop -f tools/catalog.sql
 --     psql -X -d shop -v subscriptions='london=europe tokyo=elsewhere,nowhere' -f tools/catalog.sql
 --
--- The publisher's database knows no subscriptions. Without the variable each publication has a subscription of its own
--- name; with it, those named there are all that there are. A name there is written as it is stored, and one that has
--- white space, a comma, an equals sign or a double quote between double quotes; `europe` is short for `europe=europe`.
+-- The publisher's database does not contain the subscriptions. Without the variable, each publication has a
+-- subscription with its own name; with the variable, only the subscriptions in it exist. Names in it are written as
+-- they are stored; a name that contains white space, a comma, an equals sign or a double quote is written in double
+-- quotes. `europe` is short for `europe=europe`.
 --
--- What is printed differs from what the server has in this, and in nothing else:
--- * A column that no filter names, and whose type pgshard does not read, is text, with its type in a comment. What it
---   holds can't decide where a row goes. A column of varchar is text, too, as it is to the operators of the server.
--- * In filters, casts that change no value are undone, where they are of an integer constant, or of a column to a wider
---   type; and = ANY (ARRAY[..]) and <> ALL (ARRAY[..]) are IN and NOT IN. Other forms stay as the server writes them.
--- * An identity that the server can't use, since its index is gone or deferrable, is NOTHING, which it comes to.
+-- The printed catalog differs from the server's only in the following:
+-- * A column that no filter names, and whose type pgshard does not read, becomes text, with its type in a comment. Its
+--   values can't decide where a row goes. A column of type varchar becomes text too, as which the server's operators
+--   treat it.
+-- * In filters, casts that change no value are removed if they are of an integer constant, or of a column to a wider
+--   type; and = ANY (ARRAY[..]) and <> ALL (ARRAY[..]) become IN and NOT IN. Other forms stay as the server prints
+--   them.
+-- * An identity that the server can't use, since its index is dropped or deferrable, is NOTHING, which is equivalent.
 
 \set QUIET on
 \set ON_ERROR_STOP on
@@ -31,7 +34,7 @@
 BEGIN ISOLATION LEVEL REPEATABLE READ READ ONLY;
 SET LOCAL search_path = pg_catalog;
 SET LOCAL client_encoding = 'UTF8';
--- A backslash in a constant is printed once, and names have quotes only where they need them.
+-- A backslash in a constant is not doubled, and names are quoted only if necessary.
 SET LOCAL standard_conforming_strings = on;
 SET LOCAL quote_all_identifiers = off;
 
@@ -52,7 +55,7 @@ published AS (
 columns AS (
     SELECT t.oid AS relation, a.attnum, a.atttypid, a.attnotnull, quote_ident(a.attname) AS name,
            format_type(a.atttypid, a.atttypmod) AS type,
-           -- By the stored tree of a filter, since what pg_depend has is also of lists of columns.
+           -- Searches the stored tree of the filter, since pg_depend also contains the columns of column lists.
            EXISTS (
                SELECT FROM pg_publication_rel r
                WHERE r.prrelid = t.oid AND r.prqual::text LIKE format('%%:varattno %s %%', a.attnum)
@@ -73,8 +76,8 @@ indexes AS (
     WHERE i.indisprimary OR i.indisreplident
 ),
 
--- Filters, in three steps. First the server's text is cut up: a string that is the text of an integer, with its type; a
--- cast of a column; a string; a quoted name; and what is between those.
+-- Filters are processed in three steps. First the server's text is split into tokens: a string that contains an
+-- integer, with its type; a cast of a column; a string; a quoted name; and everything between these.
 tokens AS (
     SELECT r.oid AS entry, r.prrelid AS relation, found.place, found.part[1] AS token
     FROM pg_publication_rel r, regexp_matches(
@@ -91,7 +94,8 @@ tokens AS (
 wider_types (narrow, wide) AS (
     VALUES ('int2'::regtype, 'integer'), ('int2', 'bigint'), ('int4', 'bigint'), ('varchar', 'text')
 ),
--- What stays as it is, strings and names, has a number in the text that is rewritten, so that no form is seen in it.
+-- Strings and names, which do not change, are replaced by numbers in the text that is rewritten, so that no form is
+-- matched inside them.
 kept AS (
     SELECT t.*, coalesce(c.name, t.token) AS text,
            CASE
@@ -107,7 +111,7 @@ kept AS (
 rewritten AS (
     SELECT entry, not_in.text
     FROM (SELECT entry, string_agg(mark, '' ORDER BY place) AS text FROM kept GROUP BY entry) AS marked,
-    -- A constant that may not fit the type of its cast keeps the cast, since the server fails there.
+    -- A constant that may not fit the type of its cast keeps the cast, since the server would fail.
     LATERAL (SELECT regexp_replace(
         marked.text,
         $$\((-32768|-?(?:[0-2]?[0-9]{1,4}|3[01][0-9]{3}|32[0-6][0-9]{2}|327[0-5][0-9]|3276[0-7]))\)::smallint$$,
@@ -132,7 +136,7 @@ elements AS (
             WHEN atttypid IN ('int2'::regtype, 'int4'::regtype, 'int8'::regtype, 'bool'::regtype, 'text'::regtype)
                 THEN type
             WHEN is_filtered AND atttypid <> 'varchar'::regtype THEN type
-            -- Without its stars and slashes the name of a type can't end the comment.
+            -- Stars and slashes are removed from the name of a type, so that it can't end the comment.
             ELSE format('text /* %s */', translate(type, '*/', ''))
         END,
         CASE WHEN attnotnull THEN 'NOT NULL' END
@@ -157,7 +161,7 @@ entries AS (
     FROM pg_publication_namespace n JOIN pg_namespace s ON s.oid = n.pnnspid
 ),
 
--- The variable's words, and in each the subscription and its publications, with quotes where they were given so.
+-- The words in the variable, each with the subscription and its publications, quoted as they were given.
 words AS (
     SELECT place, part[1] AS subscription, coalesce(part[2], part[1]) AS publications
     FROM regexp_matches(
@@ -189,7 +193,7 @@ schemas AS (
     UNION
     SELECT s.nspname FROM pg_publication_namespace n JOIN pg_namespace s ON s.oid = n.pnnspid
 ),
--- The index that a table's identity goes by, where there is one. A primary key that it goes by needs no statement.
+-- The index of a table's replica identity, if there is one. If it is the primary key, no statement is needed.
 identities AS (
     SELECT CASE
         WHEN t.relreplident = 'f' THEN format('ALTER TABLE %s REPLICA IDENTITY FULL;', t.name)

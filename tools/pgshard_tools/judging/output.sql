@@ -1,4 +1,4 @@
--- How psql prints for judge: the values alone, whatever the user's own settings are.
+-- Settings with which psql prints only values for judge, whatever the user's own settings are.
 
 \set QUIET on
 \set ON_ERROR_STOP on

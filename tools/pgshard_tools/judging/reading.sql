@@ -1,8 +1,9 @@
--- Prints what judge has to know of a database, as one JSON text. It changes nothing on the server, and needs no grant.
+-- Prints what judge needs to know about a database, as one JSON text. It changes nothing on the server, and needs no
+-- privileges.
 
 \set QUIET on
 \ir output.sql
--- The search path may have operators of the database's own before the server's.
+-- The search path may find operators of the database before the server's own.
 SELECT pg_catalog.int4ge(:SERVER_VERSION_NUM, 150000) AND pg_catalog.int4lt(:SERVER_VERSION_NUM, 190000) AS is_judged \gset
 \if :is_judged
 \else
@@ -10,19 +11,20 @@ SELECT pg_catalog.int4ge(:SERVER_VERSION_NUM, 150000) AND pg_catalog.int4lt(:SER
     \quit
 \endif
 
--- With the variable `within` there is a transaction already, whose own locks are no hindrance.
+-- With the variable `within`, a transaction is already open; its own locks do not matter.
 \if :{?within}
 \else
     BEGIN ISOLATION LEVEL REPEATABLE READ READ ONLY;
 \endif
 SET LOCAL search_path = pg_catalog;
--- Of texts in UTF8 psql leaves out what Unicode says is no character, and what is no UTF8. As bytes it prints them whole.
+-- For texts in UTF8, psql omits noncharacters of Unicode and invalid UTF8. If it is told that they are bytes, it prints
+-- them completely.
 SELECT CASE WHEN current_setting('server_encoding') IN ('UTF8', 'SQL_ASCII') THEN 'SQL_ASCII' ELSE 'UTF8' END AS encoding \gset
 SET LOCAL client_encoding = :'encoding';
--- Nothing waits for ever, since a table that is locked is read without the texts that would wait.
+-- Nothing has to wait for long, since a locked table is read without the texts that would wait for the lock.
 SET LOCAL lock_timeout = '5s';
 SET LOCAL statement_timeout = '120s';
--- A constant is printed in one form, whatever the role's settings are.
+-- Constants are printed in one form, whatever the role's settings are.
 SET LOCAL standard_conforming_strings = on;
 SET LOCAL quote_all_identifiers = off;
 SET LOCAL timezone = 'UTC';
@@ -31,8 +33,8 @@ SET LOCAL intervalstyle = 'postgres';
 SET LOCAL bytea_output = 'hex';
 SET LOCAL extra_float_digits = 1;
 
--- What catalogs of later versions have. PostgreSQL 18 has constraints that are not enforced, and publications that publish
--- generated columns.
+-- Columns of catalogs in later versions. PostgreSQL 18 has constraints that are not enforced, and publications that
+-- publish generated columns.
 SELECT bool_or(attrelid = 'pg_constraint'::regclass AND attname = 'conenforced') AS has_enforced,
        bool_or(attrelid = 'pg_publication'::regclass AND attname = 'pubgencols') AS has_generated
 FROM pg_attribute WHERE attrelid IN ('pg_constraint'::regclass, 'pg_publication'::regclass) AND NOT attisdropped \gset
@@ -47,7 +49,7 @@ FROM pg_attribute WHERE attrelid IN ('pg_constraint'::regclass, 'pg_publication'
     \set generated 'NULL'
 \endif
 
--- Tables on which a lock is held or waited for that the texts of filters and constraints would wait for.
+-- Tables on which a session holds or awaits a lock for which the texts of filters and constraints would have to wait.
 WITH locked AS (
     SELECT DISTINCT relation FROM pg_locks
     WHERE locktype = 'relation' AND mode = 'AccessExclusiveLock' AND pid IS DISTINCT FROM pg_backend_pid()
@@ -63,7 +65,7 @@ tables AS (
              FROM pg_partition_ancestors(c.oid) WITH ORDINALITY AS a (relid, place) WHERE a.relid <> c.oid) AS ancestors
     WHERE c.relkind IN ('r', 'p', 'f') AND c.relpersistence <> 't' AND c.oid >= 16384
 ),
--- A partition that the server sends nothing of is read where a table above it is published, and so is an unlogged root.
+-- A partition of which the server sends nothing is read if a table above it is published, and so is an unlogged root.
 published AS (
     SELECT *, EXISTS (SELECT FROM pg_publication WHERE puballtables AND (t.is_publishable OR t.ancestors <> '{}'
                                                                        OR t.kind = 'p'))
@@ -73,7 +75,8 @@ published AS (
         AS is_published
     FROM tables t
 ),
--- CHECKs and generated columns that call operators of others. The texts of IS DISTINCT FROM, NULLIF and CASE name none.
+-- CHECKs and generated columns that call operators other than the server's own. The texts of IS DISTINCT FROM, NULLIF
+-- and CASE do not name their operators.
 calling_others AS (
     SELECT d.classid AS kind, d.objid AS caller FROM pg_depend d JOIN pg_operator o ON o.oid = d.refobjid
     WHERE d.classid IN ('pg_constraint'::regclass, 'pg_attrdef'::regclass)
@@ -82,7 +85,7 @@ calling_others AS (
 columns AS (
     SELECT a.attrelid AS relation, json_agg(json_build_object(
         'number', a.attnum, 'name', a.attname, 'quoted', quote_ident(a.attname),
-        -- In PostgreSQL 18 a NOT NULL may be NOT VALID: older rows need not meet it.
+        -- In PostgreSQL 18 a NOT NULL constraint may be NOT VALID: older rows need not satisfy it.
         'not_null', a.attnotnull AND NOT EXISTS (SELECT FROM pg_constraint k WHERE k.conrelid = a.attrelid
             AND k.contype = 'n' AND a.attnum = ANY (k.conkey) AND NOT k.convalidated),
         'type', CASE WHEN ts.nspname = 'pg_catalog' THEN y.typname ELSE format('%s.%s', ts.nspname, y.typname) END,
@@ -96,7 +99,7 @@ columns AS (
             WHERE d.adrelid = a.attrelid AND d.adnum = a.attnum) END,
         'is_own', NOT EXISTS (SELECT FROM pg_attrdef d JOIN calling_others o ON o.caller = d.oid AND o.kind = 'pg_attrdef'::regclass
             WHERE d.adrelid = a.attrelid AND d.adnum = a.attnum),
-        -- A collation of the database's own has its schema, in quotes, before its name.
+        -- The name of a collation that was created in the database is preceded by its schema, both in quotes.
         'collation', CASE WHEN a.attcollation <> 0 THEN CASE WHEN l.collnamespace = 'pg_catalog'::regnamespace
             THEN l.collname ELSE format('"%s"."%s"', replace(ls.nspname, '"', '""'), replace(l.collname, '"', '""'))
         END END,
@@ -184,7 +187,7 @@ SELECT json_build_object(
     'slots', coalesce((
         SELECT json_agg(json_build_object('name', slot_name, 'active', active))
         FROM pg_replication_slots WHERE database = current_database() AND plugin = 'pgoutput'), '[]'),
-    -- Who is connected, and what was asked for, which is NULL where the role may not see it.
+    -- Who is connected, and what was requested, which is NULL if the role may not see it.
     'walsenders', coalesce((
         SELECT json_agg(json_build_object('slot', s.slot_name, 'query', CASE WHEN a.backend_type IS NOT NULL THEN
                                                                              a.query END) ORDER BY s.slot_name)

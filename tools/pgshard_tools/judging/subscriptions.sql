@@ -1,10 +1,11 @@
--- Prints the subscriptions of a subscriber's database as one JSON text. Any role may read what it reads.
+-- Prints the subscriptions of a subscriber's database as one JSON text. Any role may read these columns.
 
 \set QUIET on
 \ir output.sql
 BEGIN READ ONLY;
 SET LOCAL search_path = pg_catalog;
--- Of texts in UTF8 psql leaves out what Unicode says is no character, and what is no UTF8. As bytes it prints them whole.
+-- For texts in UTF8, psql omits noncharacters of Unicode and invalid UTF8. If it is told that they are bytes, it prints
+-- them completely.
 SELECT CASE WHEN current_setting('server_encoding') IN ('UTF8', 'SQL_ASCII') THEN 'SQL_ASCII' ELSE 'UTF8' END AS encoding \gset
 SET LOCAL client_encoding = :'encoding';
 SET LOCAL lock_timeout = '5s';
