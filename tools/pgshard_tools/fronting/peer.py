@@ -104,7 +104,7 @@ class Peer(asyncio.Protocol):
                 await self.room.wait()
         except TimeoutError:
             self.transport.abort()
-            raise Lost(self, f"took no bytes for {self.patience:g} seconds") from None
+            raise Lost(self, f"read nothing for {self.patience:g} seconds") from None
         if self.ended.is_set():
             raise Lost(self, "closed the connection")
 

@@ -42,7 +42,7 @@ class Exchange:
         """The server's first message, after the client's."""
         flag, name, bare = split(text_of(message), 3)
         if flag not in HEADERS or name:
-            raise NotAuthentic("channel binding and names of others are not supported")
+            raise NotAuthentic("channel binding and authorization identities are not supported")
         self.header = f"{flag},,"
         client_nonce = attribute(split(bare, 2)[1].split(",")[0], "r")
         self.nonce = client_nonce + secrets.token_urlsafe(18)
@@ -63,7 +63,7 @@ class Exchange:
         signature = signed(self.password.stored_key, told)
         key = bytes(one ^ other for one, other in zip(decoded(attribute(proof, "p")), signature, strict=True))
         if not hmac.compare_digest(hashlib.sha256(key).digest(), self.password.stored_key):
-            raise NotAuthentic("the password is another")
+            raise NotAuthentic("the password is wrong")
         return b"v=" + base64.b64encode(signed(self.password.server_key, told))
 
 
@@ -81,14 +81,14 @@ def split(text: str, count: int) -> list[str]:
     """This many parts, separated by commas; the last one may contain further commas."""
     parts = text.split(",", count - 1)
     if len(parts) != count:
-        raise NotAuthentic("a message of SCRAM lacks a part")
+        raise NotAuthentic("a SCRAM message lacks a part")
     return parts
 
 
 def attribute(part: str, letter: str) -> str:
     """An attribute's value."""
     if not part.startswith(f"{letter}=") or len(part) < 3:
-        raise NotAuthentic(f"a message of SCRAM lacks {letter}=")
+        raise NotAuthentic(f"a SCRAM message lacks {letter}=")
     return part[2:]
 
 
@@ -97,7 +97,7 @@ def decoded(value: str) -> bytes:
     try:
         proof = base64.b64decode(value, validate=True)
     except (binascii.Error, ValueError):
-        raise NotAuthentic("a proof of SCRAM is not in base64") from None
+        raise NotAuthentic("a SCRAM proof is not valid base64") from None
     if len(proof) != 32:
-        raise NotAuthentic("a proof of SCRAM has another length")
+        raise NotAuthentic("a SCRAM proof has the wrong length")
     return proof

@@ -28,7 +28,7 @@ from pgshard_tools.fronting.streaming import Stream
 from pgshard_tools.fronting.tokens import Token, TooManyTokens, tokens_of
 
 TOO_COMPLEX = frames.error("54001", "statement too complex for tools/front")
-NO_EXTENDED = frames.error("0A000", "tools/front takes simple queries alone")
+NO_EXTENDED = frames.error("0A000", "tools/front supports only simple queries")
 
 LOST = frames.error("08006", "the connection to pgshard serve has ended", severity="FATAL")
 TOO_LATE = frames.error("57014", "canceling authentication due to timeout", severity="FATAL")
@@ -80,7 +80,7 @@ class Session:
             self.client.write(TOO_LATE)
             return f"not started within {self.terms.seconds:g} seconds"
         if guest is None:
-            return "a request to cancel a query, which is never taken"
+            return "a request to cancel a query, which is ignored"
         self.asker.database = guest.database
         self.story = f"user {guest.user!r:.70}"
         await self.client.send(welcome(guest, self.answers.settings, self.number))
@@ -212,7 +212,7 @@ class Session:
             kind, body = await self.answer_of(opened[0], query)
             if kind != COPY_BOTH:
                 await self.client.send(frames.frame(kind, body))
-                raise Lost(opened[0], "refused to go on with the stream")
+                raise Lost(opened[0], "refused to continue the stream")
             return opened[0]
 
         slot.publications = start.publications
@@ -264,7 +264,7 @@ class Session:
                 told = await publisher.frames()
         except TimeoutError:
             told = []
-        why = "pgshard serve does not say from where it comes"
+        why = "pgshard serve does not report where it starts"
         if told and told[0][0] == COPY_DATA and told[0][1][:1] == KEEPALIVE:
             position = number(told[0][1][KEPT_POSITION])
             if position <= begin:

@@ -61,7 +61,7 @@ class Slot:
         if self.recording.reach == 0 or self.recording.covers(BEGIN_OF_LOG):
             return None
         if self.recording.begin is None:
-            return "pgshard serve did not say from where its stream came"
+            return "pgshard serve did not report where its stream starts"
         return f"its stream is known only from {position_text(self.recording.begin)} on"
 
 
@@ -145,5 +145,5 @@ class Slots:
                     f"cannot be copied: {slot.why_not_afresh()}",
                     f"Write copy_data = false if they are not needed. {ANEW}")
         raise Refused(
-            "55000", "no slot with these publications has a stream yet, so that nothing can be copied",
+            "55000", "no slot with these publications has a stream yet, so nothing can be copied",
             "The subscriber tries again by itself.")

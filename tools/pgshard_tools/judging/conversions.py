@@ -73,4 +73,4 @@ def cast_truth(form: str, type: str, operand: Truth) -> Operand:
     if type == "text":
         no = Choice(tested("FALSE", operand.formula), Value("text", "false"), Value("text", None))
         return Choice(operand.formula, Value("text", "true"), no)
-    raise Unread(form, "a condition as another type")
+    raise Unread(form, "a condition that is cast to another type")

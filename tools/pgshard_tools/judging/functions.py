@@ -50,10 +50,10 @@ def checked(found: Call, row: Row, form: str, arguments: Sequence[Operand], serv
             failing: Noting) -> Operand:
     """Returns the column of its own, if the server agrees with the table. Records where the function may fail."""
     if not found.is_immutable or not (found.is_strict or row.null_at):
-        raise Unread(form, "the server does not say that it is immutable and NULL where an argument is")
+        raise Unread(form, "the server does not say that it is immutable, and NULL if an argument is")
     others = [it for place, it in enumerate(arguments) if place not in row.null_at] if row.null_at else []
     if not all(isinstance(it, Value) and it.value is not None for it in others):
-        raise Unread(form, "an argument that is no constant")
+        raise Unread(form, "an argument that is not a constant")
     result = opaque(form, found.result, row.is_total, arguments)
     if (row.fails or not is_within(found, row, form, arguments, server)) and isinstance(result, Ref):
         failing.note(form, None, result.subject.columns)
@@ -149,20 +149,21 @@ LIMITS: dict[str, Limit] = {
     "regex": is_regex, "array": is_array, "short": is_short, "zone": is_zone, "size": is_constant, "explicit": is_constant,
     **{name: is_name(listed) for name, listed in NAMES.items()}}
 ADVICE = {
-    "number": "its numbers are no constants", "length": "a length that is negative, or no constant",
-    "field": "a field that is 0, or no constant", "part": "this part of that type",
-    "part_or_null": "this part of that type", "like": "a pattern that has a backslash at its end",
+    "number": "its numbers are not constants", "length": "a length that is negative, or not a constant",
+    "field": "a field that is 0, or not a constant", "part": "this part of that type",
+    "part_or_null": "this part of that type", "like": "a pattern that ends with a backslash",
     "regex": "a pattern that is no constant, or that the server refuses", "array": "the elements of these lists",
-    "zone": "a time zone that is no constant, or that the server does not have", "short": "a length that is no constant",
-    "code": "another code of bytes", "form": "another form of Unicode", "unit": "another unit of time",
-    "size": "a length that is no constant", "explicit": "a length that is no constant"}
+    "zone": "a time zone that is not a constant, or that the server does not know",
+    "short": "a length that is not a constant", "size": "a length that is not a constant",
+    "explicit": "a length that is not a constant", "code": "an encoding other than hex, base64 and escape",
+    "form": "a normal form other than NFC, NFD, NFKC and NFKD", "unit": "a unit of time that judge does not know"}
 
 
 def member(form: str, arguments: Sequence[Operand]) -> Operand:
     """Reads `x = ANY (column)`, which is NULL if the column is, and possibly otherwise. If x is NULL and the list is
     empty, it is not NULL; so nothing is claimed for an x that may be NULL."""
     if any(isinstance(it, Value) and it.value is None for it in arguments):
-        raise Unread(form, "NULL in a list that is a column")
+        raise Unread(form, "NULL compared with a list in a column")
     found = opaque(form, "bool", False, arguments)
     is_constant = any(isinstance(it, Value) for it in arguments)
     return found if is_constant or not isinstance(found, Ref) else Ref(replace(found.subject, is_strict=False), "bool")
@@ -178,7 +179,7 @@ def opaque(form: str, type: str, is_total: bool, arguments: Sequence[Operand]) -
         return Value(type, None)
     subjects = [subject for it in arguments for subject in subjects_of(form, it)]
     if not subjects:
-        raise Unread(form, "it is a function of constants")
+        raise Unread(form, "all of its arguments are constants")
     columns = dict.fromkeys(name for it in subjects for name in it.columns)
     collation = collation_of(arguments) if type == "text" else None
     is_strict = all(it.is_strict for it in subjects)
@@ -197,7 +198,7 @@ def subjects_of(form: str, argument: Operand) -> list[Subject]:
             return []
         case Array():
             if argument.parts is None or not all(isinstance(it, Value) for it in argument.parts):
-                raise Unread(form, "a list of what is not constant")
+                raise Unread(form, "a list of values that are not constants")
             return []
         case Derived():
             return [argument.ref.subject]

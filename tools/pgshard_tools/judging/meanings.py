@@ -109,13 +109,13 @@ class Meanings:
         found = [it for relation in relations for it in self.texts.get((relation, text), ())]
         if not found:
             if self.ordered_otherwise & set(relations):
-                raise Unread(text, "partitions by another collation than that of the column")
+                raise Unread(text, "partitions under a collation other than the column's")
             return resolved(raw, columns, self.operators)
         trees = [tree_of(it) for it in found]
         if any(without_places(it) != without_places(trees[0]) for it in trees):
             raise Unread(text, "the server has two trees of this text")
         if has_conflict(trees[0]):
-            raise Unread(text, "it has texts of two collations, so the server fails; write COLLATE beside one of them")
+            raise Unread(text, "it has texts of two collations, so the server fails; write COLLATE after one of them")
         return paired(raw, trees[0])
 
     def function(self, tree: Tree) -> Call | None:

@@ -115,7 +115,7 @@ def metrics(reports: Sequence[Report], status: int) -> str:
         family("pgshard_table_filter_fails", "Whether a filter of the table fails at a row it may hold.", failing),
         family("pgshard_tables", "Published tables by judge's answer.", numbers),
         family("pgshard_unpublished_tables", "Tables that are not published.", unpublished),
-        family("pgshard_findings", "What is amiss with subscriptions and slots.", findings), run_metrics(status)])
+        family("pgshard_findings", "Problems with subscriptions and slots.", findings), run_metrics(status)])
 
 
 def run_metrics(status: int) -> str:

@@ -31,7 +31,7 @@ def paired(raw: Any, tree: Tree) -> dict[int, Tree]:
     try:
         pair(raw, tree, found)
     except (Mismatch, KeyError, ValueError, AttributeError, TypeError) as fault:
-        raise Unread(written(raw), "its text does not fit the tree that the server has of it") from fault
+        raise Unread(written(raw), "its text does not match the server's tree") from fault
     return found
 
 

@@ -36,7 +36,7 @@ def parsed(text: str) -> Any:
         raise Unread(text) from fault
     except UnicodeEncodeError as fault:
         # In SQL_ASCII, a text may consist of any bytes.
-        raise Unread(text, "its bytes are no text in UTF8") from fault
+        raise Unread(text, "its bytes are not valid UTF8") from fault
     return statement[0].stmt.targetList[0].val
 
 

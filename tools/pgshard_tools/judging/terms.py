@@ -61,7 +61,7 @@ class Reader:
     def subject(self, name: str) -> Subject:
         column = self.columns.get(name)
         if column is None:
-            raise Unread(name, "it is no column that rows have")
+            raise Unread(name, "it is not a user column of the table")
         type = f"enum {column['type']}" if column["kind"] == "e" else column["type"]
         if column["kind"] not in "be" or not column["is_deterministic"]:
             # For a domain, or for texts that can be equal although their bytes differ, only tests for NULL are read.
@@ -93,7 +93,7 @@ class Reader:
     def operand(self, node: Any) -> Operand:
         tree = self.trees.get(id(node))
         if tree is None and kind_of(node) != "RowExpr":
-            raise Unread(written(node), "it is not in the tree that the server has of it")
+            raise Unread(written(node), "it is not in the server's tree")
         if tree is not None and tree.kind in ("FUNCEXPR", "OPEXPR") and self.is_constant(tree):
             return self.constant(node, tree)
         read = getattr(self, f"read_{kind_of(node)}", None)
@@ -128,9 +128,9 @@ class Reader:
         tree = self.trees.get(id(node))
         found = self.called(tree) if tree is not None and {"funcid", "opno"} & tree.fields.keys() else None
         if found is None or tree is None or not found.is_own:
-            raise Unread(written(node), "it calls what is not the server's own")
+            raise Unread(written(node), "it calls a function or an operator that is not the server's own")
         if not self.meanings.is_of_bytes(tree):
-            raise Unread(written(node), "texts that are equal though their bytes are not")
+            raise Unread(written(node), "texts that can be equal although their bytes differ")
         return found
 
     def comparison(self, node: Any, name: str, one: Operand, other: Operand) -> Formula:
@@ -294,7 +294,7 @@ class Reader:
         """Makes sure that the conversion is the server's own, and immutable."""
         tree = self.trees[id(node)]
         if tree.kind == "FUNCEXPR" and not self.call(node).is_immutable:
-            raise Unread(form, "a cast that is not the server's own, or goes by its settings")
+            raise Unread(form, "a cast that is not the server's own, or that depends on settings")
 
     def cast_subject(self, node: Any, form: str, type: str, operand: Ref) -> Operand:
         """Reads a column as another type, if each value is unchanged or keeps its place in the order."""
@@ -352,7 +352,7 @@ class Reader:
         if call.name == name and arithmetic.is_arithmetic(name, call.arguments):
             return arithmetic.combined(form, name, one, other, call.result, self.failing)
         if call.name != name:
-            raise Unread(form, "its text does not fit the tree that the server has of it")
+            raise Unread(form, "its text does not match the server's tree")
         span = None if isinstance(sides[1], str) else text_in(sides[1])
         found = applied.operator(call, positive, form, one, other, span, self.context())
         if found is None:
@@ -369,7 +369,7 @@ class Reader:
         if isinstance(listed, Ref):
             call = self.call(node)
             if name not in COMPARISONS or not comparable(*call.arguments):
-                raise Unread(form, "a list that is a column")
+                raise Unread(form, "a list in a column")
             return truth_of(functions.member(faithful(node), (one, listed)))
         if not isinstance(listed, Array):
             raise Unread(form)
@@ -379,7 +379,7 @@ class Reader:
         for part in listed.parts:
             side = text_of(part) if isinstance(part, Value) else None
             if side is None and name not in COMPARISONS:
-                raise Unread(form, "a list of what is not constant")
+                raise Unread(form, "a list of values that are not constants")
             found = self.of_operator(node, name, one, part, (node.lexpr, side or ""))
             parts.append(self.as_truth(node, found))
         return either(*parts) if is_any else both(*parts)
@@ -445,7 +445,7 @@ class Reader:
         """Reads GREATEST and LEAST, which are NULL only if all of their operands are."""
         parts = tuple(as_value(self.operand(part)) for part in node.args)
         if not all(is_sorted(it) for it in parts):
-            raise Unread(written(node), "the greatest or the least of what has no order, or is a condition")
+            raise Unread(written(node), "the greatest or the least of values without an order, or of conditions")
         return Extreme(node.op.name == "IS_GREATEST", parts)
 
     def read_CaseExpr(self, node: Any) -> Operand:
@@ -473,7 +473,7 @@ class Reader:
         is_whole = all(it in INTEGERS for it in call.arguments)
         form = faithful(node)
         if call.name != name_of(node.funcname):
-            raise Unread(form, "its text does not fit the tree that the server has of it")
+            raise Unread(form, "its text does not match the server's tree")
         if call.name == "mod" and is_whole and len(arguments) == 2:
             return arithmetic.combined(form, "%", arguments[0], arguments[1], call.result, self.failing)
         if call.name == "abs" and is_whole and len(arguments) == 1:

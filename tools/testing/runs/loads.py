@@ -14,7 +14,7 @@ CONNECTIONS = 400
 # How many seconds a run may take until it listens, and from then to its end, also on a busy machine.
 LONGEST = 300
 
-# By how much the memory may be greater if some clients are rough: by this factor, and by this many bytes for what is
+# By how much the memory may be greater if some clients are rough: by this fraction, and by this many bytes for what is
 # kept of their earlier connections.
 PART = 0.25
 KEPT = 40_000_000
