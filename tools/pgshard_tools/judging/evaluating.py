@@ -142,8 +142,8 @@ def lengths_of(computed: Sequence[Column]) -> list[str]:
 def asked(
         session: Session, questions: Questions, listed: Sequence[Row], places: Sequence[int], texts: Sequence[str]
 ) -> Iterator[tuple[int, list[object] | None]]:
-    """Returns the server's answers about some of the rows, or None if it fails for a row. Too many failures end the
-    search."""
+    """Yields the server's answers about some of the rows, or None for a row for which it fails. Too many failures end
+    the search."""
     lots = [list(places)] if places else []
     while lots and questions.asked < MOST_QUESTIONS:
         lot = lots.pop()

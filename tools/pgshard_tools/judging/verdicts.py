@@ -187,8 +187,8 @@ def doubt(read: Read, verdict: Verdict, purpose: str | None, session: Session) -
 
 
 def accepted(name: str, trial: Trial, takers: Takers, purpose: str | None) -> Verdict:
-    """Checks the certificate: `make` prints only certificates that the check accepts, and here this is checked for
-    these very texts."""
+    """Returns the verdict of a table with a certificate. `make` prints only certificates that the check accepts; here
+    the check is run on these very texts."""
     assert trial.made.certificate is not None
     answer = program.checked(trial.catalog, [trial.made.certificate])
     last = answer if isinstance(answer, str) else f"{answer.part} {answer.place} {answer.kind}"

@@ -93,7 +93,7 @@ def check_application(tally: Tally, server: Server, application: Application) ->
 
 def check_topic(tally: Tally, server: Server, topic: Topic) -> list[str]:
     """Tests the filters of a topic. Each has a table with one publication of the rows for which it is true, and one of
-    the others, whose filter is NOT of the first if the table has no NULL."""
+    the others, whose filter is NOT of the first if the table has no NULL. Returns the filters without a verdict."""
     database = f"forms_{topic.name}"
     server.create(database, f"ALTER DATABASE {database} SET client_min_messages = error; {PREPARED} CREATE TABLE source "
                             f"({topic.columns}, row_number integer); CREATE PUBLICATION trial;")

@@ -90,7 +90,7 @@ class SweepCase:
         return f"public.{self.catalog.tables[0].name}"
 
     def certificates(self) -> Iterator[list[tuple[str, int]]]:
-        """Returns the model's certificates."""
+        """Yields the model's certificates."""
         for number, table in enumerate(self.catalog.tables):
             nodes = certificate(table, shares_of(self.catalog, number))
             assert nodes is not None
