@@ -1,4 +1,4 @@
-"""A client's first packets, up to its password: what it wants, and whether it is admitted."""
+"""A client's first packets, up to its password: what it requests, and whether it is admitted."""
 
 import secrets
 import ssl
@@ -13,7 +13,7 @@ from pgshard_tools.fronting.scram import MECHANISM, Exchange, NotAuthentic, Pass
 CANCEL, TLS, GSS = (struct.pack("!I", number) for number in (80877102, 80877103, 80877104))
 VERSION_3 = 3 << 16
 
-# Texts are sent as they are, in UTF-8.
+# Texts are sent unchanged, in UTF-8.
 ENCODINGS = {"", "UTF8", "UNICODE", "SQLASCII"}
 
 OK, SASL, SASL_CONTINUE, SASL_FINAL = 0, 10, 11, 12
@@ -29,8 +29,7 @@ class Denied(Exception):
 
 @dataclass(frozen=True)
 class Terms:
-    """The terms on which clients are admitted: a password and TLS, if these are required, and the time that they
-    have."""
+    """The terms on which clients are admitted: a password and TLS, if these are required, and the time limit."""
 
     password: Password | None
     tls: ssl.SSLContext | None
@@ -39,7 +38,7 @@ class Terms:
 
 @dataclass(frozen=True)
 class Guest:
-    """What a client said about itself."""
+    """What a client has said about itself."""
 
     user: str
     database: str
@@ -48,7 +47,7 @@ class Guest:
 
 
 async def greet(client: Peer, terms: Terms) -> Guest | None:
-    """Reads a client's startup packet and its password. None if it only wanted to cancel a query."""
+    """Reads a client's startup packet and its password. Returns None if it only requested to cancel a query."""
     packet = await first_packet(client, terms)
     if packet[:4] == CANCEL:
         return None
@@ -67,7 +66,7 @@ async def greet(client: Peer, terms: Terms) -> Guest | None:
 
 
 async def first_packet(client: Peer, terms: Terms) -> bytes:
-    """The packet after those that request encryption, each of which may come once."""
+    """Returns the packet after those that request encryption, each of which may occur once."""
     asked = {TLS, GSS}
     is_secure = False
     while (packet := await client.startup_body()) in asked:
@@ -98,7 +97,7 @@ async def authenticate(client: Peer, password: Password, user: str) -> None:
 
 
 async def password_body(client: Peer) -> bytes:
-    """What a client sends about its password."""
+    """Returns the client's message about its password."""
     kind, body = await client.frame()
     if kind != PASSWORD:
         raise Denied("08P01", "expected a password message")
@@ -106,7 +105,7 @@ async def password_body(client: Peer) -> bytes:
 
 
 def welcome(guest: Guest, settings: dict[str, str], number: int) -> bytes:
-    """What a client is sent when it is admitted."""
+    """Returns what a client is sent when it is admitted."""
     told = settings | {"session_authorization": guest.user, "application_name": guest.application}
     return b"".join([
         frames.frame(b"v", struct.pack("!II", 0, 0)) if guest.wants_options else b"",

@@ -1,4 +1,4 @@
-"""Keeps what the clients of a slot were sent in a temporary file, so that it can be sent again from the beginning."""
+"""Records what the clients of a slot were sent in a temporary file, so that it can be sent again from the beginning."""
 
 import asyncio
 import os
@@ -11,32 +11,32 @@ from collections.abc import Iterator, Sequence
 from pgshard_tools.fronting import frames
 from pgshard_tools.fronting.frames import Frame
 
-# Where the log begins: the first commit has this position.
+# The beginning of the log, which is the position of the first commit.
 BEGIN_OF_LOG = 64
 
-# Where an XLogData has its message, and that its letter; where a Begin has the position of its commit, a Commit the end
-# of its transaction, and a Relation its OID.
+# The offset of the message in an XLogData, and of the message's body; and the offset of the position of its commit in a
+# Begin, of the end of its transaction in a Commit, and of the OID in a Relation.
 MESSAGE = 25
 LETTER = slice(25, 26)
 BEGIN_POSITION = slice(26, 34)
 COMMIT_END = slice(35, 43)
 RELATION_OID = slice(26, 30)
-# Where a keepalive has its position.
+# The offset of the position in a keepalive.
 KEPT_POSITION = slice(1, 9)
 
-# This many bytes of a transaction are kept in memory before they are written.
+# How many bytes of a transaction are kept in memory before they are written.
 PIECE = 1 << 20
 
 
 class Spool:
-    """A temporary file to which all recordings are written, and which is removed with the program."""
+    """A temporary file to which all recordings are written. It is removed when the program ends."""
 
     def __init__(self) -> None:
         self.file = tempfile.TemporaryFile(buffering=0)
         self.end = 0
 
     def append(self, kept: bytes | bytearray) -> int:
-        """Writes some bytes. Returns where they begin."""
+        """Writes some bytes. Returns their position in the file."""
         begin, at = self.end, 0
         while at < len(kept):
             at += os.pwrite(self.file.fileno(), kept[at:], begin + at)
@@ -44,25 +44,25 @@ class Spool:
         return begin
 
     def read(self, begin: int, length: int) -> bytes:
-        """The bytes at a place of the file."""
+        """Returns the bytes at a place of the file."""
         return os.pread(self.file.fileno(), length, begin)
 
 
 class Recording:
-    """The transactions of a slot from a position on, without a gap."""
+    """The consecutive transactions of a slot from a position on."""
 
     def __init__(self, spool: Spool) -> None:
         self.spool = spool
-        # From where on nothing is missing, None if that is not known; and up to where clients were told of the log,
-        # 0 before they were told anything.
+        # The position from which on nothing is missing, None if it is not known; and the position up to which clients
+        # were sent the log, 0 before they were sent anything.
         self.begin: int | None = None
         self.reach = 0
         # The pieces of transactions: for each, the position of its transaction, its place in the file, and its length.
         self.positions, self.places, self.lengths = array("Q"), array("Q"), array("Q")
         self.recorded = 0
         self.relations: dict[bytes, bytes] = {}
-        # The transaction that is being told: its position, None between transactions and in one that is recorded
-        # already, and what of it is not written.
+        # The transaction that is being sent: its position, None between transactions and in one that has been recorded
+        # already, and the part of it that has not been written.
         self.position: int | None = None
         self.open = bytearray()
         self.fault: str | None = None
@@ -70,11 +70,11 @@ class Recording:
         self.grown = asyncio.Event()
 
     def covers(self, position: int) -> bool:
-        """Whether everything from a position on is recorded."""
+        """Returns whether everything from a position on is recorded."""
         return self.begin is not None and self.begin <= max(position, BEGIN_OF_LOG) and self.fault is None
 
     def fits(self, position: int) -> bool:
-        """Whether a stream that starts at a position leaves no gap."""
+        """Returns whether a stream that starts at a position leaves no gap."""
         return (self.begin is None or self.begin <= max(position, BEGIN_OF_LOG)) and position <= self.reach
 
     def take(self, told: Sequence[Frame]) -> None:
@@ -108,13 +108,13 @@ class Recording:
             self.open.clear()
 
     def take_keepalive(self, position: int) -> None:
-        """Remembers the position in a keepalive. Before anything else was sent, it is where the stream starts."""
+        """Stores the position in a keepalive. Before anything else has been sent, this is where the stream starts."""
         if self.reach == 0:
             self.begin = position
         self.reach = max(self.reach, position)
 
     def take_message(self, body: bytes) -> None:
-        """Records a message, if its transaction is not recorded already."""
+        """Records a message, unless its transaction has been recorded already."""
         letter = body[LETTER]
         if letter == b"B":
             self.forget_unfinished()
@@ -131,7 +131,7 @@ class Recording:
             self.position = None
 
     def forget_unfinished(self) -> None:
-        """Drops what was recorded of a transaction whose end has not arrived."""
+        """Discards what was recorded of a transaction whose end has not arrived."""
         self.open.clear()
         while self.positions and self.positions[-1] >= self.recorded:
             for column in self.positions, self.places, self.lengths:
@@ -146,8 +146,8 @@ class Recording:
         self.open.clear()
 
     def from_position(self, position: int) -> Iterator[bytes]:
-        """The recorded transactions from a position on, with the Relations of all tables in the first one, as at the
-        beginning of each stream. This includes what is recorded in the meantime."""
+        """Yields the recorded transactions from a position on, with the Relations of all tables in the first one, as at
+        the beginning of each stream. This includes what is recorded in the meantime."""
         first = at = bisect_left(self.positions, position)
         while at < len(self.positions) and self.positions[at] < self.recorded:
             piece = self.spool.read(self.places[at], self.lengths[at])
@@ -155,12 +155,12 @@ class Recording:
             at += 1
 
     def with_relations(self, piece: bytes, position: int) -> bytes:
-        """The first piece of a transaction with all Relations after its Begin."""
+        """Returns the first piece of a transaction with all Relations after its Begin."""
         begin = 1 + struct.unpack_from("!I", piece, 1)[0]
         told = [frames.xlog_data(position, relation) for relation in self.relations.values()]
         return b"".join([piece[:begin], *told, piece[begin:]])
 
 
 def number(body: bytes) -> int:
-    """A number of the protocol."""
+    """Returns a number of the protocol."""
     return int.from_bytes(body, "big")

@@ -21,7 +21,7 @@ class Tree:
     fields: dict[str, "Part"] = field(default_factory=dict)
 
     def number(self, name: str) -> int:
-        """A field that is a number."""
+        """Returns a field that is a number."""
         value = self.fields[name]
         if not isinstance(value, str):
             raise ValueError(name)
@@ -32,18 +32,18 @@ class Tree:
         return value if isinstance(value, str) else ""
 
     def tree(self, name: str) -> "Tree | None":
-        """A field that is a node, or None if it is null."""
+        """Returns a field that is a node, or None if it is null."""
         value = self.fields.get(name)
         return value if isinstance(value, Tree) else None
 
     def trees(self, name: str) -> list["Tree"]:
-        """A field that is a list of nodes."""
+        """Returns a field that is a list of nodes."""
         value = self.fields.get(name)
         return [it for it in value if isinstance(it, Tree)] if isinstance(value, list) else []
 
 
 def tree_of(text: str) -> Tree:
-    """The tree that a text is of; ValueError if it has another form."""
+    """Parses a tree; raises ValueError if the text has another form."""
     tokens = TOKEN.findall(text)
     part, at = part_at(tokens, 0)
     if not isinstance(part, Tree) or at != len(tokens):
@@ -52,7 +52,7 @@ def tree_of(text: str) -> Tree:
 
 
 def part_at(tokens: list[str], at: int) -> tuple[Part, int]:
-    """The part that begins at a token, and where it ends."""
+    """Returns the part that begins at a token, and where it ends."""
     if tokens[at] == "{":
         return node_at(tokens, at)
     if tokens[at] == "(":
@@ -77,7 +77,7 @@ def node_at(tokens: list[str], at: int) -> tuple[Part, int]:
             raise ValueError("another form of a node")
         name = tokens[at][1:]
         value, at = part_at(tokens, at + 1)
-        # A constant's value is its length and its bytes, which are several tokens.
+        # A constant's value consists of its length and its bytes, which are several tokens.
         while tokens[at] != "}" and not tokens[at].startswith(":"):
             _, at = part_at(tokens, at)
         tree.fields[name] = value
@@ -85,7 +85,7 @@ def node_at(tokens: list[str], at: int) -> tuple[Part, int]:
 
 
 def numbers_in(text: str, names: tuple[str, ...]) -> set[int]:
-    """The OIDs in the fields of these names in a tree's text; a field may have a list of them."""
+    """Returns the OIDs in the fields with these names in a tree's text; a field may contain a list of them."""
     found: set[int] = set()
     for name in names:
         for listed in re.findall(rf" :{name} (\d+|\(o[ \d]*\))", text):
@@ -93,32 +93,32 @@ def numbers_in(text: str, names: tuple[str, ...]) -> set[int]:
     return found
 
 
-# Where a node says under which collation its result is, and under which it takes its arguments.
+# The fields for the collation of a node's result, and for the collation under which it takes its arguments.
 RESULT_COLLATIONS = (
     "varcollid", "constcollid", "funccollid", "opcollid", "resultcollid", "collOid", "casecollid", "coalescecollid",
     "minmaxcollid", "array_collid")
 
 
 def has_conflict(tree: Tree) -> bool:
-    """Whether a call has texts of several collations, none of which goes before the others. The server takes such an
-    expression, and fails where it computes it."""
+    """Returns whether a call has texts of several collations, none of which takes precedence. The server accepts such
+    an expression, and fails when it evaluates it."""
     is_here = tree.word("inputcollid") == "0" and any(map(is_collated, tree.trees("args")))
     return is_here or has_conflict_of_rows(tree) or any(map(has_conflict, parts_of(tree)))
 
 
 def has_conflict_of_rows(tree: Tree) -> bool:
-    """The same for the pairs of two rows that are compared."""
+    """Returns the same for the pairs of two rows that are compared."""
     numbers = tree.fields.get("inputcollids")
     pairs = zip(numbers[1:] if isinstance(numbers, list) else (), tree.trees("largs"), tree.trees("rargs"))
     return any(number == "0" and (is_collated(one) or is_collated(other)) for number, one, other in pairs)
 
 
 def is_collated(tree: Tree) -> bool:
-    """Whether the result of a node has a collation."""
+    """Returns whether the result of a node has a collation."""
     return any(tree.word(name) not in ("", "0") for name in RESULT_COLLATIONS)
 
 
 def parts_of(tree: Tree) -> list[Tree]:
-    """The children of a node."""
+    """Returns the children of a node."""
     listed = [value if isinstance(value, list) else [value] for value in tree.fields.values()]
     return [it for values in listed for it in values if isinstance(it, Tree)]

@@ -1,4 +1,4 @@
-"""What may be on a side of a comparison."""
+"""The possible sides of a comparison."""
 
 from dataclasses import dataclass, field
 from typing import Any, Callable, TypeAlias
@@ -9,7 +9,7 @@ from pgshard_tools.judging.steps import Step
 
 @dataclass(frozen=True)
 class Value:
-    """A constant of a type, None for NULL."""
+    """A constant of a type, or None for NULL."""
 
     type: str
     value: Any
@@ -17,7 +17,7 @@ class Value:
 
 @dataclass(frozen=True)
 class Array:
-    """A list of operands, None for NULL."""
+    """A list of operands, or None for NULL."""
 
     parts: "tuple[Operand, ...] | None"
 
@@ -32,8 +32,8 @@ class Ref:
 
 @dataclass(frozen=True)
 class Whole:
-    """What some steps make of a column of whole numbers, as a value of an integer type. It is NULL exactly where the
-    column is. If the result of a step does not fit its type the server fails, and here the number just goes on."""
+    """The result of some steps for a column of whole numbers, as a value of an integer type. It is NULL exactly if the
+    column is. If the result of a step does not fit its type, the server fails; here, the steps just continue."""
 
     subject: Subject
     steps: tuple[Step, ...]
@@ -50,9 +50,9 @@ class DayOf:
 
 @dataclass(frozen=True)
 class Derived:
-    """A function of an operand. Some comparisons with constants (= < <=) are such of that operand; of others it answers
-    None, and of these the function is a column of its own. They may go by the collation of that column. The result may
-    be a whole number of another type, which has no room for it where a formula is TRUE."""
+    """A function of an operand. Some comparisons of it with constants (= < <=) are comparisons of that operand; for
+    others it returns None, and for these the function is a column of its own. They may depend on the collation of that
+    column. The result may be a whole number of another type, which it does not fit if a formula is TRUE."""
 
     ref: Ref
     means: "Callable[[Ref, str, Value], Formula | None]" = field(compare=False)

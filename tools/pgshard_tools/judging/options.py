@@ -1,4 +1,4 @@
-"""The command line of tools/judge: its own options, and those of psql that say how to connect."""
+"""The command line of tools/judge: its own options, and psql's options for connecting."""
 
 import argparse
 from collections.abc import Sequence
@@ -88,7 +88,7 @@ class Parser(argparse.ArgumentParser):
 
 
 def parser() -> Parser:
-    """All options. Short ones are psql's, so -h is a host."""
+    """Returns the parser with all options. Short ones are psql's, so -h is a host."""
     found = Parser(
         prog="pgshard judge", description=DESCRIPTION, epilog=STATUSES, add_help=False, allow_abbrev=False,
         formatter_class=argparse.RawDescriptionHelpFormatter)
@@ -161,7 +161,7 @@ def add_connection(found: Parser) -> None:
 
 
 def seconds(text: str) -> float:
-    """A positive time."""
+    """Parses a positive time."""
     value = float(text)
     if not 0 < value < 1e6:
         raise ValueError(text)
@@ -169,7 +169,7 @@ def seconds(text: str) -> float:
 
 
 def number_of_rows(text: str) -> int:
-    """The number of rows of a table that are listed."""
+    """Parses the number of rows of a table to list."""
     value = int(text)
     if not 0 < value <= MOST_ROWS:
         raise ValueError(text)
@@ -177,7 +177,7 @@ def number_of_rows(text: str) -> int:
 
 
 def options_of(words: Sequence[str]) -> Options:
-    """The options on a command line, in any order."""
+    """Parses the options on a command line, which may be in any order."""
     found = parser().parse_intermixed_args(list(words))
     return Options(
         found.explain, found.all, found.json, found.strict, found.migration, found.repair, found.keep,
@@ -188,7 +188,7 @@ def options_of(words: Sequence[str]) -> Options:
 
 
 def subscriptions_of(variables: Sequence[str]) -> str | None:
-    """The value of psql's variable, if it is not empty."""
+    """Returns the value of psql's variable, if it is not empty."""
     value = ""
     for variable in variables:
         name, _, value = variable.partition("=")
@@ -198,7 +198,7 @@ def subscriptions_of(variables: Sequence[str]) -> str | None:
 
 
 def words_of(found: argparse.Namespace) -> list[str]:
-    """The arguments with which psql connects."""
+    """Returns the arguments with which psql connects."""
     words = []
     for option, value in ("-d", found.dbname), ("-h", found.host), ("-p", found.port), ("-U", found.username):
         if value is not None:
