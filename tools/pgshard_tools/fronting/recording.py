@@ -14,8 +14,8 @@ from pgshard_tools.fronting.frames import Frame
 # The beginning of the log, which is the position of the first commit.
 BEGIN_OF_LOG = 64
 
-# The offset of the message in an XLogData, and of the message's body; and the offset of the position of its commit in a
-# Begin, of the end of its transaction in a Commit, and of the OID in a Relation.
+# The offsets of the message in an XLogData, and of the message's letter; of the position of its commit in a Begin, of
+# the end of its transaction in a Commit, and of the OID in a Relation.
 MESSAGE = 25
 LETTER = slice(25, 26)
 BEGIN_POSITION = slice(26, 34)

@@ -109,7 +109,7 @@ def is_upper_half(coded: Coding, found: Ranges) -> bool:
 
 
 def has_last(coded: Coding, found: Ranges) -> bool:
-    """The last code of a text stands for all other texts, which cannot be listed."""
+    """The last code of a text represents all other texts, which cannot be listed."""
     return coded.printed_type == "text" and found[-1][1] == coded.high
 
 
