@@ -10,6 +10,7 @@ pub mod LineAnswers
 pub mod LineLemmas
 pub mod Published
 pub mod RequestLemmas
+pub mod Rules
 pub mod Serving
 pub mod Sessions
 pub mod SlotLemmas

@@ -8,11 +8,12 @@ pub mod LineCuts
 pub mod Pieces
 pub mod Reports
 pub mod RowLines
+pub mod Rules
 pub mod Saying
 pub mod ScriptLengths
 pub mod ScriptLines
-pub mod ShownLines
 pub mod Showing
+pub mod ShownLines
 pub mod Simulating
 pub mod StepLines
 pub mod WriteFaults

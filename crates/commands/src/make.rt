@@ -45,7 +45,7 @@ fn write_table<'a, W: Writer>(
 }
 
 /// Writes a line for each table.
-#[tactic(auto, using(crate::proofs::FindingLines::none_written, crate::proofs::FindingLines::one_written, crate::proofs::FindingLines::all_written))]
+#[tactic(auto, using(crate::proofs::Rules::writing_tables))]
 fn write_tables<'a, W: Writer>(
     alloc: Global,
     catalog: &Catalog,

@@ -18,7 +18,7 @@ const PIECE: usize = 65_536;
 /// # Errors
 ///
 /// `Input(Unread)` if a read fails, or there are more than 16,777,216 bytes; `OutOfMemory`.
-#[tactic(auto, using(crate::proofs::Pieces::read_nothing, crate::proofs::Pieces::read_more, crate::proofs::Pieces::read_again, crate::proofs::Pieces::read_all, crate::proofs::Pieces::read_too_much, crate::proofs::Pieces::read_too_often))]
+#[tactic(auto, using(crate::proofs::Rules::reading_pieces))]
 fn read_bytes<'a, R: Reader>(alloc: Global, reader: &mut R) -> Result<Vec<u8>, Failure<'a>>
     ensures bytes { IfOk result (λ bytes. IsInput (R.remaining reader.old) bytes.items) }
     ensures short { IfOk result (λ bytes. length bytes.items ≤ MAX_INPUT) }

@@ -95,7 +95,8 @@ impl Frames {
     fn add_gone(&mut self, table: usize, old: &OldPart) -> Result<(), AllocError>
         requires recorded { named_in (r.Delete table (part_view old.now)) ≡ table ∷ [] }
         requires sendable { IsSendableChange (r.Delete table (part_view old.now)) }
-        ensures { OnOk result (TakesEach AddsFrame self.old self.new (message_of (r.Delete table (part_view old.now)))) }
+        ensures { OnOk result (TakesEach AddsFrame self.old self.new
+            (message_of (r.Delete table (part_view old.now)))) }
     {
         let start = self.bytes.len();
         open_frame(&self.head, &mut self.bytes)?;

@@ -7,6 +7,7 @@ pub mod Finding
 pub mod Judging
 pub mod Memos
 pub mod Planning
+pub mod Rules
 pub mod Settling
 pub mod Sides
 pub mod WithinInterval

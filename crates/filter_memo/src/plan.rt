@@ -33,7 +33,7 @@ impl From<AllocError> for NoPlan {
 }
 
 /// The filter, or its negation, as a clause; `None` if it is none.
-#[tactic(auto, using(crate::proofs::Planning::atom_clause, crate::proofs::Planning::not_clause, crate::proofs::Planning::or_clause, crate::proofs::Planning::and_clause))]
+#[tactic(auto, using(crate::proofs::Rules::clauses_of_parts))]
 fn clause_of(parts: &[Filter], filter: &Filter, is_negated: bool) -> Option<Clause>
     ensures { IfSome result (spec.IsClauseOf parts.now (expr_view filter.now) is_negated) }
 {
@@ -57,7 +57,7 @@ fn clause_of(parts: &[Filter], filter: &Filter, is_negated: bool) -> Option<Clau
 /// Adds the branches of a filter, which lead to the exit of its truth value, and returns the first of them. They are
 /// added from the last one to the first. If a side is null, the other side leads elsewhere, so it has branches of its
 /// own.
-#[tactic(auto, using(crate::proofs::Planning::no_branch, crate::proofs::Planning::const_branches, crate::proofs::Planning::not_branches, crate::proofs::Planning::is_branches))]
+#[tactic(auto, using(crate::proofs::Rules::branches_of_parts))]
 fn add_branches(
     parts: &[Filter],
     branches: &mut Vec<Branch>,

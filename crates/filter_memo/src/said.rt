@@ -55,7 +55,7 @@ impl Said {
     }
 
     /// Joins one more value with the value of its number by OR. Numbers from 64 on are ignored.
-    #[tactic(auto, using(crate::proofs::BitLemmas::true_added, crate::proofs::BitLemmas::null_added, crate::proofs::BitLemmas::false_added, crate::proofs::BitLemmas::past_added))]
+    #[tactic(auto, using(crate::proofs::Rules::adding_what_is_said))]
     pub fn with(self, number: usize, tri: Tri) -> Said
         ensures { Adds self result number tri }
     {

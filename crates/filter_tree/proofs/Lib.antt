@@ -3,6 +3,7 @@ pub mod ListsLemmas
 pub mod OnceLemmas
 pub mod OrderLemmas
 pub mod PossibleLemmas
+pub mod Rules
 pub mod SameLemmas
 pub mod Tests
 pub mod ValidLemmas

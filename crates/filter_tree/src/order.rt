@@ -153,7 +153,7 @@ impl<A: Allocator> Ord for Row<A> {
 /// A law about the order of rows. It is total (`total`), so an ordered map may have rows as its keys. Rows that it ties
 /// are equal (`equal`), and it ties rows exactly if they are the same (`ties`). Two values are in the order that
 /// PostgreSQL gives the values of a column (`values`).
-#[tactic(auto, using(crate::proofs::OrderLemmas::row_total, crate::proofs::OrderLemmas::row_tie, crate::proofs::OrderLemmas::ties_same_rows, crate::proofs::OrderLemmas::orders_values))]
+#[tactic(auto, using(crate::proofs::Rules::order_of_rows))]
 pub fn rows_are_ordered()
     ensures total { IsTotalOrder row_cmp }
     ensures equal { IsAntisymmetric row_cmp }

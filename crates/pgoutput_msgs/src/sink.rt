@@ -41,7 +41,8 @@ pub trait MessageSink {
     /// out of memory.
     fn delete(&mut self, table: usize, old: &OldPart) -> Result<(), AllocError>
         requires { IsSendableChange (r.Delete table (part_view old.now)) }
-        ensures { OnOk result (TakesEach takes_one self.old self.new (message_of (r.Delete table (part_view old.now)))) };
+        ensures { OnOk result (TakesEach takes_one self.old self.new
+            (message_of (r.Delete table (part_view old.now)))) };
 
     /// Takes the Truncate of the tables of these numbers. The only error is out of memory.
     fn truncate(&mut self, tables: &[usize]) -> Result<(), AllocError>

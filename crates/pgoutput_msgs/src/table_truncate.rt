@@ -20,7 +20,8 @@ use std::alloc::AllocError;
 pub fn encode_truncate(tables: &[usize], out: &mut Vec<u8>) -> Result<(), AllocError>
     requires few { length tables.now < 2 ^ 31 }
     requires numbers { All IsTableNumber tables.now }
-    ensures ok { OnOk result (out.new.items ≡ out.old.items ++ spelling_of (Msg.Truncate 0 (map spec.oid_of tables.now))) }
+    ensures ok { OnOk result (out.new.items
+        ≡ out.old.items ++ spelling_of (Msg.Truncate 0 (map spec.oid_of tables.now))) }
     ensures err { OnErr result (out.new.items ≡ out.old.items) }
 {
     out.reserve(tables.len() * 4 + 6)?;

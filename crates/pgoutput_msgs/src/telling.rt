@@ -170,8 +170,9 @@ fn tell_change<S: MessageSink>(
     sink: &mut S,
 ) -> Result<(), AllocError>
     requires { IsSendableChange (change_view change.now) }
-    ensures said { OnOk result (TakesEach S.takes_one sink.old sink.new (spec.said (checked_view checked.now).catalog.tables
-        relation_sent.old (got (setting_in (checked_view checked.now)) subscriber (change_view change.now)))) }
+    ensures said { OnOk result (TakesEach S.takes_one sink.old sink.new
+        (spec.said (checked_view checked.now).catalog.tables relation_sent.old
+        (got (setting_in (checked_view checked.now)) subscriber (change_view change.now)))) }
     ensures relation_sent { OnOk result (relation_sent.new
         ≡ spec.mark_by relation_sent.old
         (got (setting_in (checked_view checked.now)) subscriber (change_view change.now))) }

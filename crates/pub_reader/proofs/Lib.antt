@@ -12,6 +12,7 @@ pub mod OwnColumns
 pub mod OwnNames
 pub mod OwnRelations
 pub mod Positions
+pub mod Rules
 pub mod StepWords
 pub mod SuitingFilters
 pub mod SuitingParts

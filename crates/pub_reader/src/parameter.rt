@@ -130,7 +130,7 @@ fn boolean_or_none(r: &mut Reader<'_>) -> Result<(), ReadError>
 }
 
 /// Reads `publish_via_partition_root`.
-#[tactic(auto, using(sql_reader::proofs::Ahead::rest_of_some_is_fewer), unfolding(crate::specs::Publishing::partition_root))]
+#[tactic(auto, using(crate::proofs::Rules::fewer_are_left), unfolding(crate::specs::Publishing::partition_root))]
 fn partition_root(r: &mut Reader<'_>, given: Given) -> Result<Given, ReadError>
     requires { IsSome (item_ahead (to_read r.old)) }
     ensures { TakesSome (λ given. given) (spec.partition_root given) r.old result r.new }

@@ -93,7 +93,7 @@ fn one_table(
 }
 
 /// Reads the names of tables, separated by commas, and returns their numbers.
-#[tactic(auto, using(sql_reader::proofs::RepetitionLemmas::chains), unfolding(crate::specs::ScriptCommands::table_list))]
+#[tactic(auto, using(crate::proofs::Rules::chaining), unfolding(crate::specs::ScriptCommands::table_list))]
 fn table_list(r: &mut Reader<'_>, alloc: Global, tables: &[Table]) -> Result<Vec<usize>, ReadError>
     ensures { TakesSome (λ numbers. numbers.items) (spec.table_list tables.now) r.old result r.new }
 {
@@ -159,7 +159,7 @@ fn one_command(
 }
 
 /// Reads commands, separated by commas.
-#[tactic(auto, using(sql_reader::proofs::RepetitionLemmas::chains), unfolding(crate::specs::ScriptCommands::command_list))]
+#[tactic(auto, using(crate::proofs::Rules::chaining), unfolding(crate::specs::ScriptCommands::command_list))]
 fn command_list(
     r: &mut Reader<'_>,
     alloc: Global,

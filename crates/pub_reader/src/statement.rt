@@ -110,7 +110,7 @@ fn statements(r: &mut Reader<'_>, alloc: Global, draft: &mut Draft) -> Result<()
 /// # Errors
 ///
 /// The first fault of the text, or `OutOfMemory` if an allocation failed.
-#[tactic(auto, using(crate::proofs::CarryingCatalogs::means_as_written, pub_catalog::proofs::CatalogFacts::catalog_limited, pub_catalog::proofs::CatalogFacts::catalog_entries_known, pub_catalog::proofs::CatalogFacts::catalog_named))]
+#[tactic(auto, using(crate::proofs::Rules::facts_of_catalogs))]
 pub fn read_catalog(alloc: Global, text: &str) -> Result<Catalog, ReadError>
     ensures catalog { Answers catalog_view (spec.catalog_by as_filter text.now) result }
     ensures written { IfOk result

@@ -60,7 +60,7 @@ fn one_publication(
 }
 
 /// Reads the names of publications, separated by commas.
-#[tactic(auto, using(sql_reader::proofs::RepetitionLemmas::chains), unfolding(crate::specs::Subscriptions::publication_list))]
+#[tactic(auto, using(crate::proofs::Rules::chaining), unfolding(crate::specs::Subscriptions::publication_list))]
 fn publication_list(
     r: &mut Reader<'_>,
     alloc: Global,

@@ -47,7 +47,8 @@ impl<P: Publishing> Model for History<P> {
 
     ghost view = { λ h. h.keeper.me.0 };
 
-    ghost invariant = { λ h. (h.table.shared.table_id ≡ P.history) × (h.keeper.table_id ≡ P.history) × (P.history.words ≡ 1) × (h.keeper.me.1 ≡ []) × (h.keeper.me.0.keeps ≡ true) };
+    ghost invariant = { λ h. (h.table.shared.table_id ≡ P.history) × (h.keeper.table_id ≡ P.history)
+        × (P.history.words ≡ 1) × (h.keeper.me.1 ≡ []) × (h.keeper.me.0.keeps ≡ true) };
 }
 
 impl<P: Publishing> History<P> {

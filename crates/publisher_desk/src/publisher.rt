@@ -132,7 +132,8 @@ impl<P: Publishing> Publisher<P> {
         time: u64,
     ) -> Result<u32, CommitError>
         ensures ok { IfOk result (λ number.
-            seat.new.notes ≡ seat.old.notes ++ Committed (receipt_of number (map command_view commands.items) time) ∷ []) }
+            seat.new.notes
+            ≡ seat.old.notes ++ Committed (receipt_of number (map command_view commands.items) time) ∷ []) }
         ensures made { IfOk result (
             IsMade P.checked P.limit seat.old.seen seat.new.seen (map command_view commands.items) time) }
         ensures above { IfOk result (λ number. receipts seat.old.notes < number) }

@@ -30,7 +30,8 @@ impl<P: Publishing> Model for Seat<P> {
 
     ghost view = { λ s. record { notes = s.notes.items; seen = (sight_of s.token).seen } };
 
-    ghost invariant = { λ s. IsSeat s.notes.items s.high s.mark.parts s.mark.amount × IsSighted (setting_in P.checked) s.notes.items (sight_of s.token) };
+    ghost invariant = { λ s. IsSeat s.notes.items s.high s.mark.parts s.mark.amount
+        × IsSighted (setting_in P.checked) s.notes.items (sight_of s.token) };
 }
 
 impl<P: Publishing> Seat<P> {

@@ -72,7 +72,8 @@ impl Play<Receipt, HistoryView> for Adds {
     ghost use Rattle.publisher_desk.specs.Receipts.{ReceiptOf};
     ghost use Rattle.publisher_desk.specs.Sights.{IsTold, added};
 
-    ghost then = { λ step before _ after. (receipt : ReceiptOf) × (step.said ≡ some receipt) × (after ≡ (added receipt before.0, before.1)) × IsTold before.0 };
+    ghost then = { λ step before _ after. (receipt : ReceiptOf) × (step.said ≡ some receipt)
+        × (after ≡ (added receipt before.0, before.1)) × IsTold before.0 };
 }
 
 /// How one token gets the sight that another took in last, and how that takes it in.

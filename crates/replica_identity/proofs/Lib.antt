@@ -3,4 +3,5 @@ pub mod NumberLemmas
 pub mod PartLemmas
 pub mod PassingLemmas
 pub mod PlanLemmas
+pub mod Rules
 pub mod SettingLemmas

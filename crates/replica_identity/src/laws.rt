@@ -10,7 +10,7 @@ ghost use Rattle.replica_identity.specs.SettingLaws.{SettingHasTables, RowsHaveK
 /// that is as wide as its table; this also holds under FULL, where they are the whole row (`identities`).
 ///
 /// PostgreSQL 15, SQL Commands, ALTER TABLE (REPLICA IDENTITY).
-#[tactic(auto, using(crate::proofs::SettingLemmas::has_table, crate::proofs::SettingLemmas::has_primary_keys, crate::proofs::SettingLemmas::columns_identify))]
+#[tactic(auto, using(crate::proofs::Rules::settings_of_catalogs))]
 pub fn catalogs_make_settings()
     ensures tables { SettingHasTables }
     ensures keys { RowsHaveKeys }

@@ -99,7 +99,7 @@ fn key_part(
 /// of memory, and that the row is shared too often.
 ///
 /// PostgreSQL 15, SQL Commands, ALTER TABLE (REPLICA IDENTITY).
-#[tactic(auto, using(crate::proofs::PartLemmas::by_default, crate::proofs::PartLemmas::by_index, crate::proofs::PartLemmas::by_full, crate::proofs::PartLemmas::by_nothing))]
+#[tactic(auto, using(crate::proofs::Rules::parts_by_identity))]
 pub fn old_part(
     alloc: Global,
     table: &Table,

@@ -10,6 +10,7 @@ pub mod NumberLemmas
 pub mod ReachLemmas
 pub mod RefusedLemmas
 pub mod ReplayLemmas
+pub mod Rules
 pub mod SendingLemmas
 pub mod ServingLemmas
 pub mod SkippingLemmas

@@ -123,7 +123,8 @@ pub(crate) fn run_both<
         &mut || -> Option<ListenerEnd>
             requires { 0 < length listener.now.piece.items }
             ensures { HearsAll P.checked (S.left reader.entry.now) (S.left reader.exit.now)
-                (S.has_failed reader.exit.now) (S.has_ended reader.exit.now) listener.entry.now listener.exit.now result }
+                (S.has_failed reader.exit.now) (S.has_ended reader.exit.now)
+                listener.entry.now listener.exit.now result }
         { hear(rt, publisher, slot, listener, reader) },
         &mut || -> Sent
             requires { IsQuiet voice.now (started_telling P.checked slot start copy_both_response) }

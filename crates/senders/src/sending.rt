@@ -57,7 +57,8 @@ fn await_step<P: Publishing, W: Sink, R: Wait>(
 
 /// Takes these commits, of which the subscriber gets nothing.
 fn skip_all(voice: &mut Voice, commits: &[Arc<Commit, Global>])
-    requires { AreQuietFor (voice_checked voice.old) (voice_stage voice.old) (map (λ commit. arc_value commit) commits.now) }
+    requires { AreQuietFor (voice_checked voice.old) (voice_stage voice.old)
+        (map (λ commit. arc_value commit) commits.now) }
     ensures { TakesUp (map (λ commit. arc_value commit) commits.now) voice.old voice.new }
 {
     for commit in commits {

@@ -58,7 +58,7 @@ impl<W: Write> Sink for ToWrite<W> {
 
     ghost has_failed = { λ sink. sink.failed };
 
-    #[tactic(auto, using(crate::proofs::ConnectionLemmas::none_taken, crate::proofs::ConnectionLemmas::still_kept, crate::proofs::ConnectionLemmas::kept_itself, crate::proofs::ConnectionLemmas::kept_then_taken))]
+    #[tactic(auto, using(crate::proofs::Rules::pushing))]
     fn push(&mut self, bytes: &[u8]) -> Result<usize, Failed> {
         for _ in 0..u64::MAX {
             match self.writer.write(bytes) {

@@ -74,7 +74,7 @@ impl<R: Read> Source for FromRead<R> {
 
     ghost has_ended = { λ source. source.ended };
 
-    #[tactic(auto, using(crate::proofs::ConnectionLemmas::still_kept, crate::proofs::ConnectionLemmas::kept_itself, crate::proofs::ConnectionLemmas::kept_then_given))]
+    #[tactic(auto, using(crate::proofs::Rules::pulling))]
     fn pull(&mut self, piece: &mut [u8]) -> Result<usize, Failed> {
         for _ in 0..u64::MAX {
             match self.reader.read(piece) {

@@ -24,6 +24,7 @@ pub mod RangeLemmas
 pub mod ReasonLemmas
 pub mod RemainingLemmas
 pub mod RowLemmas
+pub mod Rules
 pub mod ShardingLemmas
 pub mod SoundFacts
 pub mod SoundLemmas

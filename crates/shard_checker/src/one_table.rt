@@ -94,7 +94,7 @@ fn check_tree<A: Allocator, B: Allocator>(
 ///
 /// The error of the first node, in the order in which a certificate is written, that says something that is not true,
 /// with 0 as the table's number; or `OutOfMemory`.
-#[tactic(auto, using(crate::proofs::SoundLemmas::certificate_sound, crate::proofs::TruthLemmas::certificate_wrong, crate::proofs::AnyTest::checks_by_any))]
+#[tactic(auto, using(crate::proofs::Rules::verdicts_of_one))]
 pub fn check_one<A: Allocator, B: Allocator>(
     alloc: Global,
     table: &Table,

@@ -98,7 +98,8 @@ fn check_count(tables: usize, certificates: usize) -> Result<(), CheckError>
 fn check_catalog(alloc: Global, catalog: &Catalog) -> Result<(), CheckError>
     ensures exact { Checks (spec.catalog_refusal (catalog_view catalog.now)) result }
     ensures declared { OnOk result (spec.declared_refusal (catalog_view catalog.now) ≡ None) }
-    ensures memory { NeedsMemoryOnlyIf CheckError.OutOfMemory (spec.declared_refusal (catalog_view catalog.now) ≡ None) result }
+    ensures memory { NeedsMemoryOnlyIf CheckError.OutOfMemory
+        (spec.declared_refusal (catalog_view catalog.now) ≡ None) result }
 {
     let tables = catalog.tables.as_slice();
     let publications = catalog.publications.as_slice();
@@ -119,7 +120,8 @@ pub fn check_given<C: Source>(
     ensures exact { Checks
         (walking.refusal_by_nodes is_empty (catalog_view catalog.now) (plan_view plan.now) (map C.nodes certs.now))
         result }
-    ensures memory { NeedsMemoryOnlyIf CheckError.OutOfMemory (spec.declared_refusal (catalog_view catalog.now) ≡ None) result }
+    ensures memory { NeedsMemoryOnlyIf CheckError.OutOfMemory
+        (spec.declared_refusal (catalog_view catalog.now) ≡ None) result }
 {
     check_catalog(alloc, catalog)?;
     let tables = catalog.tables.as_slice();
@@ -137,7 +139,8 @@ fn check_sharding<A: Allocator>(
     ensures exact { Checks
         (spec.sharding_refusal is_empty (catalog_view catalog.now) (plan_view plan.now) (map tree_view certs.now))
         result }
-    ensures memory { NeedsMemoryOnlyIf CheckError.OutOfMemory (spec.declared_refusal (catalog_view catalog.now) ≡ None) result }
+    ensures memory { NeedsMemoryOnlyIf CheckError.OutOfMemory
+        (spec.declared_refusal (catalog_view catalog.now) ≡ None) result }
 {
     check_given(alloc, catalog, plan, certs)?;
     Ok(())
@@ -178,7 +181,8 @@ pub fn check<A: Allocator>(
     ensures kept { IfOk result (λ checked. checked_view checked ≡ checked_of catalog plan) }
     ensures exact { (test : EmptyTest) → IsEmptiness test → Checks
         (spec.sharding_refusal test (catalog_view catalog) (plan_view plan) (map tree_view certs.now)) result }
-    ensures memory { NeedsMemoryOnlyIf CheckError.OutOfMemory (spec.declared_refusal (catalog_view catalog) ≡ None) result }
+    ensures memory { NeedsMemoryOnlyIf CheckError.OutOfMemory
+        (spec.declared_refusal (catalog_view catalog) ≡ None) result }
     ensures wrong { IfRefused result
         (ShardingIsWrong (catalog_view catalog) (plan_view plan) (map tree_view certs.now)) }
 {

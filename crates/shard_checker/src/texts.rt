@@ -56,7 +56,8 @@ fn check_texts(
     ensures exact { spec.text_fault 1 (spec.texts_view texts.now) ≡ None
         → Checks (sharding_refusal is_empty (catalog_view catalog.now) (plan_view plan.now)
         (spec.trees_in (spec.texts_view texts.now))) result }
-    ensures memory { NeedsMemoryOnlyIf CheckError.OutOfMemory (declared_refusal (catalog_view catalog.now) ≡ None) result }
+    ensures memory { NeedsMemoryOnlyIf CheckError.OutOfMemory
+        (declared_refusal (catalog_view catalog.now) ≡ None) result }
 {
     check_given(alloc, catalog, plan, texts)?;
     Ok(())

@@ -24,6 +24,7 @@ pub mod RefusedAnswers
 pub mod RefusedFeeding
 pub mod RefusedHearing
 pub mod RefusedSteps
+pub mod Rules
 pub mod RunLemmas
 pub mod SentLemmas
 pub mod SlotLemmas

@@ -66,7 +66,7 @@ impl Peer {
     ghost use Rattle.shard_world.specs.World.{Open, Hear, Take, Keep, Deliver, Report, Lose};
 
     /// The subscriber connects, and requests the stream from its position on.
-    #[tactic(auto, using(crate::proofs::CallLemmas::is_already_open, crate::proofs::CallLemmas::opens_one, crate::proofs::StopLemmas::open_stays_shut, crate::proofs::StopLemmas::open_is_refused, crate::proofs::LinkedLemmas::is_linked))]
+    #[tactic(auto, using(crate::proofs::Rules::opening))]
     fn open(&mut self, alloc: Global, checked: &Arc<Checked, Global>) -> Result<Answer, Halted>
         ensures { (now : ℕ) (book : BookType) → Tries (checked_view (arc_value checked.now)) now Open book book
             self.old result self.new }
@@ -81,7 +81,7 @@ impl Peer {
     }
 
     /// The publisher hears the next bytes of the subscriber, at most this number.
-    #[tactic(auto, using(crate::proofs::CallLemmas::is_not_open, crate::proofs::CallLemmas::hears_piece, crate::proofs::StopLemmas::hear_stops))]
+    #[tactic(auto, using(crate::proofs::Rules::hearing))]
     fn hear(&mut self, book: &mut Book, now: u64, bytes: usize) -> Result<Answer, Halted>
         ensures { (checked : CheckedOf) → Tries checked now (Hear bytes) book.old book.new self.old result self.new }
     {
@@ -96,7 +96,7 @@ impl Peer {
     }
 
     /// The publisher takes the next commit.
-    #[tactic(auto, using(crate::proofs::CallLemmas::is_not_open, crate::proofs::CallLemmas::takes_one, crate::proofs::StopLemmas::take_stops))]
+    #[tactic(auto, using(crate::proofs::Rules::taking))]
     fn take(&mut self, book: &Book, now: u64) -> Result<Answer, Halted>
         requires { IsLinkedTo (book_checked book.now) self.old }
         ensures { (checked : CheckedOf) → Tries checked now Take book.now book.now self.old result self.new }
@@ -109,7 +109,7 @@ impl Peer {
     }
 
     /// The publisher sends a keepalive.
-    #[tactic(auto, using(crate::proofs::CallLemmas::is_not_open, crate::proofs::CallLemmas::keeps_one, crate::proofs::StopLemmas::keep_stops))]
+    #[tactic(auto, using(crate::proofs::Rules::keeping))]
     fn keep(&mut self, now: u64, want: bool) -> Result<Answer, Halted>
         ensures { (checked : CheckedOf) (book : BookType) → Tries checked now (Keep want) book book
             self.old result self.new }
@@ -125,7 +125,7 @@ impl Peer {
     }
 
     /// The next bytes of the publisher, at most this number, are delivered to the subscriber.
-    #[tactic(auto, using(crate::proofs::CallLemmas::is_not_open, crate::proofs::CallLemmas::delivers_piece, crate::proofs::StopLemmas::deliver_stops))]
+    #[tactic(auto, using(crate::proofs::Rules::delivering))]
     fn deliver(&mut self, bytes: usize) -> Result<Answer, Halted>
         ensures { (checked : CheckedOf) (now : ℕ) (book : BookType) → Tries checked now (Deliver bytes) book book
             self.old result self.new }
@@ -141,7 +141,7 @@ impl Peer {
     }
 
     /// The subscriber reports its position.
-    #[tactic(auto, using(crate::proofs::CallLemmas::is_not_open, crate::proofs::CallLemmas::reports_one, crate::proofs::StopLemmas::report_stops))]
+    #[tactic(auto, using(crate::proofs::Rules::reporting))]
     fn report(&mut self, now: u64, want: bool) -> Result<Answer, Halted>
         ensures { (checked : CheckedOf) (book : BookType) → Tries checked now (Report want) book book
             self.old result self.new }

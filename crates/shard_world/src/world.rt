@@ -77,7 +77,7 @@ impl World {
     }
 
     /// Commands are committed as one transaction, or refused.
-    #[tactic(auto, using(crate::proofs::WorldMoves::commits_one, crate::proofs::WorldMoves::refuses_one, crate::proofs::LinkedLemmas::serves_alike))]
+    #[tactic(auto, using(crate::proofs::Rules::committing))]
     fn commit(&mut self, commands: &[Command], time: u64) -> Answer
         ensures { (now : ℕ) → now < 2 ^ 64
             → StepsFromEach self.old self.new now (w.Commit (map command_view commands.now) time) result }
@@ -140,7 +140,7 @@ impl World {
     }
 
     /// These events of a pump happen.
-    #[tactic(auto, using(crate::proofs::PumpLemmas::walks_none, crate::proofs::PumpLemmas::walks_more, crate::proofs::PumpLemmas::walks_end))]
+    #[tactic(auto, using(crate::proofs::Rules::walking))]
     fn go_through(
         &mut self,
         now: u64,
@@ -158,7 +158,7 @@ impl World {
     }
 
     /// Each remaining commit is taken.
-    #[tactic(auto, using(crate::proofs::PumpLemmas::takes_none, crate::proofs::PumpLemmas::takes_more, crate::proofs::PumpLemmas::takes_idle, crate::proofs::PumpLemmas::takes_enough, crate::proofs::PumpLemmas::takes_end))]
+    #[tactic(auto, using(crate::proofs::Rules::taking_all))]
     fn take_all(&mut self, now: u64, subscriber: usize) -> Result<(), Answer>
         ensures { TakesThrough self.old self.new now subscriber result }
     {

@@ -9,10 +9,11 @@ pub mod FollowingBytesLemmas
 pub mod FollowingLemmas
 pub mod Inside
 pub mod KeyLemmas
+pub mod LayoutRoomLemmas
 pub mod NamedLemmas
 pub mod RelationSteps
+pub mod Rules
 pub mod Safety
-pub mod LayoutRoomLemmas
 pub mod SentItems
 pub mod StartAnswered
 pub mod StartLengths

@@ -21,7 +21,7 @@ pub fn first_parts_are_cut()
 /// none of them is a fault to it (`items`). The same holds after any first bytes of the stream (`bytes`).
 ///
 /// PostgreSQL 15, 55.4. Streaming Replication Protocol, and "Logical Replication", 31.3 Row Filters.
-#[tactic(auto, using(crate::proofs::FollowingLemmas::items_are_followed, crate::proofs::FollowingBytesLemmas::bytes_are_followed))]
+#[tactic(auto, using(crate::proofs::Rules::following))]
 pub fn subscribers_follow_streams()
     ensures items { ItemsAreFollowed }
     ensures bytes { BytesAreFollowed }
@@ -35,7 +35,7 @@ pub fn subscribers_follow_streams()
 /// and when more is committed (`longer`).
 ///
 /// PostgreSQL 15, 31.2. Subscription, and 55.4. Streaming Replication Protocol.
-#[tactic(auto, using(crate::proofs::FollowingBytesLemmas::fed_follow, crate::proofs::FollowingBytesLemmas::first_follows, crate::proofs::FollowingBytesLemmas::follows_longer))]
+#[tactic(auto, using(crate::proofs::Rules::following_pieces))]
 pub fn fed_subscribers_follow()
     ensures fed { FedFollow }
     ensures nothing { NothingIsFed }

@@ -13,7 +13,7 @@ ghost use Rattle.table_changes.specs.Showing.{RecordShows, RecordShowsAll};
 /// value in a unique key are one row (`one`).
 ///
 /// PostgreSQL 15, Chapter 6 Data Manipulation, 5.4.4 Primary Keys, and 11.6 Unique Indexes.
-#[tactic(auto, using(crate::proofs::TableLemmas::holds_with, crate::proofs::TableLemmas::row_goes, crate::proofs::TableLemmas::holds_emptied, crate::proofs::TableLemmas::others_stay, crate::proofs::TableLemmas::one_row))]
+#[tactic(auto, using(crate::proofs::Rules::rows_of_tables))]
 pub fn rows_come_and_go()
     ensures comes { RowComes }
     ensures goes { RowGoes }
@@ -28,7 +28,7 @@ pub fn rows_come_and_go()
 /// by their identity (`apart`). Tables without rows have all of these properties (`begin`).
 ///
 /// PostgreSQL 15, Chapter 6 Data Manipulation, and SQL Commands, TRUNCATE.
-#[tactic(auto, using(crate::proofs::ChangeLemmas::rows_stand, crate::proofs::ChangeLemmas::stay_keyed, crate::proofs::ChangeLemmas::stay_fit, crate::proofs::ChangeLemmas::stay_apart, crate::proofs::ChangeLemmas::begins_well))]
+#[tactic(auto, using(crate::proofs::Rules::changes_of_rows))]
 pub fn commands_change_rows()
     ensures stand { RowsStand }
     ensures keyed { RowsStayKeyed }
@@ -43,7 +43,7 @@ pub fn commands_change_rows()
 /// and its change is recorded after theirs (`recorded`).
 ///
 /// PostgreSQL 15, Chapter 6 Data Manipulation.
-#[tactic(auto, using(crate::proofs::CommandListLemmas::are_alike, crate::proofs::CommandListLemmas::fault_of_one_more, crate::proofs::CommandListLemmas::first_fault_stays, crate::proofs::CommandListLemmas::left_by_one_more, crate::proofs::CommandListLemmas::record_of_one_more))]
+#[tactic(auto, using(crate::proofs::Rules::lists_of_commands))]
 pub fn commands_come_one_by_one()
     ensures alike { SameAreAlike }
     ensures fault { FaultOfOneMore }

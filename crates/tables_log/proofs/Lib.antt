@@ -9,6 +9,7 @@ pub mod NumberLemmas
 pub mod PassLemmas
 pub mod PlaceLemmas
 pub mod RouteLemmas
+pub mod Rules
 pub mod SameLemmas
 pub mod SendableLemmas
 pub mod SettleLemmas

@@ -107,7 +107,7 @@ impl Book {
     /// allocation was refused. The others need no memory.
     ///
     /// PostgreSQL 15, 3.4. Transactions, and Chapter 6 Data Manipulation.
-    #[tactic(auto, using(crate::proofs::BookLemmas::refused_by, crate::proofs::BookLemmas::count_refused, crate::proofs::BookLemmas::is_transaction, crate::proofs::ListLemmas::map_more))]
+    #[tactic(auto, using(crate::proofs::Rules::committing))]
     pub fn commit(&mut self, commands: &[Command], time: u64) -> Result<u32, CommitError>
         ensures ok { IfOk result (λ number. Commits self.old self.new (map command_view commands.now) time number) }
         ensures refused { IfErr result (RefusedBy self.old (map command_view commands.now)) }

@@ -77,7 +77,7 @@ fn stage(
 
 /// Applies the commands as one transaction, and returns its entry of the log; or leaves what was kept. Only the tables
 /// that they name have to settle, since all that was seen of each was kept.
-#[tactic(auto, using(crate::proofs::BookLemmas::commits_tables, crate::proofs::BookLemmas::stops_kept, crate::proofs::BookLemmas::keeps_first, crate::proofs::BookLemmas::stages_settled, crate::proofs::SettleLemmas::settles_all, crate::proofs::SettleLemmas::discards_all))]
+#[tactic(auto, using(crate::proofs::Rules::committing_tables))]
 pub(crate) fn commit_tables(
     alloc: Global,
     checked: &Checked,

@@ -10,7 +10,7 @@ use crate::book::Book;
 /// table, and if commands keep rows apart by their replica identity, no two rows of a table have the same one (`rows`).
 ///
 /// PostgreSQL 15, 3.4. Transactions, 5.4.4 Primary Keys, 11.6 Unique Indexes.
-#[tactic(auto, using(crate::proofs::StandLemmas::new_stands, crate::proofs::StandLemmas::commits_add_one, crate::proofs::StandLemmas::slots_keep_it, crate::proofs::StandLemmas::each_is_logged, crate::proofs::StandLemmas::books_are_right))]
+#[tactic(auto, using(crate::proofs::Rules::standing_for_transactions))]
 pub fn books_stand_for_transactions()
     ensures new { NewStands }
     ensures commits { CommitsAddOne }

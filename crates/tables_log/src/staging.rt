@@ -46,7 +46,7 @@ fn refused_at(number: usize, refused: Refused) -> CommitError
 }
 
 /// Stages what the commands do, each on what the earlier ones leave, up to the first that is refused.
-#[tactic(auto, using(crate::proofs::ListLemmas::so_far_begins, crate::proofs::ListLemmas::keeps_both, crate::proofs::ListLemmas::keeps_itself))]
+#[tactic(auto, using(crate::proofs::Rules::applying_all))]
 pub(crate) fn apply_all(
     alloc: Global,
     checked: &Checked,

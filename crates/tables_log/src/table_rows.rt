@@ -92,7 +92,7 @@ impl TableRows {
 
     /// Stages the row in the map of this number under this key, and returns whether a row was seen there. The only error
     /// is out of memory.
-    #[tactic(auto, using(crate::proofs::PlaceLemmas::puts_there, crate::proofs::PlaceLemmas::keeps_there, crate::proofs::PlaceLemmas::keeps_here, crate::proofs::StepLemmas::was_there))]
+    #[tactic(auto, using(crate::proofs::Rules::putting))]
     fn put_at(&mut self, number: usize, key: Key, row: &TableRow) -> Result<bool, AllocError>
         requires { number < length self.old.maps.items }
         ensures keeps { KeepsRows self.old self.new }
@@ -119,7 +119,7 @@ impl TableRows {
 
     /// Stages the row in the map of this number, if it has a value there, and returns whether a row was seen by that
     /// value. The only error is out of memory.
-    #[tactic(auto, using(crate::proofs::PlaceLemmas::puts_nothing, crate::proofs::PlaceLemmas::keeps_here, crate::proofs::StepLemmas::none_found, crate::proofs::StepLemmas::puts_same, crate::proofs::StepLemmas::found_same))]
+    #[tactic(auto, using(crate::proofs::Rules::placing))]
     fn place_one(
         &mut self,
         alloc: Global,
@@ -144,7 +144,7 @@ impl TableRows {
     }
 
     /// Stages that the row is not in the map of this number. The only error is out of memory.
-    #[tactic(auto, using(crate::proofs::PlaceLemmas::puts_nothing, crate::proofs::PlaceLemmas::keeps_here, crate::proofs::StepLemmas::puts_same))]
+    #[tactic(auto, using(crate::proofs::Rules::taking))]
     fn take_one(
         &mut self,
         alloc: Global,

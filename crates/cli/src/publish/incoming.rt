@@ -94,7 +94,7 @@ impl<I: Reader> LineReader<I> {
     /// # Errors
     ///
     /// `Input(Unread)` if the reader fails; `OutOfMemory`.
-    #[tactic(auto, using(crate::proofs::LineLemmas::line_begins, crate::proofs::LineLemmas::line_goes_on, crate::proofs::LineLemmas::line_ends, crate::proofs::LineLemmas::line_waits, crate::proofs::LineLemmas::line_is_last, crate::proofs::LineLemmas::line_is_lost))]
+    #[tactic(auto, using(crate::proofs::Rules::line_turns))]
     pub(crate) fn next_line<'a, R: Wait>(
         &mut self,
         rt: &R,

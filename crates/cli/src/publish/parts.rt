@@ -29,7 +29,8 @@ fn read_lines<'a, I: Reader, R: Wait>(
     alloc: Global,
     lines: &mut LineReader<I>,
 ) -> Result<Vec<u8>, Failure<'a>>
-    ensures ok { IfOk result (λ part. ReadsPart (coming I.remaining lines.old) (coming I.remaining lines.new) part.items) }
+    ensures ok { IfOk result (λ part.
+        ReadsPart (coming I.remaining lines.old) (coming I.remaining lines.new) part.items) }
     ensures err { IfErr result (StopsPart I.may_fail (coming I.remaining lines.old) (coming I.remaining lines.new)) }
 {
     let mut part = Vec::new(alloc);

@@ -109,7 +109,8 @@ impl RowMemory {
     ) -> Result<(), AllocError>
         requires empty { string_bytes line.old ≡ [] }
         requires memo { spec.IsLineMemo wanted (map carrier_view carriers.now) self.old.told }
-        ensures line { OnOk result (string_bytes line.new ≡ spec.kept_of wanted (map carrier_view carriers.now) row.now) }
+        ensures line { OnOk result (
+            string_bytes line.new ≡ spec.kept_of wanted (map carrier_view carriers.now) row.now) }
         ensures memo { OnOk result (spec.IsLineMemo wanted (map carrier_view carriers.now) self.new.told) }
     {
         if let Some(memo) = &mut self.told {
