@@ -1,5 +1,5 @@
 -- Lines are answered one after another, and it may stop at each.
-use Rattle.std.proofs.Common.{◌≡◌, ℕ, Bool, List, [], ◌∷◌, ◌++◌, All, Option, Some, None, append-nil, codes, refl, sym, subst, ◌∙◌}
+use Rattle.std.proofs.Common.{◌≡◌, ℕ, Bool, List, [], ◌∷◌, ◌++◌, All, Option, Some, None, append-nil, codes, refl, sym, subst}
 use Rattle.std.specs.Prelude.{IfErr, IsErrAnd, Result, Ok, Err}
 use Rattle.std.proofs.KnownBytes.{Appends-nil, Appends-trans, Consumes-nil, Consumes-trans}
 use Rattle.std.proofs.lemmas.List.Concat.{flat_map-append}
@@ -15,7 +15,7 @@ use Rattle.commands.specs.declared.failure.InputFault.{InputFault}
 use Rattle.commands.specs.declared.failure.InputFault.TheVariants as i
 use Rattle.cli.proofs.LineLemmas.{last_of_all}
 use Rattle.cli.specs.Lines.{Ends, Fails, IsPlain, Quits, ReadsLast, ReadsLine, ReadsSome, StopsLine}
-use Rattle.cli.specs.Talks.{Answers, AreAnswered, Conversation, FailsToTell, GoesOn, HasAnswered, HasBegun, HasPart, IsAnswer, IsCutOff, IsOver, IsSeatOf, Nobody, Nothing, OneMore, StopsNext}
+use Rattle.cli.specs.Talks.{Answers, AreAnswered, Conversation, FailsToTell, GoesOn, HasAnswered, HasBegun, HasPart, IsCutOff, IsOver, IsSeatOf, Nobody, Nothing, OneMore, StopsNext}
 
 module _ (checked : CheckedOf) (limit : ℕ) where
   -- so far: lines were read and answered, and the answers are written
