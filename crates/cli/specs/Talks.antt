@@ -59,7 +59,8 @@ AreLastFor (Some port) may_fail before after bytes = Unit {0}
 -- `had` is the session's seat before an answer, and `has` the seat after it.
 module _ (checked : CheckedOf) (limit : ℕ) where
   -- Commands are answered with the number of the commit that they are, of which the session keeps a receipt. Or they
-  -- are answered with the reason why they are refused after the log that the session has then seen, and it keeps nothing.
+  -- are answered with the reason why they are refused after the log that the session has then seen, and it keeps
+  -- nothing.
   pub data IsTalkAnswered (had : SeatOf) (commands : List Command) (has : SeatOf) : Answer → Type 0 where
     Made : (number time : ℕ) → IsMade checked limit had.seen has.seen commands time number
         → has.notes ≡ had.notes ++ n.Committed (receipt_of number commands time) ∷ []

@@ -57,8 +57,8 @@ pub record IsSeen (book : Book) (tables subscriptions : ℕ) (view : View) : Typ
   pub count : length view.progress.items ≡ subscriptions
 
 -- The lines show how many transactions the log has that the session has seen, each of which was accepted after those
--- before it, the rows that they leave in each table, and each subscription. The log has all notes of the session. Nothing
--- is said of the progress of the subscribers.
+-- before it, the rows that they leave in each table, and each subscription. The log has all notes of the session.
+-- Nothing is said of the progress of the subscribers.
 pub record IsView (checked : CheckedOf) (has : SeatOf) (lines : List (List ℕ)) : Type 0 where
   pub noted : AreNoted (setting_in checked) has.seen has.notes
   pub transactions : List Transaction
