@@ -32,7 +32,7 @@ PARTS = [
     Part("release", "the release, which the script pgshard runs", (), "release_checks:check_release"),
     Part("script", "the script pgshard", (PROGRAM,), "script_checks:check_script"),
     Part("package", "the Debian package, and make install", (PROGRAM, DPKG, MAKE), "package_checks:check_package"),
-    Part("python", "the tools as a Python package", (PROGRAM, SETUPTOOLS), "python_package_checks:check_python_package"),
+    Part("python", "tools/ as a Python package", (PROGRAM, SETUPTOOLS), "python_package_checks:check_python_package"),
     Part("subcommands", "that each subcommand has runs of each kind", (PROGRAM,), "subcommand_checks:check_subcommands"),
     Part("refusals-made", "where the sources create refusals", (), "refusals_made_checks:check_refusals_made"),
     Part("runs", "runs with fixed answers, in testing/runs", (PROGRAM,), "runs:check_runs"),

@@ -44,7 +44,7 @@ class Map:
 
 @dataclass
 class Axis:
-    """A term of the filters, with its parts; rows are distinguished only by the parts in which they are."""
+    """A term of the filters, with its parts. The filters distinguish rows only by the parts that contain them."""
 
     coded: Coding
     parts: list[Part]

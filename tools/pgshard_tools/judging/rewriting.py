@@ -84,8 +84,9 @@ def rewritten(given: Sequence[Formula | None], not_null_columns: set[str], sort:
 
 
 def unified(listed: list[Formula | None]) -> list[Formula | None]:
-    """Merges the subjects of a text column that is compared under one collation only. Equality is the same under each
-    collation that is read, since these distinguish texts that differ in any byte."""
+    """Merges the subjects of a text column into one, with the collation under which it is ordered, if there is only
+    one. Equality is the same under each collation that is read, since these distinguish texts that differ in any
+    byte."""
     orders: dict[str, set[str]] = {}
     for leaf in itertools.chain(*(leaves_of(it) for it in listed if it is not None)):
         if isinstance(leaf, Compare) and leaf.op != "=" and leaf.subject.collation:

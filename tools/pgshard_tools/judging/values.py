@@ -170,7 +170,7 @@ def words(constants: Sequence[str], chance: random.Random) -> Iterator[str]:
 
 
 def objects(constants: Sequence[str]) -> Iterator[str]:
-    """Yields JSON objects with one of the constants as a key, and another as its value."""
+    """Yields JSON objects with one of the constants as a key, and a constant or a plain value as its value."""
     named = constants[:8]
     for key in named:
         beside: list[object] = [None, 1, True, "", {}, *named]
