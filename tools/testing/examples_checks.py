@@ -72,7 +72,7 @@ def examples() -> list[Example]:
         Example(("docs/CERTIFICATES.md",), ("make",), shop.replace(", nowhere;", ";"), 1),
         Example(("docs/OUTPUT.md",), ("eval", "orders"), read("orders.txt"), 1),
         Example(("docs/OUTPUT.md",), ("eval", "t", "--insert"), read("regions.txt"), 0),
-        Example(("README.md",), ("simulate",), moves, 0, lines=5),
+        Example(("README.md",), ("simulate",), moves, 0, lines=1),
         Example(("docs/OUTPUT.md",), ("simulate",), moves, 0),
     ]
 
