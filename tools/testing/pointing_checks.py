@@ -27,6 +27,7 @@ CREATE SUBSCRIPTION s CONNECTION '' PUBLICATION p;
 CREATE SUBSCRIPTION u CONNECTION '' PUBLICATION "q 2";
 """
 LINES = CATALOG.count("\n")
+UNSUBSCRIBED = CATALOG[:CATALOG.index("CREATE SUBSCRIPTION")]
 
 # Arguments, input, status, output, and the expected messages.
 TOLD = [
@@ -44,9 +45,15 @@ TOLD = [
      [f"f:{LINES + 5}:1: this name does not exist: VIEWS"]),
     (["eval", "x"], f"{CATALOG}%%\n", 3, "table x\n", ["pgshard: the catalog has no table x"]),
     (["check"], CATALOG, 3, "input\n",
-     ["pgshard: pgshard check needs 2 parts, separated by lines %%; the input has 1"]),
+     ["pgshard: check reads a catalog and certificates, from a file for each or with lines %% between them; "
+      "the input has 1 part"]),
+    (["serve", "--port", "1"], CATALOG, 3, "input\n",
+     ["pgshard: serve reads a catalog, certificates and a script, from a file for each or with lines %% between them; "
+      "the input has 1 part"]),
+    (["check"], f"{CATALOG}%%\ncounter public.t (0, '', 5) owners none\n", 3, "certificate 1 BadToken\n",
+     [f"f:{LINES + 2}:1: this is not a certificate, but what make prints of a table that has none"]),
     (["make"], f"{CATALOG}%%\n", 3, "input\n",
-     ["pgshard: pgshard make needs one part, separated by lines %%; the input has 2"]),
+     ["pgshard: make reads a catalog and nothing else; the input has 2 parts, separated by lines %%"]),
     (["make"], b"CREATE\xff", 3, "input\n", ["pgshard: the input is not valid UTF-8, at byte 6"]),
     # Rows, each pointed at by the line of its answer.
     (["eval", "t"], f"{CATALOG}%%\n(1, 'ä, b', 3)\n(1, 2\n(1, 'a, ''b''', 3000000000)\n(1, 'a')\n(1, 'ä', x)\n", 1,
@@ -65,6 +72,8 @@ TOLD = [
      ["f:1:14: public.t: no subscriber gets the row (0, '', 5)"]),
     (["make"], CATALOG, 1, "counter public.t (0, 'a, b', 5) owners s,u\n",
      ["f:1:14: public.t: s and u get the row (0, 'a, b', 5)"]),
+    (["make"], UNSUBSCRIBED, 1, "counter public.t (0, '', 5) owners none\n",
+     ["f:1:14: public.t: no subscriber gets the row (0, '', 5), since the catalog has no CREATE SUBSCRIPTION"]),
     (["make"], CATALOG, 1, "unknown public.t\n",
      ["f:1:14: public.t: neither a certificate nor a row that shows a fault was found: the search ended without one"]),
     (["make"], CATALOG, 1, "too large public.t\n",
@@ -74,7 +83,7 @@ TOLD = [
     (["check"], f"{CATALOG}%%\ns 0 o 0 o 1 n 0\n", 1, "refused SecondOwner public.t 2 s\n",
      [f"f:{LINES + 2}:9: public.t: the certificate names a subscriber, but another one may also take the row: s"]),
     (["check"], f"{CATALOG}%%\n", 1, "refused CertCount\n",
-     [f"f:{LINES + 2}:1: the catalog has 1 tables, but there are 0 certificates"]),
+     [f"f:{LINES + 2}:1: the catalog has 1 table, but the input has 0 certificates"]),
     (["check"], f"{CATALOG}%%\no 0\n", 1, "refused PublishMissing q 2 truncate\n",
      ["f:5:20: publication q 2, which a subscription takes, does not publish truncate"]),
     (["check"], f"{CATALOG}%%\no 0\n", 1, "refused NotCovered p public.t region\n",
@@ -173,7 +182,7 @@ def check_script(tally: Tally, root: pathlib.Path) -> None:
     (root / "catalog").write_text("CREATE\n")
     (root / "certificates").write_text("o 0\no x\n")
     environment = os.environ | {"WRITES": "input\n", "ENDS": "3"}
-    sentence = "pgshard: pgshard make needs one part, separated by lines %%; the input has 2\n"
+    sentence = "pgshard: make reads a catalog and nothing else; the input has 2 parts, separated by lines %%\n"
     for is_terminal in True, False:
         found = at_terminal([root / "pgshard", "make"], b"%%\n", environment) if is_terminal else (
             by_pipes([root / "pgshard", "make"], b"%%\n", environment))

@@ -51,6 +51,8 @@ def of_input(subcommand: str, source: Source, line: str) -> str:
     if (certificate := CERTIFICATE.fullmatch(line)) is not None:
         begin, text = line_of(parts[1], int(certificate[1]) - 1)
         kind = certificate[2]
+        if text.startswith(sentences.NO_CERTIFICATE):
+            return f"{source.at(begin)}: {sentences.NOT_MADE}"
         at = place_of_fault(text) if kind in ("BadToken", "Ended", "Trailing") else 0
         return f"{source.at(begin + len(text[:at].encode()))}: {sentences.CERTIFICATES.get(kind, kind)}"
     if line.startswith("table "):
@@ -119,11 +121,11 @@ def of_tables(source: Source, output: str) -> list[str]:
         except Fault:
             return found
         if made.certificate is None:
-            found.append(f"{at_character(source, place)}: {table.name}: {why_not(made)}")
+            found.append(f"{at_character(source, place)}: {table.name}: {why_not(made, subscriptions)}")
     return found
 
 
-def why_not(made: Made) -> str:
+def why_not(made: Made, subscriptions: list[str]) -> str:
     """Returns why a table has no certificate."""
     if made.row is None:
         is_large = made.word == "too large"
@@ -131,7 +133,8 @@ def why_not(made: Made) -> str:
         return f"neither a certificate nor a row that shows a fault was found: {reason}"
     row = f"({', '.join(made.row)})"
     if not made.owners:
-        return f"no subscriber gets the row {row}"
+        reason = "" if subscriptions else ", since the catalog has no CREATE SUBSCRIPTION"
+        return f"no subscriber gets the row {row}{reason}"
     return f"{' and '.join(made.owners)} get the row {row}"
 
 
@@ -151,7 +154,8 @@ def of_refusal(source: Source, line: str) -> list[str]:
         lines = parts[1].data.removesuffix(b"\n")
         count = lines.count(b"\n") + 1 if lines else 0
         where = source.at(parts[1].begin)
-        return [f"{where}: the catalog has {len(tables)} tables, but there are {count} certificates"]
+        has = sentences.counted(len(tables), "table")
+        return [f"{where}: the catalog has {has}, but the input has {sentences.counted(count, 'certificate')}"]
     for name, place in publications.items():
         where = at_character(source, place)
         missing = re.fullmatch(rf"refused PublishMissing {re.escape(name)} (\w+)", line)

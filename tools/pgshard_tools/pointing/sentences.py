@@ -10,6 +10,10 @@ CERTIFICATES = {
     "TooDeep": "the certificate has more than 64 splits on a path",
 }
 
+# How lines of `make` about a table without a certificate begin.
+NO_CERTIFICATE = "counter ", "unknown ", "too large "
+NOT_MADE = "this is not a certificate, but what make prints of a table that has none"
+
 ROWS = {
     "Width": "the row does not have as many values as the table has columns",
     "NullInNotNull": "the value is null, and the column is NOT NULL",
@@ -33,7 +37,14 @@ CLOSINGS = {
     "StartLate": "a stream started after a commit that its slot was never sent",
 }
 
-PARTS = {"eval": 2, "show": 1, "check": 2, "make": 1, "simulate": 3, "serve": 3}
+PARTS = {
+    "eval": ["a catalog", "rows"],
+    "show": ["a catalog"],
+    "check": ["a catalog", "certificates"],
+    "make": ["a catalog"],
+    "simulate": ["a catalog", "certificates", "a script"],
+    "serve": ["a catalog", "certificates", "a script"],
+}
 MAX_BYTES = 16_777_216
 
 
@@ -50,11 +61,16 @@ def of_input(subcommand: str, data: bytes, parts: int) -> str:
         data.decode()
     except UnicodeDecodeError as fault:
         return f"the input is not valid UTF-8, at byte {fault.start}"
-    wanted = PARTS.get(subcommand, parts)
-    if parts != wanted:
-        return f"pgshard {subcommand} needs {counted(wanted)}, separated by lines %%; the input has {parts}"
-    return "the input cannot be read"
+    wanted = PARTS.get(subcommand, [])
+    if not wanted or len(wanted) == parts:
+        return "the input cannot be read"
+    has = f"the input has {counted(parts, 'part')}"
+    if len(wanted) == 1:
+        return f"{subcommand} reads {wanted[0]} and nothing else; {has}, separated by lines %%"
+    listed = " and ".join([", ".join(wanted[:-1]), wanted[-1]])
+    return f"{subcommand} reads {listed}, from a file for each or with lines %% between them; {has}"
 
 
-def counted(parts: int) -> str:
-    return "one part" if parts == 1 else f"{parts} parts"
+def counted(number: int, noun: str) -> str:
+    """Returns the number with the noun, in the plural unless the number is 1."""
+    return f"{number} {noun}" if number == 1 else f"{number} {noun}s"
