@@ -12,6 +12,7 @@ from pgshard_tools.judging.faults import BAD_COMMAND, NOT_READ, Fault
 
 WORD = re.compile(r'((?:[^\s="]|"(?:[^"]|"")*")*)(?:=((?:[^\s"]|"(?:[^"]|"")*")*))?')
 PART = re.compile(r'(?:[^,"]|"(?:[^"]|"")*")+')
+VARIABLE = "; the form is -v subscriptions='london=europe tokyo=asia,africa'"
 # A subscriber's copy of a table temporarily has a slot of its own.
 COPYING = re.compile(r"pg_\d+_sync_\d+_\d+")
 
@@ -46,7 +47,7 @@ def unquoted(name: str) -> str:
 
 def from_variable(database: Database, text: str) -> list[Subscriber]:
     """Returns the subscribers in the variable, all of whose publications have to exist."""
-    return [known(database, Subscriber(name, names)) for name, names in named_in(text).items()]
+    return [known(database, Subscriber(name, names), VARIABLE) for name, names in named_in(text).items()]
 
 
 def from_intent(database: Database, path: str, listed: Mapping[str, Sequence[str]]) -> tuple[list[Subscriber], str]:
@@ -75,11 +76,12 @@ def named_in(text: str) -> dict[str, list[str]]:
     return found
 
 
-def known(database: Database, subscriber: Subscriber) -> Subscriber:
-    """Returns the same, if all of its publications exist."""
+def known(database: Database, subscriber: Subscriber, form: str = "") -> Subscriber:
+    """Returns the same, if all of its publications exist. The fault ends with the form in which they are listed."""
     for name in subscriber.publications:
         if name not in database.publications:
-            raise Fault(NOT_READ, f"subscription {subscriber.name} takes publication {name}, which does not exist")
+            takes = f"subscription {subscriber.name} takes publication {name}, which does not exist"
+            raise Fault(NOT_READ, f"{takes}{form}")
     return subscriber
 
 

@@ -18,10 +18,10 @@ from .shardings import halves
 REPLICATION = "replication=database host=127.0.0.1 user=postgres dbname=shop"
 
 NO_SQL = (
-    "ERROR:  this is tools/front before pgshard serve, which takes no SQL\n"
-    "HINT:  It takes START_REPLICATION SLOT .. LOGICAL, and what clients ask before that.\n")
+    "ERROR:  this is pgshard front, which relays the streams of pgshard serve and runs no SQL\n"
+    "HINT:  It answers START_REPLICATION SLOT .. LOGICAL, and what clients ask before that.\n")
 NO_COPY = (
-    "ERROR:  tools/front has tables to copy only as they are at the begin of the log, which is empty\n"
+    "ERROR:  tools/front has tables to copy only as they are at the beginning of the log, which is empty\n"
     "HINT:  A subscription copies them by slots of its own. Other clients start their streams from 0/0.\n")
 
 # What psql sends, and what it prints.
