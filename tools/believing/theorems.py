@@ -44,11 +44,25 @@ LINKS = {
 }
 
 FRAMES = {
-    "frames_in": "the `whole_frames` of bytes, with the limit 65,536",
     "whole_frames": "the frames of bytes, which `bytes_make_frames` defines",
     "bytes_left": "what comes after the frames of bytes, which `bytes_make_frames` defines",
     "fault_in": "the fault of what comes after the frames of bytes, which `bytes_make_frames` defines",
 }
+
+BOOKS = {
+    "HasMaps": "how a `Book` keeps its rows, which `row` shows",
+    "IsSettled": "how a `Book` keeps its rows, which `row` shows",
+    "IsRouterOf": "how a `Book` finds who gets a change, which `owners` of an entry shows",
+    "book_log": "the log of a `Book`, which `entry` shows",
+    "book_rows": "the tables of a `Book`, which `row` shows",
+    "book_checked": "the catalog of a `Book`, which is the one that `new` was given",
+    "book_setting": "what the catalog of a `Book` says about changes, as in `setting_of`",
+}
+
+LIMIT = "the limit of a `Book`, which `limit` shows"
+
+COMMAND = ("the grammar of START_REPLICATION, of 55.4 of the documentation, and of the options of pgoutput, in "
+           "`copy_both/specs/CommandText`")
 
 SOUNDNESS = Theorem("soundness", [clauses("shard_checker", "sharding.rt", "check", "sound", "kept")], most=650)
 
@@ -113,37 +127,49 @@ HEADLINE = Theorem("headline", [
     "lost": "how the definition keeps a subscriber's rows; what is shown is defined without it",
 })
 
-THREADS = Theorem("threads", [
+PUBLISHING = trait("publisher_desk", "naming.rt", "Publishing")
+
+SERVED = Theorem("served", [
     clauses("senders", "serving.rt", "serve"),
     clauses("senders", "connection.rt", "run_all"),
+    clauses("copy_frames", "laws.rt", "bytes_make_frames", "made"),
+], most=2000, tokens={
+    "frames_in": "the `whole_frames` of bytes, with the limit 65,536",
+    **FRAMES,
+    **BOOKS,
+    "command_of": COMMAND,
+}, traits=[
+    trait("senders", "source.rt", "Source"),
+    trait("senders", "sink.rt", "Sink"),
+    PUBLISHING,
+])
+
+SESSIONS = Theorem("sessions", [
     clauses("publisher_desk", "publisher.rt", "new"),
     clauses("publisher_desk", "publisher.rt", "commit"),
     clauses("publisher_desk", "publisher.rt", "read"),
     clauses("publisher_desk", "publisher.rt", "next_step"),
     clauses("publisher_desk", "publisher.rt", "with_slots"),
-    clauses("senders", "closing.rt", "close"),
-    clauses("senders", "laws.rt", "closed_publishers_were_followed"),
-    clauses("copy_frames", "laws.rt", "bytes_make_frames", "made"),
-], most=2650, tokens={
-    **HANDED,
-    **FRAMES,
-    "command_of": "the grammar of START_REPLICATION, of 55.4 of the documentation, and of the options of pgoutput, in "
-                  "`copy_both/specs/CommandText`",
-    "HasMaps": "how a `Book` keeps its rows, which `row` shows",
-    "IsSettled": "how a `Book` keeps its rows, which `row` shows",
-    "IsRouterOf": "how a `Book` finds who gets a change, which `owners` of an entry shows",
-    "book_log": "the log of a `Book`, which `entry` shows",
-    "book_rows": "the tables of a `Book`, which `row` shows",
-    "book_checked": "the catalog of a `Book`, which is the one that `new` was given",
-    "book_limit": "the limit of a `Book`, which `limit` shows",
-    "book_setting": "what the catalog of a `Book` says about changes, as in `setting_of`",
+], most=1400, tokens={
+    **BOOKS,
+    "book_limit": LIMIT,
 }, traits=[
-    trait("senders", "source.rt", "Source"),
-    trait("senders", "sink.rt", "Sink"),
-    trait("publisher_desk", "naming.rt", "Publishing"),
+    PUBLISHING,
     trait("publisher_desk", "slot_task.rt", "SlotTask"),
     trait("publisher_desk", "desk.rt", "Desk"),
 ])
+
+CLOSED = Theorem("closed", [
+    clauses("senders", "closing.rt", "close"),
+    clauses("senders", "laws.rt", "closed_publishers_were_followed"),
+    clauses("copy_frames", "laws.rt", "bytes_make_frames", "made"),
+], most=2400, tokens={
+    **HANDED,
+    **FRAMES,
+    **BOOKS,
+    "command_of": COMMAND,
+    "book_limit": LIMIT,
+}, traits=[PUBLISHING])
 
 PROGRAM = Theorem("program", [
     clauses("cli", "program.rt", "run"),
@@ -161,4 +187,4 @@ PROGRAM = Theorem("program", [
                "says of it what part 2 says of `decode`",
 })
 
-THEOREMS = [SOUNDNESS, SHOWN, READ, CODEC, CONNECTION, ENDED, HEADLINE, THREADS, PROGRAM]
+THEOREMS = [SOUNDNESS, SHOWN, READ, CODEC, CONNECTION, ENDED, HEADLINE, SERVED, SESSIONS, CLOSED, PROGRAM]
