@@ -36,9 +36,11 @@ HANDED = {
 
 LINKS = {
     "HearSays": "what `Link::hear` ensures and the law requires",
-    "HearingOf": "what `Link::hear` heard in a piece: where the stream starts, and how many replies are requested",
+    "HearingOf": "what `Link::hear` heard in a piece: where the stream starts, how many replies are requested, and the "
+                 "kind of the client's frame that ended it, 99 for CopyDone (`copy_both/specs/Hearing` and `Events`)",
     "LinkPasses": "what `Link::passed` ensures and the law requires",
-    "link_stage": "the state of a link, which calls pass to one another",
+    "link_stage": "the state of a link, which calls pass to one another; it is `Started` exactly while `Link::sent` "
+                  "returns a position",
     "link_checked": "the catalog of a link, which is the one that `Link::new` was given",
     "link_output": "what waits to be sent, which `Link::output` shows",
 }
@@ -83,11 +85,13 @@ CODEC = Theorem("codec", [
 ], most=300)
 
 CONNECTION = Theorem("connection", [
-    clauses("copy_both", "laws.rt", "links_say_streams", "hears", "takes", "keeps", "passes"),
-    clauses("stream_laws", "laws.rt", "fed_subscribers_follow", "fed", "stops"),
+    clauses("copy_both", "laws.rt", "links_say_streams", "hears", "takes", "keeps", "passes", "grows"),
+    clauses("stream_laws", "laws.rt", "fed_subscribers_follow", "first", "fed", "stops"),
+    clauses("test_subscriber", "laws.rt", "pieces_are_fed_as_one", "fed"),
     clauses("test_subscriber", "subscriber.rt", "rows"),
     clauses("test_subscriber", "subscriber.rt", "position"),
     clauses("copy_both", "link.rt", "output"),
+    clauses("copy_both", "link.rt", "sent"),
 ], most=1400, tokens={
     **HANDED,
     **LINKS,
@@ -100,7 +104,7 @@ CONNECTION = Theorem("connection", [
 })
 
 ENDED = Theorem("ended", [
-    clauses("copy_both", "laws.rt", "links_say_streams", "ends", "breaks", "stops", "rest", "front", "grows"),
+    clauses("copy_both", "laws.rt", "links_say_streams", "ends", "breaks", "stops", "rest", "front"),
     clauses("copy_both", "link.rt", "output"),
 ], most=1000, tokens={
     **LINKS,
