@@ -1,5 +1,6 @@
 """Tests what `pgshard publish` does as time passes, and its log of connections, which consists of JSON objects."""
 
+import contextlib
 import json
 import socket
 import time
@@ -18,6 +19,10 @@ from .shop import LONDON, SHOP, TOKYO
 SILENCE = 4
 STAY = 7
 PAUSE = 0.2
+
+# For how many seconds a client may send its start, and the pause between the bytes of one that takes longer.
+START = 3
+DRIP = 0.1
 
 # For how many seconds a client may leave everything unread, how much later its end may come on a busy machine, and the
 # commits for a client that reads nothing: more than sockets hold.
@@ -49,6 +54,7 @@ def check_timing(tally: Tally) -> None:
     check_words(tally, text)
     check_keepalives(tally, text)
     check_silence(tally, text)
+    check_start(tally, text)
     check_stalled(tally, text)
     check_objects(tally, text)
     check_strange_name(tally, text)
@@ -125,6 +131,26 @@ def check_silence(tally: Tally, text: str) -> None:
         tally.check("what is said of the silent client", program.log, [said])
         other.finish()
         tally.check("the end after a silent client", program.finish(), (0, ["closed 0 2\n"]))
+
+
+def check_start(tally: Tally, text: str) -> None:
+    """Checks that a start may come byte by byte, and that a client whose start takes too long is given up."""
+    with publishing(text, "--start-timeout", str(START)) as (program, port), client(port) as made, client(port) as slow:
+        begin, given_up = time.monotonic(), 0.0
+        made.send_slowly(messages.start("london", 0, ["low"]))
+        response = messages.COPY_BOTH_RESPONSE
+        tally.check("a start that comes byte by byte", made.receive(len(response)), response)
+        with contextlib.suppress(OSError):
+            for byte in messages.start("tokyo", 0, ["high"]):
+                slow.send(bytes([byte]))
+                time.sleep(DRIP)
+                if program.log:
+                    given_up = time.monotonic() - begin
+                    break
+        tally.check("how soon a start that takes too long is given up", START - 0.1 < given_up < SECONDS, True)
+        tally.check("what a client gets whose start takes too long", slow.receive_all(), b"")
+        made.finish()
+        tally.check("the end after a start that takes too long", program.finish(), (0, ["closed 0 2\n"]))
 
 
 def check_stalled(tally: Tally, text: str) -> None:

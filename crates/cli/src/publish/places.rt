@@ -77,7 +77,7 @@ fn serve_stream<P: Publishing + Sync, R: Threads + Wait + Clock + Sync>(
 {
     let writes = Writes::new();
     let _ = stream.set_nodelay(true);
-    let mut reader = FromRead::new(PatientRead::new(hall, stream, &writes));
+    let mut reader = FromRead::new(PatientRead::new(rt, hall, stream, &writes));
     let mut writer = ToWrite::new(PatientWrite::new(hall, stream, &writes));
     serve(rt, publisher, &mut reader, &mut writer, &OpenGate)
 }

@@ -7,7 +7,7 @@ use std::io;
 use std::io::{ErrorKind, Read, Write};
 use std::net::TcpStream;
 use std::sync::atomic::{AtomicBool, Ordering};
-use std::time::Duration;
+use std::time::{Clock, Duration, Instant};
 
 /// How many milliseconds a tick has. After a tick without a byte, a client may have to be disconnected.
 const TICK: u64 = 200;
@@ -34,33 +34,36 @@ impl Writes {
     }
 }
 
-/// What a client sends. A read fails if the client does not start its stream in time, or at once while no place is
-/// free; if it is silent for too long after that; once a write to it has failed; and once all clients are to be
+/// What a client sends. A read fails if the client does not start its stream in time, or is silent while no place is
+/// free; if it is silent for too long after the start; once a write to it has failed; and once all clients are to be
 /// disconnected.
-#[derive(Debug, Drop)]
-pub(crate) struct PatientRead<'a> {
+#[derive(Drop)]
+pub(crate) struct PatientRead<'a, R> {
+    rt: &'a R,
     hall: &'a Hall,
     stream: &'a TcpStream,
     writes: &'a Writes,
-    /// How many ticks are left in which the client may start its stream.
-    left: u64,
+    /// When the client was accepted, if the clock could be read.
+    accepted: Option<Instant>,
     /// For how many ticks the client has been silent.
     silent: u64,
 }
 
-impl<'a> PatientRead<'a> {
+impl<'a, R: Clock> PatientRead<'a, R> {
     /// A reader of the socket, whose client has the start timeout of the hall to start its stream.
     pub(crate) fn new(
+        rt: &'a R,
         hall: &'a Hall,
         stream: &'a TcpStream,
         writes: &'a Writes,
-    ) -> PatientRead<'a> {
+    ) -> PatientRead<'a, R> {
         let _ = stream.set_read_timeout(Some(Duration::from_millis(TICK)));
         PatientRead {
+            rt,
             hall,
             stream,
             writes,
-            left: u64::from(hall.start_timeout()).saturating_mul(TICKS),
+            accepted: Instant::now(rt).ok(),
             silent: 0,
         }
     }
@@ -74,8 +77,22 @@ impl<'a> PatientRead<'a> {
         };
     }
 
-    /// Whether the client is to be disconnected. Called after each read and each tick. A silent client is disconnected
-    /// if another waits for its place.
+    /// Whether the client has used up its time to start a stream. If the clock cannot be read, only the ticks count in
+    /// which it was silent.
+    fn is_late(&self) -> bool {
+        let seconds = u64::from(self.hall.start_timeout());
+        let spent = match &self.accepted {
+            Some(accepted) => accepted.elapsed(self.rt).ok(),
+            None => None,
+        };
+        match spent {
+            Some(spent) => Duration::from_secs(seconds) <= spent,
+            None => seconds.saturating_mul(TICKS) <= self.silent,
+        }
+    }
+
+    /// Whether the client is to be disconnected. Called after each read and each tick. A silent client that has not
+    /// started its stream is disconnected while no place is free, and once the door is closed.
     fn is_over(&mut self, is_silent: bool) -> bool {
         self.count(is_silent);
         if self.hall.is_cleared() || self.writes.has_failed.load(Ordering::SeqCst) {
@@ -84,12 +101,11 @@ impl<'a> PatientRead<'a> {
         if self.writes.is_started.load(Ordering::SeqCst) {
             return u64::from(self.hall.timeout()).saturating_mul(TICKS) <= self.silent;
         }
-        self.left = self.left.saturating_sub(1);
-        self.left == 0 || (is_silent && (self.hall.is_full() || self.hall.is_closed()))
+        self.is_late() || (is_silent && (self.hall.is_full() || self.hall.is_closed()))
     }
 }
 
-impl Read for PatientRead<'_> {
+impl<R: Clock> Read for PatientRead<'_, R> {
     fn read(&mut self, buffer: &mut [u8]) -> io::Result<usize> {
         for _ in 0..u64::MAX {
             let mut stream = self.stream;
