@@ -12,3 +12,4 @@ mod tables;
 mod words;
 
 pub use catalog::write_catalog;
+pub use level::Level;
