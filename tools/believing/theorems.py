@@ -181,9 +181,11 @@ PROGRAM = Theorem("program", [
 ], most=6750, tokens={
     "IsClosed": "what `close` of `senders` ensures, which is read in part 5",
     "RefusedClose": "what `close` of `senders` ensures, which is read in part 5",
-    "WasServed": "what `serve` of `senders` ensures, which is read in part 5",
+    "WasServed": "that `serve` of `senders`, which is read in part 5, may return this result for some bytes that were "
+                 "read and written",
     "IsMade": "what `commit` of `publisher_desk` ensures, which is read in part 5",
-    "IsPassedOver": "what `commit` of `publisher_desk` ensures, which is read in part 5",
+    "IsPassedOver": "what `commit` of `publisher_desk` ensures, which is read in part 5, and that the error is not out of "
+                    "memory",
     "IsRouterOf": "how a `Book` finds who gets a change, which `owners` of an entry shows",
     "cut": "the frames of bytes and what comes after them: `bytes_make_frames`, which is read in part 5, says of its "
            "frames, of its rest and of its fault what they are",

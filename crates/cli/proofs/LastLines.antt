@@ -6,7 +6,7 @@ use Rattle.shard_checker.specs.CheckedView.{CheckedOf}
 use Rattle.tables_log.specs.BookView.{book_log}
 use Rattle.tables_log.specs.declared.book.Book.{Book}
 use Rattle.publisher_desk.specs.Seats.{SeatOf, empty_seat}
-use Rattle.senders.specs.CloseCauses.{RefusedClose}
+use Rattle.senders.specs.CloseCauses.{CanCome, RefusedClose}
 use Rattle.senders.specs.Closing.{IsClosed}
 use Rattle.senders.specs.Gathering.{all_receipts, receipts_in}
 use Rattle.senders.specs.declared.close_error.CloseError.{CloseError}
@@ -52,9 +52,9 @@ module _ (service : ServiceOf) (seat : SeatOf) (served : List Served) (over : Is
       (subst (λ (l : ℕ). IsClosed checked l (seat ∷ []) served book) (sym is_for.limit_is) closed)))
 
   pub error_is_last : (error : CloseError) → RefusedClose checked limit 1000 999 (seat ∷ []) served error
-      → IsLastOf service error
-  error_is_last error refused name named =
+      → CanCome error → IsLastOf service error
+  error_is_last error refused possible name named =
       Differs seat served error name over
       (subst (λ (c : CheckedOf). RefusedClose c service.limit 1000 999 (seat ∷ []) served error) (sym is_for.checked_is)
       (subst (λ (l : ℕ). RefusedClose checked l 1000 999 (seat ∷ []) served error) (sym is_for.limit_is) refused))
-      named
+      possible named

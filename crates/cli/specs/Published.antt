@@ -8,7 +8,7 @@ use Rattle.filter_tree.specs.Expr.{Expr}
 use Rattle.pub_catalog.specs.Catalogs.{CatalogOf}
 use Rattle.pub_reader.specs.Statements.{catalog_by}
 use Rattle.publisher_desk.specs.Seats.{SeatOf, empty_seat}
-use Rattle.senders.specs.CloseCauses.{RefusedClose}
+use Rattle.senders.specs.CloseCauses.{CanCome, RefusedClose}
 use Rattle.senders.specs.Closing.{IsClosed}
 use Rattle.senders.specs.declared.close_error.CloseError.{CloseError}
 use Rattle.senders.specs.declared.served.Served.{Served}
@@ -49,7 +49,7 @@ module _ (checked : CheckedOf) (limit : ℕ) (seat : SeatOf) where
         → IsClosed checked limit (seat ∷ []) served book
         → IsLastLine (closed_line (length (book_log book)) (length served)) Done
     Differs : (served : List Served) (error : CloseError) (name : List ℕ) → All (WasServed checked) served
-        → RefusedClose checked limit 1000 999 (seat ∷ []) served error → name_of error ≡ Some name
+        → RefusedClose checked limit 1000 999 (seat ∷ []) served error → CanCome error → name_of error ≡ Some name
         → IsLastLine (codes "close " ++ name) Refused
 
   -- whatever name the error has, the line with it is a last line

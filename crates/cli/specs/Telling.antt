@@ -6,7 +6,7 @@ use Rattle.shard_checker.specs.CheckedView.{CheckedOf}
 use Rattle.table_changes.specs.Commands.{Command}
 use Rattle.tables_log.specs.declared.book.Book.{Book}
 use Rattle.publisher_desk.specs.Seats.{SeatOf, empty_seat}
-use Rattle.senders.specs.CloseCauses.{RefusedClose}
+use Rattle.senders.specs.CloseCauses.{CanCome, RefusedClose}
 use Rattle.senders.specs.Closing.{IsClosed}
 use Rattle.senders.specs.declared.close_error.CloseError.{CloseError}
 use Rattle.senders.specs.declared.close_error.CloseError.TheVariants as e
@@ -77,7 +77,7 @@ pub data IsLast (service : ServiceOf) : List ℕ → Status → Type 0 where
       → IsLast service (closed_line (length seat.notes) (length served)) Done
   Differs : (seat : SeatOf) (served : List Served) (error : CloseError) (name : List ℕ)
       → IsOver service seat served → RefusedClose service.checked service.limit 1000 999 (seat ∷ []) served error
-      → name_of error ≡ Some name → IsLast service (codes "close " ++ name) Refused
+      → CanCome error → name_of error ≡ Some name → IsLast service (codes "close " ++ name) Refused
 
 -- whatever name the error has, the line with it is a last line
 abbrev pub IsLastOf : ServiceOf → CloseError → Type 0

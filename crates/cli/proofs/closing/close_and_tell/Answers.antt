@@ -35,4 +35,5 @@ returns g c service is_for over =
     (subst (λ (n : ℕ). RefusedClose checked limit n 999 (c.args.seat ∷ []) served error) c.requires.parts
     (subst (λ (n : ℕ). RefusedClose checked limit g.P.Ledger.parts n (c.args.seat ∷ []) served error) c.requires.rest
     (subst (λ (s : List SeatOf). RefusedClose checked limit g.P.Ledger.parts c.args.rest s served error) seats
-    c.in-Err.ensures.refused))))
+    c.in-Err.ensures.refused)))
+    c.in-Err.ensures.possible)

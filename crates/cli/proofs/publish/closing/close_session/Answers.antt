@@ -37,4 +37,4 @@ returns-in-Err g c =
     (subst (λ (s : List SeatOf). RefusedClose checked limit g.P.Ledger.parts c.args.rest s served error) seats
     c.in-Err.ensures.refused)) in
     c.tell_error.ensures checked limit c.args.seat
-    (λ name named. Differs served error name c.requires.served refused named)
+    (λ name named. Differs served error name c.requires.served refused c.in-Err.ensures.possible named)
