@@ -1,4 +1,4 @@
-//! Builds the breakpoints of all terms of filters, and tests which filters they evaluate.
+//! Builds the breakpoints of all terms of the atoms, and tests which atoms they evaluate.
 
 ghost use Rattle.std.specs.Prelude.{◌≡◌, true, All, IfOk, IsTrue};
 ghost use Rattle.filter_memo.specs.Covering as covering;
@@ -12,7 +12,7 @@ use crate::interval_index::IntervalIndex;
 use filter_tree::{Filter, Term, Value, same_term};
 use std::alloc::{AllocError, Global};
 
-/// Whether the filter with this number compares only this term, and only with these bounds. The answer `false` may be
+/// Whether the atom with this number compares only this term, and only with these bounds. The answer `false` may be
 /// wrong.
 fn covers_part(
     alloc: Global,
@@ -29,7 +29,7 @@ fn covers_part(
     }
 }
 
-/// The numbers of the filters that compare only this term, and only with these bounds.
+/// The numbers of the atoms that compare only this term, and only with these bounds.
 fn numbers_of(
     alloc: Global,
     term: Term,
@@ -100,7 +100,7 @@ fn new_term(all_breakpoints: &[Breakpoints], part: &Filter) -> Option<Term> {
     }
 }
 
-/// The breakpoints of each term of the filters. The only error is out of memory.
+/// The breakpoints of each term of the atoms. The only error is out of memory.
 pub fn all_breakpoints_of(alloc: Global, parts: &[Filter]) -> Result<Vec<Breakpoints>, AllocError>
     ensures { IfOk result (λ all_breakpoints. AreSettled parts.now all_breakpoints.items) }
 {
@@ -142,7 +142,7 @@ fn has_number(numbers: &[usize], number: usize) -> bool
     numbers.iter().any(|own| number == *own)
 }
 
-/// Whether the breakpoints of some term evaluate the filter with this number.
+/// Whether the breakpoints of some term evaluate the atom with this number.
 #[tactic(auto, using(crate::proofs::Judging::told_by_one))]
 fn is_told(all_breakpoints: &[Breakpoints], number: usize) -> bool
     ensures { result ≡ spec.has_number (numbers_in all_breakpoints.now) number }
@@ -154,7 +154,7 @@ fn is_told(all_breakpoints: &[Breakpoints], number: usize) -> bool
     }
 }
 
-/// Whether the breakpoints evaluate all filters with numbers below `count`.
+/// Whether the breakpoints evaluate all atoms with numbers below `count`.
 pub fn are_told(all_breakpoints: &[Breakpoints], count: usize) -> bool
     ensures { IsTrue result → AreTold all_breakpoints.now count }
 {

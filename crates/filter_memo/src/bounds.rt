@@ -1,4 +1,5 @@
-//! Collects the constants that filters compare a term with. Nothing is proved of the result: `covers` tests it.
+//! Collects the constants that atoms compare a term with, in ascending order. Whether all of them were collected is not
+//! proved: `covers` tests it.
 
 ghost use Rattle.std.specs.Prelude.{◌≡◌, IfOk};
 ghost use Rattle.std.specs.List.Sorted.{IsSorted};
@@ -51,7 +52,7 @@ fn add_constants(alloc: Global, bounds: &mut Vec<Value>, atom: &Atom) -> Result<
     }
 }
 
-/// The constants that the filters compare the term with, in ascending order. The only error is out of memory.
+/// The constants that the atoms compare the term with, in ascending order. The only error is out of memory.
 pub fn bounds_of(alloc: Global, term: Term, parts: &[Filter]) -> Result<Vec<Value>, AllocError>
     ensures { IfOk result (λ bounds. IsSorted value_cmp bounds.items) }
 {
@@ -63,6 +64,7 @@ pub fn bounds_of(alloc: Global, term: Term, parts: &[Filter]) -> Result<Vec<Valu
             }
         }
     }
+    // They are in ascending order already; the sort proves it.
     bounds.sort_unstable();
     Ok(bounds)
 }

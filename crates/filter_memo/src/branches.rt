@@ -103,7 +103,8 @@ impl Exits {
         }
     }
 
-    /// The exits of the first side of an OR, likewise.
+    /// The exits of the first side of an OR whose second side begins at `second`, and where the first side is null, at
+    /// `other`.
     pub fn of_first_or(self, second: usize, other: usize) -> Exits
         ensures { result ≡ spec.of_first_or self second other }
     {

@@ -1,4 +1,4 @@
-//! Breakpoints: the constants that filters compare a term with.
+//! Breakpoints: the constants that atoms compare a term with.
 
 ghost use Rattle.std.specs.Prelude.{◌≡◌, int_rem, IfSome};
 ghost use Rattle.filter_tree.specs.Datum.{Known, Number};
@@ -10,7 +10,7 @@ use crate::bucket::{Bucket, bucket_of};
 use crate::interval_index::IntervalIndex;
 use filter_tree::{Row, Term, Value};
 
-/// A term, the values that filters compare it with in ascending order, and the numbers of these filters. The cells of
+/// A term, the constants that atoms compare it with in ascending order, and the numbers of these atoms. The cells of
 /// its buckets start at `base`, and those of its intervals at `first_interval`.
 #[derive(Drop)]
 pub struct Breakpoints {

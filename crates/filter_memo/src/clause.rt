@@ -7,7 +7,7 @@ ghost use Rattle.filter_memo.specs.Clauses as spec;
 use crate::said::Said;
 use filter_tree::Tri;
 
-/// The truth values of numbered filters, as three words: a bit is set in exactly one of them.
+/// The truth values of numbered atoms, as three words: each atom's bit is set in exactly one of them.
 #[derive(Clone, Copy, Debug, PartialEq, Eq)]
 pub struct Values {
     pub truths: u64,
@@ -15,7 +15,7 @@ pub struct Values {
     pub nulls: u64,
 }
 
-/// Numbered filters joined by OR. Those with a bit in `falses` are negated.
+/// Numbered atoms joined by OR. Those with a bit in `falses` are negated.
 #[derive(Clone, Copy, Debug, PartialEq, Eq)]
 pub struct Clause {
     pub truths: u64,
@@ -65,7 +65,7 @@ impl Clause {
     ghost use Rattle.std.specs.Prelude.{◌≡◌, ◌<◌};
     ghost use Rattle.filter_memo.specs.Clauses as spec;
 
-    /// The filter of this number, or its negation.
+    /// The atom of this number, or its negation.
     #[tactic(auto, using(crate::proofs::ClauseLemmas::true_literal, crate::proofs::ClauseLemmas::false_literal))]
     pub fn literal(number: usize, is_negated: bool) -> Clause
         requires { number < 64 }

@@ -9,9 +9,9 @@ const MAX_BINS: usize = 1_024;
 /// The number of bins for each interval.
 const BINS_PER_INTERVAL: usize = 4;
 
-/// Adjacent intervals that cover all numbers. Each one starts at a number of `lows` and ends before the next number
-/// there. The numbers from `first` on are divided into bins of equal width, which is a power of two. Each bin
-/// stores the first and the last interval that it overlaps.
+/// Adjacent intervals that cover all numbers. Each interval starts at an entry of `lows`, and ends before the next
+/// entry. The numbers from `first` on are divided into bins of equal width, which is a power of two. Each bin stores
+/// the first and the last interval that it overlaps.
 #[derive(Drop)]
 pub struct IntervalIndex {
     lows: Vec<i64>,

@@ -1,4 +1,4 @@
-//! The atoms of filters, which have numbers.
+//! The atoms of filters, which have numbers. Each is kept as a filter, which can be evaluated.
 
 ghost use Rattle.std.specs.Prelude.{◌≡◌, ◌<◌, length, IfSome, IsTrue};
 ghost use Rattle.filter_tree.specs.Expr as e;
@@ -25,7 +25,7 @@ fn is_atom(part: &Filter, atom: &Atom) -> bool
     }
 }
 
-/// Whether the filter of this number is the atom.
+/// Whether the atom of this number is this one.
 fn is_part(parts: &[Filter], number: usize, atom: &Atom) -> bool
     ensures { IsTrue result → part_at parts.now number ≡ e.Atom (atom_view atom.now) }
 {

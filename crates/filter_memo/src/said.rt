@@ -1,12 +1,12 @@
-//! Truth values of numbered filters, as bits.
+//! Truth values of numbered atoms, as bits.
 
 use filter_tree::Tri;
 
 /// The number of bits in a word.
 const WORD: usize = 64;
 
-/// The truth values of the filters with the numbers 0 to 63. A filter that is true has its bit set in `truths`, and a
-/// filter that is null has it set in `nulls`.
+/// The truth values of the atoms with the numbers 0 to 63. An atom is true if its bit is set in `truths`; otherwise it
+/// is null if its bit is set in `nulls`.
 #[derive(Clone, Copy, Debug, PartialEq, Eq)]
 pub struct Said {
     pub truths: u64,
@@ -43,7 +43,7 @@ impl Said {
         one | other
     }
 
-    /// All filters are false.
+    /// All atoms are false.
     #[tactic(auto, using(crate::proofs::BitLemmas::nothing_said))]
     pub fn nothing() -> Said
         ensures { IsNothing result }

@@ -1,4 +1,4 @@
-//! Evaluates numbered filters for a row, once for each bucket and each interval of a term.
+//! Evaluates the numbered atoms for a row, once for each bucket and each interval of a term.
 
 ghost use Rattle.std.specs.Prelude.{◌≡◌, ◌≤ℤ◌, Some, slice_get, length, IfOk, IfSome, IsTrue, All, None};
 ghost use Rattle.std.specs.Option.{option_copied};
@@ -14,7 +14,7 @@ use crate::said::Said;
 use filter_tree::{Filter, Row, Tri, eval};
 use std::alloc::{AllocError, Global};
 
-/// The values of the filters of a term, given by its number, for the rows in a bucket.
+/// The values of the atoms of a term, given by its number, for the rows in a bucket.
 #[derive(Clone, Copy, Debug, PartialEq, Eq)]
 pub struct Cell {
     pub term: usize,
@@ -74,7 +74,7 @@ impl Cells {
     }
 }
 
-/// The value of the filter with this number.
+/// The value of the atom with this number.
 fn part_says(parts: &[Filter], number: usize, row: &Row) -> Tri
     ensures { result ≡ meaning (part_at parts.now number) row.now }
 {
@@ -84,7 +84,7 @@ fn part_says(parts: &[Filter], number: usize, row: &Row) -> Tri
     }
 }
 
-/// The values of the filters with these numbers.
+/// The values of the atoms with these numbers.
 #[tactic(auto, using(crate::proofs::Judging::none_told, crate::proofs::Judging::one_more_told))]
 fn judge(parts: &[Filter], numbers: &[usize], row: &Row) -> Said
     ensures { Told parts.now numbers.now row.now result }
@@ -160,7 +160,7 @@ fn interval_of(
     None
 }
 
-/// The values of the filters of a term, for a row in which it is a number.
+/// The values of the atoms of a term, for a row in which the term is a number. `number` is the term's.
 fn locate_number(
     cells: &mut Cells,
     parts: &[Filter],
@@ -190,7 +190,7 @@ fn locate_number(
     said
 }
 
-/// The values of the filters of a term, for any row.
+/// The values of the atoms of a term, for any row. `number` is the term's.
 fn locate_bucket(
     cells: &mut Cells,
     parts: &[Filter],
@@ -219,7 +219,7 @@ fn locate_bucket(
     said
 }
 
-/// The values of the filters of the term with this number.
+/// The values of the atoms of the term with this number.
 fn locate(
     cells: &mut Cells,
     parts: &[Filter],
@@ -247,7 +247,7 @@ fn locate(
     }
 }
 
-/// The values of the filters of all terms.
+/// The values of the atoms of all terms.
 pub fn locate_all(
     cells: &mut Cells,
     parts: &[Filter],
