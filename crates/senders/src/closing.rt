@@ -122,9 +122,9 @@ fn counted_book<P: Publishing>(
 /// The book that is returned is the one on which the receipts were made again. Its slots are free, and confirmed as far
 /// as the publisher's.
 ///
-/// It takes time for the commands, as in `Book::commit`; for the receipts and the readings, each times the logarithm of
-/// their number; for a look at the row of each reading; for the commits that were taken; and for the connections, times
-/// the logarithm of their number and the number of slots.
+/// It takes the time to commit all commands again, as in `Book::commit`; to sort the receipts, the readings and the
+/// connections; to look up the row of each reading; to compare the commits that were taken; and to pass over the
+/// connections twice for each slot.
 ///
 /// # Errors
 ///

@@ -2,6 +2,10 @@
 //! connection is read from and written to, and its result; and the closing comparison, by which one list of
 //! transactions explains what all sessions were answered and what all connections took. The crate of the sessions,
 //! `publisher_desk`, is re-exported.
+//!
+//! A connection: `serving` (from start to end), `running` (its two threads), `listening`, `sending` and `speaking` (the
+//! first and the last frame). The closing comparison: `closing`, by `gathering`, `numbering`, `replaying`, `readings`,
+//! `taken` and `reaching`.
 #![tactic(auto)]
 
 mod clock;

@@ -23,7 +23,7 @@ pub(crate) fn rise(receipts: &[&Receipt], high: u32) -> bool
     true
 }
 
-/// Whether the numbers of the receipts among the notes do so.
+/// Whether the numbers of the receipts among the notes increase, and are from 1 to `high`.
 fn is_rising(notes: &[Note], high: u32) -> bool
     ensures { MatchBool result (IsRising high notes.now) (¬ IsRising high notes.now) }
 {
@@ -40,8 +40,8 @@ fn is_rising(notes: &[Note], high: u32) -> bool
     true
 }
 
-/// Whether they do in each seat's order. In each seat, rows were read after no fewer commits than earlier notes know
-/// of.
+/// Whether the numbers of each seat's receipts increase, and are from 1 to `high`. In any seat, a reading counts at
+/// least as many commits as each note before it (`forward`).
 pub(crate) fn are_rising<P: Publishing>(seats: &[Seat<P>], high: u32) -> bool
     ensures rising { MatchBool result (All (IsRisingSeat high) seats.now) (¬ All (IsRisingSeat high) seats.now) }
     ensures forward { IsTrue result → All IsForwardSeat seats.now }

@@ -64,7 +64,7 @@ fn most_requested(all: &[&Served], slot: usize) -> u64
 }
 
 /// Whether each commit before the start of a connection of the slot was taken for a connection of the slot, or is
-/// before a position that its client requested. The connections are in the order of their starts.
+/// before a position that a client of the slot requested. The connections are in the order of their starts.
 fn is_reached(all: &[&Served], slot: usize) -> bool
     requires { IsNonDecreasingBy taken_from (map (λ one. one.now) all.now) }
     ensures { MatchBool result (IsReached (map (λ one. one.now) all.now) slot)
@@ -83,9 +83,11 @@ fn is_reached(all: &[&Served], slot: usize) -> bool
     true
 }
 
-/// Whether it is so for each of this number of slots. The only error is out of memory.
+/// Whether, for each of this number of slots, each commit before the start of a connection of the slot was taken for a
+/// connection of the slot, or is before a position that a client of the slot requested. The only error is out of
+/// memory.
 ///
-/// The time it takes is that of the connections, times the logarithm of their number and times the number of slots.
+/// It takes the time to sort the connections once, and to pass over them twice for each slot.
 pub(crate) fn are_reached(
     alloc: Global,
     slots: usize,

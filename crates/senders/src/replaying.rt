@@ -1,4 +1,4 @@
-//! Receipts that are made again, and readings beside them.
+//! Receipts that are committed again, and readings that are compared with the tables in between.
 
 ghost use Rattle.std.specs.Prelude.{◌≡◌, ◌≢◌, ◌≤◌, All, map, length, MatchBool, IfOk, IfErr, OnOk};
 ghost use Rattle.std.specs.Option.{option_map};

@@ -42,7 +42,7 @@ fn end_of(stop: SenderEnd) -> End
 }
 
 /// Whether the sender's cause of the end takes precedence over the listener's: it came first, and the listener was not
-/// refused memory, in which case something that its client confirmed may be lost.
+/// refused memory. A listener that was refused memory goes first, since what its client confirmed may be lost.
 fn goes_first(is_first: bool, why: ListenerEnd) -> bool
     ensures { result ≡ spec.goes_first is_first why }
 {

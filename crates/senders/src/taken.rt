@@ -70,7 +70,8 @@ fn is_taken(book: &Book, served: &Served) -> bool
     count + served.taken.len() as u64 == commits
 }
 
-/// Whether each connection did.
+/// Whether each connection's start is in the log, and it took the log's commits from there on, up to the log's end if
+/// it was finished.
 pub(crate) fn are_taken(book: &Book, served: &[Served]) -> bool
     ensures { MatchBool result (All (IsTaken (book_log book.now)) served.now)
         (¬ All (IsTaken (book_log book.now)) served.now) }
