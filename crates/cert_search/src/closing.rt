@@ -6,8 +6,9 @@ use crate::problem::{Problem, ShareFormula};
 use crate::state::{SearchState, Standing};
 use std::alloc::{AllocError, Global};
 
-/// Sets of atoms, as numbers with a bit for each of the first 64: the atoms each of whose one remaining value is enough
-/// for the wanted outcome of a condition, and a few atoms that are enough together.
+/// Atoms by which the path would establish the wanted outcome of a condition, as sets with a bit for each of the first
+/// 64. Each atom of `alone` is enough by itself, since the facts leave it one value. Those of `few` are enough
+/// together; all bits are set if no such set is known.
 #[derive(Clone, Copy)]
 struct Deciders {
     alone: u64,

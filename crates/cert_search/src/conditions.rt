@@ -279,7 +279,7 @@ fn of_either(left: Outcome, right: Outcome) -> Outcome {
     }
 }
 
-/// Whether a value of the first set is in the second.
+/// What is known about the condition that a value is in the second set, if it is in the first.
 fn of_value(mask: Mask, wanted: Mask) -> Outcome {
     if !meets(mask, wanted) {
         Outcome::Missed

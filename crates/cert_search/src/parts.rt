@@ -26,7 +26,7 @@ struct Part {
     is_broken: bool,
 }
 
-/// A part that does not exist.
+/// What counts as the part at a place where there is none.
 const BROKEN: Part = Part {
     shape: Shape::Broken,
     nodes: 1,

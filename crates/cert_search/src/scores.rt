@@ -168,8 +168,8 @@ impl SearchState {
         found
     }
 
-    /// An atom that leaves the least to decide, or, without care, an atom with the most conditions on it. What the
-    /// facts say about conditions is lost.
+    /// The atom whose split leaves the least to decide, or, without care, an atom with the most open conditions on it;
+    /// none if no condition is open. With care, `expected` does not hold afterwards.
     pub fn halving(
         &mut self,
         alloc: Global,

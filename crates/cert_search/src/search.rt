@@ -109,7 +109,7 @@ impl<'a, 'q> Search<'a, 'q> {
         Ok(part)
     }
 
-    /// A tree for the rows at the end of the path, after what the path says was found.
+    /// A new tree for the rows at the end of the path, after what is known there was found.
     #[cycle(tree)]
     fn made(&mut self, may_split: usize) -> Result<usize, Stop> {
         match self.next_move()? {
@@ -136,7 +136,7 @@ impl<'a, 'q> Search<'a, 'q> {
         Ok(self.parts.add(split)?)
     }
 
-    /// The branch in which the atom has this value.
+    /// The tree of the branch in which the atom has this value; a leaf without rows if the facts do not allow it.
     #[cycle(tree)]
     fn branch(&mut self, may_split: usize, fork: Fork, value: Tri) -> Result<usize, Stop> {
         if !fork.left.has(value) {
@@ -165,7 +165,7 @@ impl<'a, 'q> Search<'a, 'q> {
         self.settle()
     }
 
-    /// A split by the atom, by what was found about it last.
+    /// A split by the atom, with the values that the facts allow for it. If there is no atom, the search ends.
     fn split_by(&self, atom: Option<usize>) -> Result<SearchMove, Stop> {
         let atom = atom.ok_or(Stop::TooLong)?;
         let plain = self.problem.atom(atom).ok_or(Stop::TooLong)?;
@@ -177,13 +177,16 @@ impl<'a, 'q> Search<'a, 'q> {
         }))
     }
 
+    /// A split by the atom that leaves the least to decide, or, after half of the steps, by one with the most open
+    /// conditions.
     fn halve(&mut self) -> Result<SearchMove, Stop> {
         let with_care = self.state.steps <= self.most_steps / 2;
         let atom = self.state.halving(self.alloc, self.problem, with_care)?;
         self.split_by(atom)
     }
 
-    /// One share takes all rows, and no other does: a leaf, once the path says so.
+    /// What to do if the facts say that one share takes all rows, and the path that no other takes any: a leaf if the
+    /// path says the former too; otherwise a split that helps to show it.
     fn settle(&mut self) -> Result<SearchMove, Stop> {
         let number = self.state.first(Standing::Sure).ok_or(Stop::TooLong)?;
         let share = self

@@ -19,10 +19,13 @@ pub enum Standing {
     Undecided,
 }
 
-/// The values of atoms, those on the path and those that the facts allow, and what they say about shares.
+/// What is known at a node. `known` and `told` are what the path says about atoms and conditions; `likely` and
+/// `expected` are what the facts say, which may be more.
 #[derive(Drop)]
 pub struct SearchState {
+    /// The values that each atom may have by the path.
     pub known: Vec<Mask>,
+    /// The values of each atom that the facts allow.
     pub likely: Vec<Mask>,
     pub facts: Facts,
     /// The columns whose facts must be found again.
@@ -183,7 +186,7 @@ impl SearchState {
         }
     }
 
-    /// What is known about the share of this number.
+    /// The standing of the share of this number.
     pub fn standing_of(&self, share: usize) -> Standing {
         self.standings
             .get(share)
@@ -191,7 +194,7 @@ impl SearchState {
             .unwrap_or(Standing::Closed)
     }
 
-    /// About how many shares this is known.
+    /// How many shares have this standing.
     pub fn how_many(&self, standing: Standing) -> usize {
         let mut found = 0usize;
         for held in &self.standings {
@@ -202,7 +205,7 @@ impl SearchState {
         found
     }
 
-    /// The first share about which this is known.
+    /// The number of the first share that has this standing, if there is one.
     pub fn first(&self, standing: Standing) -> Option<usize> {
         for (share, held) in self.standings.iter().enumerate() {
             if *held == standing {

@@ -4,7 +4,7 @@ use filter_tree::{Atom, Literal};
 use std::alloc::{AllocError, Allocator, Global};
 use std::collections::BTreeMap;
 
-/// The texts that atoms name, each once. Their numbers are their places in the list, and one more number stands for
+/// The texts that atoms name, each once. Their numbers are their places in the list, and one more number is that of
 /// every other text.
 #[derive(Drop)]
 pub struct Texts<'a> {
@@ -15,7 +15,7 @@ pub struct Texts<'a> {
     places: BTreeMap<&'a str, usize>,
 }
 
-/// A count as a number.
+/// The number of a text, by its place in the list.
 pub fn number(count: usize) -> i64 {
     i64::try_from(count).unwrap_or(i64::MAX)
 }
