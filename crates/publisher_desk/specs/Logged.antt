@@ -1,4 +1,4 @@
--- How a seat's receipts and readings stand to the log: PostgreSQL 15, 3.4. Transactions, and Chapter 7 Queries.
+-- How a seat's receipts and readings agree with the log: PostgreSQL 15, 3.4. Transactions, and Chapter 7 Queries.
 use Rattle.std.specs.Prelude.{◌≡◌, ◌≢◌, ℕ, ◌+◌, ◌<◌, ◌≤◌, All, List, [], ◌∷◌, ◌++◌, length, true, Option}
 use Rattle.filter_tree.specs.Datum.{Datum}
 use Rattle.shard_checker.specs.CheckedView.{CheckedOf, setting_in}

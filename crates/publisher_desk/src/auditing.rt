@@ -26,10 +26,10 @@ fn count_receipts(notes: &[Note]) -> u64
     count
 }
 
-/// Compares the ledger's total with the receipts of the seats, and what the seats know with the history. Each seat lends
-/// its part of the ledger to `all`, and its sight to the history, and gets them back. Only a share with every part shows
-/// the total, and the seats keep theirs, so the comparison is made at the bottom of a recursion over the seats, of which
-/// there are at most 1,000.
+/// Compares the ledger's total with the receipts of the seats, and what the seats know with the history. Each seat
+/// lends its part of the ledger to `all`, and its sight to the history, and gets them back. Only a share with every
+/// part shows the total, and the seats keep theirs, so the comparison is made at the bottom of a recursion over the
+/// seats, of which there are at most 1,000.
 #[tactic(auto, using(crate::proofs::LoggedLemmas::none_logged))]
 pub(crate) fn audit_all<P: Publishing>(
     counted: &mut Book<P>,

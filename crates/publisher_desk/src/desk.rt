@@ -256,9 +256,9 @@ impl<P: Publishing> Desk<P> {
         Ok(found)
     }
 
-    /// The next step of the slot's sender, which has sent all commits before this number; none if it has to wait, and then
-    /// the log has no commit of this number. A reply that was requested comes before an end. For a number that no log
-    /// has, the sender ends.
+    /// The next step of the slot's sender, which has sent all commits before this number; none if it has to wait, and
+    /// then the log has no commit of this number. A reply that was requested comes before an end. For a number that no
+    /// log has, the sender ends.
     ///
     /// It sends the commit of this number if the slot's subscriber gets something of it. Otherwise it passes over that
     /// commit and those after it, up to the first of which the subscriber gets something, and at most 64.
@@ -334,7 +334,7 @@ impl<P: Publishing> Desk<P> {
         slots
     }
 
-    /// The slots whose sender has something to do beside commits.
+    /// The slots whose sender has something to do other than commits.
     pub(crate) fn wanted(&self) -> OwnerSet {
         let mut slots = OwnerSet::none();
         for (slot, connection) in self.connections.iter().enumerate() {

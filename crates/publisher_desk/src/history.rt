@@ -10,8 +10,8 @@ use std::alloc::Global;
 use std::marker::{Model, PhantomData};
 use std::sync::ledger::Total;
 
-/// What a seat knows of the log. It takes no bytes. Contracts see it as the beginning of the log that the seat has seen,
-/// and the numbers of its commits.
+/// What a seat knows of the log. It takes no bytes. Contracts see it as the beginning of the log that the seat has
+/// seen, and the numbers of its commits.
 #[derive(Drop)]
 pub(crate) struct HistoryToken<P: Publishing> {
     seat: Seat<Receipt, HistoryView>,

@@ -1,5 +1,5 @@
-//! A publisher that several threads use: its book behind one lock, and seats for sessions, each of which keeps a receipt
-//! for each of its commits and what it read.
+//! A publisher that several threads use: its book behind one lock, and seats for sessions, each of which keeps a
+//! receipt for each of its commits and what it read.
 #![tactic(auto)]
 
 mod auditing;

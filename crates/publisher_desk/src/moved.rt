@@ -1,17 +1,17 @@
-//! What senders wait for.
+//! The condition variables by which senders that wait are woken.
 
 use row_owners::OwnerSet;
 use std::alloc::{AllocError, Global};
 use std::sync::Condvar;
 
-/// What the sender of each slot waits for, by the number of the slot: that it has something to do.
+/// A condition variable for each slot, by which its sender is woken when it has something to do.
 #[derive(Drop)]
 pub(crate) struct Moved {
     slots: Vec<Condvar>,
 }
 
 impl Moved {
-    /// For this number of senders. The only error is out of memory.
+    /// A condition variable for each of this number of senders. The only error is out of memory.
     pub(crate) fn new(alloc: Global, senders: usize) -> Result<Moved, AllocError> {
         let mut slots = Vec::with_capacity(alloc, senders)?;
         for _ in 0..senders {
@@ -20,7 +20,7 @@ impl Moved {
         Ok(Moved { slots })
     }
 
-    /// What the sender of this slot waits for; none if there is no such slot.
+    /// The condition variable for the sender of this slot; none if there is no such slot.
     pub(crate) fn of(&self, slot: usize) -> Option<&Condvar> {
         self.slots.get(slot)
     }

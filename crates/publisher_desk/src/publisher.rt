@@ -230,9 +230,9 @@ impl<P: Publishing> Publisher<P> {
         &self.checked
     }
 
-    /// The next step of the slot's sender, which has sent all commits before this number. Waits until there is something
-    /// to do. A reply that was requested comes before an end. For a slot that does not exist, and for a number that no log
-    /// has, the sender ends.
+    /// The next step of the slot's sender, which has sent all commits before this number. Waits until there is
+    /// something to do. A reply that was requested comes before an end. For a slot that does not exist, and for a
+    /// number that no log has, the sender ends.
     ///
     /// It sends the commit of this number if the slot's subscriber gets something of it. Otherwise it passes over that
     /// commit and those after it, up to the first of which the subscriber gets something, and at most 64.
@@ -272,8 +272,8 @@ impl<P: Publishing> Publisher<P> {
         answer
     }
 
-    /// Does what `with_slots` does, for a session. The book's log is the one that the seat has then seen, and has all of
-    /// its commits.
+    /// Does what `with_slots` does, for a session. The book's log is the one that the seat has then seen, and has all
+    /// of its commits.
     pub fn with_slots_for<U: SlotTask, R: Wait>(
         &self,
         rt: &R,
@@ -305,10 +305,10 @@ impl<P: Publishing> Publisher<P> {
     }
 
     /// The book, when the sessions are over: it is of the checked catalog and of some list of transactions. `rest` are
-    /// the seats that no session has, and `seats` those of the sessions. The log has no fewer commits than these
-    /// have receipts, and exactly as many if no seat is held back: the ledger of commits says so. Each receipt stands in
-    /// the log at its number, no two have one number, each reading is right, and what each seat has seen is a beginning of
-    /// the log: the history says so. It takes time for the notes of the seats.
+    /// the seats that no session has, and `seats` those of the sessions. By the ledger of commits, the log has no fewer
+    /// commits than these have receipts, and exactly as many if no seat is held back. By the history, each receipt is
+    /// in the log at its number, no two have the same number, each reading is right, and what each seat has seen is a
+    /// beginning of the log. The time it takes grows with the notes of the seats.
     pub fn into_counted(self, rest: Seats<P>, seats: &mut [Seat<P>]) -> Book
         ensures is { IsBookOf P.checked P.limit result }
         ensures counted { IsCounted P.parts rest seats.old (length (book_log result)) }

@@ -10,13 +10,16 @@ use std::marker::Model;
 use std::sync::ledger::Share;
 
 /// A session's place at a publisher: its commits and what it read, in their order. Contracts see the list of these
-/// notes, and the beginning of the log that the session has seen. No row was read of fewer commits than an earlier note
-/// knows of. Each receipt and each reading is what the log says.
+/// notes, and the beginning of the log that the session has seen. Each reading counts at least as many commits as any
+/// note before it. Each receipt and each reading agrees with the log.
 #[derive(Drop)]
 pub struct Seat<P: Publishing> {
     pub(crate) notes: Vec<Note>,
+    /// The greatest number of a note: that of a commit, or how many commits a reading counts.
     pub(crate) high: u32,
+    /// The seat's part of the ledger, whose amount is the number of its receipts.
     pub(crate) mark: Share<P>,
+    /// What the seat has seen of the log, for proofs; none before it is shown the log for the first time.
     pub(crate) token: Option<HistoryToken<P>>,
 }
 

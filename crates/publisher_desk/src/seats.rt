@@ -9,9 +9,9 @@ use std::alloc::Global;
 use std::marker::Model;
 use std::sync::ledger::Share;
 
-/// The seats of a publisher that no session has yet, with a part of the ledger for each. Contracts see how many they
-/// are. They are beside the publisher and not in it, so that nobody who shares it has a part of the ledger but that of
-/// a session's own seat.
+/// The seats of a publisher that no session has yet, with a part of the ledger for each. Contracts see their number.
+/// They are not part of the publisher, so that a session that shares it has no part of the ledger other than its own
+/// seat's.
 #[derive(Drop)]
 pub struct Seats<P: Publishing> {
     pub(crate) alloc: Global,

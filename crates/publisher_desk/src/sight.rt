@@ -6,8 +6,8 @@ use crate::receipt::Receipt;
 use atomic_table::{Join, Play, Split, TableRule};
 use std::collections::LinkedList;
 
-/// The beginning of the log that a seat has seen, as its receipts, and the numbers of the seat's own commits. It is only
-/// for proofs: no value of it is made.
+/// The beginning of the log that a seat has seen, as its receipts, and the numbers of the seat's own commits. It is
+/// only for proofs: no value of it is made.
 pub struct Sight {
     pub seen: LinkedList<Receipt>,
     pub own: LinkedList<u32>,
@@ -53,7 +53,7 @@ impl Play<Receipt, HistoryView> for Shows {
     ghost then = { λ _ before _ after. (after ≡ (shown before.0, before.1)) × IsTold before.0 };
 }
 
-/// A step that changes nothing, and tells how the sights that were taken in stand to the log.
+/// A step that changes nothing, and shows that the sights that were taken in agree with the log.
 pub struct Checks;
 
 impl Play<Receipt, HistoryView> for Checks {
