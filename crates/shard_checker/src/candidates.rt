@@ -1,5 +1,5 @@
 //! The values that are tried for the terms of a table. Atoms do not distinguish other values of a term from these, so
-//! these stand for all.
+//! these are enough.
 
 ghost use Rattle.std.specs.Prelude.{◌≡◌, ◌++◌, ◌∷◌, [], ◌+ℤ◌, pos, None, Some, flat_map, map, IfOk, OnOk};
 ghost use Rattle.std.specs.Option.{option_map};

@@ -9,10 +9,8 @@ use pub_catalog::Catalog;
 use replica_identity::Plan;
 
 /// A catalog and its own plan that the check accepted. Whoever holds one knows that the catalog's sharding is sound. It
-/// also has what the laws about changes of tables require: a row's replica identity determines who gets the row,
-/// commands that are accepted leave no two rows of a table with the same identity, and each row that fits its table
-/// passes to exactly one subscriber. Like each catalog it is within its limits, and its publications and subscriptions
-/// each have their own name.
+/// also has what the laws about changes of tables require, as `catalog` says. Like each catalog it is within its
+/// limits, and its publications and subscriptions each have their own name.
 ///
 /// PostgreSQL 15, "Logical Replication", 31.3 Row Filters.
 #[derive(Drop)]

@@ -37,7 +37,7 @@ fn open_mask<A: Allocator>(atom: &Atom<A>) -> Mask
     }
 }
 
-/// What an atom may be after it was found to have the value.
+/// What an atom may be after it was found to have the value: only this value, unless one was found for it before.
 fn met(mask: Mask, value: Tri) -> Mask
     ensures { result ≡ spec.met mask value }
 {

@@ -1,3 +1,5 @@
+//! A law about nodes.
+
 ghost use Rattle.shard_checker.specs.Emptiness.{CanBeTold};
 
 /// A law about what makes a node `Empty` right: a function without an effect whose contract states it. Some test holds

@@ -1,4 +1,5 @@
-//! What a node says about the rows at the end of its path, unless it names their owner.
+//! The checks of nodes that name no owner: that the atom of a split exists, that a term has no value left, and that an
+//! atom is never null.
 
 ghost use Rattle.std.specs.Prelude.{◌≡◌, ◌<◌, length, slice_get, IfSome};
 ghost use Rattle.filter_tree.specs.Paths.{path_view};

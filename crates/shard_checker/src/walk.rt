@@ -23,8 +23,8 @@ use filter_tree::{Atom, Tri};
 use split_cert::{Cert, Node, NodeReader};
 use std::alloc::{AllocError, Allocator, Global};
 
-/// Where the next node of a certificate comes: the atoms that were split by on the way to it, each with its value
-/// there, and the node's number. Numbers stop at the greatest number.
+/// The state of the walk before the next node of a certificate. `path` has the atoms of the splits on the way to it,
+/// each with its value there. `node` is its number, which stops at `usize::MAX`.
 #[derive(Drop)]
 pub struct Walk<'a, A: Allocator> {
     pub path: Vec<(&'a Atom<A>, Tri)>,
@@ -67,6 +67,7 @@ fn next(node: usize) -> usize
     node.saturating_add(1)
 }
 
+/// Adds the atom with its value at the end of the path.
 fn extend<'a, A: Allocator>(
     path: &mut Vec<(&'a Atom<A>, Tri)>,
     atom: &'a Atom<A>,

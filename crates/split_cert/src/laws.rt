@@ -1,3 +1,5 @@
+//! A law about the nodes of texts.
+
 ghost use Rattle.split_cert.specs.Nodes.{NodesOfTexts};
 
 /// A law about what `NodeReader` gives for a text: a function without an effect whose contract states it. `NodeReader`

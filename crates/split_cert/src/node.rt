@@ -19,7 +19,7 @@ pub enum Node {
 }
 
 impl Node {
-    /// The node that two words stand for.
+    /// The node that two words spell.
     pub(crate) fn new(head: Head) -> Node
         ensures { result ≡ spec.node_of head.kind head.number }
     {
