@@ -110,7 +110,7 @@ impl Session {
         Ok(refusal.state())
     }
 
-    /// What the frame requests, if no slot is in use.
+    /// What the frame requests. Whether the slot is in use is tested by the book, from which `begin` acquires it.
     fn ask(&mut self, frame: &Frame, book: &Book) -> Result<StartAnswer, AllocError>
         ensures kept { IsSameSession self.old self.new }
         ensures asked { IfOk result (λ asked. asked ≡ start_reported (asked_in self.old book.now frame.now)) }

@@ -1,4 +1,5 @@
-//! In which order a start command is refused.
+//! Why a start command is refused. The reasons are tested in this order: the slot's name, each option, missing options,
+//! the publications, the position, a slot in use.
 
 ghost use Rattle.std.specs.Prelude.{◌≡◌, map, []};
 ghost use Rattle.std.specs.List.{list_any, list_all};
@@ -43,6 +44,7 @@ fn is_given(options: &[StartOption], name: &str) -> bool
     options.iter().any(|option| option.name.as_str() == name)
 }
 
+/// The refusal of an option that is wrong, was given before, or is not supported.
 fn option_refusal<'a>(earlier: &[StartOption], option: &'a StartOption) -> Option<Refusal<'a>>
     ensures { option_map refusal_view result ≡ spec.option_refusal earlier.now option.now }
 {
@@ -140,6 +142,7 @@ fn unknown_refusal<'a>(publications: &[Publication], names: &'a [Text]) -> Optio
     None
 }
 
+/// Whether this is the name of the publication with this number.
 #[tactic(auto, using(crate::proofs::OrderLemmas::any_of_map, crate::proofs::OrderLemmas::at_of_map))]
 fn is_called(publications: &[Publication], name: &str, number: usize) -> bool
     ensures { result ≡ spec.is_called (map (λ p. p.name) publications.now) name.now number }
@@ -150,6 +153,7 @@ fn is_called(publications: &[Publication], name: &str, number: usize) -> bool
     }
 }
 
+/// Whether this is the name of a publication with one of these numbers.
 fn is_one_of(publications: &[Publication], name: &str, numbers: &[usize]) -> bool
     ensures { result ≡ list_any (spec.is_called (map (λ p. p.name) publications.now) name.now) numbers.now }
 {
@@ -158,6 +162,7 @@ fn is_one_of(publications: &[Publication], name: &str, numbers: &[usize]) -> boo
         .any(|number| is_called(publications, name, *number))
 }
 
+/// Whether one of these is the name of the publication with this number.
 fn has_one_of(publications: &[Publication], number: usize, names: &[Text]) -> bool
     ensures { result ≡ list_any (λ name. spec.is_called (map (λ p. p.name) publications.now) name number) names.now }
 {
@@ -166,6 +171,7 @@ fn has_one_of(publications: &[Publication], number: usize, names: &[Text]) -> bo
         .any(|name| is_called(publications, name.as_str(), number))
 }
 
+/// Whether each name is that of a publication with one of these numbers.
 fn each_is_one_of(publications: &[Publication], names: &[Text], numbers: &[usize]) -> bool
     ensures { result ≡ list_all
         (λ name. list_any (spec.is_called (map (λ p. p.name) publications.now) name) numbers.now) names.now }
@@ -175,6 +181,7 @@ fn each_is_one_of(publications: &[Publication], names: &[Text], numbers: &[usize
         .all(|name| is_one_of(publications, name.as_str(), numbers))
 }
 
+/// Whether each publication with one of these numbers has one of these names.
 fn each_has_one_of(publications: &[Publication], numbers: &[usize], names: &[Text]) -> bool
     ensures { result ≡ list_all
         (λ number. list_any (λ name. spec.is_called (map (λ p. p.name) publications.now) name number) names.now)
@@ -185,12 +192,14 @@ fn each_has_one_of(publications: &[Publication], numbers: &[usize], names: &[Tex
         .all(|number| has_one_of(publications, *number, names))
 }
 
+/// Whether these names and these numbers are those of the same publications.
 fn same_publications(publications: &[Publication], names: &[Text], numbers: &[usize]) -> bool
     ensures { result ≡ spec.same_publications (map (λ p. p.name) publications.now) names.now numbers.now }
 {
     each_is_one_of(publications, names, numbers) && each_has_one_of(publications, numbers, names)
 }
 
+/// Whether a connection streams from the slot.
 fn is_taken(in_use: &[bool], slot: usize) -> bool
     ensures { result ≡ spec.is_in_use in_use.now slot }
 {
