@@ -1,4 +1,4 @@
-//! What is sent for a change: Relations that were not sent before, and a message.
+//! The messages of one change: Relations that were not sent before, and what the subscriber gets.
 
 ghost use Rattle.std.specs.Prelude.{◌≡◌, ◌∷◌, [], All, OnOk, false, slice_get, slice_index_or};
 ghost use Rattle.std.specs.Option.{option_copied};

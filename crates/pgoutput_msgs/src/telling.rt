@@ -1,4 +1,4 @@
-//! The messages that report a commit to a subscriber.
+//! The messages of a commit: Begin, those of its changes, and Commit.
 
 ghost use Rattle.std.specs.Prelude.{◌≡◌, ◌++◌, All, IfOk, OnOk, OnErr, filter, map};
 ghost use Rattle.pub_catalog.specs.CatalogLimits.{IsLimitedTable};
@@ -95,8 +95,8 @@ fn tables_of(checked: &Checked) -> &[Table]
 /// Reports to the subscriber of this number the changes of a commit that are for it, and tables whose Relation was not
 /// sent: the messages between Begin and Commit of `messages_of`, which a sink takes one after the other.
 /// `relation_sent` is, for each table by its number, whether its Relation was sent. `owners` are the subscribers that
-/// get something from each of the first changes; a change that is not for the subscriber by its set is skipped. The only
-/// error is out of memory; then `sink` has taken the first few messages.
+/// get something from each of the first changes; a change that is not for the subscriber by its set is skipped. The
+/// only error is out of memory; then `sink` has taken the first few messages.
 ///
 /// PostgreSQL 15, 55.5.3. Logical Replication Protocol Message Flow.
 pub fn tell_changes<S: MessageSink>(

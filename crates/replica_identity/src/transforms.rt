@@ -59,10 +59,10 @@ fn asked<'a>(old: &'a OldPart, new: &'a Row) -> &'a Row
 }
 
 /// What a subscriber gets of a change, by its share of the change's table: an INSERT if the new row passes, a DELETE if
-/// the recorded part of the old row does. Of an UPDATE it gets an INSERT if only the new row passes, a DELETE if only
-/// the old row does, and nothing if neither does; if nothing is recorded of the old row, it counts as passing if the
-/// new row does. The subscriber gets a TRUNCATE, whatever the filters, if it gets anything from one of the tables.
-/// Nothing is copied.
+/// the recorded part of the old row does. Of an UPDATE it gets an UPDATE if both rows pass, an INSERT if only the new
+/// row passes, a DELETE if only the old row does, and nothing if neither does; if nothing is recorded of the old row,
+/// it counts as passing if the new row does. The subscriber gets a TRUNCATE, whatever the filters, if it gets anything
+/// from one of the tables. Nothing is copied.
 ///
 /// PostgreSQL 15, "Logical Replication", 31.3.1 Row Filter Rules and 31.3.3 UPDATE Transformations.
 pub fn transform<'a>(plan: &Plan, subscriber: usize, change: &'a Change) -> Option<Out<'a>>

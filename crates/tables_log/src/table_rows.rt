@@ -90,8 +90,8 @@ impl TableRows {
         Ok(rows)
     }
 
-    /// Stages the row in the map of this number under this key, and returns whether a row was seen there. The only error
-    /// is out of memory.
+    /// Stages the row in the map of this number under this key, and returns whether a row was seen there. The only
+    /// error is out of memory.
     #[tactic(auto, using(crate::proofs::Rules::putting))]
     fn put_at(&mut self, number: usize, key: Key, row: &TableRow) -> Result<bool, AllocError>
         requires { number < length self.old.maps.items }
