@@ -115,7 +115,7 @@ fn answer_words<'a, S: AsStr, I: Reader + Drop, W: Writer>(
     }
 }
 
-/// Reports a failure.
+/// Reports the failure, if there is one, and returns the exit status.
 fn outcome<'a, W: Writer>(
     alloc: Global,
     ending: Result<Status, Failure<'a>>,

@@ -1,5 +1,7 @@
 //! `publish`: commands are read and committed as they arrive, while the subscribers of a sharding are served over
-//! sockets.
+//! sockets. A `Door` is a listening socket: one is for clients, which receive streams, and another may be for callers,
+//! which send commands. A `Berth` is a place for clients, whose thread serves one client after another. The `Hall` is
+//! what all places share: how many of them wait for a client, whether clients are still let in, and the timeouts.
 
 ghost use Rattle.std.specs.Prelude.{◌≡◌, None, IfErr, OnOk};
 ghost use Rattle.std.specs.Arc.{arc_value};

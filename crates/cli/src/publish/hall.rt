@@ -7,20 +7,24 @@ use std::sync::atomic::{AtomicBool, AtomicUsize, Ordering};
 use std::thread;
 use std::time::{Clock, Duration};
 
-/// How many milliseconds a connection to the own port may take.
+/// How many milliseconds `close` waits for a connection to the program's own port, which wakes a place.
 const KNOCK: u64 = 100;
 
 /// How many milliseconds the session waits until a place waits for a client.
 const BEGIN: u32 = 10_000;
 
-/// How many places wait for a client, whether one ever did, whether clients are still let in, and whether those that
-/// are in are to be disconnected. Also the timeouts, in seconds, and how standard error reports connections.
+/// What all places share. The timeouts are in seconds.
 #[derive(Debug, Drop)]
 pub(crate) struct Hall {
+    /// How many places wait for a client.
     waiting: AtomicUsize,
+    /// Whether a place has ever waited for a client.
     has_waited: AtomicBool,
+    /// Whether no further client is let in.
     is_closed: AtomicBool,
+    /// Whether the clients that are in are to be disconnected.
     is_cleared: AtomicBool,
+    /// Whether it was reported that no connection can be accepted.
     was_busy: AtomicBool,
     start_timeout: u32,
     write_timeout: u32,
@@ -109,7 +113,7 @@ impl Hall {
         self.is_cleared.load(Ordering::SeqCst)
     }
 
-    /// Whether this is the first time that no connection can be accepted.
+    /// Records that no connection can be accepted now. Returns whether this is the first time.
     pub(crate) fn is_first_trouble(&self) -> bool {
         !self.was_busy.swap(true, Ordering::SeqCst)
     }

@@ -52,7 +52,8 @@ impl<I: Reader> LineReader<I> {
         })
     }
 
-    /// Moves what was read to the end of a line, up to the next newline, which is dropped. Returns whether there is one.
+    /// Moves what was read to the end of a line, up to the next newline, which is dropped. Returns whether there is
+    /// one.
     #[tactic(auto, using(crate::proofs::LineLemmas::plain_if_none))]
     fn take_line(&mut self, line: &mut Vec<u8>) -> Result<bool, AllocError>
         ensures moved { IfOk result (Moves (ahead_of self.old) (ahead_of self.new) line.old.items line.new.items) }
@@ -88,8 +89,8 @@ impl<I: Reader> LineReader<I> {
         Ok(0 < self.end)
     }
 
-    /// Replaces `line` by the next line, without its newline. Returns whether there is one: what follows the last newline
-    /// is none.
+    /// Replaces `line` by the next line, without its newline. Returns whether there is one: what follows the last
+    /// newline is none.
     ///
     /// # Errors
     ///

@@ -57,7 +57,7 @@ impl SlotTask for Reminding {
     }
 }
 
-/// Requests a keepalive for all clients each time this many seconds have passed, until the door is closed.
+/// Requests a keepalive for all clients each time this many seconds have passed, until the hall is closed.
 pub(crate) fn keep_alive<P: Publishing, R: Wait + Clock>(
     rt: &R,
     publisher: &Publisher<P>,

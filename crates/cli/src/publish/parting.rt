@@ -11,17 +11,18 @@ use std::thread;
 use std::time::{Clock, Duration};
 use tables_log::{Book, Lsn};
 
-/// The milliseconds between two looks at whether all is confirmed.
+/// How many milliseconds the program waits before each look at whether all is confirmed.
 const LOOK: u64 = 50;
 
-/// How often this is looked at.
+/// How often the program looks, at most: for ten seconds in all.
 const LOOKS: u32 = 200;
 
 /// Looks whether a connected client has not confirmed the log yet, and requests a keepalive for each such client.
 #[derive(Drop)]
 struct Asking;
 
-/// Whether the client of a slot is connected and has not confirmed the whole log. If so, requests a keepalive for it.
+/// Whether the client of a slot is connected, was sent something since its stream started, and has not confirmed the
+/// whole log. If so, requests a keepalive for it.
 fn ask(connections: &mut [ConnectionState], slot: usize, confirmed: u64, end: u64) -> bool
     ensures { (most : ℕ) → AreSentUpTo most connections.old → AreSentUpTo most connections.new }
 {

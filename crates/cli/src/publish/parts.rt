@@ -55,8 +55,8 @@ fn read_lines<'a, I: Reader, R: Wait>(
 ///
 /// # Errors
 ///
-/// `Input(Parts)` if there is no such line; `Input(Unread)` if the reader fails, or the part is not UTF-8 or has more than
-/// 16,777,216 bytes; `OutOfMemory`.
+/// `Input(Parts)` if there is no such line; `Input(Unread)` if the reader fails, or the part is not UTF-8 or has more
+/// than 16,777,216 bytes; `OutOfMemory`.
 #[tactic(auto, using(crate::proofs::LineLemmas::part_no_text))]
 pub(crate) fn read_part<'a, I: Reader, R: Wait>(
     rt: &R,

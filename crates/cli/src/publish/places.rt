@@ -17,8 +17,8 @@ use std::thread::{Threads, join_mut};
 use std::time::{Clock, Duration};
 use std::{io, thread};
 
-/// How many places there are besides one for each subscription. While all are taken, a connection that starts no stream
-/// is ended, so that clients that request nothing keep nobody out.
+/// How many places there are besides one for each subscription. While all are taken, a silent connection that has not
+/// started a stream is ended, so that clients that request nothing keep nobody out.
 const SPARE: usize = 64;
 
 /// How many milliseconds a place waits if no connection can be accepted, such as while all file descriptors are in use.
@@ -102,7 +102,7 @@ pub(crate) fn accepted_or_waited<R: Clock + Eprint>(
     }
 }
 
-/// Waits for the next connection, and returns it with its client's address; none if the door is closed, or no
+/// Waits for the next connection, and returns it with its client's address; none if the hall is closed, or no
 /// connection can be accepted now.
 fn next_stream<R: Clock + Eprint>(
     rt: &R,
@@ -120,7 +120,7 @@ fn next_stream<R: Clock + Eprint>(
     accepted_or_waited(rt, alloc, hall, accepted)
 }
 
-/// Serves one client after another, until the door is closed.
+/// Serves one client after another, until the hall is closed.
 #[tactic(auto, using(crate::proofs::Berths::stay_pushed))]
 fn attend<P: Publishing + Sync, R: Threads + Wait + Clock + Eprint + Sync>(
     rt: &R,
@@ -153,7 +153,7 @@ fn attend<P: Publishing + Sync, R: Threads + Wait + Clock + Eprint + Sync>(
     }
 }
 
-/// Serves clients in all places at the same time, until the door is closed and all connections have ended.
+/// Serves clients in all places at the same time, until the hall is closed and all connections have ended.
 fn attend_berths<P: Publishing + Sync, R: Threads + Wait + Clock + Eprint + Sync>(
     rt: &R,
     publisher: &Publisher<P>,
@@ -177,7 +177,7 @@ fn attend_berths<P: Publishing + Sync, R: Threads + Wait + Clock + Eprint + Sync
     );
 }
 
-/// Serves clients in all places, and sends them keepalives, until the door is closed and all connections have ended.
+/// Serves clients in all places, and sends them keepalives, until the hall is closed and all connections have ended.
 pub(crate) fn attend_all<P: Publishing + Sync, R: Threads + Wait + Clock + Eprint + Sync>(
     rt: &R,
     publisher: &Publisher<P>,

@@ -45,7 +45,7 @@ struct Viewing {
     subscriptions: usize,
 }
 
-/// Whether a stream has the slot, so that none can be started.
+/// Whether a stream has the slot. To find out, one is started; if none had it, the slot is released again.
 fn is_taken(book: &mut Book, slot: usize) -> bool
     ensures { ChangesSlots book.old book.new (book_slots book.new) }
 {
