@@ -100,7 +100,7 @@ fn advance(
     Ok(())
 }
 
-/// Makes receipts again until the fresh book has as many commits as the reading knows of, and returns whether it is
+/// Makes receipts again until the fresh book has as many commits as the reading counts, and returns whether it is
 /// right. If there are fewer receipts, the reading is wrong.
 fn read_again(
     fresh: &mut Book,
