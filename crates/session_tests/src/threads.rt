@@ -75,6 +75,23 @@ fn session<P: Publishing, R: Wait>(
     true
 }
 
+/// Whether the session reads the row of another session as that one last wrote it.
+fn reads_last<P: Publishing, R: Wait>(
+    rt: &R,
+    alloc: Global,
+    publisher: &Publisher<P>,
+    seat: &mut Seat<P>,
+    number: i64,
+) -> bool {
+    let Ok(wanted) = row(alloc, number, "49") else {
+        return false;
+    };
+    match read(rt, alloc, publisher, seat, 0, number) {
+        Ok(reading) => answers(&reading, &wanted),
+        Err(_) => false,
+    }
+}
+
 /// Runs two sessions in two threads; returns the number of commits afterwards.
 fn both_sessions<P: Publishing + Sync, R: Threads + Wait + Sync>(
     rt: &R,
@@ -102,6 +119,11 @@ fn both_sessions<P: Publishing + Sync, R: Threads + Wait + Sync>(
     if !(one && other) || note_count(&first) != 100 || note_count(&second) != 100 {
         return Err(Fail::from("a session did not read its own last write"));
     }
+    let reads_both = reads_last(rt, alloc, shared, &mut first, 2)
+        && reads_last(rt, alloc, shared, &mut second, 1);
+    if !reads_both {
+        return Err(Fail::from("a session did not read the other one's last write"));
+    }
     let mut both = Vec::new(alloc);
     both.push(first)?;
     both.push(second)?;
@@ -109,7 +131,7 @@ fn both_sessions<P: Publishing + Sync, R: Threads + Wait + Sync>(
 }
 
 #[test]
-fn each_of_two_sessions_reads_its_own_last_write(rt: HostRuntime) -> Result<(), Fail> {
+fn each_of_two_sessions_reads_the_last_writes_of_both(rt: HostRuntime) -> Result<(), Fail> {
     let alloc = rt.alloc();
     let checked = accepted(alloc, WHOLE, &["o 0"])?;
     let commits = both_sessions::<Brand, _>(&rt, alloc, Opening::new(alloc)?, checked)?;
