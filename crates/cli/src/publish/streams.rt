@@ -92,7 +92,7 @@ impl<'a, R: Clock> PatientRead<'a, R> {
     }
 
     /// Whether the client is to be disconnected. Called after each read and each tick. A silent client that has not
-    /// started its stream is disconnected while no place is free, and once the door is closed.
+    /// started its stream is disconnected while no place is free, and once the hall is closed.
     fn is_over(&mut self, is_silent: bool) -> bool {
         self.count(is_silent);
         if self.hall.is_cleared() || self.writes.has_failed.load(Ordering::SeqCst) {
