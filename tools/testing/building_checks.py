@@ -55,10 +55,9 @@ def check_building(tally: Tally) -> None:
 
 def repository(root: pathlib.Path) -> pathlib.Path:
     """Creates a repository that contains these libraries and first_build."""
-    (root / "tools" / "testing").mkdir(parents=True)
+    (root / "tools").mkdir(parents=True)
     shutil.copy2(TOOLS / "first_build", root / "tools")
     shutil.copytree(TOOLS / "building", root / "tools" / "building")
-    shutil.copy2(TOOLS / "testing" / "room.py", root / "tools" / "testing")
     (root / "HANDLES").write_text("Handles allowed: none.\n")
     (root / "crates.txt").write_text("".join(f"{name}: {uses}\n" for name, (_, uses) in CRATES.items()))
     for name, (lines, _) in CRATES.items():

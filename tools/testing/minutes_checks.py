@@ -4,13 +4,17 @@ processes."""
 import os
 import pathlib
 import subprocess
+import sys
 import tempfile
 from collections import Counter
 
-from minutes import Part, part_of, table
 from tally import Tally
 
-GATE_MINUTES = pathlib.Path(__file__).resolve().parent.parent / "gate_minutes"
+TOOLS = pathlib.Path(__file__).resolve().parent.parent
+GATE_MINUTES = TOOLS / "gate_minutes"
+sys.path.insert(0, str(TOOLS / "building"))
+
+from minutes import Part, part_of, table
 
 # Runs in place of the prover, long enough to be seen even on a busy machine.
 PROVER = "#!/bin/sh\nsleep 5\n"

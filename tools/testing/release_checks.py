@@ -60,7 +60,7 @@ class Fake:
         for name, text in FILES.items():
             (self.root / name).parent.mkdir(parents=True, exist_ok=True)
             (self.root / name).write_text(text)
-        for name in "pgshard", "tools/sources", "tools/release", "tools/first_build", "tools/testing/room.py":
+        for name in "pgshard", "tools/sources", "tools/release", "tools/first_build":
             (self.root / name).parent.mkdir(parents=True, exist_ok=True)
             shutil.copy2(TOOLS.parent / name, self.root / name)
         for name in "releasing", "building":
