@@ -24,9 +24,9 @@ Turns `pgshard serve` into a server for PostgreSQL's clients, such as subscriber
 
 It handles a client's startup, answers what clients ask before they start a stream, and then relays the stream from its
 own connection to pgshard serve. Subscriptions may have default options: their tables are copied as they are at the
-beginning of the log, empty, and then catch up. SQL is refused. docs/FEEDING.md is the manual.
+beginning of the log, which is empty, and then catch up. SQL is refused. docs/FEEDING.md is the manual.
 
-Without --password-file it listens only on loopback addresses. Nothing of it is proved.
+Without --password-file it listens only on loopback addresses. None of it is proved.
 
 It prints `listening P` when clients can connect, writes a line to standard error when a connection ends, and runs until
 it receives SIGTERM, SIGINT or SIGHUP.
@@ -53,7 +53,7 @@ def options_of(words: Sequence[str]) -> argparse.Namespace:
     add("--version", action="version", version=f"front (pgshard) {version()}")
     add("--port", type=port, required=True, metavar="P", help="the port for clients; 0 for any free port")
     add("--listen", type=address, default=address("127.0.0.1"), metavar="ADDRESS",
-        help="the address for clients (default: %(default)s); one that other machines can reach needs --password-file")
+        help="the address for clients [default: %(default)s]; one that other machines can reach needs --password-file")
     add("--backend", type=served_port, required=True, metavar="PORT", help="the port of pgshard serve on 127.0.0.1")
     add("--catalog", type=catalog, metavar="FILE",
         help="the input of pgshard serve, or its first part; CREATE SUBSCRIPTION needs the tables of publications")
@@ -62,13 +62,13 @@ def options_of(words: Sequence[str]) -> argparse.Namespace:
     add("--certificate", metavar="FILE", help="a certificate in PEM format; clients must then use TLS")
     add("--key", metavar="FILE", help="the certificate's private key, if it is in another file")
     add("--server-version", choices=VERSIONS, default=VERSIONS[0], dest="told",
-        help="what clients see; for 15.18 their starts are rewritten to protocol version 1 (default: %(default)s)")
+        help="what clients see; for 15.18 their starts are rewritten to protocol version 1 [default: %(default)s]")
     add("--start-timeout", type=seconds, default=10, metavar="SECONDS",
-        help="how long a client may take for its startup and password (default: %(default)s)")
+        help="how long a client may take for its startup and password [default: %(default)s]")
     add("--backend-timeout", type=seconds, default=10, metavar="SECONDS",
-        help="how long pgshard serve may take to answer (default: %(default)s)")
+        help="how long pgshard serve may take to answer [default: %(default)s]")
     add("--timeout", type=seconds, default=60, metavar="SECONDS",
-        help="how long a client in a stream may send nothing, or read nothing (default: %(default)s)")
+        help="how long a client in a stream may send nothing, or read nothing [default: %(default)s]")
     options = parser.parse_args(words)
     check(parser, options)
     return options

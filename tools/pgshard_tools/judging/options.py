@@ -19,7 +19,7 @@ Reports for each published table whether every row that the server accepts goes 
     pgshard judge FILE                   judges a schema file, such as pg_dump -s writes, on a temporary server, or a
                                          catalog text, which contains CREATE SUBSCRIPTION
 
-A single argument that is the name of an existing file is that file. At a terminal, judge also prints the position of a
+A single argument that names an existing file is taken as that file. At a terminal, judge also prints the position of a
 fault or a table in a file, as file:line:column: sentence.
 
 Without --subscriber and -v, the subscribers are those that are connected, if the role may see them; otherwise each
@@ -101,6 +101,18 @@ def parser() -> Parser:
 def add_options(found: Parser) -> None:
     """Adds judge's own options."""
     own = found.add_argument_group("options")
+    add_questions(own)
+    add_repairs(own)
+    add_counts(own)
+    add_reports(own)
+    own.add_argument("--catalog", metavar="TABLE", help=(
+        "print only the catalog that judge passes to pgshard for the table"))
+    own.add_argument("--version", action="version", version=f"judge (pgshard) {version()}")
+    own.add_argument("--help", "-?", action="help", help="print this text, and exit")
+
+
+def add_questions(own: argparse._ArgumentGroup) -> None:
+    """Adds the options that say who subscribes, what is meant, and what counts as a fault."""
     own.add_argument("--explain", action="store_true", help=(
         "for each sound table, show which rows go to which subscriber"))
     own.add_argument("--subscriber", action="append", default=[], metavar="TEXT", help=(
@@ -118,6 +130,10 @@ def add_options(found: Parser) -> None:
         "exit with status 1 if a filter fails at a row that a table may hold"))
     own.add_argument("--seconds", type=seconds, default=SECONDS, metavar="N", help=(
         f"limit the processor time for each table; a table that takes longer is not decided [default: {SECONDS:g}]"))
+
+
+def add_repairs(own: argparse._ArgumentGroup) -> None:
+    """Adds the options that try statements in a transaction that is rolled back."""
     own.add_argument("--with", dest="migration", metavar="FILE", help=(
         "run the statements of a migration in a transaction that is rolled back, judge what would be published then, "
         "and report which answers change"))
@@ -125,10 +141,18 @@ def add_options(found: Parser) -> None:
         "print only statements that make the table sound, after trying them in a transaction that is rolled back"))
     own.add_argument("--keep", action="append", default=[], metavar="SUBSCRIBER", help=(
         "with --repair, the subscriber that keeps rows which several get; if repeated, earlier ones take precedence"))
+
+
+def add_counts(own: argparse._ArgumentGroup) -> None:
+    """Adds the options that count rows."""
     own.add_argument("--count", action="store_true", help=(
         "make the server count the rows that reach nobody or several subscribers now, in one query for each table"))
     own.add_argument("--rows", type=number_of_rows, default=0, metavar="N", help=(
         "do the same, and list the keys of N such rows"))
+
+
+def add_reports(own: argparse._ArgumentGroup) -> None:
+    """Adds the options that say in which form, about what and how often it reports."""
     own.add_argument("--html", metavar="FILE", help=(
         "also write a page with a map of who gets which rows, and the statements of --repair"))
     own.add_argument("--databases", action="store_true", help="judge every database of the server")
@@ -143,10 +167,6 @@ def add_options(found: Parser) -> None:
         "print the answers as JSON; docs/OUTPUT.md documents its form"))
     forms.add_argument("--nagios", action="store_true", help=(
         "print one line with performance data, and exit with the status of a Nagios plugin"))
-    own.add_argument("--catalog", metavar="TABLE", help=(
-        "print only the catalog that judge passes to pgshard for the table"))
-    own.add_argument("--version", action="version", version=f"judge (pgshard) {version()}")
-    own.add_argument("--help", "-?", action="help", help="print this text, and exit")
 
 
 def add_connection(found: Parser) -> None:

@@ -35,10 +35,10 @@ def arguments(words: list[str], help: str) -> argparse.Namespace:
     """Parses the command line."""
     parser = argparse.ArgumentParser(prog="attack", description=help,
         formatter_class=argparse.RawDescriptionHelpFormatter)
-    parser.add_argument("--seed", type=int, help="the same databases once more; otherwise each run has a new seed")
+    parser.add_argument("--seed", type=int, help="repeat the databases of this seed; by default the seed is new")
     parser.add_argument("--minutes", type=float, help="how long to go on; without it, until the designs are done")
-    parser.add_argument("--designs", type=int, default=300, help="how many random tables (default: 300)")
-    parser.add_argument("--topologies", type=int, default=30, help="how many trees of partitions (default: 30)")
+    parser.add_argument("--designs", type=int, default=300, help="how many random tables [default: 300]")
+    parser.add_argument("--topologies", type=int, default=30, help="how many trees of partitions [default: 30]")
     names = [it.name for it in KINDS]
     parser.add_argument("--kinds", nargs="+", metavar="KIND", choices=names, default=names,
                         help=f"only random tables of these kinds of columns, of {', '.join(names)}")
