@@ -1,17 +1,26 @@
 """Tests that everything the documents name exists, and that the documents stay short."""
 
+import os
 import pathlib
 import re
 import subprocess
 import sys
 
+from figures import check_figures
+from readme_examples import check_examples
 from tally import Tally
 
 ROOT = pathlib.Path(__file__).resolve().parent.parent.parent
 CRATES = ROOT / "crates"
 
 # The greatest number of words of a document.
-WORDS = {"README.md": 1100, "docs/ARCHITECTURE.md": 1200, "docs/TESTED.md": 500, "bench/README.md": 1500}
+WORDS = {
+    "README.md": 1100,
+    "docs/ALGORITHMS.md": 2300,
+    "docs/ARCHITECTURE.md": 1200,
+    "docs/TESTED.md": 500,
+    "bench/README.md": 1500,
+}
 
 # The number of lines that a crate's README may have.
 LINES = range(20, 96)
@@ -60,7 +69,10 @@ def check_documents(tally: Tally) -> None:
         tally.check(f"what {document.relative_to(ROOT)} names and is not there", missing, [])
 
     check_citations(tally)
+    check_examples(tally)
     check_drawing(tally)
+    check_helps(tally)
+    check_figures(tally)
     figures = {figure for document in documents for figure in BUILD.findall(document.read_text(encoding="utf-8"))}
     tally.check("figures for the first build", len(figures) <= 1, True)
 
@@ -102,6 +114,13 @@ def check_drawing(tally: Tally) -> None:
     listed = subprocess.run(["git", "-C", ROOT, "ls-files", "-s"], capture_output=True, encoding="utf-8")
     links = [line for line in listed.stdout.splitlines() if line.startswith("120000")]
     tally.check("files that are links", links, [])
+
+
+def check_helps(tally: Tally) -> None:
+    """Checks that each command of tools/ prints its help on standard output."""
+    for tool in sorted(path for path in (ROOT / "tools").iterdir() if path.is_file() and os.access(path, os.X_OK)):
+        shown = subprocess.run([tool, "--help"], stdin=subprocess.DEVNULL, capture_output=True, encoding="utf-8")
+        tally.check(f"the help of tools/{tool.name}", (shown.returncode, bool(shown.stdout), shown.stderr), (0, True, ""))
 
 
 def crates() -> list[str]:
